@@ -1,0 +1,68 @@
+-- The limits of each number (01, "What the product holds"). A later request moves a limit here and nowhere else.
+use Prim.Native.Nat.{ℕ, _^_}
+use mathlib.Core.Bool.{Bool, true, false}
+use lib.Dec.{leb}
+
+abbrev pub poolMin : ℕ
+poolMin = 1
+
+abbrev pub poolMax : ℕ
+poolMax = 64
+
+abbrev pub idMax : ℕ
+idMax = 15
+
+abbrev pub floorMin : ℕ
+floorMin = 2
+
+abbrev pub floorMax : ℕ
+floorMax = 5
+
+-- for the cap K and the count k alike
+abbrev pub countMin : ℕ
+countMin = 2
+
+abbrev pub countMax : ℕ
+countMax = 10
+
+-- D, in ms
+abbrev pub lengthMin : ℕ
+lengthMin = 1
+
+abbrev pub lengthMax : ℕ
+lengthMax = 14_400_000
+
+abbrev pub rateMin : ℕ
+rateMin = 1
+
+abbrev pub rateMax : ℕ
+rateMax = 1_000
+
+-- in ms
+abbrev pub eventTimeMax : ℕ
+eventTimeMax = 2 ^ 40
+
+-- an asked time in ms, and an arrival tick
+abbrev pub askedMax : ℕ
+askedMax = 2 ^ 41
+
+abbrev pub laneMax : ℕ
+laneMax = 9
+
+-- 01, "Sharing": at most this many titles, as many as there are ids
+abbrev pub titlesMax : ℕ
+titlesMax = 16
+
+-- both tests hold
+abbrev pub both : Bool → Bool → Bool
+both true b = b
+both false b = false
+
+-- at least one of the tests holds
+abbrev pub either : Bool → Bool → Bool
+either true b = true
+either false b = b
+
+-- x lies from lo to hi, both ends allowed
+abbrev pub within : ℕ → ℕ → ℕ → Bool
+within lo hi x = both (leb lo x) (leb x hi)

@@ -1,0 +1,72 @@
+-- What each refusal's number means, and that the first match wins (01, "Numbers that calls give back").
+use Prim.Native.Nat.{ℕ}
+use mathlib.Core.Bool.{Bool, true, false}
+use mathlib.Core.List.{List, [], _∷_}
+
+abbrev pub done : ℕ
+done = 0
+
+-- a number outside its limits
+abbrev pub outsideLimits : ℕ
+outsideLimits = 1
+
+-- before the last accepted event
+abbrev pub tooEarly : ℕ
+tooEarly = 2
+
+-- no such title, or lane not held then
+abbrev pub notThere : ℕ
+notThere = 3
+
+-- id open or not yet released
+abbrev pub idTaken : ℕ
+idTaken = 4
+
+abbrev pub isClosing : ℕ
+isClosing = 5
+
+-- count outside floor..cap, floor above cap, or count unchanged
+abbrev pub wrongCount : ℕ
+wrongCount = 6
+
+-- second event of this title at one moment
+abbrev pub secondEvent : ℕ
+secondEvent = 7
+
+-- not at a permitted slot start
+abbrev pub notAtSlot : ℕ
+notAtSlot = 8
+
+-- not enough lanes
+abbrev pub noLanes : ℕ
+noLanes = 9
+
+-- rows of different length, or lent room too short
+abbrev pub wrongRows : ℕ
+wrongRows = 10
+
+-- notice not well formed
+abbrev pub malformed : ℕ
+malformed = 11
+
+-- notice out of turn
+abbrev pub outOfTurn : ℕ
+outOfTurn = 12
+
+-- one of two values, by a test
+abbrev pub pick : {A : Type 0} → Bool → A → A → A
+pick true a b = a
+pick false a b = b
+
+-- one place of a call's order: the number it gives back, and whether it hits
+pub record Rule : Type 0 where
+  pub number : ℕ
+  pub hits : Bool
+
+abbrev pub refuse : ℕ → Bool → Rule
+refuse n b = record { number = n; hits = b }
+
+-- the answer of a call whose refusals are listed in order: the first that hits, or done
+unfoldable pub firstHit : List Rule → ℕ
+firstHit [] = done
+firstHit (r ∷ rs) = pick (r .hits) (r .number) (firstHit rs)

@@ -1,0 +1,73 @@
+// The two tables that every call cites: the limits of each number, and what each refusal's number means.
+// Definitions of the same names stand in specs/; a crate whose code and contract cite different tables is not proved.
+
+ghost use mathlib.Core.Path.{_≡_};
+ghost use Rattle.rules.specs.Limits.{within as inside};
+
+// 01, "What the product holds".
+pub const POOL_MIN: u64 = 1;
+
+pub const POOL_MAX: u64 = 64;
+
+pub const ID_MAX: u64 = 15;
+
+pub const FLOOR_MIN: u64 = 2;
+
+pub const FLOOR_MAX: u64 = 5;
+
+pub const COUNT_MIN: u64 = 2;
+
+pub const COUNT_MAX: u64 = 10;
+
+pub const LENGTH_MIN: u64 = 1;
+
+pub const LENGTH_MAX: u64 = 14_400_000;
+
+pub const RATE_MIN: u64 = 1;
+
+pub const RATE_MAX: u64 = 1_000;
+
+pub const EVENT_TIME_MAX: u64 = 1_099_511_627_776;
+
+pub const ASKED_MAX: u64 = 2_199_023_255_552;
+
+pub const LANE_MAX: u64 = 9;
+// 01, "Sharing": at most this many titles, as many as there are ids.
+pub const TITLES_MAX: usize = 16;
+
+// 01, "Numbers that calls give back".
+pub const DONE: u8 = 0;
+
+pub const OUTSIDE_LIMITS: u8 = 1;
+
+pub const TOO_EARLY: u8 = 2;
+
+pub const NOT_THERE: u8 = 3;
+
+pub const ID_TAKEN: u8 = 4;
+
+pub const CLOSING: u8 = 5;
+
+pub const WRONG_COUNT: u8 = 6;
+
+pub const SECOND_EVENT: u8 = 7;
+
+pub const NOT_AT_SLOT: u8 = 8;
+
+pub const NO_LANES: u8 = 9;
+
+pub const WRONG_ROWS: u8 = 10;
+
+pub const MALFORMED: u8 = 11;
+
+pub const OUT_OF_TURN: u8 = 12;
+
+// Whether x lies from lo to hi, both ends allowed.
+pub fn within(lo: u64, hi: u64, x: u64) -> bool
+    ensures { λ r. ⌜ r ≡ inside lo hi x ⌝ }
+{
+    if x < lo {
+        return false;
+    }
+    x <= hi
+}
