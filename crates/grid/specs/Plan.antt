@@ -1,0 +1,44 @@
+-- The box plan, and the call that writes it (01, "The box plan" and "Numbers that calls give back").
+use Prim.Native.Nat.{ℕ, _+_, _*_, _^_}
+use mathlib.Core.Bool.{Bool, not}
+use mathlib.Core.List.{List, [], _∷_}
+use lib.Dec.{leb, ltb, eqb}
+use lib.ListN.{length}
+use Rattle.rules.specs.Limits.{both, either, within, floorMin, floorMax, countMin, countMax, askedMax}
+use Rattle.rules.specs.Refusals.{pick, Rule, refuse, firstHit, outsideLimits, wrongCount, notAtSlot, wrongRows}
+use Rattle.rules.specs.Search.{some, first}
+use Rattle.grid.specs.Ticks.{cells, slot, isSlotStart}
+use Rattle.grid.specs.Channels.{channelCell}
+
+-- the place of a cell that is never taken
+abbrev pub never : ℕ
+never = 65535
+
+-- a box that starts at tick a under count k takes cell c from channel d at tick t
+unfoldable pub takenFrom : ℕ → ℕ → ℕ → ℕ → ℕ → ℕ → ℕ → Bool
+takenFrom A K k a c t d =
+    both (leb a t) (both (ltb t (a + slot K k * 2 ^ d)) (eqb (channelCell A K k d t) c))
+
+-- the cell is in the plan of that box at tick t
+unfoldable pub inPlan : ℕ → ℕ → ℕ → ℕ → ℕ → ℕ → Bool
+inPlan A K k a c t = some (takenFrom A K k a c t) k
+
+-- the cell's tick minus a: no channel is taken for as many ticks as there are cells
+unfoldable pub takenAfter : ℕ → ℕ → ℕ → ℕ → ℕ → ℕ
+takenAfter A K k a c = first (λ o. inPlan A K k a c (a + o)) (cells K)
+
+-- what the plan gives for cell c
+unfoldable pub planAt : ℕ → ℕ → ℕ → ℕ → ℕ → ℕ
+planAt A K k a c = pick (ltb (takenAfter A K k a c) (cells K)) (takenAfter A K k a c) never
+
+-- the call's answer, for a lent row of n places
+unfoldable pub planAnswer : ℕ → ℕ → ℕ → ℕ → ℕ → ℕ
+planAnswer A K k a n =
+    firstHit
+    (refuse outsideLimits
+    (not (both (within floorMin floorMax A)
+    (both (within countMin countMax K) (both (within countMin countMax k) (leb a askedMax)))))
+    ∷ refuse wrongCount (either (ltb K A) (not (within A K k)))
+    ∷ refuse notAtSlot (not (isSlotStart K k a))
+    ∷ refuse wrongRows (ltb n (cells K))
+    ∷ [])
