@@ -1,5 +1,5 @@
 -- Laws of the bounded searches and counts: each crosses between a search and the fact it stands for.
--- Order: some, first, howMany, after, total. Rest on the laws of tests.
+-- Order: some, every, first, howMany, after, total. Rest on the laws of tests.
 use mathlib.Core.Path.{_≡_, refl, sym, ap, ap₂, _∙_}
 use mathlib.Core.Bool.{Bool, true, false, false≢true}
 use mathlib.Core.Logic.{_⊎_, inl, inr, ⊎-elim}
@@ -8,10 +8,10 @@ use native.Mathlib.Omega.{arith}
 use native.Mathlib.Nat.{le-antisymm}
 use lib.Dec.{ltb}
 use borrow.Author.Tests.{lt-ltb, le-ltb, ltb-true, ltb-false}
-use Rattle.rules.specs.Limits.{either}
+use Rattle.rules.specs.Limits.{both, either}
 use Rattle.rules.specs.Refusals.{pick}
-use Rattle.rules.specs.Search.{some, first, keepFirst, howMany, after, total}
-use Rattle.rules.proofs.Tests.{decide, either-l, either-r, either-out, fails, pick-true, pick-false}
+use Rattle.rules.specs.Search.{some, every, first, keepFirst, howMany, after, total}
+use Rattle.rules.proofs.Tests.{decide, both-l, both-r, both-in, either-l, either-r, either-out, fails, pick-true, pick-false}
 
 -- below suc n: below n, or n itself
 pub below-suc : (i n : ℕ) → i < suc n → (i < n) ⊎ (i ≡ n)
@@ -39,6 +39,18 @@ module _ (p : ℕ → Bool) where
 
   pub none-some : (n i : ℕ) → some p n ≡ false → i < n → p i ≡ false
   none-some n i h l = fails (p i) (λ t. false≢true (sym h ∙ some-in n i l t))
+
+  pub every-in : (n : ℕ) → ((i : ℕ) → i < n → p i ≡ true) → every p n ≡ true
+  unfolding every
+  every-in zero f = refl
+  every-in (suc n) f = both-in (p n) (every p n) (f n (omega arith)) (every-in n (λ i l. f i (omega arith)))
+
+  pub every-out : (n i : ℕ) → every p n ≡ true → i < n → p i ≡ true
+  unfolding every
+  every-out zero i h l = absurd (omega arith)
+  every-out (suc n) i h l =
+      ⊎-elim (λ b. every-out n i (both-r (p n) (every p n) h) b) (λ e. rw e (both-l (p n) (every p n) h))
+      (below-suc i n l)
 
   pub first-le : (n : ℕ) → first p n ≤ n
   unfolding first

@@ -2,13 +2,18 @@
 use Prim.Native.Nat.{ℕ, zero, suc, _+_}
 use mathlib.Core.Bool.{Bool, true, false}
 use lib.Dec.{ltb}
-use Rattle.rules.specs.Limits.{either}
+use Rattle.rules.specs.Limits.{both, either}
 use Rattle.rules.specs.Refusals.{pick}
 
 -- the test holds at some number below n
 unfoldable pub some : (ℕ → Bool) → ℕ → Bool
 some p zero = false
 some p (suc n) = either (p n) (some p n)
+
+-- the test holds at every number below n
+unfoldable pub every : (ℕ → Bool) → ℕ → Bool
+every p zero = true
+every p (suc n) = both (p n) (every p n)
 
 -- where the first is f of the numbers below n, the first below n + 1
 abbrev pub keepFirst : ℕ → ℕ → Bool → ℕ

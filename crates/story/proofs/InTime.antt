@@ -1,0 +1,107 @@
+-- No box runs dry, for one title's life: each cell that holds film is on air on one of the title's lanes at or after the
+-- box's start and no later than the cell's turn, whatever the rule does after the start. Rests on the grid's laws (every
+-- such cell is in the plan, on a channel, and so on a lane) and on the laws of owed ticks.
+use mathlib.Core.Path.{_≡_, refl, sym, ap, _∙_}
+use mathlib.Core.Bool.{Bool, true, false, false≢true}
+use mathlib.Core.Logic.{⊎-elim}
+use Prim.Native.Nat.{ℕ, zero, suc, _+_, _-_, _≤_, _<_}
+use native.Mathlib.Omega.{arith}
+use native.Mathlib.Nat.{le-antisymm}
+use lib.Dec.{ltb}
+use borrow.Author.Tests.{ltb-true, ltb-false, lt-ltb}
+use Rattle.rules.specs.Search.{after}
+use Rattle.rules.proofs.Tests.{decide, both-l, both-r}
+use Rattle.rules.proofs.Search
+use Rattle.grid.specs.Ticks.{isSlotStart, holdsFilm}
+use Rattle.grid.specs.Channels.{InG}
+use Rattle.grid.specs.Plan.{inPlan}
+use Rattle.grid.specs.Lanes.{laneCell}
+use Rattle.story.specs.Life.{isAdmission, isActive, droppedAt, isOwed, reach, owedWithin, Air, cell, sends, onAir, Ruled}
+use Rattle.grid.proofs.Lanes.{lane-of-cell}
+use Rattle.grid.proofs.Plan.{window-end, in-time, film-taken, taken-out}
+use Rattle.story.proofs.Owed.{after-between, owed-in, sends-owed, rank-le, air-sends, air-active}
+
+-- a cell in a plan at tick t is on a channel then, and t is no earlier than the start
+pub plan-on-channel : (A K k a c t : ℕ) → inPlan A K k a c t ≡ true → (a ≤ t) × InG A K k t c
+plan-on-channel A K k a c t h =
+    let s = taken-out A K k a c t h in
+    (s .1 .from, (s .0, s .1 .channel, s .1 .carries))
+
+-- of two ticks with different answers, in this order, the first is earlier
+pub earlier : (p : ℕ → Bool) (a u : ℕ) → a ≤ u → p a ≡ true → p u ≡ false → a < u
+earlier p a u le on off =
+    ⊎-elim (λ t. ltb-true a u t)
+    (λ t. let e : a ≡ u = le-antisymm le (ltb-false a u t) in absurd (false≢true (sym off ∙ rw e at on)))
+    (decide (ltb a u))
+
+-- a test that fails at u has failed ever since it last passed
+pub silent : (p : ℕ → Bool) (u t : ℕ) → p u ≡ false → after p u ≤ t → t ≤ u → p t ≡ false
+silent p u t off lo hi =
+    ⊎-elim (λ b. Search.after-none p u t lo b) (λ e. rw e off) (Search.below-suc t u (omega arith))
+
+pub active-below : (r : ℕ → ℕ) (l t : ℕ) → l < r t → isActive r l t ≡ true
+unfolding isActive
+active-below r l t b = lt-ltb l (r t) b
+
+-- how far from the drop a planned tick can be
+within-reach : (A K k a c u T o : ℕ) → k ≤ K → 0 < k → inPlan A K k a c u ≡ true → a < T → T + o ≡ u → o < reach K
+unfolding reach
+within-reach A K k a c u T o hi on pl late e = omega (arith, window-end A K k a c u hi on pl)
+
+module _ (A K : ℕ) (r : ℕ → ℕ) (ruled : Ruled A K r) where
+  -- the ruling count at an admission, and that it is a slot start
+  pub admitted : (a : ℕ) → isAdmission K r a ≡ true → (0 < r a) × (A ≤ r a) × (isSlotStart K (r a) a ≡ true)
+  unfolding isAdmission
+  admitted a h =
+      let on : 0 < r a = ltb-true 0 (r a) (both-l (ltb 0 (r a)) (isSlotStart K (r a) a) h) in
+      (on, ruled .low a on, both-r (ltb 0 (r a)) (isSlotStart K (r a) a) h)
+
+  -- a tick of a plan whose lane has been dropped meanwhile is owed, and its cell goes out by then
+  pub dropped-in-time : (a l u : ℕ) → isAdmission K r a ≡ true → l < r a → inPlan A K (r a) a (laneCell A K l u) u ≡ true → isActive r l u ≡ false → (t : ℕ) × (a ≤ t) × (t ≤ u) × (onAir A K r l t ≡ cell (laneCell A K l u))
+  unfolding droppedAt
+  dropped-in-time a l u ad b pl off =
+      let p : ℕ → Bool = isActive r l in
+      let T : ℕ = after p u in
+      let up : T ≤ u = Search.after-le p u in
+      let start : a ≤ u = plan-on-channel A K (r a) a (laneCell A K l u) u pl .0 in
+      let then : p a ≡ true = active-below r l a b in
+      let late : a < T = Search.after-above p u a (earlier p a u start then off) then in
+      let o : ℕ = u - T in
+      let eo : T + o ≡ u = omega arith in
+      let near : o < reach K = within-reach A K (r a) a (laneCell A K l u) u T o (ruled .high a) (admitted a ad .0) pl late eo in
+      let owed : isOwed A K r l T (T + o) ≡ true = rw eo (owed-in A K r l T a u late ad pl) in
+      let i : ℕ = owedWithin A K r l T o in
+      let no-later : i ≤ o = rank-le A K r l T o in
+      let t : ℕ = T + i in
+      let same : after p t ≡ T = after-between p u t (omega arith) (omega arith) in
+      let quiet : p t ≡ false = silent p u t off (omega arith) (omega arith) in
+      let gone : t - T ≡ i = omega arith in (
+        t,
+        omega arith,
+        omega arith,
+        air-sends A K r l t quiet ∙ (rw (same, gone) (sends-owed A K r l T o near owed)) ∙ ap (λ (x : ℕ). cell (laneCell A K l x)) eo,
+      )
+
+  -- every cell in the plan of an admission is on air on a lane, from the start on and no later than its planned tick
+  pub planned-in-time : (a c u : ℕ) → isAdmission K r a ≡ true → inPlan A K (r a) a c u ≡ true → (l : ℕ) × (l < K) × (t : ℕ) × (a ≤ t) × (t ≤ u) × (onAir A K r l t ≡ cell c)
+  planned-in-time a c u ad pl =
+      let s = plan-on-channel A K (r a) a c u pl in
+      let k : r a ≤ K = ruled .high a in
+      let lane = lane-of-cell A K (r a) u c (admitted a ad .1) k (s .1) in
+      let l : ℕ = lane .0 in
+      let e : laneCell A K l u ≡ c = lane .2 in
+      let pl′ : inPlan A K (r a) a (laneCell A K l u) u ≡ true = rw e pl in
+      ⊎-elim
+      (λ on. (l, omega (arith, lane .1), u, s .0, omega arith, air-active A K r l u on ∙ ap cell e))
+      (λ off.
+      let d = dropped-in-time a l u ad (lane .1) pl′ off in
+      (l, omega (arith, lane .1), d .0, d .1, d .2, d .3 ∙ ap cell e))
+      (decide (isActive r l u))
+
+  -- and a cell that holds film no later than its turn to play
+  pub film-in-time : (D a c : ℕ) → 0 < A → isAdmission K r a ≡ true → holdsFilm D A K c ≡ true → (l : ℕ) × (l < K) × (t : ℕ) × (a ≤ t) × (t ≤ a + c) × (onAir A K r l t ≡ cell c)
+  film-in-time D a c pos ad film =
+      let k = admitted a ad in
+      let plan = in-time A K (r a) a c (k .1) (ruled .high a) (k .2) (film-taken D A K (r a) c pos (k .1) (ruled .high a) film) in
+      let on = planned-in-time a c (plan .0) ad (plan .2) in
+      (on .0, on .1, on .2, on .3, omega (arith, on .4, plan .1), on .5)

@@ -1,0 +1,3 @@
+-- Laws and theorems of the story.
+pub mod Owed
+pub mod InTime

@@ -1,0 +1,117 @@
+-- What the scheduler keeps, and what it reads off it: the numbers' limits, ticks, lanes held, and what a lane shows (01,
+-- "Events", "Status" and "Numbers that calls give back").
+use Prim.Native.Nat.{ℕ, zero, suc, _+_, _-_, _*_, _/_, _%_, _^_}
+use mathlib.Core.Bool.{Bool, true, false, not}
+use mathlib.Core.List.{List, [], _∷_}
+use lib.Dec.{leb, ltb, eqb}
+use lib.ListN.{getD, set, replicate}
+use Rattle.rules.specs.Limits.{both, either, within, poolMin, poolMax, floorMin, floorMax, countMin, countMax, lengthMin, lengthMax, askedMax, titlesMax}
+use Rattle.rules.specs.Refusals.{pick}
+use Rattle.rules.specs.Search.{some, every, first, howMany, total}
+use Rattle.grid.specs.Ticks.{tickOf, slot, isSlotStart}
+use Rattle.grid.specs.Channels.{channelCell}
+use Rattle.grid.specs.Lanes.{laneCell}
+use Rattle.story.specs.declared.Title.{Title}
+use Rattle.story.specs.declared.State.{State}
+use Rattle.story.specs.Life.{reach}
+
+abbrev pub noTitle : Title
+noTitle =
+    record
+    { mode = 0; opened = 0; length = 0; floor = 0; cap = 0; count = 0; last = 0; ends = []; dropped = []; owed = [] }
+
+-- the slot of an id
+abbrev pub titleAt : State → ℕ → Title
+titleAt s i = getD (s .titles) i noTitle
+
+-- limits of every stored number: 2^41 for a time or a tick, the same for a number of owed cells
+abbrev pub rowOk : List ℕ → ℕ → Bool
+rowOk row n = every (λ j. leb (getD row j 0) askedMax) n
+
+-- upper limits hold for every slot
+unfoldable pub numbersOk : Title → Bool
+numbersOk t =
+    both (leb (t .mode) 2)
+    (both (leb (t .opened) askedMax)
+    (both (leb (t .length) lengthMax)
+    (both (leb (t .floor) floorMax)
+    (both (leb (t .cap) countMax)
+    (both (leb (t .count) countMax)
+    (both (leb (t .last) askedMax)
+    (both (rowOk (t .ends) 11) (both (rowOk (t .dropped) 10) (rowOk (t .owed) 10)))))))))
+
+-- a title that is there has its lower limits too, a floor no higher than its cap and a count from floor to cap
+unfoldable pub orderOk : Title → Bool
+orderOk t =
+    both (leb lengthMin (t .length))
+    (both (leb floorMin (t .floor)) (both (leb (t .floor) (t .cap)) (within (t .floor) (t .cap) (t .count))))
+
+unfoldable pub titleOk : Title → Bool
+titleOk t = both (numbersOk t) (either (eqb (t .mode) 0) (orderOk t))
+
+-- the state of a refused fresh call apart, a pool has at least a lane: a pool of 0 has no titles
+unfoldable pub stateOk : State → Bool
+stateOk s =
+    both (leb (s .pool) poolMax)
+    (both (leb (s .last) askedMax)
+    (every (λ i. both (titleOk (titleAt s i)) (either (leb poolMin (s .pool)) (eqb (titleAt s i .mode) 0))) titlesMax))
+
+-- the ticks begun since the opening at a time in ms: B + t ticks is the start of tick t
+unfoldable pub tickAt : Title → ℕ → ℕ
+tickAt t τ = (τ - t .opened) / tickOf (t .length) (t .floor) (t .cap)
+
+-- a time that is the start of a tick
+unfoldable pub atTickStart : Title → ℕ → Bool
+atTickStart t τ = eqb ((τ - t .opened) % tickOf (t .length) (t .floor) (t .cap)) 0
+
+-- the ruling count, 0 where the title isn't open
+unfoldable pub ruling : Title → ℕ
+ruling t = pick (eqb (t .mode) 1) (t .count) 0
+
+-- channel d of count c, whose last boxes began a slot before the stored end, is taken at tick u with cell x on it
+unfoldable pub wantsFrom : Title → ℕ → ℕ → ℕ → ℕ → Bool
+wantsFrom t x u c d =
+    both (ltb (u + slot (t .cap) c) (getD (t .ends) c 0 + slot (t .cap) c * 2 ^ d))
+    (eqb (channelCell (t .floor) (t .cap) c d u) x)
+
+-- the latest boxes of count c still take cell x at tick u
+unfoldable pub wants : Title → ℕ → ℕ → ℕ → Bool
+wants t x u c = both (ltb 0 (getD (t .ends) c 0)) (some (wantsFrom t x u c) c)
+
+-- of lane l tick u is owed to the boxes of some count that had the lane
+unfoldable pub keptOwed : Title → ℕ → ℕ → Bool
+keptOwed t l u =
+    some (λ c. both (ltb l c) (both (leb (t .floor) c) (wants t (laneCell (t .floor) (t .cap) l u) u c))) (suc (t .cap))
+
+-- how many of the n ticks from T on lane l owes
+unfoldable pub keptWithin : Title → ℕ → ℕ → ℕ → ℕ
+keptWithin t l T n = howMany (λ o. keptOwed t l (T + o)) n
+
+-- the lane is active, or its owed cells have not all gone
+unfoldable pub keptHeld : Title → ℕ → ℕ → Bool
+keptHeld t l n = either (ltb l (ruling t)) (ltb n (getD (t .dropped) l 0 + getD (t .owed) l 0))
+
+-- how many lanes a title holds at a time
+unfoldable pub titleHeld : Title → ℕ → ℕ
+titleHeld t τ = pick (eqb (t .mode) 0) 0 (howMany (λ l. keptHeld t l (tickAt t τ)) (t .cap))
+
+-- how many lanes are held over all titles at a time
+unfoldable pub lanesHeld : State → ℕ → ℕ
+lanesHeld s τ = total (λ i. titleHeld (titleAt s i) τ) titlesMax
+
+-- the title is open, or closing with a lane still held
+unfoldable pub isThere : Title → ℕ → Bool
+isThere t τ = either (eqb (t .mode) 1) (ltb 0 (titleHeld t τ))
+
+-- tick T + o is owed, with just i owed ticks before it
+unfoldable pub keptNth : Title → ℕ → ℕ → ℕ → ℕ → Bool
+keptNth t l T i o = both (keptOwed t l (T + o)) (eqb (keptWithin t l T o) i)
+
+-- the tick whose cell a sending lane l shows at tick n
+unfoldable pub sendingTick : Title → ℕ → ℕ → ℕ
+sendingTick t l n = getD (t .dropped) l 0 + first (keptNth t l (getD (t .dropped) l 0) (n - getD (t .dropped) l 0)) (reach (t .cap))
+
+-- the cell that a held lane shows at tick n
+unfoldable pub shows : Title → ℕ → ℕ → ℕ
+shows t l n =
+    laneCell (t .floor) (t .cap) l (pick (ltb l (ruling t)) n (sendingTick t l n))

@@ -1,0 +1,5 @@
+-- What the events mean, told from their sequence alone, and what the scheduler keeps of them.
+pub mod Life
+pub mod Kept
+pub mod Next
+pub mod Calls

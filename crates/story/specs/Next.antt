@@ -1,0 +1,62 @@
+-- What an accepted event makes of the state (01, "Events").
+use Prim.Native.Nat.{ℕ, zero, suc}
+use mathlib.Core.List.{List}
+use lib.Dec.{leb, ltb}
+use lib.ListN.{set, replicate}
+use Rattle.rules.specs.Limits.{both}
+use Rattle.rules.specs.Refusals.{pick}
+use Rattle.story.specs.declared.Title.{Title}
+use Rattle.story.specs.declared.State.{State}
+use Rattle.story.specs.Life.{reach}
+use Rattle.story.specs.Kept.{titleAt, tickAt, keptWithin}
+
+-- a title opened at τ: no count has ended and no lane was dropped
+abbrev pub openedTitle : ℕ → ℕ → ℕ → ℕ → ℕ → Title
+openedTitle τ D A K k =
+    record
+    { mode = 1; opened = τ; length = D; floor = A; cap = K; count = k; last = τ; ends = replicate 11 0; dropped = replicate 10 0; owed = replicate 10 0 }
+
+-- the ruling count ends at tick n: the slot of its latest admission does
+abbrev pub ended : Title → ℕ → Title
+ended t n =
+    record
+    { mode = t .mode; opened = t .opened; length = t .length; floor = t .floor; cap = t .cap; count = t .count; last = t .last; ends = set (t .ends) (t .count) n; dropped = t .dropped; owed = t .owed }
+
+-- lane l is dropped at tick n, and how many cells it owes is counted once, then
+abbrev pub dropLane : Title → ℕ → ℕ → Title
+dropLane t n l =
+    record
+    { mode = t .mode; opened = t .opened; length = t .length; floor = t .floor; cap = t .cap; count = t .count; last = t .last; ends = t .ends; dropped = set (t .dropped) l n; owed = set (t .owed) l (keptWithin t l n (reach (t .cap))) }
+
+-- of the lanes below i, those from k up to the old count are dropped at tick n
+unfoldable pub dropLanes : Title → ℕ → ℕ → ℕ → Title
+dropLanes t n k zero = t
+dropLanes t n k (suc i) =
+    pick (both (leb k i) (ltb i (t .count))) (dropLane (dropLanes t n k i) n i) (dropLanes t n k i)
+
+-- a title with another mode, count and latest event
+abbrev pub turned : Title → ℕ → ℕ → ℕ → Title
+turned t mode k τ =
+    record
+    { mode = mode; opened = t .opened; length = t .length; floor = t .floor; cap = t .cap; count = k; last = τ; ends = t .ends; dropped = t .dropped; owed = t .owed }
+
+-- a title whose count changes to k at τ
+unfoldable pub changedTitle : Title → ℕ → ℕ → Title
+changedTitle t τ k = turned (dropLanes (ended t (tickAt t τ)) (tickAt t τ) k (t .count)) 1 k τ
+
+-- a title that closes at τ: all active lanes are dropped; the count is kept as it was
+unfoldable pub closedTitle : Title → ℕ → Title
+closedTitle t τ = turned (dropLanes (ended t (tickAt t τ)) (tickAt t τ) 0 (t .count)) 2 (t .count) τ
+
+-- the state with another title at an id, after an event at τ
+abbrev pub withTitle : State → ℕ → Title → ℕ → State
+withTitle s i t τ = record { pool = s .pool; last = τ; titles = set (s .titles) i t }
+
+abbrev pub openNext : State → ℕ → ℕ → ℕ → ℕ → ℕ → ℕ → State
+openNext s i τ D A K k = withTitle s i (openedTitle τ D A K k) τ
+
+abbrev pub changeNext : State → ℕ → ℕ → ℕ → State
+changeNext s i τ k = withTitle s i (changedTitle (titleAt s i) τ k) τ
+
+abbrev pub closeNext : State → ℕ → ℕ → State
+closeNext s i τ = withTitle s i (closedTitle (titleAt s i) τ) τ

@@ -1,0 +1,37 @@
+// What the scheduler keeps, number by number. What the numbers mean is defined in specs/, and that they tell the story of
+// the accepted events is proved in proofs/. The calls stand in the crate above.
+
+ghost use mathlib.Core.Path.{_≡_};
+ghost use mathlib.Core.List.{[]};
+
+// Whether a slot has a title: none, one that is open, one that is closing.
+pub const NONE: u64 = 0;
+
+pub const OPEN: u64 = 1;
+
+pub const CLOSED: u64 = 2;
+
+// One title. A tick is counted from the opening; a row of counts has a place for each count up to the largest, a row of
+// lanes one for each lane.
+pub struct Title {
+    pub mode: u64,
+    pub opened: u64,
+    pub length: u64,
+    pub floor: u64,
+    pub cap: u64,
+    pub count: u64,
+    // the time of its latest accepted event
+    pub last: u64,
+    // for each count, the end of the slot of its latest admission, 0 where it never ruled
+    pub ends: [u64; 11],
+    // for each lane, the tick at which it was last dropped, and how many cells it owed then
+    pub dropped: [u64; 10],
+    pub owed: [u64; 10],
+}
+
+// The pool: its lanes, the time of the last accepted event, and a slot for each id.
+pub struct State {
+    pub pool: u64,
+    pub last: u64,
+    pub titles: [Title; 16],
+}
