@@ -162,6 +162,24 @@ module _ (p : ℕ → Bool) where
   pub after-none : (n i : ℕ) → after p n ≤ i → i < n → p i ≡ false
   after-none n i a l = fails (p i) (λ t. omega (arith, after-above n i l t))
 
+  -- numbers that fail from m on don't move it
+  pub after-flat : (m n : ℕ) → m ≤ n → ((i : ℕ) → m ≤ i → i < n → p i ≡ false) → after p n ≡ after p m
+  after-flat m n le f =
+      le-antisymm (up (after p n) refl) (down (after p m) refl)
+    where
+      up : (x : ℕ) → after p n ≡ x → x ≤ after p m
+      up zero e = omega arith
+      up (suc j) e =
+          after-above m j
+          (⊎-elim (λ t. ltb-true j m t)
+          (λ t. absurd (false≢true (sym (f j (ltb-false j m t) (omega (arith, after-le n))) ∙ after-last n j e)))
+          (decide (ltb j m)))
+          (after-last n j e)
+
+      down : (x : ℕ) → after p m ≡ x → x ≤ after p n
+      down zero e = omega arith
+      down (suc j) e = after-above n j (omega (arith, after-le m)) (after-last m j e)
+
 -- searches see a test only through its answers below the bound
 module _ (p q : ℕ → Bool) where
   pub some-ext : (n : ℕ) → ((i : ℕ) → i < n → p i ≡ q i) → some p n ≡ some q n
@@ -178,6 +196,16 @@ module _ (p q : ℕ → Bool) where
   unfolding howMany
   howMany-ext zero f = refl
   howMany-ext (suc n) f = rw (f n (omega arith), howMany-ext n (λ i l. f i (omega arith))) refl
+
+  -- a test that passes wherever another does passes at least as often
+  pub howMany-wider : (n : ℕ) → ((i : ℕ) → i < n → p i ≡ true → q i ≡ true) → howMany p n ≤ howMany q n
+  howMany-wider zero f = omega (arith, howMany-le p zero)
+  howMany-wider (suc n) f =
+      let ih : howMany p n ≤ howMany q n = howMany-wider n (λ i l. f i (omega arith)) in
+      ⊎-elim
+      (λ t. omega (arith, howMany-hit p n t, howMany-hit q n (f n (omega arith) t)))
+      (λ t. omega (arith, howMany-miss p n t, howMany-step q n))
+      (decide (p n))
 
   pub after-ext : (n : ℕ) → ((i : ℕ) → i < n → p i ≡ q i) → after p n ≡ after q n
   unfolding after

@@ -3,3 +3,7 @@ pub mod Owed
 pub mod InTime
 pub mod Held
 pub mod Stored
+pub mod Clock
+pub mod Kept
+pub mod Rows
+pub mod Turn

@@ -3,3 +3,4 @@ pub mod Life
 pub mod Kept
 pub mod Next
 pub mod Calls
+pub mod Story
