@@ -7,3 +7,6 @@ pub mod Clock
 pub mod Kept
 pub mod Rows
 pub mod Turn
+pub mod Tells
+pub mod Limits
+pub mod Answers

@@ -50,17 +50,17 @@ abbrev pub turnedTitle : Title → ℕ → ℕ → ℕ → ℕ → Title
 turnedTitle t τ q m c = turned (dropLanes (ended t (tickAt t τ)) (tickAt t τ) q (t .count)) m c τ
 
 -- the two rows of lanes after it
-abbrev droppedRow : Title → ℕ → ℕ → List ℕ
+abbrev pub droppedRow : Title → ℕ → ℕ → List ℕ
 droppedRow t n q = filled (isDropped t q) (λ l. n) (t .dropped) (t .count)
 
-abbrev owedRow : Title → ℕ → ℕ → List ℕ
+abbrev pub owedRow : Title → ℕ → ℕ → List ℕ
 owedRow t n q = filled (isDropped t q) (λ l. keptWithin (ended t n) l n (reach (t .cap))) (t .owed) (t .count)
 
 -- the same title, its rows laid open
-abbrev laid : Title → ℕ → ℕ → ℕ → ℕ → Title
+abbrev pub laid : Title → ℕ → ℕ → ℕ → ℕ → Title
 laid t τ q m c = turned (withRows (ended t (tickAt t τ)) (droppedRow t (tickAt t τ) q) (owedRow t (tickAt t τ) q)) m c τ
 
-turned-laid : (t : Title) (τ q m c : ℕ) → turnedTitle t τ q m c ≡ laid t τ q m c
+pub turned-laid : (t : Title) (τ q m c : ℕ) → turnedTitle t τ q m c ≡ laid t τ q m c
 turned-laid t τ q m c = ap (λ x. turned x m c τ) (drop-rows (ended t (tickAt t τ)) (tickAt t τ) q (t .count))
 
 -- a lane owes at most half as many cells as the film has, and so few enough to be stored

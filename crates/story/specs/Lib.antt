@@ -4,3 +4,4 @@ pub mod Kept
 pub mod Next
 pub mod Calls
 pub mod Story
+pub mod Runs
