@@ -126,6 +126,9 @@ module _ (p : ℕ → Bool) where
   howMany-flat m zero f = rw (native.Mathlib.Nat.add-zero m) refl
   howMany-flat m (suc k) f = rw (native.Mathlib.Nat.add-suc m k) (howMany-miss (m + k) (f (m + k) (omega arith)) ∙ howMany-flat m k f)
 
+  pub howMany-some : (n i : ℕ) → i < n → p i ≡ true → 0 < howMany p n
+  howMany-some n i l h = omega (arith, howMany-hit i h, howMany-mono (suc i) n l)
+
   -- the number that passes with just i before it
   pub howMany-at : (n i : ℕ) → i < howMany p n → (u : ℕ) × (u < n) × (p u ≡ true) × (howMany p u ≡ i)
   howMany-at zero i l = absurd (omega (arith, howMany-le zero))
@@ -222,3 +225,10 @@ module _ (f g : ℕ → ℕ) where
   unfolding total
   total-le zero e = omega arith
   total-le (suc n) e = omega (arith, e n (omega arith), total-le n (λ i l. e i (omega arith)))
+
+-- a part is at most the sum
+pub total-at : (f : ℕ → ℕ) (n i : ℕ) → i < n → f i ≤ total f n
+unfolding total
+total-at f zero i l = absurd (omega arith)
+total-at f (suc n) i l =
+    ⊎-elim (λ b. omega (arith, total-at f n i b)) (λ e. rw e (omega arith)) (below-suc i n l)

@@ -7,7 +7,7 @@ use mathlib.Core.List.{List, [], _∷_}
 use Prim.Native.Nat.{ℕ, zero, suc, _+_, _-_, _/_, _%_, _≤_, _<_, min, max}
 use native.Mathlib.Omega.{arith}
 use native.Mathlib.Nat.{le-antisymm}
-use lib.Dec.{ltb, leb, eqb}
+use lib.Dec.{ltb, leb, eqb, lit<}
 use borrow.Author.Tests.{ltb-true, ltb-false, lt-ltb, le-ltb, leb-true, leb-false, eqb-true, eqb-false, eq-eqb, ne-eqb, not-true, not-false}
 use Rattle.rules.specs.Limits.{both, either, within, idMax, eventTimeMax, lengthMin, lengthMax, floorMin, floorMax, countMin, countMax, titlesMax}
 use Rattle.rules.specs.Refusals.{pick, refuse, firstHit, outsideLimits, tooEarly, notThere, idTaken, isClosing, wrongCount, secondEvent, notAtSlot, noLanes}
@@ -23,17 +23,8 @@ use Rattle.story.specs.Story.{Act, opens, changes, closes, Event, Life, 
 use Rattle.story.specs.Runs.{callAnswer, callNext}
 use Rattle.story.proofs.Kept.{lifeIn, Present}
 use Rattle.story.proofs.Turn.{Turning, turnedTitle, turned-laid, turn-present, open-ruling}
+use Rattle.story.proofs.Passed.{event, within-low, within-high}
 use Rattle.story.proofs.Tells.{TellsTitle, absent, present, Tells, opened-present, count-told, there-told, closing-told, lanes-told, told-with, blank-away}
-
-abbrev pub event : ℕ → ℕ → Act → Event
-event i τ a = record { time = τ; title = i; act = a }
-
--- a number within two limits
-within-low : (lo hi x : ℕ) → within lo hi x ≡ true → lo ≤ x
-within-low lo hi x h = leb-true lo x (both-l (leb lo x) (leb x hi) h)
-
-within-high : (lo hi x : ℕ) → within lo hi x ≡ true → x ≤ hi
-within-high lo hi x h = leb-true x hi (both-r (leb lo x) (leb x hi) h)
 
 -- a title that is open: the rule of its life, its count and its latest event
 record Open (L : Life) (m : ℕ) (t : Title) (τ : ℕ) : Type 0 where
@@ -257,3 +248,42 @@ module _ (lanes : ℕ) (es : List Event) (s : State) (w : Tells lanes es s) wher
         hit-same notAtSlot _ _ _ _
         (ap not (slot-told (lifeOf es i) (latestOf es i) (titleAt s i) τ (titleAt s i .floor) o) ∙ rw (ap (λ (L : Life). L .floor) (o .life)) refl)
         (λ t8. refl))))))
+
+  module _ (ok : stateOk s ≡ true) where
+    -- every event is answered as the sequence says
+    pub answer-told : (i τ : ℕ) (a : Act) → callAnswer s i τ a ≡ answerTo lanes es (event i τ a) (lifeOf es i) a
+    answer-told i τ (opens D A K k) = open-told ok i τ D A K k
+    answer-told i τ (changes k) = change-told ok i τ k
+    answer-told i τ closes = close-told ok i τ
+
+    -- and an accepted one leaves a state that tells the longer sequence
+    pub next-told : (i τ : ℕ) (a : Act) → callAnswer s i τ a ≡ 0 → Tells lanes (event i τ a ∷ es) (callNext s i τ a)
+    unfolding openAnswer changeAnswer closeAnswer
+    next-told i τ (opens D A K k) h =
+        let p1 = passed outsideLimits _ _ (lit< tt) h in
+        let p2 = passed tooEarly _ _ (lit< tt) (p1 .1) in
+        let p4 = passed idTaken _ _ (lit< tt) (p2 .1) in
+        let p6 = passed wrongCount _ _ (lit< tt) (p4 .1) in
+        let n = limits-out ok i τ (openOk D A K k) (p1 .0) in
+        open-next ok i τ D A K k (n .0) (n .1) (n .2) (late-out ok i τ (p2 .0)) (p6 .0)
+    next-told i τ (changes k) h =
+        let p1 = passed outsideLimits _ _ (lit< tt) h in
+        let p2 = passed tooEarly _ _ (lit< tt) (p1 .1) in
+        let p3 = passed notThere _ _ (lit< tt) (p2 .1) in
+        let p5 = passed isClosing _ _ (lit< tt) (p3 .1) in
+        let p6 = passed wrongCount _ _ (lit< tt) (p5 .1) in
+        let p7 = passed secondEvent _ _ (lit< tt) (p6 .1) in
+        let p8 = passed notAtSlot _ _ (lit< tt) (p7 .1) in
+        let n = limits-out ok i τ (within countMin countMax k) (p1 .0) in
+        let late = late-out ok i τ (p2 .0) in
+        change-next ok i τ k (opened-told ok i τ (n .0) late (p3 .0) (p5 .0)) (n .0) (n .1) late (p6 .0) (p7 .0) (p8 .0)
+    next-told i τ closes h =
+        let p1 = passed outsideLimits _ _ (lit< tt) h in
+        let p2 = passed tooEarly _ _ (lit< tt) (p1 .1) in
+        let p3 = passed notThere _ _ (lit< tt) (p2 .1) in
+        let p5 = passed isClosing _ _ (lit< tt) (p3 .1) in
+        let p7 = passed secondEvent _ _ (lit< tt) (p5 .1) in
+        let p8 = passed notAtSlot _ _ (lit< tt) (p7 .1) in
+        let n = event-out ok i τ (not-false (eventOk s i τ) (p1 .0)) in
+        let late = late-out ok i τ (p2 .0) in
+        close-next ok i τ (opened-told ok i τ (n .0) late (p3 .0) (p5 .0)) (n .0) (n .1) late (p7 .0) (p8 .0)

@@ -9,4 +9,6 @@ pub mod Rows
 pub mod Turn
 pub mod Tells
 pub mod Limits
+pub mod Passed
 pub mod Answers
+pub mod Runs

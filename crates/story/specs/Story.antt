@@ -5,9 +5,10 @@ use mathlib.Core.Path.{_≡_}
 use mathlib.Core.Bool.{Bool, true, false, not}
 use mathlib.Core.List.{List, [], _∷_}
 use lib.Dec.{leb, ltb, eqb}
-use Rattle.rules.specs.Limits.{both, either, within, idMax, floorMin, floorMax, countMin, countMax, lengthMin, lengthMax, eventTimeMax, titlesMax}
-use Rattle.rules.specs.Refusals.{pick, refuse, firstHit, outsideLimits, tooEarly, notThere, idTaken, isClosing, wrongCount, secondEvent, notAtSlot, noLanes}
-use Rattle.rules.specs.Search.{howMany, total}
+use lib.ListN.{getD, length}
+use Rattle.rules.specs.Limits.{both, either, within, idMax, floorMin, floorMax, countMin, countMax, lengthMin, lengthMax, eventTimeMax, askedMax, laneMax, titlesMax}
+use Rattle.rules.specs.Refusals.{pick, refuse, firstHit, outsideLimits, tooEarly, notThere, idTaken, isClosing, wrongCount, secondEvent, notAtSlot, noLanes, wrongRows}
+use Rattle.rules.specs.Search.{every, howMany, total}
 use Rattle.grid.specs.Ticks.{tickOf, isSlotStart}
 use Rattle.story.specs.Life.{Air, nothing, onAir, isHeld}
 
@@ -169,3 +170,21 @@ accepted pool (c ∷ cs) = taking pool (accepted pool cs) c
 pub data Accepted (pool : ℕ) : List Event → Type 0 where
   none : Accepted pool []
   more : {e : Event} {es : List Event} → Accepted pool es → answer pool es e ≡ 0 → Accepted pool (e ∷ es)
+
+-- 01, "Numbers that calls give back": what a lane question is answered after es; the id's own latest event counts
+unfoldable pub laneAnswerTo : List Event → ℕ → ℕ → ℕ → ℕ
+laneAnswerTo es i l τ =
+    firstHit
+    (refuse outsideLimits (not (both (leb i idMax) (both (leb l laneMax) (leb τ askedMax))))
+    ∷ refuse tooEarly (ltb τ (latestOf es i))
+    ∷ refuse notThere (not (isHeldIn (lifeOf es i) l τ))
+    ∷ [])
+
+-- what status is answered after es, over a row of ids beside rows of m and h places
+unfoldable pub statusAnswerTo : List Event → ℕ → List ℕ → ℕ → ℕ → ℕ
+statusAnswerTo es τ ids m h =
+    firstHit
+    (refuse wrongRows (not (both (eqb m (length ids)) (eqb h (length ids))))
+    ∷ refuse outsideLimits (not (both (leb τ askedMax) (every (λ j. leb (getD ids j 0) idMax) (length ids))))
+    ∷ refuse tooEarly (ltb τ (lastTime es))
+    ∷ [])
