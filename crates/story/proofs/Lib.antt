@@ -12,3 +12,6 @@ pub mod Limits
 pub mod Passed
 pub mod Answers
 pub mod Runs
+pub mod Questions
+pub mod Lively
+pub mod Pool

@@ -2,16 +2,17 @@
 use mathlib.Core.Path.{_≡_}
 use mathlib.Core.Bool.{Bool, true, false, not}
 use mathlib.Core.List.{List, [], _∷_}
-use Prim.Native.Nat.{ℕ, _≤_, _<_, min}
+use Prim.Native.Nat.{ℕ, _-_, _%_, _≤_, _<_, min}
 use native.Mathlib.Omega.{arith}
 use lib.Dec.{ltb, leb, eqb, lit<}
-use borrow.Author.Tests.{ltb-false, leb-true, eqb-false, not-false}
+use borrow.Author.Tests.{ltb-false, leb-true, eqb-true, eqb-false, not-false}
 use Rattle.rules.specs.Limits.{both, either, within, idMax, eventTimeMax, lengthMin, lengthMax, floorMin, floorMax, countMin, countMax}
 use Rattle.rules.specs.Refusals.{outsideLimits, tooEarly, notThere, idTaken, isClosing, wrongCount, secondEvent, notAtSlot, noLanes}
 use Rattle.rules.proofs.Tests.{both-l, both-r, either-false-l, either-false-r}
 use Rattle.rules.proofs.Refusals.{passed}
 use Rattle.grid.proofs.Numbers.{ne-zero-pos}
-use Rattle.story.specs.Story.{Act, opens, changes, closes, Event, lifeOf, latestOf, lastTime, countIn, heldOver, isThereIn, isSlotIn, withinLimits, openLimits, overfull, answerTo}
+use Rattle.grid.specs.Ticks.{isSlotStart}
+use Rattle.story.specs.Story.{Act, opens, changes, closes, Event, Life, tickLength, tickIn, lifeOf, latestOf, lastTime, countIn, heldOver, isThereIn, isSlotIn, withinLimits, openLimits, overfull, answerTo}
 
 abbrev pub event : ℕ → ℕ → Act → Event
 event i τ a = record { time = τ; title = i; act = a }
@@ -44,6 +45,7 @@ pub record Turned (es : List Event) (i τ : ℕ) : Type 0 where
   pub there : isThereIn (lifeOf es i) τ ≡ true
   pub some : 0 < countIn (lifeOf es i) τ
   pub fresh : τ ≡ latestOf es i → ⊥
+  pub on-tick : (τ - lifeOf es i .opened) % tickLength (lifeOf es i) ≡ 0
 
 timely : (es : List Event) (i τ : ℕ) (a : Act) → withinLimits (event i τ a) ≡ true → ltb τ (lastTime es) ≡ false → Timely es i τ
 timely es i τ a h t =
@@ -52,6 +54,12 @@ timely es i τ a h t =
       limit = leb-true τ eventTimeMax (both-r (leb i idMax) (leb τ eventTimeMax) h);
       late = ltb-false τ (lastTime es) t;
     }
+
+-- a slot start is the start of a tick
+on-its-tick : (L : Life) (k τ : ℕ) → not (isSlotIn L k τ) ≡ false → (τ - L .opened) % tickLength L ≡ 0
+on-its-tick L k τ h =
+    eqb-true ((τ - L .opened) % tickLength L) 0
+    (both-l (eqb ((τ - L .opened) % tickLength L) 0) (isSlotStart (L .cap) k (tickIn L τ)) (not-false (isSlotIn L k τ) h))
 
 module _ (lanes : ℕ) (es : List Event) (i τ : ℕ) where
   pub opening : (D A K k : ℕ) → answerTo lanes es (event i τ (opens D A K k)) (lifeOf es i) (opens D A K k) ≡ 0 → Opening lanes es i τ D A K k
@@ -98,6 +106,7 @@ module _ (lanes : ℕ) (es : List Event) (i τ : ℕ) where
           there = not-false (isThereIn (lifeOf es i) τ) (p3 .0);
           some = ne-zero-pos (countIn (lifeOf es i) τ) (eqb-false (countIn (lifeOf es i) τ) 0 (p5 .0));
           fresh = eqb-false τ (latestOf es i) (p7 .0);
+          on-tick = on-its-tick (lifeOf es i) (min (countIn (lifeOf es i) τ) k) τ (p8 .0);
         },
         ltb-false lanes (heldOver (e ∷ es) τ) (p9 .0),
       )
@@ -111,11 +120,13 @@ module _ (lanes : ℕ) (es : List Event) (i τ : ℕ) where
       let p3 = passed notThere _ _ (lit< tt) (p2 .1) in
       let p5 = passed isClosing _ _ (lit< tt) (p3 .1) in
       let p7 = passed secondEvent _ _ (lit< tt) (p5 .1) in
+      let p8 = passed notAtSlot _ _ (lit< tt) (p7 .1) in
       record {
         timely = timely es i τ closes (not-false (withinLimits e) (p1 .0)) (p2 .0);
         there = not-false (isThereIn (lifeOf es i) τ) (p3 .0);
         some = ne-zero-pos (countIn (lifeOf es i) τ) (eqb-false (countIn (lifeOf es i) τ) 0 (p5 .0));
         fresh = eqb-false τ (latestOf es i) (p7 .0);
+        on-tick = on-its-tick (lifeOf es i) (lifeOf es i .floor) τ (p8 .0);
       }
 
   -- whatever it does

@@ -34,7 +34,7 @@ zeros (suc n) zero = refl
 zeros (suc n) (suc j) = zeros n j
 
 -- nothing is owed from before the first tick
-owes-none : (A K : ℕ) (r : ℕ → ℕ) (l n : ℕ) → owedWithin A K r l 0 n ≡ 0
+pub owes-none : (A K : ℕ) (r : ℕ → ℕ) (l n : ℕ) → owedWithin A K r l 0 n ≡ 0
 unfolding owedWithin isOwed isAwaited howMany some
 owes-none A K r l zero = refl
 owes-none A K r l (suc n) = rw (owes-none A K r l n) refl
