@@ -15,3 +15,4 @@ pub mod Runs
 pub mod Questions
 pub mod Lively
 pub mod Pool
+pub mod World

@@ -1,6 +1,6 @@
 -- The story of events: what a sequence of accepted events means, for every title and every moment (01, "Events" and
 -- "Numbers that calls give back"). Events stand newest first, with times in ms. Nothing here reads what is stored.
-use Prim.Native.Nat.{ℕ, zero, suc, _+_, _-_, _*_, _/_, _%_, min}
+use Prim.Native.Nat.{ℕ, zero, suc, _+_, _-_, _*_, _/_, _%_, _≤_, _<_, min}
 use mathlib.Core.Path.{_≡_}
 use mathlib.Core.Bool.{Bool, true, false, not}
 use mathlib.Core.List.{List, [], _∷_}
@@ -10,7 +10,7 @@ use Rattle.rules.specs.Limits.{both, either, within, idMax, floorMin, floorMax,
 use Rattle.rules.specs.Refusals.{pick, refuse, firstHit, outsideLimits, tooEarly, notThere, idTaken, isClosing, wrongCount, secondEvent, notAtSlot, noLanes, wrongRows}
 use Rattle.rules.specs.Search.{every, howMany, total}
 use Rattle.grid.specs.Ticks.{tickOf, isSlotStart}
-use Rattle.story.specs.Life.{Air, nothing, onAir, isHeld}
+use Rattle.story.specs.Life.{Air, cell, isAdmission, onAir, isHeld}
 
 -- 01, "Events": what an event does: open with length, floor, cap and count; change to a count; close
 pub data Act : Type 0 where
@@ -188,3 +188,27 @@ statusAnswerTo es τ ids m h =
     ∷ refuse outsideLimits (not (both (leb τ askedMax) (every (λ j. leb (getD ids j 0) idMax) (length ids))))
     ∷ refuse tooEarly (ltb τ (lastTime es))
     ∷ [])
+
+-- the life of an id as it stands at a moment, the events of that very moment counted
+abbrev pub lifeAt : List Event → ℕ → ℕ → Life
+lifeAt es i τ = lifeOf (upTo τ es) i
+
+-- what is really on air on lane l of an id at a moment
+abbrev pub airAt : List Event → ℕ → ℕ → ℕ → Air
+airAt es i l τ = airIn (lifeAt es i τ) l τ
+
+-- demand 3: a box that begins at tick a of the life L finds cell c on a lane of that title, in a tick from its start on
+-- and no later than the cell's turn, and still under the same opening
+pub record Found (es : List Event) (i : ℕ) (L : Life) (a c : ℕ) : Type 0 where
+  pub lane : ℕ
+  pub tick : ℕ
+  pub lane-low : lane < L .cap
+  pub from-start : a ≤ tick
+  pub by-turn : tick ≤ a + c
+  pub same-opening : lifeAt es i (momentOf L tick) .opened ≡ L .opened
+  pub carries : airAt es i lane (momentOf L tick) ≡ cell c
+
+-- a box may begin at a moment: the start of a tick that is an admission, of the life as it stands then
+pub record Begins (es : List Event) (i τ a : ℕ) : Type 0 where
+  pub at-start : τ ≡ momentOf (lifeAt es i τ) a
+  pub admission : isAdmission (lifeAt es i τ .cap) (lifeAt es i τ .rule) a ≡ true
