@@ -4,3 +4,5 @@ pub mod Ticks
 pub mod Channels
 pub mod Lanes
 pub mod Plan
+pub mod Signed
+pub mod Bounds

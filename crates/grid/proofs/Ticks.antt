@@ -1,13 +1,15 @@
 -- Laws of slots and of the tick's length: how the slots of two counts lie to each other, and where slots start.
 -- Rest on the laws of powers and remainders.
-use mathlib.Core.Path.{_≡_, sym, ap, _∙_}
+use mathlib.Core.Path.{_≡_, refl, sym, ap, _∙_}
 use mathlib.Core.Bool.{true}
-use Prim.Native.Nat.{ℕ, suc, _+_, _-_, _*_, _/_, _%_, _^_, _≤_, _<_}
+use Prim.Native.Nat.{ℕ, zero, suc, _+_, _-_, _*_, _/_, _%_, _^_, _≤_, _<_}
 use native.Mathlib.Omega.{arith}
-use native.Mathlib.Nat.{mod-lt, div-add-mod'}
-use lib.Pow.{pow-pos, pow-add}
+use native.Mathlib.Nat.{mod-lt, div-add-mod', le-div-iff-mul-le, div-le-of-le-mul, mul-le-mul}
+use lib.Pow.{pow-pos, pow-add, pow-lt, pow-mono}
 use borrow.Author.Tests.{eqb-true}
-use Rattle.grid.specs.Ticks.{slot, isSlotStart, roundedUp}
+use Rattle.rules.specs.Limits.{countMax, lengthMax}
+use Rattle.grid.specs.Ticks.{slot, isSlotStart, roundedUp, tickOf}
+use Rattle.grid.specs.Bounds.{Exactly}
 
 pub slot-pos : (K k : ℕ) → 0 < slot K k
 unfolding slot
@@ -45,3 +47,31 @@ unfolding roundedUp
 rounded-enough n m p =
     let r : (n + (m - 1)) % m < m = mod-lt (n + (m - 1)) p in
     omega (arith, div-add-mod' (n + (m - 1)) m)
+
+-- at least one and at most as many as there were
+pub rounded-low : (n m : ℕ) → 0 < n → 0 < m → 1 ≤ roundedUp n m
+unfolding roundedUp
+rounded-low n m p q = le-div-iff-mul-le {k = m} {x = 1} {y = n + (m - 1)} q .1 (omega arith)
+
+pub rounded-high : (n m : ℕ) → 0 < n → 0 < m → roundedUp n m ≤ n
+unfolding roundedUp
+rounded-high zero m p q = absurd (omega arith)
+rounded-high (suc n) zero p q = absurd (omega arith)
+rounded-high (suc n) (suc m) p q = div-le-of-le-mul (suc m) (omega arith)
+
+-- a floor above 0 leaves cells for film
+pub held-pos : (A K : ℕ) → 0 < A → A ≤ K → 2 ^ (K - A) < 2 ^ K
+held-pos A K p l = pow-lt (omega arith)
+
+pub tick-exactly : (D A K p q : ℕ) → 0 < D → 0 < A → A ≤ K → p ≡ 2 ^ K → q ≡ 2 ^ (K - A) → Exactly (tickOf D A K) 1 D ((D + (p - q - 1)) / (p - q))
+unfolding tickOf roundedUp
+tick-exactly D A K p q d a l e f =
+    let m : ℕ = 2 ^ K - 2 ^ (K - A) in
+    let h : 0 < m = omega (arith, held-pos A K a l) in
+    rw (e, f) (record { is = refl; low = rounded-low D m d h; high = rounded-high D m d h })
+
+pub film-room : (c K r D : ℕ) → c < 2 ^ K → K ≤ countMax → r ≤ D → D ≤ lengthMax → c * r < 2 ^ 64
+film-room c K r D a b l h =
+    let m : 2 ^ K ≤ 2 ^ countMax = pow-mono b in
+    let n : c * r ≤ 2 ^ countMax * lengthMax = mul-le-mul {n₁ = c} {m₁ = r} {n₂ = 2 ^ countMax} {m₂ = lengthMax} (omega arith) (omega arith) in
+    omega arith
