@@ -206,6 +206,16 @@ in-time A K k a c low high start h =
 abbrev pub due : ℕ → ℕ → ℕ → ℕ → ℕ → ℕ → ℕ
 due A K k a c d = wait A K k a c d * slot K k + c % slot K k
 
+-- it is fewer ticks than there are cells
+pub due-lt : (A K k a c d : ℕ) → k ≤ K → d < k → due A K k a c d < 2 ^ K
+due-lt A K k a c d high l =
+    let w : ℕ = slot K k in
+    let b : wait A K k a c d < 2 ^ d = wait-lt A K k a c d in
+    let r : c % w < w = mod-lt c (slot-pos K k) in
+    let m : suc (wait A K k a c d) * w ≤ 2 ^ d * w = mul-le-mul-right w b in
+    let n : 2 ^ d * w ≤ 2 ^ k * w = mul-le-mul-right w (pow-mono (omega arith)) in
+    omega (arith, all-cells K k high)
+
 module _ (A K k a c : ℕ) (high : k ≤ K) (start : isSlotStart K k a ≡ true) where
   -- the plan gives the tick at which the cell is taken, and no other
   pub plan-only : (t : ℕ) → inPlan A K k a c t ≡ true → planAt A K k a c ≡ t - a
