@@ -206,13 +206,11 @@ in-time A K k a c low high start h =
 abbrev pub due : ℕ → ℕ → ℕ → ℕ → ℕ → ℕ → ℕ
 due A K k a c d = wait A K k a c d * slot K k + c % slot K k
 
--- it is fewer ticks than there are cells
-pub due-lt : (A K k a c d : ℕ) → k ≤ K → d < k → due A K k a c d < 2 ^ K
-due-lt A K k a c d high l =
+-- a tick within a channel's window is one of fewer ticks than there are cells
+pub window-lt : (K k d o r : ℕ) → k ≤ K → d < k → o < 2 ^ d → r < slot K k → o * slot K k + r < 2 ^ K
+window-lt K k d o r high l b c =
     let w : ℕ = slot K k in
-    let b : wait A K k a c d < 2 ^ d = wait-lt A K k a c d in
-    let r : c % w < w = mod-lt c (slot-pos K k) in
-    let m : suc (wait A K k a c d) * w ≤ 2 ^ d * w = mul-le-mul-right w b in
+    let m : suc o * w ≤ 2 ^ d * w = mul-le-mul-right w b in
     let n : 2 ^ d * w ≤ 2 ^ k * w = mul-le-mul-right w (pow-mono (omega arith)) in
     omega (arith, all-cells K k high)
 

@@ -3,7 +3,7 @@ use mathlib.Core.Path.{_≡_, refl, sym, ap, _∙_}
 use mathlib.Core.Bool.{true}
 use Prim.Native.Nat.{ℕ, suc, _+_, _-_, _*_, _/_, _%_, _^_, _≤_, _<_}
 use native.Mathlib.Omega.{arith}
-use native.Mathlib.Nat.{mul-sub, mul-le-mul-right, div-mul-le-self}
+use native.Mathlib.Nat.{mod-lt, mul-le-mul-right, div-mul-le-self}
 use lib.Count.{leadingZeros, leading-top}
 use lib.IntN.{pos, _-ℤ_}
 use lib.Pow.{pow-mono, pow-pos}
@@ -11,11 +11,10 @@ use Rattle.rules.specs.Limits.{countMax}
 use Rattle.grid.specs.Ticks.{slot, isSlotStart}
 use Rattle.grid.specs.Channels.{floorRem, shift}
 use Rattle.grid.specs.Plan.{planAt, never}
-use Rattle.grid.specs.Bounds.{IsCell}
 use Rattle.grid.proofs.Numbers.{top-unique}
-use Rattle.grid.proofs.Ticks.{all-cells}
-use Rattle.grid.proofs.Channels.{lifted, rem-lifted}
-use Rattle.grid.proofs.Plan.{wait, due, due-lt, plan-due, plan-never}
+use Rattle.grid.proofs.Ticks.{all-cells, slot-pos}
+use Rattle.grid.proofs.Channels.{rem-lifted}
+use Rattle.grid.proofs.Plan.{wait, due, window-lt, plan-due, plan-never}
 
 -- the place of the highest one-bit of n, as the machine counts the zeros before it
 pub record Top (k n z : ℕ) : Type 0 where
@@ -38,17 +37,19 @@ top k n c p l =
       high = rw e (r .3);
     }
 
-module _ (A K k a c w d size at : ℕ) (count : k ≤ K) (start : isSlotStart K k a ≡ true) (channel : d < k) (width : w ≡ slot K k) (power : size ≡ 2 ^ d) (place : at ≡ floorRem (pos (a / w) -ℤ pos (shift A k)) (2 ^ d)) where
-  parts-due : (c / w + 1 + (size - at)) % size * w + c % w ≡ due A K k a c d
-  unfolding wait
-  parts-due = rw (place, power, width, rem-lifted A k d (a / slot K k) (omega arith)) refl
+-- whatever the wait is reduced from, the tick is one of fewer than there are cells
+pub parts-small : (K k d w size x c : ℕ) → k ≤ K → d < k → w ≡ slot K k → size ≡ 2 ^ d → x % size * w + c % w < 2 ^ K
+parts-small K k d w size x c high l e f =
+    rw (e, f) (window-lt K k d (x % 2 ^ d) (c % slot K k) high l (mod-lt x (pow-pos d)) (mod-lt c (slot-pos K k)))
 
-  pub parts-plan : 2 ^ d ≤ c / w + 1 → c / w + 1 < 2 ^ suc d → IsCell K (planAt A K k a c) ((c / w + 1 + (size - at)) % size * w + c % w)
-  parts-plan l h =
-      record {
-        is = parts-due ∙ sym (plan-due A K k a c count start d channel (record { low = rw (← width) l; high = rw (← width) h }));
-        within = rw parts-due (due-lt A K k a c d count channel);
-      }
+-- the plan's number
+pub parts-plan : (A K k a c w d size at : ℕ) → k ≤ K → isSlotStart K k a ≡ true → d < k → w ≡ slot K k → size ≡ 2 ^ d → at ≡ floorRem (pos (a / w) -ℤ pos (shift A k)) (2 ^ d) → 2 ^ d ≤ c / w + 1 → c / w + 1 < 2 ^ suc d → (c / w + 1 + (size - at)) % size * w + c % w ≡ planAt A K k a c
+unfolding wait
+parts-plan A K k a c w d size at count start channel width power place l h =
+    parts-due ∙ sym (plan-due A K k a c count start d channel (record { low = rw (← width) l; high = rw (← width) h }))
+  where
+    parts-due : (c / w + 1 + (size - at)) % size * w + c % w ≡ due A K k a c d
+    parts-due = rw (place, power, width, rem-lifted A k d (a / slot K k) (omega arith)) refl
 
 -- the last slot's cells
 pub parts-never : (A K k a c w : ℕ) → k ≤ K → isSlotStart K k a ≡ true → w ≡ slot K k → 2 ^ k ≤ c / w + 1 → never ≡ planAt A K k a c

@@ -1,15 +1,13 @@
 -- `plan::plan_at` meets its contract: its parts make up the plan's closed form, whose own bound keeps every step small.
 -- Rests on the laws of those parts.
-use Prim.Native.Nat.{_+_, _-_, _*_, _/_, _%_, _^_, _≤_}
+use Prim.Native.Nat.{ℕ, _+_, _-_, _*_, _/_, _%_, _^_, _≤_, _<_}
 use native.Mathlib.Omega.{arith}
 use native.Mathlib.Nat.{div-le-self}
 use lib.Count.{leadingZeros}
 use lib.Pow.{pow-mono}
 use borrow.Author.Needs.{needs}
 use Rattle.rules.specs.Limits.{countMax}
-use Rattle.grid.specs.Bounds.{IsCell}
-use Rattle.grid.specs.Plan.{planAt}
-use Rattle.plan.proofs.Parts.{Top, top, parts-plan, parts-never}
+use Rattle.plan.proofs.Parts.{Top, top, parts-small, parts-plan, parts-never}
 use Rattle.plan.proofs.plan_at.Statement.{statement}
 use Rattle.plan.proofs.plan_at.Tie as tie
 
@@ -74,35 +72,48 @@ rem-wait c = search needs
 rem-result : tie.Need-rem-result
 rem-result c = search needs
 
--- what the parts make up
-value : (c : tie.After-place) →
+-- the number that is written is below 2^10, whatever wait it is made from
+small : (c : tie.After-place) (x : ℕ) →
     let s = c .before .before .before .before .before in
     let w = c .before .before .before .before .slot .result in
-    IsCell (s .args .cap) (planAt (s .args .floor) (s .args .cap) (s .args .count) (s .args .arrival) (s .args .cell))
-    ((s .args .cell / w + 1 + (c .before .pow22 .result - c .place .result)) % c .before .pow22 .result * w + s .args .cell % w)
-value c =
+    x % c .before .pow22 .result * w + s .args .cell % w < 2 ^ countMax
+small c x =
+    let s = c .before .before .before .before .before in
+    let t = carrying (c .before .before) in
+    let w = c .before .before .before .before .slot in
+    let room : 2 ^ s .args .cap ≤ 2 ^ countMax = pow-mono (s .pre .0 .high) in
+    omega (
+      arith,
+      parts-small (s .args .cap) (s .args .count) (63 - leadingZeros 64 (s .args .cell / w .result + 1)) (w .result) (c .before .pow22 .result) x
+          (s .args .cell) (s .pre .0 .fit) (t .channel) (w .ensures .is) (c .before .pow22 .ensures .is),
+    )
+
+part-fits : (a b : ℕ) → a + b < 2 ^ countMax → a < 2 ^ 64
+part-fits a b l = omega arith
+
+sum-fits : (a : ℕ) → a < 2 ^ countMax → a < 2 ^ 64
+sum-fits a l = omega arith
+
+place-fits : (a : ℕ) → a < 2 ^ countMax → a < 2 ^ 16
+place-fits a l = omega arith
+
+mul-result : tie.Need-mul-result
+mul-result c = record { fits = part-fits _ _ (small c _) }
+
+add-result : tie.Need-add-result
+add-result c = record { fits = sum-fits _ (small c _) }
+
+cast-result : tie.Need-cast-result
+cast-result c = record { fits = place-fits _ (small c _) }
+
+returns : tie.Need-returns
+returns c =
     let s = c .before .before .before .before .before in
     let t = carrying (c .before .before) in
     let w = c .before .before .before .before .slot in
     parts-plan (s .args .floor) (s .args .cap) (s .args .count) (s .args .arrival) (s .args .cell) (w .result)
     (63 - leadingZeros 64 (s .args .cell / w .result + 1)) (c .before .pow22 .result) (c .place .result)
     (s .pre .0 .fit) (s .pre .1 .0) (t .channel) (w .ensures .is) (c .before .pow22 .ensures .is) (c .place .ensures .is) (t .low) (t .high)
-
--- a small cap leaves room in every width
-small : (c : tie.After-place) → 2 ^ c .before .before .before .before .before .args .cap ≤ 2 ^ countMax
-small c = pow-mono (c .before .before .before .before .before .pre .0 .high)
-
-mul-result : tie.Need-mul-result
-mul-result c = record { fits = omega (arith, value c .within, small c) }
-
-add-result : tie.Need-add-result
-add-result c = record { fits = omega (arith, value c .within, small c) }
-
-cast-result : tie.Need-cast-result
-cast-result c = record { fits = omega (arith, value c .within, small c) }
-
-returns : tie.Need-returns
-returns c = value c .is
 
 returns-2 : tie.Need-returns-2
 returns-2 c =
