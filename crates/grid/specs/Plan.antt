@@ -1,11 +1,10 @@
 -- The box plan, and the call that writes it (01, "The box plan" and "Numbers that calls give back").
 use Prim.Native.Nat.{ℕ, _+_, _*_, _^_}
 use mathlib.Core.Bool.{Bool, not}
-use mathlib.Core.List.{List, [], _∷_}
+use mathlib.Core.List.{[], _∷_}
 use lib.Dec.{leb, ltb, eqb}
-use lib.ListN.{length}
 use Rattle.rules.specs.Limits.{both, either, within, floorMin, floorMax, countMin, countMax, askedMax}
-use Rattle.rules.specs.Refusals.{pick, Rule, refuse, firstHit, outsideLimits, wrongCount, notAtSlot, wrongRows}
+use Rattle.rules.specs.Refusals.{pick, refuse, firstHit, outsideLimits, wrongCount, notAtSlot, wrongRows}
 use Rattle.rules.specs.Search.{some, first}
 use Rattle.grid.specs.Ticks.{cells, slot, isSlotStart}
 use Rattle.grid.specs.Channels.{channelCell}

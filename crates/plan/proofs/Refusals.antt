@@ -1,11 +1,11 @@
 -- Laws of the call's answer: which refusal each test gives, and what holds where none does.
 -- Rest on the laws of tests.
 use mathlib.Core.Path.{_≡_, refl, sym, _∙_}
-use mathlib.Core.Bool.{Bool, true, false, not}
+use mathlib.Core.Bool.{Bool, true, false}
 use mathlib.Core.Logic.{⊎-elim}
 use Prim.Native.Nat.{ℕ, _^_, _≤_, _<_}
 use native.Mathlib.Omega.{arith}
-use lib.Dec.{leb, ltb, eqb}
+use lib.Dec.{leb, ltb}
 use borrow.Author.Tests.{leb-true, ltb-true, ltb-false, lt-ltb, le-ltb}
 use Rattle.rules.specs.Limits.{both, within, floorMin, floorMax, countMin, countMax, askedMax}
 use Rattle.rules.specs.Refusals.{firstHit, done, outsideLimits, wrongCount, notAtSlot, wrongRows}

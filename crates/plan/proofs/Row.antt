@@ -5,10 +5,10 @@ use mathlib.Core.Path.{_≡_, refl, sym, ap, _∙_}
 use mathlib.Core.Bool.{true, false}
 use mathlib.Core.List.{List}
 use mathlib.Core.Logic.{⊎-elim}
-use Prim.Native.Nat.{ℕ, zero, suc, _+_, _-_, _^_, _≤_, _<_}
+use Prim.Native.Nat.{ℕ, zero, suc, _+_, _-_, _≤_, _<_}
 use native.Mathlib.Omega.{arith}
 use lib.Dec.{eqb}
-use lib.ListN.{length, set, getD, length-set}
+use lib.ListN.{length, getD, length-set}
 use lib.Seq.{getD-set-same, getD-set-other}
 use borrow.Author.Tests.{eq-eqb, ne-eqb}
 use Rattle.rules.specs.Refusals.{pick, done}
@@ -17,7 +17,7 @@ use Rattle.grid.specs.Ticks.{cells, slot}
 use Rattle.grid.specs.Plan.{planAt, planAnswer, inPlan, never}
 use Rattle.grid.proofs.Plan.{plan-in, plan-only, plan-never}
 use Rattle.plan.specs.Row.{written, rowAfter, Planned}
-use Rattle.plan.proofs.Refusals.{Accepted, accepted-only}
+use Rattle.plan.proofs.Refusals.{accepted-only}
 
 module _ (f : ℕ → ℕ) (row : List ℕ) where
   pub written-length : (n : ℕ) → length (written f row n) ≡ length row

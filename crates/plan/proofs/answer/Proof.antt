@@ -1,7 +1,6 @@
 -- `plan::answer` meets its contract: each way out is one refusal of the list, or done.
 -- Rests on the laws of refusals.
-use mathlib.Core.Path.{_≡_, sym, _∙_}
-use mathlib.Core.Bool.{true}
+use mathlib.Core.Path.{sym, _∙_}
 use native.Mathlib.Omega.{arith}
 use borrow.Author.Needs.{needs}
 use Rattle.plan.proofs.Refusals.{refused-limits, refused-cap, refused-count, refused-slot, refused-rows, accepted, counted}

@@ -1,6 +1,6 @@
 -- `plan::fill` meets its contract. The invariant: the row is the lent one with the plan written into the places passed.
 -- Rests on what `plan_at` ensures.
-use mathlib.Core.Path.{_≡_, refl, sym, ap, _∙_}
+use mathlib.Core.Path.{_≡_, refl, ap, _∙_}
 use mathlib.Core.List.{List}
 use Prim.Native.Nat.{ℕ, _+_, _-_, _≤_}
 use native.Mathlib.Omega.{arith}

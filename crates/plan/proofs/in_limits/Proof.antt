@@ -1,7 +1,7 @@
 -- `plan::in_limits` meets its contract: each way out decides all four tests.
 -- Rests on what its callees ensure.
 use mathlib.Core.Path.{_≡_, refl, sym, _∙_}
-use mathlib.Core.Bool.{Bool, true, false}
+use mathlib.Core.Bool.{true, false}
 use borrow.Author.Needs.{needs}
 use Prim.Native.Nat.{ℕ}
 use lib.Dec.{leb}
