@@ -5,17 +5,17 @@ use mathlib.Core.Bool.{Bool, true, false, not, false≢true}
 use mathlib.Core.Logic.{_⊎_, inl, inr, ⊎-elim}
 use Prim.Native.Nat.{ℕ, zero, suc, _+_, _-_, _*_, _/_, _%_, _^_, _≤_, _<_}
 use native.Mathlib.Omega.{arith}
-use native.Mathlib.Nat.{add-zero, add-suc}
+use native.Mathlib.Nat.{add-zero, add-suc, mod-add-div, le-antisymm}
 use lib.Dec.{ltb, eqb}
 use borrow.Author.Tests.{ltb-true, ltb-false, eqb-true, eqb-false, lt-ltb, le-ltb, eq-eqb, ne-eqb, not-true, not-false}
 use Rattle.rules.specs.Refusals.{pick}
 use Rattle.rules.specs.Search.{first}
 use Rattle.rules.proofs.Tests.{decide, fails, pick-true, pick-false}
-use Rattle.rules.proofs.Search.{below-suc, some-in, some-out, first-le, first-before, first-hit, first-least}
+use Rattle.rules.proofs.Search.{some-in, some-out, first-le, first-before, first-hit, first-least, some-ext, first-ext}
 use Rattle.grid.specs.Channels.{channelCell, InG}
 use Rattle.grid.specs.Lanes.{isInG, isAdded, addedChannel, laneCell}
 use Rattle.grid.proofs.Numbers.{divides-lower}
-use Rattle.grid.proofs.Channels.{turn, raised, raise}
+use Rattle.grid.proofs.Channels.{turn, raised, raise, channel-period}
 pub use Rattle.grid.proofs.Channels.{distinct}
 
 -- the test says what the set says
@@ -67,6 +67,16 @@ module _ (A K k t : ℕ) where
       (λ h. omega (arith, raised-above d (ltb-false d (spare A K k t) h) l, ltb-false d (spare A K k t) h))
       (decide (ltb d (spare A K k t)))
 
+-- below the floor a lane carries its channel of count A
+pub lane-channel : (A K l t : ℕ) → l < A → laneCell A K l t ≡ channelCell A K A l t
+unfolding laneCell
+lane-channel A K l t b = rw (lt-ltb l A b) refl
+
+-- from the floor on it carries the channel that is added
+pub lane-added : (A K l t : ℕ) → A ≤ l → laneCell A K l t ≡ channelCell A K (suc l) (addedChannel A K l t) t
+unfolding laneCell
+lane-added A K l t b = rw (le-ltb l A b) refl
+
 module _ (A K k t : ℕ) (low : A ≤ k) (high : k < K) where
   -- the spare channel's cell is no cell of count k
   spare-fresh : InG A K k t (channelCell A K (suc k) (spare A K k t) t) → ⊥
@@ -113,9 +123,11 @@ module _ (A K k t : ℕ) (low : A ≤ k) (high : k < K) where
       let l : first (isAdded A K k t) (suc k) < suc k = omega (arith, spare-le A K k t) in
       added-only (first (isAdded A K k t) (suc k)) l (first-hit (isAdded A K k t) (suc k) l)
 
+  pub added-lt : addedChannel A K k t < suc k
+  added-lt = rw added-spare (omega (arith, spare-le A K k t))
+
   pub lane-spare : laneCell A K k t ≡ channelCell A K (suc k) (spare A K k t) t
-  unfolding laneCell
-  lane-spare = rw (le-ltb k A low) (ap (λ d. channelCell A K (suc k) d t) added-spare)
+  lane-spare = lane-added A K k t low ∙ ap (λ d. channelCell A K (suc k) d t) added-spare
 
 -- Theorem 1 of source 000: G(k, t) lies within G(k + 1, t)
 pub nested : (A K k t c : ℕ) → A ≤ k → k < K → InG A K k t c → InG A K (suc k) t c
@@ -152,11 +164,6 @@ pub nested-to : (A K k m t c : ℕ) → A ≤ k → k ≤ m → m ≤ K → InG 
 nested-to A K k m t c low l high i =
     let e : k + (m - k) ≡ m = omega arith in rw e at (nested-up A K k t c (m - k) low (omega arith) i)
 
--- below the floor a lane carries its channel of count A
-pub lane-channel : (A K l t : ℕ) → l < A → laneCell A K l t ≡ channelCell A K A l t
-unfolding laneCell
-lane-channel A K l t b = rw (lt-ltb l A b) refl
-
 pub cell-of-lane : (A K k l t : ℕ) → A ≤ k → k ≤ K → l < k → InG A K k t (laneCell A K l t)
 cell-of-lane A K k l t low high b =
     ⊎-elim
@@ -183,3 +190,52 @@ pub lane-of-cell : (A K k t c : ℕ) → A ≤ k → k ≤ K → InG A K k t c �
 lane-of-cell A K k t c low high m =
     let e : k ≡ A + (k - A) = omega arith in
     rw e (lane-up A K t c (k - A) (omega arith) (rw e at m))
+
+-- no two lanes carry one cell
+lane-before : (A K l m t : ℕ) → A ≤ K → l < m → m < K → laneCell A K l t ≡ laneCell A K m t → ⊥
+lane-before A K l m t floor b high e =
+    ⊎-elim
+    (λ h. let f : m < A = ltb-true m A h in
+    let same : l ≡ m = distinct A K A t l m (omega arith) floor (omega arith) f
+    (sym (lane-channel A K l t (omega arith)) ∙ e ∙ lane-channel A K m t f) in
+    omega arith)
+    (λ h. let f : A ≤ m = ltb-false m A h in
+    let i = cell-of-lane A K m l t f (omega arith) b in
+    one-more A K m t f high .fresh (i .0, i .1, i .2 ∙ e))
+    (decide (ltb m A))
+
+pub lanes-apart : (A K l m t : ℕ) → A ≤ K → l < K → m < K → laneCell A K l t ≡ laneCell A K m t → l ≡ m
+lanes-apart A K l m t floor a b e =
+    ⊎-elim (λ h. absurd (lane-before A K l m t floor (ltb-true l m h) b e))
+    (λ h. ⊎-elim (λ g. absurd (lane-before A K m l t floor (ltb-true m l g) a (sym e)))
+    (λ g. le-antisymm (ltb-false m l g) (ltb-false l m h)) (decide (ltb m l)))
+    (decide (ltb l m))
+
+-- lanes repeat with the grid's period
+module _ (A K t n : ℕ) (floor : A ≤ K) where
+  same-in : (k c : ℕ) → k ≤ K → isInG A K k (t + 2 ^ (K - 1) * n) c ≡ isInG A K k t c
+  unfolding isInG
+  same-in k c l =
+      some-ext (λ d. eqb (channelCell A K k d (t + 2 ^ (K - 1) * n)) c) (λ d. eqb (channelCell A K k d t) c) k
+      (λ d b. ap (λ x. eqb x c) (channel-period A K k d t n l b))
+
+  same-added : (l : ℕ) → l < K → addedChannel A K l (t + 2 ^ (K - 1) * n) ≡ addedChannel A K l t
+  unfolding addedChannel isAdded
+  same-added l b =
+      first-ext (isAdded A K l (t + 2 ^ (K - 1) * n)) (isAdded A K l t) (suc l)
+      (λ d i. ap not (ap (isInG A K l (t + 2 ^ (K - 1) * n)) (channel-period A K (suc l) d t n b i) ∙ same-in l (channelCell A K (suc l) d t) (omega arith)))
+
+  pub lane-period : (l : ℕ) → l < K → laneCell A K l (t + 2 ^ (K - 1) * n) ≡ laneCell A K l t
+  unfolding laneCell
+  lane-period l b =
+      ⊎-elim (λ h. rw h (channel-period A K A l t n floor (ltb-true l A h)))
+      (λ h. rw h
+      (let f : A ≤ l = ltb-false l A h in
+      let s : addedChannel A K l t ≤ l = rw (added-spare A K l t f b) (spare-le A K l t) in
+      ap (λ d. channelCell A K (suc l) d (t + 2 ^ (K - 1) * n)) (same-added l b) ∙ channel-period A K (suc l) (addedChannel A K l t) t n b (omega arith)))
+      (decide (ltb l A))
+
+-- so a lane's cell may be looked up by the tick's remainder
+pub lane-looked-up : (A K l t : ℕ) → A ≤ K → l < K → laneCell A K l t ≡ laneCell A K l (t % 2 ^ (K - 1))
+lane-looked-up A K l t floor b =
+    ap (laneCell A K l) (sym (mod-add-div t (2 ^ (K - 1)))) ∙ lane-period A K (t % 2 ^ (K - 1)) (t / 2 ^ (K - 1)) floor l b
