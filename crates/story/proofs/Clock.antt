@@ -5,19 +5,14 @@ use mathlib.Core.Logic.{⊎-elim}
 use Prim.Native.Nat.{ℕ, zero, suc, _+_, _-_, _*_, _/_, _%_, _^_, _≤_, _<_}
 use native.Mathlib.Omega.{arith}
 use native.Mathlib.Nat.{div-add-mod', div-mul-le-self, le-div-iff-mul-le, mul-div-cancel, mul-le-mul-right}
-use lib.Pow.{pow-lt}
-use Rattle.grid.specs.Ticks.{tickOf, roundedUp}
-use Rattle.grid.proofs.Plan.{rounded-enough}
-use Rattle.grid.proofs.Numbers.{ne-zero-pos}
+use Rattle.grid.specs.Ticks.{tickOf}
+use Rattle.grid.proofs.Ticks.{rounded-low, held-pos}
 
 -- a film of some length has a tick of some length
 pub tick-pos : (D A K : ℕ) → 0 < D → 0 < A → A ≤ K → 0 < tickOf D A K
 unfolding tickOf
 tick-pos D A K film floor high =
-    let m : ℕ = 2 ^ K - 2 ^ (K - A) in
-    let less : 2 ^ (K - A) < 2 ^ K = pow-lt (omega arith) in
-    let enough : D ≤ roundedUp D m * m = rounded-enough D m (omega arith) in
-    ne-zero-pos (roundedUp D m) (λ z. let e : roundedUp D m * m ≡ 0 * m = ap (λ x. x * m) z in omega arith)
+    rounded-low D (2 ^ K - 2 ^ (K - A)) film (omega (arith, held-pos A K floor high))
 
 module _ (B p : ℕ) (pos : 0 < p) where
   pub tick-mono : (x y : ℕ) → x ≤ y → (x - B) / p ≤ (y - B) / p

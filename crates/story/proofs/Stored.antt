@@ -19,7 +19,7 @@ use Rattle.grid.specs.Channels.{channelCell}
 use Rattle.grid.specs.Lanes.{laneCell}
 use Rattle.grid.specs.Plan.{inPlan}
 use Rattle.grid.proofs.Numbers.{mod-unique, divides-lower}
-use Rattle.grid.proofs.Channels.{slot-pos}
+use Rattle.grid.proofs.Ticks.{slot-pos}
 use Rattle.grid.proofs.Lanes.{lane-not-in}
 use Rattle.grid.proofs.Plan.{Taken, taken-in, taken-out}
 use Rattle.story.specs.declared.Title.{Title}
