@@ -18,3 +18,15 @@ pub passed : (n : ℕ) (a : Bool) (rs : List Rule) → 0 < n → firstHit (refus
 unfolding firstHit
 passed n true rs p h = absurd (omega arith)
 passed n false rs p h = (refl, h)
+
+-- an answer that is not the head's number comes from behind it
+pub past : (n m : ℕ) (a : Bool) (rs : List Rule) → (n ≡ m → ⊥) → firstHit (refuse n a ∷ rs) ≡ m → firstHit rs ≡ m
+unfolding firstHit
+past n m true rs ne h = absurd (ne h)
+past n m false rs ne h = h
+
+-- where only the last test is left, its number comes from it
+pub last-hit : (n : ℕ) (a : Bool) → 0 < n → firstHit (refuse n a ∷ []) ≡ n → a ≡ true
+unfolding firstHit
+last-hit n true p h = refl
+last-hit n false p h = absurd (omega arith)

@@ -16,3 +16,4 @@ pub mod Questions
 pub mod Lively
 pub mod Pool
 pub mod World
+pub mod Demands
