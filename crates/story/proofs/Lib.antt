@@ -17,3 +17,4 @@ pub mod Lively
 pub mod Pool
 pub mod World
 pub mod Demands
+pub mod Example
