@@ -3,7 +3,7 @@
 use mathlib.Core.Path.{_≡_, refl}
 use mathlib.Core.Bool.{Bool, true, false}
 use mathlib.Core.List.{List, [], _∷_}
-use Prim.Native.Nat.{ℕ, zero, suc, _+_, _*_, _≤_, _<_, _^_, _/_, _%_}
+use Prim.Native.Nat.{ℕ, zero, suc, _+_, _*_, _-_, _≤_, _<_, _^_, _/_, _%_}
 use native.Mathlib.Nat.{le-of-suc-le-suc, not-suc-le-zero, div-eq-of-lt, lt-of-lt-of-le, add-suc, add-zero}
 use native.Mathlib.Omega.{arith}
 use lib.Dec.{leb, ltb, eqb}
@@ -13,7 +13,7 @@ use borrow.Author.Tests.{leb-true, ltb-true, eqb-true}
 use Rattle.rules.specs.Limits.{both}
 use Rattle.rules.specs.Refusals.{pick}
 use Rattle.notice.specs.declared.fields.Field.{Field}
-use Rattle.notice.specs.Fields.{table, rows, row, fieldOf, isCarried, spanOf, placeOf, lengthOf}
+use Rattle.notice.specs.Fields.{table, rows, row, fieldOf, isCarried, spanOf, startOf, lengthOf}
 
 pub both-l : (a b : Bool) → both a b ≡ true → a ≡ true
 both-l true b e = refl
@@ -68,13 +68,20 @@ span-small k i h = go (isCarried k i)
     go true = omega (arith, sound i h)
     go false = omega arith
 
-pub place-small : (k i : ℕ) → i ≤ rows → placeOf k i ≤ 11 * i
-unfolding placeOf
-place-small k zero h = omega arith
-place-small k (suc i) h = omega (arith, place-small k i (omega arith), span-small k i (omega arith))
+pub start-small : (k i : ℕ) → i ≤ rows → startOf k i ≤ 11 * i
+unfolding startOf
+start-small k zero h = omega arith
+start-small k (suc i) h = omega (arith, start-small k i (omega arith), span-small k i (omega arith))
 
 -- a row ends no later than the rows up to any later one
-pub place-grows : (k i d : ℕ) → placeOf k i ≤ placeOf k (i + d)
-unfolding placeOf
-place-grows k i zero = rw add-zero (omega arith)
-place-grows k i (suc d) = rw add-suc (omega (arith, place-grows k i d))
+pub start-grows : (k i d : ℕ) → startOf k i ≤ startOf k (i + d)
+unfolding startOf
+start-grows k i zero = rw add-zero (omega arith)
+start-grows k i (suc d) = rw add-suc (omega (arith, start-grows k i d))
+
+-- so every row lies within a notice of its kind
+pub row-inside : (k i : ℕ) → i < rows → startOf k i + spanOf k i ≤ lengthOf k
+unfolding startOf
+row-inside k i h =
+    let e : suc i + (rows - suc i) ≡ rows = omega arith in
+    rw e at (start-grows k (suc i) (rows - suc i))

@@ -63,13 +63,13 @@ unfoldable pub spanOf : ℕ → ℕ → ℕ
 spanOf k i = pick (isCarried k i) (headSize + sizeOf i) 0
 
 -- where row i stands in a notice of kind k: after the rows before it
-unfoldable pub placeOf : ℕ → ℕ → ℕ
-placeOf k zero = 0
-placeOf k (suc i) = placeOf k i + spanOf k i
+unfoldable pub startOf : ℕ → ℕ → ℕ
+startOf k zero = 0
+startOf k (suc i) = startOf k i + spanOf k i
 
 -- a kind that the table knows is one that carries the first row, and its notices are this long
 abbrev pub isKnown : ℕ → Bool
 isKnown k = isCarried k 0
 
 abbrev pub lengthOf : ℕ → ℕ
-lengthOf k = placeOf k rows
+lengthOf k = startOf k rows

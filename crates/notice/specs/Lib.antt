@@ -1,3 +1,4 @@
 -- The notices of document 01: the field table, big-endian numbers, the bytes of a notice, and what bytes read as.
 pub mod Fields
 pub mod Numbers
+pub mod Encode

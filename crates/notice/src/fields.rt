@@ -3,7 +3,7 @@
 
 ghost use mathlib.Core.Path.{_≡_};
 ghost use Prim.Native.Nat.{_<_, _≤_, _*_};
-ghost use Rattle.notice.specs.Fields.{fieldOf, isCarried, spanOf, placeOf};
+ghost use Rattle.notice.specs.Fields.{fieldOf, isCarried, spanOf, startOf};
 
 // A row: bit k of kinds is set where kind k carries the field.
 pub struct Field {
@@ -92,9 +92,9 @@ pub fn span(kind: u8, row: usize) -> usize
 }
 
 // Where the row stands in a notice of the kind; past the last row, how long the notice is.
-pub fn place(kind: u8, row: usize) -> usize
+pub fn start(kind: u8, row: usize) -> usize
     requires { ⌜ row ≤ 8 ⌝ }
-    ensures { λ r. ⌜ r ≡ placeOf kind row ⌝ }
+    ensures { λ r. ⌜ r ≡ startOf kind row ⌝ }
 {
     let mut at: usize = 0;
     let mut i: usize = 0;
