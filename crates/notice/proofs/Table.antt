@@ -85,3 +85,8 @@ unfolding startOf
 row-inside k i h =
     let e : suc i + (rows - suc i) ≡ rows = omega arith in
     rw e at (start-grows k (suc i) (rows - suc i))
+
+-- with its head and its value, where the kind carries it
+pub value-inside : (k i : ℕ) → i < rows → isCarried k i ≡ true → startOf k i + (3 + fieldOf i .size) ≤ lengthOf k
+unfolding spanOf
+value-inside k i h has = rw has at (row-inside k i h)

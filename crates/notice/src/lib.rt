@@ -5,6 +5,7 @@
 ghost use mathlib.Core.Path.{_≡_};
 ghost use Rattle.notice.specs.Encode.{kindOf, valuesIn};
 
+mod decode;
 mod encode;
 mod fields;
 mod numbers;
