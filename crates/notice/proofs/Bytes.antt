@@ -3,15 +3,17 @@
 use mathlib.Core.Path.{_≡_, refl, sym, ap, _∙_}
 use mathlib.Core.Bool.{Bool, true, false}
 use mathlib.Core.List.{List, [], _∷_, _++_}
-use Prim.Native.Nat.{ℕ, zero, suc, _+_, _≤_}
+use Prim.Native.Nat.{ℕ, zero, suc, _+_, _≤_, _<_}
 use native.Mathlib.Nat.{add-zero, zero-add}
 use native.Mathlib.Omega.{arith}
 use lib.ListN.{length, set, getD, drop, length-append}
 use lib.Seq.{sets, sets-eq}
-use Rattle.rules.specs.Refusals.{pick}
+use borrow.Author.Tests.{lt-ltb, le-ltb}
+use Rattle.rules.specs.Refusals.{pick, firstHit}
+use Rattle.notice.specs.declared.Notice.{Notice}
 use Rattle.notice.specs.Fields.{fieldOf, tagOf, sizeOf, isCarried, spanOf, startOf, lengthOf, rows}
 use Rattle.notice.specs.Numbers.{bigEndian}
-use Rattle.notice.specs.Encode.{fieldBytes, rowBytes, bytesTo}
+use Rattle.notice.specs.Encode.{kindOf, valuesIn, fieldBytes, rowBytes, bytesTo, bytesOf, Writes}
 
 pub sets-append : (xs l ys : List ℕ) (a : ℕ) → sets l a (xs ++ ys) ≡ sets (sets l a xs) (a + length xs) ys
 sets-append [] l ys a = rw add-zero
@@ -64,3 +66,23 @@ row-laid l k vs i =
 -- a run of stores from the start is the bytes and what stood after them
 pub laid : (bs l : List ℕ) → length bs ≤ length l → sets l 0 bs ≡ bs ++ drop (length bs) l
 laid bs l h = sets-eq bs l 0 (rw zero-add h) ∙ rw zero-add
+
+-- a notice is as long as its kind says
+pub length-notice : (n : Notice) → length (bytesOf n) ≡ lengthOf (kindOf (n .kind))
+unfolding bytesOf
+length-notice n = length-bytes (kindOf (n .kind)) (valuesIn n) rows
+
+-- what `write` promises, on either side of its test
+pub written-short : (n : Notice) (room : List ℕ) → length room < lengthOf (kindOf (n .kind)) → Writes n room 10 room
+unfolding firstHit
+written-short n room h =
+    let short = lt-ltb (length room) (length (bytesOf n)) (rw length-notice h) in
+    record { answers = simp short; leaves = simp short }
+
+pub written-whole : (n : Notice) (room : List ℕ) → lengthOf (kindOf (n .kind)) ≤ length room
+    → Writes n room 0 (sets room 0 (bytesTo (kindOf (n .kind)) (valuesIn n) rows))
+unfolding firstHit bytesOf
+written-whole n room h =
+    let fits : length (bytesOf n) ≤ length room = rw length-notice h in
+    let long = le-ltb (length room) (length (bytesOf n)) fits in
+    record { answers = simp long; leaves = simp long (laid (bytesOf n) room fits) }

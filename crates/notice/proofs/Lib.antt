@@ -1,3 +1,5 @@
+pub mod Answers
 pub mod Bytes
+pub mod Cases
 pub mod Digits
 pub mod Table

@@ -1,8 +1,11 @@
 -- The bytes of a notice, field by field (01, "Notices").
 use Prim.Native.Nat.{ℕ, zero, suc}
+use mathlib.Core.Path.{_≡_}
+use mathlib.Core.Bool.{Bool}
 use mathlib.Core.List.{List, [], _∷_, _++_}
-use lib.ListN.{getD}
-use Rattle.rules.specs.Refusals.{pick}
+use lib.Dec.{ltb}
+use lib.ListN.{length, drop, getD}
+use Rattle.rules.specs.Refusals.{pick, firstHit, refuse, wrongRows}
 use Rattle.notice.specs.declared.Notice.{Notice}
 use Rattle.notice.specs.declared.Kind.{Kind}
 use Rattle.notice.specs.declared.Kind.the-variants.{Open, Change, Close}
@@ -40,3 +43,12 @@ bytesTo k vs (suc i) = bytesTo k vs i ++ rowBytes k i (getD vs i 0)
 -- a notice has exactly the fields of its kind, in the table's order
 unfoldable pub bytesOf : Notice → List ℕ
 bytesOf n = bytesTo (kindOf (n .kind)) (valuesIn n) rows
+
+-- the lent room is too short
+abbrev pub isShort : Notice → List ℕ → Bool
+isShort n room = ltb (length room) (length (bytesOf n))
+
+-- writing gives 10 and leaves the room as it was, or puts the bytes at its start and leaves the later ones
+pub record Writes (n : Notice) (room : List ℕ) (answer : ℕ) (after : List ℕ) : Type 0 where
+  pub answers : answer ≡ firstHit (refuse wrongRows (isShort n room) ∷ [])
+  pub leaves : after ≡ pick (isShort n room) room (bytesOf n ++ drop (length (bytesOf n)) room)

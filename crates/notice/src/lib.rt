@@ -2,8 +2,18 @@
 // reader of logs. Every record can be written, since each part has exactly the width of its field in the table.
 // No public function has a `requires`: any bytes and any place have an answer.
 
+use decode::notice_in;
+use decode::rows_stand;
+use encode::number;
+use encode::put_rows;
+use encode::values;
+use fields::HEAD;
+use fields::ROWS;
+use fields::carried;
+use fields::start;
 ghost use mathlib.Core.Path.{_≡_};
-ghost use Rattle.notice.specs.Encode.{kindOf, valuesIn};
+ghost use Rattle.notice.specs.Encode.{Writes};
+ghost use Rattle.notice.specs.Decode.{Reads, Finds, placeAfter};
 
 mod decode;
 mod encode;
@@ -29,4 +39,70 @@ pub enum Kind {
         count: u8,
     },
     Close,
+}
+
+// What one notice's bytes read as.
+pub enum Reading {
+    Whole(Notice),
+    Malformed,
+}
+
+// What a log has at a place: a notice and the place after it, no byte more, or no notice.
+pub enum Found {
+    At(Notice, usize),
+    End,
+    Malformed,
+}
+
+// Writes the notice at the start of the room: 0, and later bytes stay; 10 where the room is too short, and nothing is written.
+pub fn write(n: Notice, room: &mut [u8]) -> u8
+    ensures { λ r. ⌜ Writes n (now (room .entry)) r (now (room .exit)) ⌝ }
+{
+    let data = n.kind;
+    let kind = number(data);
+    if room.len() < start(kind, ROWS) {
+        return rules::WRONG_ROWS;
+    }
+    put_rows(room, kind, values(n));
+    rules::DONE
+}
+
+// Reads at a place of a log. The place may be any, also past the end.
+pub fn read_at(log: &[u8], place: usize) -> Found
+    ensures { λ r. ⌜ Finds (now (log .entry)) place r ⌝ }
+{
+    if log.len() <= place {
+        return Found::End;
+    }
+    let left = log.len() - place;
+    if left <= HEAD {
+        return Found::Malformed;
+    }
+    let kind = log[place + HEAD];
+    if carried(kind, 0) {
+        let size = start(kind, ROWS);
+        if size <= left {
+            if rows_stand(log, place, kind) {
+                return Found::At(notice_in(log, place, kind), place + size);
+            }
+        }
+    }
+    Found::Malformed
+}
+
+// Reads one notice and nothing after it.
+pub fn read(bytes: &[u8]) -> Reading
+    ensures { λ r. ⌜ Reads (now (bytes .entry)) r ⌝ }
+{
+    match read_at(bytes, 0) {
+        Found::At(n, end) => {
+            if end == bytes.len() {
+                Reading::Whole(n)
+            } else {
+                Reading::Malformed
+            }
+        }
+        Found::End => Reading::Malformed,
+        Found::Malformed => Reading::Malformed,
+    }
 }

@@ -41,13 +41,13 @@ cast-count c = record { fits = c .value4 .ensures .1 }
 returns : tie.Need-returns
 unfolding kindIn
 returns c =
-    simp
-      ( eq-eqb _ _ (c .before .before .before .before .if1 .taken)
-      , c .before .before .before .value .ensures .0
-      , c .before .before .value2 .ensures .0
-      , c .before .value3 .ensures .0
-      , c .value4 .ensures .0
-      )
+    simp (
+      eq-eqb _ _ (c .before .before .before .before .if1 .taken),
+      c .before .before .before .value .ensures .0,
+      c .before .before .value2 .ensures .0,
+      c .before .value3 .ensures .0,
+      c .value4 .ensures .0,
+    )
 
 value-requires-5 : tie.Need-value-requires-5
 unfolding table

@@ -32,12 +32,12 @@ kind-in-requires c κs = search needs
 returns : tie.Need-returns
 unfolding noticeIn
 returns c =
-    simp
-      ( c .before .before .before .value .ensures .0
-      , c .before .before .value2 .ensures .0
-      , c .before .value3 .ensures .0
-      , c .kind-in .ensures
-      )
+    simp (
+      c .before .before .before .value .ensures .0,
+      c .before .before .value2 .ensures .0,
+      c .before .value3 .ensures .0,
+      c .kind-in .ensures,
+    )
 
 pub notice-in-spec : {M : Type 1} → statement M
 notice-in-spec =

@@ -48,11 +48,12 @@ loop-less c = omega arith
 loop-again : tie.Need-loop-again Inv-loop μ-loop
 unfolding startOf standsTo
 loop-again c =
-    let l = c .before .before .before .before .loop .inv in
-    ( omega arith
-    , ( rw add-one (omega (arith, l .1 .0, c .span .ensures))
-      , rw (add-one, c .before .also .ensures, c .before .before .row-stands .ensures, l .1 .1, l .1 .0)
-      )
+    let l = c .before .before .before .before .loop .inv in (
+      omega arith,
+      (
+        rw add-one (omega (arith, l .1 .0, c .span .ensures)),
+        rw (add-one, c .before .also .ensures, c .before .before .row-stands .ensures, l .1 .1, l .1 .0),
+      ),
     )
 
 returns : tie.Need-returns Inv-loop μ-loop

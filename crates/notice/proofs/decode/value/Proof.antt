@@ -27,17 +27,17 @@ add-get-2 c =
 get-requires : tie.Need-get-requires
 get-requires c κs =
     let inside = value-inside _ _ (c .before .before .before .pre .0) (c .before .before .before .pre .1 .1) in
-    rw (c .before .entry .ensures)
-      ( omega (arith, c .start .ensures, c .before .before .before .pre)
-      , sound _ (c .before .before .before .pre .0) .small
-      )
+    rw (c .before .entry .ensures) (
+      omega (arith, c .start .ensures, c .before .before .before .pre),
+      sound _ (c .before .before .before .pre .0) .small,
+    )
 
 returns : tie.Need-returns
 unfolding valueAt
-returns c =
-    ( c .get .ensures .0 ∙ rw (c .before .start .ensures, c .before .before .entry .ensures)
-    , rw (c .before .before .entry .ensures) at (c .get .ensures .1)
-    )
+returns c = (
+  c .get .ensures .0 ∙ rw (c .before .start .ensures, c .before .before .entry .ensures),
+  rw (c .before .before .entry .ensures) at (c .get .ensures .1),
+)
 
 pub value-spec : {M : Type 1} → statement M
 value-spec =
