@@ -2,4 +2,5 @@ pub mod Answers
 pub mod Bytes
 pub mod Cases
 pub mod Digits
+pub mod Has
 pub mod Table

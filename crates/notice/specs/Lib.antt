@@ -3,3 +3,4 @@ pub mod Fields
 pub mod Numbers
 pub mod Encode
 pub mod Decode
+pub mod Log
