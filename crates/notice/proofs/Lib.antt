@@ -3,4 +3,5 @@ pub mod Bytes
 pub mod Cases
 pub mod Digits
 pub mod Has
+pub mod RoundTrip
 pub mod Table
