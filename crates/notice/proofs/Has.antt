@@ -16,7 +16,7 @@ use Rattle.notice.specs.Log.{Bytes}
 use Rattle.notice.proofs.Bytes.{length-big}
 
 -- one of two numbers is the greater
-by-order : {P : Type 0} (a b : ℕ) → (a < b → P) → (b ≤ a → P) → P
+pub by-order : {P : Type 0} (a b : ℕ) → (a < b → P) → (b ≤ a → P) → P
 by-order {P} a b f g = go (ltb a b) refl
   where
     go : (t : Bool) → ltb a b ≡ t → P
