@@ -4,5 +4,7 @@ pub mod Cases
 pub mod Digits
 pub mod Has
 pub mod ReadBack
+pub mod Refused
 pub mod RoundTrip
 pub mod Table
+pub mod Worked

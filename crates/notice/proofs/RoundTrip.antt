@@ -89,6 +89,11 @@ kind-known (Open l a k n) = refl
 kind-known (Change n) = refl
 kind-known Close = refl
 
+-- so a notice goes on past the place of its kind
+pub past-kind : (n : Notice) → 3 < length (bytesOf n)
+unfolding table
+past-kind n = omega (arith, length-notice n, value-inside (kindOf (n .kind)) 0 (omega arith) (kind-known (n .kind)))
+
 pub first-value : (bs : List ℕ) (p k : ℕ) → valueAt bs p k 0 ≡ kindAt bs p
 unfolding valueAt numberAt startOf table
 first-value bs p k =
@@ -109,7 +114,7 @@ module _ (bs : List ℕ) (p : ℕ) (n : Notice) (fits : Fits n) (has : Has bs p 
   unfolding bytesOf
   value i h c = values-back bs p (kindOf (n .kind)) (valuesIn n) has i h c (fits i h c)
 
-  kind-at : kindAt bs p ≡ kindOf (n .kind)
+  pub kind-at : kindAt bs p ≡ kindOf (n .kind)
   kind-at = sym (first-value bs p (kindOf (n .kind))) ∙ value 0 (omega arith) (kind-known (n .kind))
 
   notice-back : noticeIn bs p (kindOf (n .kind)) ≡ n
