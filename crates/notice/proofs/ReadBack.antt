@@ -25,9 +25,10 @@ use Rattle.notice.specs.Numbers.{bigEndian, numberAt}
 use Rattle.notice.specs.Encode.{kindOf, dataIn, valuesIn, fieldBytes, rowBytes, bytesTo, bytesOf}
 use Rattle.notice.specs.Decode.{headStands, rowStands, standsTo, valueAt, kindIn, noticeIn, kindAt, isWhole, readAt, readOf}
 use Rattle.notice.specs.Log.{Bytes}
-use Rattle.notice.proofs.Table.{both-l, both-r, no-bit, sound}
+use Rattle.notice.proofs.Table.{both-l, both-r, by-kind}
+use Rattle.notice.proofs.Each.{each, false-true}
 use Rattle.notice.proofs.Bytes.{length-big, length-bytes, length-notice}
-use Rattle.notice.proofs.Has.{by-order, Has, has-both, has-part, bytes-back}
+use Rattle.notice.proofs.Has.{Has, has-both, has-part, bytes-back}
 use Rattle.notice.proofs.Cases.{only, alone}
 use Rattle.notice.proofs.RoundTrip.{first-value}
 
@@ -69,29 +70,6 @@ module _ (bs : List ℕ) (small : Bytes bs) (p k : ℕ) (vs : List ℕ) (same : 
       go false c t = λ j lt. absurd (omega arith)
 
 -- ---- the kind and the notice
-
--- a fact of each number below a bound, listed, is a fact of every one
-abbrev Each : (ℕ → Type 0) → ℕ → Type 0
-Each P zero = Unit {0}
-Each P (suc m) = Each P m × P m
-
-each : (P : ℕ → Type 0) (m : ℕ) → Each P m → (i : ℕ) → i < m → P i
-each P zero all i h = absurd (omega arith)
-each P (suc m) all i h =
-    by-order i m (λ lt. each P m (all .0) i lt) (λ le. let e : m ≡ i = omega arith in rw (sym e) (all .1))
-
-false-true : {A : Type 0} → false ≡ true → A
-false-true e = absurd (let z : _≡_ {A = ℕ} 0 1 = cc in omega arith)
-
--- a fact of each kind of the table is a fact of every kind that it knows: only eight could have a bit
-pub by-kind : (P : ℕ → Type 0) → P 1 → P 2 → P 3 → (k : ℕ) → isKnown k ≡ true → P k
-unfolding table
-by-kind P a b c k e =
-    by-order k 8
-    (λ lt.
-    each (λ (j : ℕ). isKnown j ≡ true → P j) 8
-    ((((((((tt, false-true), (λ _. a)), (λ _. b)), (λ _. c)), false-true), false-true), false-true), false-true) k lt e)
-    (λ far. false-true (sym (no-bit k 0 (omega arith) far) ∙ e))
 
 -- the notice that is made of a kind's values has those values
 kind-same : (bs : List ℕ) (p k : ℕ) → isKnown k ≡ true → kindOf (noticeIn bs p k .kind) ≡ k

@@ -21,10 +21,10 @@ use Rattle.notice.specs.Encode.{kindOf, bytesOf}
 use Rattle.notice.specs.Decode.{headStands, rowStands, standsTo, kindAt, isWhole, isAlone, readAt, readOf}
 use Rattle.notice.specs.Log.{Fits}
 use Rattle.notice.proofs.Bytes.{length-notice}
-use Rattle.notice.proofs.Has.{by-order}
+use Rattle.notice.proofs.Each.{by-order}
 use Rattle.notice.proofs.Cases.{at-none, no-kind, no-rows, no-room, unknown}
 use Rattle.notice.proofs.RoundTrip.{kind-at, past-kind}
-use Rattle.notice.proofs.ReadBack.{by-kind}
+use Rattle.notice.proofs.Table.{by-kind}
 
 -- ---- from the tests to the answer
 

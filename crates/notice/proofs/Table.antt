@@ -1,6 +1,6 @@
 -- What holds of every row of the field table, by one test that is computed over the whole table.
 -- Rests on the table alone: a new row or bit that keeps the test keeps every law above it.
-use mathlib.Core.Path.{_≡_, refl}
+use mathlib.Core.Path.{_≡_, refl, sym, _∙_}
 use mathlib.Core.Bool.{Bool, true, false}
 use mathlib.Core.List.{List, [], _∷_}
 use Prim.Native.Nat.{ℕ, zero, suc, _+_, _*_, _-_, _≤_, _<_, _^_, _/_, _%_}
@@ -13,7 +13,8 @@ use borrow.Author.Tests.{leb-true, ltb-true, eqb-true}
 use Rattle.rules.specs.Limits.{both}
 use Rattle.rules.specs.Refusals.{pick}
 use Rattle.notice.specs.declared.fields.Field.{Field}
-use Rattle.notice.specs.Fields.{table, rows, row, fieldOf, isCarried, spanOf, startOf, lengthOf}
+use Rattle.notice.specs.Fields.{table, rows, row, fieldOf, isCarried, isKnown, spanOf, startOf, lengthOf}
+use Rattle.notice.proofs.Each.{by-order, each, false-true}
 
 pub both-l : (a b : Bool) → both a b ≡ true → a ≡ true
 both-l true b e = refl
@@ -59,6 +60,16 @@ no-bit k i h far =
     let top : 256 ≤ 2 ^ k = pow-mono far in
     let none : fieldOf i .kinds / 2 ^ k ≡ 0 = div-eq-of-lt (lt-of-lt-of-le (sound i h .bits) top) in
     rw none
+
+-- a fact of each kind of the table is a fact of every kind that it knows: only eight could have a bit
+pub by-kind : (P : ℕ → Type 0) → P 1 → P 2 → P 3 → (k : ℕ) → isKnown k ≡ true → P k
+unfolding table
+by-kind P a b c k e =
+    by-order k 8
+    (λ lt.
+    each (λ (j : ℕ). isKnown j ≡ true → P j) 8
+    ((((((((tt, false-true), (λ _. a)), (λ _. b)), (λ _. c)), false-true), false-true), false-true), false-true) k lt e)
+    (λ far. false-true (sym (no-bit k 0 (omega arith) far) ∙ e))
 
 pub span-small : (k i : ℕ) → i < rows → spanOf k i ≤ 11
 unfolding spanOf

@@ -15,6 +15,7 @@ use Rattle.notice.specs.Encode.{kindOf, dataIn, valuesIn, fieldBytes, ro
 use Rattle.notice.specs.Decode.{readOf}
 use Rattle.notice.specs.Log.{Fits}
 use Rattle.notice.proofs.RoundTrip.{written-reads}
+use Rattle.notice.proofs.Typed.{typed-fits}
 
 -- the lengths of the three kinds
 pub open-length : lengthOf openKind ≡ 45
@@ -39,3 +40,11 @@ pub case-12 : bytesOf (record { sequence = 2; title = 0; time = 4; kind = Change
     ∷ []
 unfolding table bytesOf bytesTo rowBytes fieldBytes bigEndian
 case-12 = refl
+
+-- values outside the limits are well formed and survive
+pub outside-survive : readOf (bytesOf (record { sequence = 2 ^ 32 - 1; title = 255; time = 2 ^ 64 - 1; kind = Open (2 ^ 32 - 1) 255 255 255 }))
+    ≡ reading.Whole (record { sequence = 2 ^ 32 - 1; title = 255; time = 2 ^ 64 - 1; kind = Open (2 ^ 32 - 1) 255 255 255 })
+outside-survive =
+    written-reads (record { sequence = 2 ^ 32 - 1; title = 255; time = 2 ^ 64 - 1; kind = Open (2 ^ 32 - 1) 255 255 255 })
+    (typed-fits (record { sequence = 2 ^ 32 - 1; title = 255; time = 2 ^ 64 - 1; kind = Open (2 ^ 32 - 1) 255 255 255 })
+    (record { sequence-fits = omega arith; title-fits = omega arith; time-fits = omega arith; kind-fits = omega arith }))

@@ -5,6 +5,8 @@ use mathlib.Core.Bool.{true}
 use mathlib.Core.List.{List, [], _∷_, _++_}
 use lib.ListN.{getD}
 use Rattle.notice.specs.declared.Notice.{Notice}
+use Rattle.notice.specs.declared.Kind.{Kind}
+use Rattle.notice.specs.declared.Kind.the-variants.{Open, Change, Close}
 use Rattle.notice.specs.declared.Found.the-variants as found
 use Rattle.notice.specs.Fields.{sizeOf, isCarried, rows}
 use Rattle.notice.specs.Encode.{kindOf, valuesIn, bytesOf}
@@ -14,7 +16,19 @@ use Rattle.notice.specs.Decode.{readAt}
 abbrev pub Bytes : List ℕ → Type 0
 Bytes bs = (j : ℕ) → getD bs j 0 < 256
 
--- each value of a notice fits its field, as every record of the code's types does
+-- the widths of the code's types
+abbrev pub KindTyped : Kind → Type 0
+KindTyped (Open d a k n) = (d < 2 ^ 32) × ((a < 2 ^ 8) × ((k < 2 ^ 8) × (n < 2 ^ 8)))
+KindTyped (Change n) = n < 2 ^ 8
+KindTyped Close = Unit {0}
+
+pub record Typed (n : Notice) : Type 0 where
+  pub sequence-fits : n .sequence < 2 ^ 32
+  pub title-fits : n .title < 2 ^ 8
+  pub time-fits : n .time < 2 ^ 64
+  pub kind-fits : KindTyped (n .kind)
+
+-- each value of a notice fits its field, as in every record of those widths
 abbrev pub Fits : Notice → Type 0
 Fits n = (i : ℕ) → i < rows → isCarried (kindOf (n .kind)) i ≡ true → getD (valuesIn n) i 0 < 256 ^ sizeOf i
 
