@@ -99,3 +99,8 @@ pub record Reads (bs : List ℕ) (r : Reading) : Type 0 where
 pub record Finds (bs : List ℕ) (p : ℕ) (r : Found) : Type 0 where
   pub is : r ≡ readAt bs p
   pub answers : answerOf r ≡ pick (leb (length bs) p) end (number (firstHit (refuse malformed (not (isWhole bs p)) ∷ [])))
+
+-- what a reader's step promises: the answer at its place, and the place that it keeps
+pub record Steps (bs : List ℕ) (p : ℕ) (r : Found) (after : ℕ) : Type 0 where
+  pub finds : Finds bs p r
+  pub moves : after ≡ placeAfter r p

@@ -13,7 +13,7 @@ use fields::carried;
 use fields::start;
 ghost use mathlib.Core.Path.{_≡_};
 ghost use Rattle.notice.specs.Encode.{Writes};
-ghost use Rattle.notice.specs.Decode.{Reads, Finds, placeAfter};
+ghost use Rattle.notice.specs.Decode.{Reads, Finds, Steps, placeAfter};
 
 mod decode;
 mod encode;
@@ -105,4 +105,32 @@ pub fn read(bytes: &[u8]) -> Reading
         Found::End => Reading::Malformed,
         Found::Malformed => Reading::Malformed,
     }
+}
+
+// A reader that keeps its log and its place.
+pub struct Log<'a> {
+    pub bytes: &'a [u8],
+    pub place: usize,
+}
+
+// Where a reader goes on after an answer: past a notice, and nowhere after "end" and 11.
+fn place_after(found: Found, place: usize) -> usize
+    ensures { λ r. ⌜ r ≡ placeAfter found place ⌝ }
+{
+    match found {
+        Found::At(_, end) => end,
+        Found::End => place,
+        Found::Malformed => place,
+    }
+}
+
+// The next answer of a log, which moves past a notice.
+pub fn next<'s, 'a>(log: &'s mut Log<'a>) -> Found
+    ensures { λ r. ⌜ Steps (now (now (log .entry) .bytes)) (now (log .entry) .place) r (now (log .exit) .place) × (now (log .exit) .bytes ≡ now (log .entry) .bytes) ⌝ }
+{
+    let place = log.place;
+    let found = read_at(log.bytes, place);
+    let after = place_after(found, place);
+    log.place = after;
+    found
 }
