@@ -134,3 +134,11 @@ pub fn next<'s, 'a>(log: &'s mut Log<'a>) -> Found
     log.place = after;
     found
 }
+
+// The same from a log and a place, for callers that keep no reader.
+pub fn next_in(bytes: &[u8], place: usize) -> Found
+    ensures { λ r. ⌜ Finds (now (bytes .entry)) place r ⌝ }
+{
+    let mut log = Log { bytes, place };
+    next(&mut log)
+}
