@@ -7,6 +7,7 @@ pub mod Has
 pub mod ReadBack
 pub mod Refused
 pub mod RoundTrip
+pub mod Settled
 pub mod Table
 pub mod Typed
 pub mod Worked

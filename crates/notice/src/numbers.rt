@@ -20,7 +20,8 @@ pub fn get(bytes: &[u8], at: usize, width: usize) -> u64
     let mut v: u64 = 0;
     let mut i: usize = 0;
     while i < width {
-        v = v * 256 + wide(bytes[at + i]);
+        let byte = wide(bytes[at + i]);
+        v = v * 256 + byte;
         i += 1;
     }
     v

@@ -21,9 +21,6 @@ loop-holds : tie.Need-loop-holds Inv-loop μ-loop
 unfolding numberAt
 loop-holds c = search needs
 
-mul-v : tie.Need-mul-v Inv-loop μ-loop
-mul-v c = omega (arith, fits-64 (c .before .loop .i) (omega arith))
-
 add-wide : tie.Need-add-wide Inv-loop μ-loop
 add-wide c = omega arith
 
@@ -32,6 +29,9 @@ shared-slice-read-wide c = omega arith
 
 wide-requires : tie.Need-wide-requires Inv-loop μ-loop
 wide-requires c κs = search needs
+
+mul-v : tie.Need-mul-v Inv-loop μ-loop
+mul-v c = omega (arith, fits-64 (c .before .before .before .loop .i) (omega arith))
 
 add-v : tie.Need-add-v Inv-loop μ-loop
 add-v c = omega (arith, fits-64 (c .before .before .before .loop .i) (omega arith))
@@ -58,10 +58,10 @@ get-spec =
     Inv-loop
     μ-loop
     loop-holds
-    mul-v
     add-wide
     shared-slice-read-wide
     wide-requires
+    mul-v
     add-v
     add-i
     loop-less
