@@ -1,0 +1,31 @@
+-- Rows of one length are as many titles, and the title at a place has the rows' numbers there.
+-- Rests on nothing but induction over the rows.
+use mathlib.Core.Path.{_≡_, refl, ap}
+use mathlib.Core.List.{List, [], _∷_}
+use Prim.Native.Nat.{ℕ, zero, suc, _<_}
+use native.Mathlib.Omega.{arith}
+use lib.ListN.{length, getD}
+use Rattle.sharing.specs.declared.titles.Title.{Title}
+use Rattle.sharing.specs.Titles.{titles, titleAt, Even}
+
+-- the rows without their first places
+even-tail : {r d f k : ℕ} {rs ds fs ks : List ℕ} → Even (r ∷ rs) (d ∷ ds) (f ∷ fs) (k ∷ ks) → Even rs ds fs ks
+even-tail e = record { second = omega arith; third = omega arith; fourth = omega arith }
+
+pub titles-length : (rs ds fs ks : List ℕ) → Even rs ds fs ks → length (titles rs ds fs ks) ≡ length rs
+unfolding titles
+titles-length [] ds fs ks e = refl
+titles-length (r ∷ rs) [] fs ks e = omega arith
+titles-length (r ∷ rs) (d ∷ ds) [] ks e = omega arith
+titles-length (r ∷ rs) (d ∷ ds) (f ∷ fs) [] e = omega arith
+titles-length (r ∷ rs) (d ∷ ds) (f ∷ fs) (k ∷ ks) e = ap suc (titles-length rs ds fs ks (even-tail e))
+
+pub titles-at : (rs ds fs ks : List ℕ) → Even rs ds fs ks → (i : ℕ) → i < length rs
+    → titleAt (titles rs ds fs ks) i ≡ record { rate = getD rs i 0; length = getD ds i 0; floor = getD fs i 0; cap = getD ks i 0 }
+unfolding titles
+titles-at [] ds fs ks e i h = absurd (omega arith)
+titles-at (r ∷ rs) [] fs ks e i h = absurd (omega arith)
+titles-at (r ∷ rs) (d ∷ ds) [] ks e i h = absurd (omega arith)
+titles-at (r ∷ rs) (d ∷ ds) (f ∷ fs) [] e i h = absurd (omega arith)
+titles-at (r ∷ rs) (d ∷ ds) (f ∷ fs) (k ∷ ks) e zero h = refl
+titles-at (r ∷ rs) (d ∷ ds) (f ∷ fs) (k ∷ ks) e (suc i) h = titles-at rs ds fs ks (even-tail e) i (omega arith)

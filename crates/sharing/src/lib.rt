@@ -1,0 +1,3 @@
+// The sharing of lanes (01, "Sharing").
+mod term;
+mod titles;
