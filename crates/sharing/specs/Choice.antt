@@ -17,15 +17,19 @@ sumOf [] ks = 0
 sumOf (t ∷ ts) [] = 0
 sumOf (t ∷ ts) (k ∷ ks) = term t k + sumOf ts ks
 
+-- a is less than b, or they are equal and r holds
+unfoldable pub lessOr : ℕ → ℕ → Bool → Bool
+lessOr a b r = either (ltb a b) (both (eqb a b) r)
+
 -- at the first title where two choices differ, the first choice has more; or they are the same
 unfoldable pub atLeast : List ℕ → List ℕ → Bool
 atLeast [] ys = true
 atLeast (x ∷ xs) [] = true
-atLeast (x ∷ xs) (y ∷ ys) = either (ltb y x) (both (eqb x y) (atLeast xs ys))
+atLeast (x ∷ xs) (y ∷ ys) = lessOr y x (atLeast xs ys)
 
 -- the first choice is to be taken rather than the second, or is the second: a lesser sum, or among equals more for earlier titles
 unfoldable pub prefers : List Title → List ℕ → List ℕ → Bool
-prefers ts x y = either (ltb (sumOf ts x) (sumOf ts y)) (both (eqb (sumOf ts x) (sumOf ts y)) (atLeast x y))
+prefers ts x y = lessOr (sumOf ts x) (sumOf ts y) (atLeast x y)
 
 -- a choice: a count for each title, from its floor to its cap, the total at most the pool
 pub record Choice (pool : ℕ) (ts : List Title) (x : List ℕ) : Type 0 where
