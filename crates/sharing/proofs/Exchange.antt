@@ -12,11 +12,10 @@ use lib.Seq.{getD-set-other, ext-getD}
 use Rattle.sharing.specs.declared.titles.Title.{Title}
 use Rattle.sharing.specs.Titles.{titleAt, total}
 use Rattle.sharing.specs.Term.{term, fall}
-use Rattle.sharing.specs.Choice.{sumOf, atLeast, prefers, Choice, Shared}
+use Rattle.sharing.specs.Choice.{sumOf, atLeast, prefers, Way, Choice, Shared}
 use Rattle.sharing.specs.Giving.{AllWeighable}
 use Rattle.sharing.proofs.Tests.{side}
 use Rattle.sharing.proofs.Order.{Trio, less, same, more, trio, or-view}
-use Rattle.sharing.proofs.Search.{Way, as-choice, as-way}
 use Rattle.sharing.proofs.Sums.{total-set, total-mono, sum-set, at-set, way-set, ranks}
 use Rattle.sharing.proofs.term.Laws.{falls, fall-rest}
 
@@ -80,41 +79,41 @@ module _ (pool : ℕ) (ts : List Title) (ok : AllWeighable ts) (c x : List ℕ) 
   too-many i l g up = go (s .full)
     where
       place : i < length c
-      place = omega (arith, s .choice .places)
+      place = omega (arith, s .choice .way .places)
 
       above : total (set c i (suc (getD c i 0))) ≤ total x
       above =
-          total-mono (set c i (suc (getD c i 0))) x (length-set c i _ ∙ s .choice .places ∙ sym (h .choice .places))
-          (λ j m. at-set (λ n k. n < length ts → k ≤ getD x n 0) c i (suc (getD c i 0)) place (λ _. g) (λ n _ b. up n b) j (omega (arith, s .choice .places, length-set c i (suc (getD c i 0)))))
+          total-mono (set c i (suc (getD c i 0))) x (length-set c i _ ∙ s .choice .way .places ∙ sym (h .choice .way .places))
+          (λ j m. at-set (λ n k. n < length ts → k ≤ getD x n 0) c i (suc (getD c i 0)) place (λ _. g) (λ n _ b. up n b) j (omega (arith, s .choice .way .places, length-set c i (suc (getD c i 0)))))
 
       go : (total c ≡ pool) ⊎ ((j : ℕ) → j < length ts → titleAt ts j .cap ≤ getD c j 0) → ⊥
       go (inl e) = omega (arith, total-set c i (suc (getD c i 0)) place, above, h .choice .room)
-      go (inr f) = omega (arith, f i l, h .choice .high i l)
+      go (inr f) = omega (arith, f i l, h .choice .way .high i l)
 
   -- a lane less than c has at j, and no more elsewhere: one more at j would be a lesser sum
   too-few : (j : ℕ) → j < length ts → getD x j 0 < getD c j 0 → ((i : ℕ) → i < length ts → getD x i 0 ≤ getD c i 0) → ⊥
-  too-few j l g up = no-lesser y (as-choice way (omega (arith, under, s .choice .room))) lesser
+  too-few j l g up = no-lesser y (record { way = way; room = omega (arith, under, s .choice .room) }) lesser
     where
       y : List ℕ
       y = set x j (suc (getD x j 0))
 
       place : j < length x
-      place = omega (arith, h .choice .places)
+      place = omega (arith, h .choice .way .places)
 
       way : Way ts y
-      way = way-set ts x (as-way (h .choice)) j (suc (getD x j 0)) l (omega (arith, h .choice .low j l)) (omega (arith, s .choice .high j l))
+      way = way-set ts x (h .choice .way) j (suc (getD x j 0)) l (omega (arith, h .choice .way .low j l)) (omega (arith, s .choice .way .high j l))
 
       under : total y ≤ total c
       under =
-          total-mono y c (length-set x j _ ∙ h .choice .places ∙ sym (s .choice .places))
-          (λ i m. at-set (λ n k. n < length ts → k ≤ getD c n 0) x j (suc (getD x j 0)) place (λ _. g) (λ n _ b. up n b) i (omega (arith, h .choice .places, length-set x j (suc (getD x j 0)))))
+          total-mono y c (length-set x j _ ∙ h .choice .way .places ∙ sym (s .choice .way .places))
+          (λ i m. at-set (λ n k. n < length ts → k ≤ getD c n 0) x j (suc (getD x j 0)) place (λ _. g) (λ n _ b. up n b) i (omega (arith, h .choice .way .places, length-set x j (suc (getD x j 0)))))
 
       lesser : sumOf ts y < sumOf ts x
       lesser =
           omega (
             arith,
-            sum-set ts x j (suc (getD x j 0)) l (h .choice .places),
-            falls (titleAt ts j) (ok .each j l) (getD x j 0) (omega (arith, ok .each j l .floor-low, h .choice .low j l)) (omega (arith, ok .each j l .cap-high, s .choice .high j l)),
+            sum-set ts x j (suc (getD x j 0)) l (h .choice .way .places),
+            falls (titleAt ts j) (ok .each j l) (getD x j 0) (omega (arith, ok .each j l .floor-low, h .choice .way .low j l)) (omega (arith, ok .each j l .cap-high, s .choice .way .high j l)),
           )
 
   -- more than c has at i and less at j: a lane moved from i to j is no greater a sum, and a better rank where it is the same
@@ -140,38 +139,40 @@ module _ (pool : ℕ) (ts : List Title) (ok : AllWeighable ts) (c x : List ℕ) 
       kept = getD-set-other x i j p 0 apart
 
       z-way : Way ts z
-      z-way = way-set ts x (as-way (h .choice)) i p li (omega (arith, s .choice .low i li)) (omega (arith, h .choice .high i li))
+      z-way = way-set ts x (h .choice .way) i p li (omega (arith, s .choice .way .low i li)) (omega (arith, h .choice .way .high i li))
 
       y-way : Way ts y
-      y-way = way-set ts z z-way j (suc (getD x j 0)) lj (omega (arith, h .choice .low j lj)) (omega (arith, s .choice .high j lj))
+      y-way = way-set ts z z-way j (suc (getD x j 0)) lj (omega (arith, h .choice .way .low j lj)) (omega (arith, s .choice .way .high j lj))
 
       y-choice : Choice pool ts y
       y-choice =
-          as-choice y-way
-          (omega (
-            arith,
-            h .choice .room,
-            kept,
-            total-set x i p (omega (arith, h .choice .places)),
-            total-set z j (suc (getD x j 0)) (omega (arith, z-way .places)),
-          ))
+          record {
+            way = y-way;
+            room = omega (
+              arith,
+              h .choice .room,
+              kept,
+              total-set x i p (omega (arith, h .choice .way .places)),
+              total-set z j (suc (getD x j 0)) (omega (arith, z-way .places)),
+            );
+          }
 
       sums : sumOf ts y + fall (titleAt ts j) (getD x j 0) ≡ sumOf ts x + fall (titleAt ts i) p
       sums =
           omega (
             arith,
-            sum-set ts x i p li (h .choice .places),
+            sum-set ts x i p li (h .choice .way .places),
             rw kept at (sum-set ts z j (suc (getD x j 0)) lj (z-way .places)),
-            rw last at (fall-rest (titleAt ts i) p (omega (arith, ok .each i li .floor-low, s .choice .low i li))),
-            fall-rest (titleAt ts j) (getD x j 0) (omega (arith, ok .each j lj .floor-low, h .choice .low j lj)),
+            rw last at (fall-rest (titleAt ts i) p (omega (arith, ok .each i li .floor-low, s .choice .way .low i li))),
+            fall-rest (titleAt ts j) (getD x j 0) (omega (arith, ok .each j lj .floor-low, h .choice .way .low j lj)),
           )
 
       worth-it : fall (titleAt ts i) p ≤ fall (titleAt ts j) (getD x j 0)
-      worth-it = s .given .worth-it j i (getD x j 0) p lj li (h .choice .low j lj) gj (omega arith) (omega (arith, h .choice .high i li))
+      worth-it = s .given .worth-it j i (getD x j 0) p lj li (h .choice .way .low j lj) gj (omega arith) (omega (arith, h .choice .way .high i li))
 
       earlier : j < i → atLeast x y ≡ false
       earlier b =
-          ranks x y j (sym (length-set z j _ ∙ length-set x i p)) (omega (arith, h .choice .places))
+          ranks x y j (sym (length-set z j _ ∙ length-set x i p)) (omega (arith, h .choice .way .places))
           (λ n m. sym (getD-set-other z j n _ 0 (omega arith) ∙ getD-set-other x i n p 0 (omega arith)))
           (omega (arith, at-set (λ n k. n ≡ j → k ≡ suc (getD x j 0)) z j (suc (getD x j 0)) (omega (arith, z-way .places)) (λ _. refl) (λ n a e. absurd (a e)) j refl))
 
@@ -182,7 +183,7 @@ module _ (pool : ℕ) (ts : List Title) (ok : AllWeighable ts) (c x : List ℕ) 
       go : Trio i j → ⊥
       go (less b) =
           no-lesser y y-choice
-          (omega (arith, sums, s .given .first-served j i (getD x j 0) p lj b (h .choice .low j lj) gj (omega arith) (omega (arith, h .choice .high i li))))
+          (omega (arith, sums, s .given .first-served j i (getD x j 0) p lj b (h .choice .way .low j lj) gj (omega arith) (omega (arith, h .choice .way .high i li))))
       go (same e) = apart (sym e)
       go (more b) = equal b (side (sumOf ts y) (sumOf ts x))
 
@@ -195,5 +196,5 @@ module _ (pool : ℕ) (ts : List Title) (ok : AllWeighable ts) (c x : List ℕ) 
       go (inl a) (inr b) = absurd (too-many (a .at) (a .inside) (a .gap) b)
       go (inr a) (inl b) = absurd (too-few (b .at) (b .inside) (b .gap) a)
       go (inr a) (inr b) =
-          ext-getD 0 x c (h .choice .places ∙ sym (s .choice .places))
-          (λ i l. let m : i < length ts = omega (arith, h .choice .places) in omega (arith, a i m, b i m))
+          ext-getD 0 x c (h .choice .way .places ∙ sym (s .choice .way .places))
+          (λ i l. let m : i < length ts = omega (arith, h .choice .way .places) in omega (arith, a i m, b i m))

@@ -13,14 +13,14 @@ use Rattle.rules.specs.Limits.{both}
 use Rattle.rules.specs.Refusals.{pick}
 use Rattle.sharing.specs.declared.titles.Title.{Title}
 use Rattle.sharing.specs.Titles.{titleAt, nobody, total}
-use Rattle.sharing.specs.Choice.{Choice, Shared, prefers, from, ways, better, bestOf, shared}
+use Rattle.sharing.specs.Choice.{Way, Choice, Shared, prefers, from, ways, better, bestOf, shared}
 use Rattle.sharing.proofs.Tests.{both-left, both-right, both-true, outcome, side}
 use Rattle.sharing.proofs.Order.{prefers-total, prefers-antisym, prefers-trans, prefers-self}
 
 -- one choice only is to be preferred to all
 pub only-one : (pool : ℕ) (ts : List Title) (x y : List ℕ) → Shared pool ts x → Shared pool ts y → x ≡ y
 only-one pool ts x y p q =
-    prefers-antisym ts x y (p .choice .places ∙ sym (q .choice .places)) (p .best y (q .choice)) (q .best x (p .choice))
+    prefers-antisym ts x y (p .choice .way .places ∙ sym (q .choice .way .places)) (p .best y (q .choice)) (q .best x (p .choice))
 
 -- a property of every member of a list
 abbrev All : (List ℕ → Type 0) → List (List ℕ) → Type 0
@@ -64,12 +64,6 @@ module _ (P : List ℕ → Type 0) where
       go (inl l) r = r l
       go (inr l) r = let e : lo ≡ k = omega arith in subst (λ (m : ℕ). All P (g m)) e (all-front (g lo) (flatMap g (from (suc lo) n)) h)
 
--- a choice but for its total
-pub record Way (ts : List Title) (x : List ℕ) : Type 0 where
-  pub places : length x ≡ length ts
-  pub low : (i : ℕ) → i < length ts → titleAt ts i .floor ≤ getD x i 0
-  pub high : (i : ℕ) → i < length ts → getD x i 0 ≤ titleAt ts i .cap
-
 way-cons : (t : Title) (ts : List Title) (k : ℕ) (x : List ℕ) → t .floor ≤ k → k ≤ t .cap → Way ts x → Way (t ∷ ts) (k ∷ x)
 way-cons t ts k x l h w = record { places = omega (arith, w .places); low = lows; high = highs }
   where
@@ -110,12 +104,6 @@ complete (t ∷ ts) P a (k ∷ x) w =
     (of-from P (λ j. map (λ y. j ∷ y) (ways ts)) (t .floor) (suc (t .cap) - t .floor) k (w .low 0 (omega arith)) (omega (arith, w .low 0 (omega arith), w .high 0 (omega arith))) a))
     x (way-tail t ts k x w)
 
-pub as-choice : {pool : ℕ} {ts : List Title} {x : List ℕ} → Way ts x → total x ≤ pool → Choice pool ts x
-as-choice w h = record { places = w .places; low = w .low; high = w .high; room = h }
-
-pub as-way : {pool : ℕ} {ts : List Title} {x : List ℕ} → Choice pool ts x → Way ts x
-as-way c = record { places = c .places; low = c .low; high = c .high }
-
 module _ (pool : ℕ) (ts : List Title) where
   -- the better of a choice and a way is a choice, to be preferred to both
   record Better (x y b : List ℕ) : Type 0 where
@@ -139,7 +127,7 @@ module _ (pool : ℕ) (ts : List Title) where
       go (inl e) =
           rw e
           (record {
-            fits = as-choice w (leb-true _ _ (both-left (leb (total y) pool) (prefers ts y x) e));
+            fits = record { way = w; room = leb-true _ _ (both-left (leb (total y) pool) (prefers ts y x) e) };
             first = both-right (leb (total y) pool) (prefers ts y x) e;
             second = λ r. prefers-self ts y;
           })
@@ -162,15 +150,15 @@ module _ (pool : ℕ) (ts : List Title) where
       join n b =
           record {
             fits = b .fits;
-            first = over x (c .places) (n .first);
+            first = over x (c .way .places) (n .first);
             rest = (λ r. over y (a .0 .places) (n .second r), b .rest);
           }
         where
           over : (z : List ℕ) → length z ≡ length ts → prefers ts (better pool ts x y) z ≡ true → prefers ts (bestOf pool ts (better pool ts x y) ys) z ≡ true
-          over z l p = prefers-trans ts _ (better pool ts x y) z (b .fits .places ∙ sym (n .fits .places)) (n .fits .places ∙ sym l) (b .first) p
+          over z l p = prefers-trans ts _ (better pool ts x y) z (b .fits .way .places ∙ sym (n .fits .way .places)) (n .fits .way .places ∙ sym l) (b .first) p
 
 -- the floors are a choice where they are not above the caps and fit the pool
-floors-way : (ts : List Title) → ((i : ℕ) → i < length ts → titleAt ts i .floor ≤ titleAt ts i .cap) → Way ts (map (λ t. t .floor) ts)
+pub floors-way : (ts : List Title) → ((i : ℕ) → i < length ts → titleAt ts i .floor ≤ titleAt ts i .cap) → Way ts (map (λ t. t .floor) ts)
 floors-way ts h =
     record {
       places = length-map ts (λ t. t .floor);
@@ -183,8 +171,8 @@ pub found : (pool : ℕ) (ts : List Title) → ((i : ℕ) → i < length ts → 
     → total (map (λ t. t .floor) ts) ≤ pool → Shared pool ts (shared pool ts)
 unfolding shared
 found pool ts h r =
-    let b = best-is pool ts (ways ts) (map (λ t. t .floor) ts) (as-choice (floors-way ts h) r) (sound ts) in
+    let b = best-is pool ts (ways ts) (map (λ t. t .floor) ts) (record { way = floors-way ts h; room = r }) (sound ts) in
     record {
       choice = b .fits;
-      best = λ y c. complete ts (λ z. total z ≤ pool → prefers ts (bestOf pool ts (map (λ t. t .floor) ts) (ways ts)) z ≡ true) (b .rest) y (as-way c) (c .room);
+      best = λ y c. complete ts (λ z. total z ≤ pool → prefers ts (bestOf pool ts (map (λ t. t .floor) ts) (ways ts)) z ≡ true) (b .rest) y (c .way) (c .room);
     }

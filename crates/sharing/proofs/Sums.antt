@@ -11,10 +11,9 @@ use lib.Seq.{getD-set-same, getD-set-other}
 use Rattle.sharing.specs.declared.titles.Title.{Title}
 use Rattle.sharing.specs.Titles.{titleAt, total}
 use Rattle.sharing.specs.Term.{term}
-use Rattle.sharing.specs.Choice.{sumOf, atLeast}
+use Rattle.sharing.specs.Choice.{sumOf, atLeast, Way}
 use Rattle.sharing.proofs.Tests.{side}
 use Rattle.sharing.proofs.Order.{Trio, less, same, more, trio, or-is, or-more}
-use Rattle.sharing.proofs.Search.{Way}
 
 pub total-set : (x : List ℕ) (i v : ℕ) → i < length x → total (set x i v) + getD x i 0 ≡ total x + v
 unfolding total

@@ -31,11 +31,15 @@ atLeast (x ∷ xs) (y ∷ ys) = lessOr y x (atLeast xs ys)
 unfoldable pub prefers : List Title → List ℕ → List ℕ → Bool
 prefers ts x y = lessOr (sumOf ts x) (sumOf ts y) (atLeast x y)
 
--- a choice: a count for each title, from its floor to its cap, the total at most the pool
-pub record Choice (pool : ℕ) (ts : List Title) (x : List ℕ) : Type 0 where
+-- a count for each title, from its floor to its cap
+pub record Way (ts : List Title) (x : List ℕ) : Type 0 where
   pub places : length x ≡ length ts
   pub low : (i : ℕ) → i < length ts → titleAt ts i .floor ≤ getD x i 0
   pub high : (i : ℕ) → i < length ts → getD x i 0 ≤ titleAt ts i .cap
+
+-- a choice: the total is at most the pool
+pub record Choice (pool : ℕ) (ts : List Title) (x : List ℕ) : Type 0 where
+  pub way : Way ts x
   pub room : total x ≤ pool
 
 -- the choice that the sharing takes: it is to be preferred to every choice

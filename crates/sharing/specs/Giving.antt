@@ -5,8 +5,9 @@ use Prim.Native.Nat.{ℕ, _<_, _≤_}
 use lib.ListN.{length, getD}
 use Rattle.rules.specs.Limits.{countMin, countMax, lengthMax, lengthMin, rateMax, rateMin}
 use Rattle.sharing.specs.declared.titles.Title.{Title}
-use Rattle.sharing.specs.Titles.{titleAt, total}
+use Rattle.sharing.specs.Titles.{titleAt, titles, Even}
 use Rattle.sharing.specs.Term.{worth}
+use Rattle.sharing.specs.Choice.{Way}
 
 -- a title's numbers are such that its part of the sum can be worked out
 pub record Weighable (t : Title) : Type 0 where
@@ -22,7 +23,12 @@ pub record Weighable (t : Title) : Type 0 where
 pub record AllWeighable (ts : List Title) : Type 0 where
   pub each : (i : ℕ) → i < length ts → Weighable (titleAt ts i)
 
--- r is the title to which one lane more is worth most, the first of several; or the number of titles where it is worth nothing to all
+-- rows of one length, whose titles can all be weighed
+pub record Sound (rates lengths floors caps : List ℕ) : Type 0 where
+  pub even : Even rates lengths floors caps
+  pub weighable : AllWeighable (titles rates lengths floors caps)
+
+-- r is the title to which one lane more is worth most, the first of several; or the number of titles where it is worth nothing to any
 pub record Neediest (ts : List Title) (ks : List ℕ) (r : ℕ) : Type 0 where
   pub bound : r ≤ length ts
   pub nothing : r ≡ length ts → (j : ℕ) → j < length ts → worth (titleAt ts j) (getD ks j 0) ≡ 0

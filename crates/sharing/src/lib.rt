@@ -1,3 +1,4 @@
 // The sharing of lanes (01, "Sharing").
+mod giving;
 mod term;
 mod titles;

@@ -1,7 +1,7 @@
 -- Rows of one length are as many titles, and the title at a place has the rows' numbers there.
 -- Rests on nothing but induction over the rows.
 use mathlib.Core.Path.{_≡_, refl, ap}
-use mathlib.Core.List.{List, [], _∷_}
+use mathlib.Core.List.{List, [], _∷_, map}
 use Prim.Native.Nat.{ℕ, zero, suc, _<_}
 use native.Mathlib.Omega.{arith}
 use lib.ListN.{length, getD}
@@ -29,3 +29,13 @@ titles-at (r ∷ rs) (d ∷ ds) [] ks e i h = absurd (omega arith)
 titles-at (r ∷ rs) (d ∷ ds) (f ∷ fs) [] e i h = absurd (omega arith)
 titles-at (r ∷ rs) (d ∷ ds) (f ∷ fs) (k ∷ ks) e zero h = refl
 titles-at (r ∷ rs) (d ∷ ds) (f ∷ fs) (k ∷ ks) e (suc i) h = titles-at rs ds fs ks (even-tail e) i (omega arith)
+
+-- the titles' floors are the row of floors
+pub titles-floors : (rs ds fs ks : List ℕ) → Even rs ds fs ks → map (λ t. t .floor) (titles rs ds fs ks) ≡ fs
+unfolding titles
+titles-floors [] ds [] ks e = refl
+titles-floors [] ds (f ∷ fs) ks e = absurd (omega arith)
+titles-floors (r ∷ rs) [] fs ks e = absurd (omega arith)
+titles-floors (r ∷ rs) (d ∷ ds) [] ks e = absurd (omega arith)
+titles-floors (r ∷ rs) (d ∷ ds) (f ∷ fs) [] e = absurd (omega arith)
+titles-floors (r ∷ rs) (d ∷ ds) (f ∷ fs) (k ∷ ks) e = ap (λ l. f ∷ l) (titles-floors rs ds fs ks (even-tail e))
