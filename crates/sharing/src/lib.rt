@@ -2,3 +2,4 @@
 mod giving;
 mod term;
 mod titles;
+mod verdict;

@@ -1,0 +1,2 @@
+-- Of the refusals.
+mod Laws
