@@ -1,2 +1,2 @@
 -- Of lanes given one at a time.
-mod Laws
+pub mod Laws

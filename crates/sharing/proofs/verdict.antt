@@ -1,2 +1,2 @@
 -- Of the refusals.
-mod Laws
+pub mod Laws

@@ -3,9 +3,9 @@ use mathlib.Core.Path.{_≡_}
 use mathlib.Core.List.{List}
 use Prim.Native.Nat.{ℕ, _<_, _≤_}
 use lib.ListN.{length, getD}
-use Rattle.rules.specs.Limits.{countMin, countMax, lengthMax, lengthMin, rateMax, rateMin}
+use Rattle.rules.specs.Limits.{countMin, countMax, lengthMax, lengthMin, rateMax, rateMin, titlesMax}
 use Rattle.sharing.specs.declared.titles.Title.{Title}
-use Rattle.sharing.specs.Titles.{titleAt, titles, Even}
+use Rattle.sharing.specs.Titles.{titleAt, titles, total, Even}
 use Rattle.sharing.specs.Term.{worth}
 use Rattle.sharing.specs.Choice.{Way}
 
@@ -27,6 +27,13 @@ pub record AllWeighable (ts : List Title) : Type 0 where
 pub record Sound (rates lengths floors caps : List ℕ) : Type 0 where
   pub even : Even rates lengths floors caps
   pub weighable : AllWeighable (titles rates lengths floors caps)
+
+-- such rows, at most sixteen titles, whose floors fit the pool, and a row with a place for each count
+pub record Fillable (pool : ℕ) (rates lengths floors caps counts : List ℕ) : Type 0 where
+  pub sound : Sound rates lengths floors caps
+  pub few : length rates ≤ titlesMax
+  pub room : total floors ≤ pool
+  pub places : length counts ≡ length rates
 
 -- r is the title to which one lane more is worth most, the first of several; or the number of titles where it is worth nothing to any
 pub record Neediest (ts : List Title) (ks : List ℕ) (r : ℕ) : Type 0 where

@@ -1,4 +1,5 @@
 -- What a sharing answers and what it leaves in the lent row (01, "Sharing" and "Numbers that calls give back").
+use mathlib.Core.Path.{_≡_}
 use mathlib.Core.Bool.{Bool, true, false, not}
 use mathlib.Core.List.{List, [], _∷_, map, _++_}
 use Prim.Native.Nat.{ℕ}
@@ -50,3 +51,8 @@ rowAfter pool rates lengths floors caps row =
     pick (eqb (verdictOf pool rates lengths floors caps (length row)) done)
     (shared pool (titles rates lengths floors caps) ++ drop (length rates) row)
     row
+
+-- what a sharing gives back: the answer r, and the row it leaves
+pub record Answered (pool : ℕ) (rates lengths floors caps row : List ℕ) (r : ℕ) (after : List ℕ) : Type 0 where
+  pub answer : r ≡ verdictOf pool rates lengths floors caps (length row)
+  pub counts : after ≡ rowAfter pool rates lengths floors caps row

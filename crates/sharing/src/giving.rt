@@ -1,10 +1,12 @@
 // Lanes given one at a time, each to the title to which it is worth most: work grows with lanes times titles.
 ghost use mathlib.Core.Path.{_≡_};
 ghost use Prim.Native.Nat.{_+_};
+ghost use lib.ListN.{length};
 ghost use Rattle.sharing.specs.Titles.{titles, total};
 ghost use Rattle.sharing.specs.Choice.{Way, shared};
-ghost use Rattle.sharing.specs.Giving.{Sound, Neediest};
+ghost use Rattle.sharing.specs.Giving.{Sound, Fillable, Neediest};
 use super::term::gain;
+use super::titles::floor_total;
 use super::titles::title_at;
 
 // The title that gets the next lane, the first of several alike; the number of titles where all are at their caps.
@@ -31,7 +33,7 @@ fn next_title(rates: &[u32], lengths: &[u32], floors: &[u32], caps: &[u32], coun
 }
 
 // From the floors on, the spare lanes are given out, as many as the caps admit.
-pub fn give(
+fn give(
     rates: &[u32],
     lengths: &[u32],
     floors: &[u32],
@@ -51,4 +53,33 @@ pub fn give(
         }
         given += 1;
     }
+}
+
+// One row becomes the other.
+fn copy(from: &[u32], to: &mut [u32])
+    requires { ⌜ length (now to) ≡ length (now from) ⌝ }
+    ensures { λ r. ⌜ now (to .exit) ≡ now (from .entry) ⌝ }
+{
+    let mut i = 0;
+    while i < from.len() {
+        to[i] = from[i];
+        i += 1;
+    }
+}
+
+// The shared counts, into a row with one place to a title.
+pub fn fill(
+    pool: u64,
+    rates: &[u32],
+    lengths: &[u32],
+    floors: &[u32],
+    caps: &[u32],
+    counts: &mut [u32],
+)
+    requires { ⌜ Fillable pool (now rates) (now lengths) (now floors) (now caps) (now counts) ⌝ }
+    ensures { λ r. ⌜ now (counts .exit) ≡ shared pool (titles (now (rates .entry)) (now (lengths .entry)) (now (floors .entry)) (now (caps .entry))) ⌝ }
+{
+    copy(floors, counts);
+    let spare = pool - floor_total(floors);
+    give(rates, lengths, floors, caps, spare, counts);
 }

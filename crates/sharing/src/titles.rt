@@ -1,8 +1,9 @@
 // A title's numbers, gathered from the four rows.
 ghost use mathlib.Core.Path.{_≡_};
-ghost use Prim.Native.Nat.{_<_};
+ghost use Prim.Native.Nat.{_≤_, _<_};
 ghost use lib.ListN.{length};
-ghost use Rattle.sharing.specs.Titles.{titleAt, titles, Even};
+ghost use Rattle.rules.specs.Limits.{titlesMax};
+ghost use Rattle.sharing.specs.Titles.{titleAt, titles, total, Even};
 
 // What the sharing knows of a title.
 pub struct Title {
@@ -24,4 +25,18 @@ pub fn title_at(rates: &[u32], lengths: &[u32], floors: &[u32], caps: &[u32], i:
         floor: floors[i],
         cap: caps[i],
     }
+}
+
+// The floors together: what any choice takes at least.
+pub fn floor_total(floors: &[u32]) -> u64
+    requires { ⌜ length (now floors) ≤ titlesMax ⌝ }
+    ensures { λ r. ⌜ r ≡ total (now (floors .entry)) ⌝ }
+{
+    let mut sum: u64 = 0;
+    let mut i = 0;
+    while i < floors.len() {
+        sum += floors[i] as u64;
+        i += 1;
+    }
+    sum
 }

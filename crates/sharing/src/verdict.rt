@@ -1,11 +1,10 @@
 // Which sharings are refused, and with which number.
 ghost use mathlib.Core.Path.{_≡_};
-ghost use Prim.Native.Nat.{_≤_};
-ghost use lib.ListN.{length};
-ghost use Rattle.rules.specs.Limits.{both, titlesMax};
-ghost use Rattle.sharing.specs.Titles.{titles, total, Even};
+ghost use Rattle.rules.specs.Limits.{both};
+ghost use Rattle.sharing.specs.Titles.{titles, Even};
 ghost use Rattle.sharing.specs.Verdict.{rowsFit, allowed as allowedOf, ordered as orderedOf, every, verdictOf};
 use super::titles::Title;
+use super::titles::floor_total;
 use super::titles::title_at;
 use rules::within;
 
@@ -64,20 +63,6 @@ fn examine(rates: &[u32], lengths: &[u32], floors: &[u32], caps: &[u32]) -> Tall
         allowed: good,
         ordered: kept,
     }
-}
-
-// The floors together: what any choice takes at least.
-pub fn floor_total(floors: &[u32]) -> u64
-    requires { ⌜ length (now floors) ≤ titlesMax ⌝ }
-    ensures { λ r. ⌜ r ≡ total (now (floors .entry)) ⌝ }
-{
-    let mut sum: u64 = 0;
-    let mut i = 0;
-    while i < floors.len() {
-        sum += floors[i] as u64;
-        i += 1;
-    }
-    sum
 }
 
 // The answer, by the order of 01: the first refusal that hits, or done.

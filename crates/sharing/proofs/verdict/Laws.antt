@@ -1,21 +1,24 @@
--- One look at every title, and the floors added up, a place at a time; what it means that the rows fit; and each refusal in its turn.
+-- One look at every title, a place at a time; what it means that the rows fit; and each refusal in its turn.
 -- Rests on induction over the rows.
 use mathlib.Core.Path.{_≡_, refl, sym, ap, _∙_}
 use mathlib.Core.Bool.{Bool, true, false, not}
-use mathlib.Core.List.{List, [], _∷_}
+use mathlib.Core.List.{List, [], _∷_, _++_}
+use mathlib.Core.Logic.{_⊎_, inl, inr}
 use Prim.Native.Nat.{ℕ, zero, suc, _+_, _≤_, _<_}
 use native.Mathlib.Omega.{arith}
 use native.Mathlib.Numerals.{add-one}
 use lib.ListN.{length, getD, drop, drop-of-length-le}
 use lib.Dec.{leb, ltb, eqb}
 use lib.Seq.{drop-cons}
-use borrow.Author.Tests.{eqb-true, leb-true, lt-ltb, le-ltb}
-use Rattle.rules.specs.Limits.{both, within, poolMin, poolMax, titlesMax}
+use borrow.Author.Tests.{eqb-true, leb-true, lt-ltb, le-ltb, ne-eqb}
+use Rattle.rules.specs.Limits.{both, within, poolMin, poolMax, rateMin, rateMax, lengthMin, lengthMax, floorMin, floorMax, countMin, titlesMax}
 use Rattle.rules.specs.Refusals.{firstHit, done, wrongRows, outsideLimits, wrongCount, noLanes}
 use Rattle.sharing.specs.declared.titles.Title.{Title}
 use Rattle.sharing.specs.Titles.{titleAt, titles, nobody, total, Even}
-use Rattle.sharing.specs.Verdict.{every, allowed, ordered, rowsFit, verdictOf}
-use Rattle.sharing.proofs.Tests.{both-left, both-right}
+use Rattle.sharing.specs.Verdict.{every, allowed, ordered, rowsFit, verdictOf, rowAfter}
+use Rattle.sharing.specs.Choice.{shared}
+use Rattle.sharing.specs.Giving.{Weighable, Sound}
+use Rattle.sharing.proofs.Tests.{both-left, both-right, outcome, side}
 
 both-assoc : (a b c : Bool) → both (both a b) c ≡ both a (both b c)
 both-assoc true b c = refl
@@ -36,15 +39,6 @@ module _ (p : Title → Bool) (ts : List Title) where
   pub passed-all : (a : Bool) (i : ℕ) → length ts ≤ i → both a (every p (drop i ts)) ≡ every p ts → a ≡ every p ts
   unfolding every
   passed-all a i h f = sym (both-all a) ∙ sym (ap (λ l. both a (every p l)) (drop-of-length-le ts h)) ∙ f
-
--- the row from a place on is what stands there and the rest
-pub total-next : (x : List ℕ) (i : ℕ) → i < length x → total (drop i x) ≡ getD x i 0 + total (drop (i + 1) x)
-unfolding total
-total-next x i h = rw (add-one) (ap total (drop-cons x i 0 h))
-
-pub total-none : (x : List ℕ) (i : ℕ) → length x ≤ i → total (drop i x) ≡ 0
-unfolding total
-total-none x i h = ap total (drop-of-length-le x h)
 
 module _ (rates lengths floors caps : List ℕ) (room : ℕ) where
   -- what it means that the rows fit
@@ -95,3 +89,73 @@ module _ (pool : ℕ) (rates lengths floors caps : List ℕ) (room : ℕ) where
         pub accepted : total floors ≤ pool → done ≡ verdictOf pool rates lengths floors caps room
         unfolding verdictOf firstHit
         accepted h = rw (fits, inside, kept, le-ltb _ _ h)
+
+every-at : (p : Title → Bool) (ts : List Title) → every p ts ≡ true → (i : ℕ) → i < length ts → p (titleAt ts i) ≡ true
+unfolding every
+every-at p [] e i h = absurd (omega arith)
+every-at p (t ∷ ts) e zero h = both-left (p t) (every p ts) e
+every-at p (t ∷ ts) e (suc i) h = every-at p ts (both-right (p t) (every p ts) e) i (omega arith)
+
+-- a title that passes both tests can be weighed
+weighs : (t : Title) → allowed t ≡ true → ordered t ≡ true → Weighable t
+unfolding allowed ordered
+weighs t a o =
+    let b = both-right (within rateMin rateMax (t .rate)) _ a in
+    let d = both-right (within lengthMin lengthMax (t .length)) _ b in
+    let r = both-left (within rateMin rateMax (t .rate)) _ a in
+    let l = both-left (within lengthMin lengthMax (t .length)) _ b in
+    let f = both-left (within floorMin floorMax (t .floor)) _ d in
+    let c = both-right (within floorMin floorMax (t .floor)) _ d in
+    record {
+      rate-low = leb-true _ _ (both-left (leb rateMin (t .rate)) _ r);
+      rate-high = leb-true _ _ (both-right (leb rateMin (t .rate)) _ r);
+      length-low = leb-true _ _ (both-left (leb lengthMin (t .length)) _ l);
+      length-high = leb-true _ _ (both-right (leb lengthMin (t .length)) _ l);
+      floor-low = leb-true _ _ (both-left (leb floorMin (t .floor)) _ f);
+      floor-cap = leb-true _ _ o;
+      cap-high = leb-true _ _ (both-right (leb countMin (t .cap)) _ c);
+    }
+
+module _ (pool : ℕ) (rates lengths floors caps row : List ℕ) where
+  -- where nothing is refused, the counts can be worked out, and the row has their places
+  pub record Ready : Type 0 where
+    pub sound : Sound rates lengths floors caps
+    pub few : length rates ≤ titlesMax
+    pub room : total floors ≤ pool
+    pub roomy : length rates ≤ length row
+
+  pub ready : verdictOf pool rates lengths floors caps (length row) ≡ done → Ready
+  ready e = go (outcome (rowsFit rates lengths floors caps (length row))) (outcome (both (within poolMin poolMax pool) (every allowed ts))) (outcome (every ordered ts)) (side pool (total floors))
+    where
+      ts : List Title
+      ts = titles rates lengths floors caps
+
+      n : ℕ
+      n = length row
+
+      go : (rowsFit rates lengths floors caps n ≡ true) ⊎ (rowsFit rates lengths floors caps n ≡ false)
+          → (both (within poolMin poolMax pool) (every allowed ts) ≡ true) ⊎ (both (within poolMin poolMax pool) (every allowed ts) ≡ false)
+          → (every ordered ts ≡ true) ⊎ (every ordered ts ≡ false) → (pool < total floors) ⊎ (total floors ≤ pool) → Ready
+      go (inr f) i o b = absurd (omega (arith, refused-rows pool rates lengths floors caps n f ∙ e))
+      go (inl f) (inr i) o b = absurd (omega (arith, refused-limits pool rates lengths floors caps n f i ∙ e))
+      go (inl f) (inl i) (inr o) b = absurd (omega (arith, refused-counts pool rates lengths floors caps n f i o ∙ e))
+      go (inl f) (inl i) (inl o) (inl b) = absurd (omega (arith, refused-lanes pool rates lengths floors caps n f i o b ∙ e))
+      go (inl f) (inl i) (inl o) (inr b) =
+          let g = fit rates lengths floors caps n f in
+          let a = both-right (within poolMin poolMax pool) (every allowed ts) i in
+          record {
+            sound = record { even = g .even; weighable = record { each = λ j h. weighs (titleAt ts j) (every-at allowed ts a j h) (every-at ordered ts o j h) } };
+            few = g .few;
+            room = b;
+            roomy = g .roomy;
+          }
+
+  -- the row that a sharing leaves, done or refused
+  pub row-done : verdictOf pool rates lengths floors caps (length row) ≡ done → {c : List ℕ} → c ≡ shared pool (titles rates lengths floors caps)
+      → c ++ drop (length rates) row ≡ rowAfter pool rates lengths floors caps row
+  unfolding rowAfter
+  row-done e q = rw (q, e)
+
+  pub row-refused : (verdictOf pool rates lengths floors caps (length row) ≡ done → ⊥) → row ≡ rowAfter pool rates lengths floors caps row
+  unfolding rowAfter
+  row-refused e = rw (ne-eqb _ _ e)
