@@ -4,3 +4,4 @@ pub mod Term
 pub mod Choice
 pub mod Verdict
 pub mod Giving
+pub mod Cases
