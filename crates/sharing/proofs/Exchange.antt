@@ -1,8 +1,8 @@
 -- The theorem of the sharing: counts at which every lane given was worth at least as much as every lane withheld are the choice to be
--- preferred to all (source 000, Theorem 2, ties included). A choice that differs could be bettered by moving, adding or dropping a lane.
+-- preferred to all (source 000, Theorem 2, ties included). A choice that differs takes too much, or is bettered by moving or adding a lane.
 -- Rests on the laws of a title's part of the sum (proofs/term/Laws) and of one changed count (proofs/Sums).
 use mathlib.Core.Path.{_≡_, refl, sym, _∙_}
-use mathlib.Core.Bool.{Bool, true, false, true≢false}
+use mathlib.Core.Bool.{true, false, true≢false}
 use mathlib.Core.List.{List}
 use mathlib.Core.Logic.{_⊎_, inl, inr}
 use Prim.Native.Nat.{ℕ, zero, suc, _+_, _-_, _≤_, _<_}
@@ -11,7 +11,7 @@ use lib.ListN.{length, getD, set, length-set}
 use lib.Seq.{getD-set-other, ext-getD}
 use Rattle.sharing.specs.declared.titles.Title.{Title}
 use Rattle.sharing.specs.Titles.{titleAt, total}
-use Rattle.sharing.specs.Term.{term, fall}
+use Rattle.sharing.specs.Term.{fall}
 use Rattle.sharing.specs.Choice.{sumOf, atLeast, prefers, Way, Choice, Shared}
 use Rattle.sharing.specs.Giving.{AllWeighable}
 use Rattle.sharing.proofs.Tests.{side}

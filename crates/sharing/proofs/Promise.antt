@@ -3,7 +3,7 @@
 -- Rests on the search (proofs/Search).
 use mathlib.Core.Path.{_≡_, refl, sym, ap, _∙_}
 use mathlib.Core.Bool.{true}
-use mathlib.Core.List.{List, _++_}
+use mathlib.Core.List.{List}
 use mathlib.Core.Logic.{_⊎_, inl, inr}
 use Prim.Native.Nat.{ℕ, _≤_, _<_}
 use native.Mathlib.Omega.{arith}
@@ -17,7 +17,7 @@ use Rattle.sharing.specs.Verdict.{verdictOf, rowAfter, Answered}
 use Rattle.sharing.proofs.Order.{or-view}
 use Rattle.sharing.proofs.Search.{found, only-one}
 use Rattle.sharing.proofs.titles.Laws.{titles-length, titles-floors}
-use Rattle.sharing.proofs.verdict.Laws.{Ready, ready, row-done, row-refused}
+use Rattle.sharing.proofs.verdict.Laws.{ready, row-done, row-refused}
 
 -- the least sum, as 01 says it
 pub least : (pool : ℕ) (ts : List Title) (x y : List ℕ) → Shared pool ts x → Choice pool ts y → sumOf ts x ≤ sumOf ts y

@@ -1,9 +1,8 @@
 -- What one changed count does to a choice: to its total, to its sum, to its places and to its rank among equals.
 -- Rests on induction over the titles.
-use mathlib.Core.Path.{_≡_, refl, sym, _∙_}
-use mathlib.Core.Bool.{Bool, true, false}
+use mathlib.Core.Path.{_≡_, sym, _∙_}
+use mathlib.Core.Bool.{false}
 use mathlib.Core.List.{List, [], _∷_}
-use mathlib.Core.Logic.{_⊎_, inl, inr}
 use Prim.Native.Nat.{ℕ, zero, suc, _+_, _≤_, _<_}
 use native.Mathlib.Omega.{arith}
 use lib.ListN.{length, getD, set, length-set}
@@ -12,7 +11,6 @@ use Rattle.sharing.specs.declared.titles.Title.{Title}
 use Rattle.sharing.specs.Titles.{titleAt, total}
 use Rattle.sharing.specs.Term.{term}
 use Rattle.sharing.specs.Choice.{sumOf, atLeast, Way}
-use Rattle.sharing.proofs.Tests.{side}
 use Rattle.sharing.proofs.Order.{Trio, less, same, more, trio, or-is, or-more}
 
 pub total-set : (x : List ℕ) (i v : ℕ) → i < length x → total (set x i v) + getD x i 0 ≡ total x + v

@@ -1,6 +1,6 @@
 -- Which counts the sharing chooses (01, "Sharing"), as a statement and as a search over all choices.
 use mathlib.Core.Path.{_≡_}
-use mathlib.Core.Bool.{Bool, true, false}
+use mathlib.Core.Bool.{Bool, true}
 use mathlib.Core.List.{List, [], _∷_, map, flatMap}
 use Prim.Native.Nat.{ℕ, zero, suc, _+_, _-_, _≤_, _<_}
 use lib.Dec.{leb, ltb, eqb}
@@ -11,7 +11,7 @@ use Rattle.sharing.specs.declared.titles.Title.{Title}
 use Rattle.sharing.specs.Titles.{titleAt, total}
 use Rattle.sharing.specs.Term.{term}
 
--- the sum over all titles, one count to a title
+-- the sum that is to be least (01, "Sharing"), over all titles, one count to a title
 unfoldable pub sumOf : List Title → List ℕ → ℕ
 sumOf [] ks = 0
 sumOf (t ∷ ts) [] = 0
@@ -37,12 +37,12 @@ pub record Way (ts : List Title) (x : List ℕ) : Type 0 where
   pub low : (i : ℕ) → i < length ts → titleAt ts i .floor ≤ getD x i 0
   pub high : (i : ℕ) → i < length ts → getD x i 0 ≤ titleAt ts i .cap
 
--- a choice: the total is at most the pool
+-- a choice (01, "Sharing"): counts within floors and caps, their total at most the pool
 pub record Choice (pool : ℕ) (ts : List Title) (x : List ℕ) : Type 0 where
   pub way : Way ts x
   pub room : total x ≤ pool
 
--- the choice that the sharing takes: it is to be preferred to every choice
+-- the choice that the sharing takes (01, "Sharing"): it is to be preferred to every choice
 pub record Shared (pool : ℕ) (ts : List Title) (x : List ℕ) : Type 0 where
   pub choice : Choice pool ts x
   pub best : (y : List ℕ) → Choice pool ts y → prefers ts x y ≡ true
@@ -66,6 +66,7 @@ unfoldable pub bestOf : ℕ → List Title → List ℕ → List (List ℕ) → 
 bestOf pool ts x [] = x
 bestOf pool ts x (y ∷ ys) = bestOf pool ts (better pool ts x y) ys
 
--- the counts that the sharing gives where the floors fit the pool: the best of the floors and of all ways
+-- the counts that the sharing gives where the floors fit the pool: the best of the floors and of all ways. It is the one `Shared` choice
+-- (proofs/Promise: `is-shared`, `only-shared`), found by trying all
 unfoldable pub shared : ℕ → List Title → List ℕ
 shared pool ts = bestOf pool ts (map (λ t. t .floor) ts) (ways ts)

@@ -7,7 +7,6 @@ use Rattle.rules.specs.Limits.{countMin, countMax, lengthMax, lengthMin, rateMa
 use Rattle.sharing.specs.declared.titles.Title.{Title}
 use Rattle.sharing.specs.Titles.{titleAt, titles, total, Even}
 use Rattle.sharing.specs.Term.{worth}
-use Rattle.sharing.specs.Choice.{Way}
 
 -- a title's numbers are such that its part of the sum can be worked out
 pub record Weighable (t : Title) : Type 0 where

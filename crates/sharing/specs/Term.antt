@@ -1,5 +1,5 @@
 -- A title's part of the sum that is to be least (01, "Sharing"): rate x D / (2^k - 1). A request that weighs titles otherwise moves
--- `term` here, `gain` in src/ and the laws in proofs/term/Laws, and nothing else.
+-- `term` and `unit` here, `gain` in src/term and the laws in proofs/term, and nothing else.
 use Prim.Native.Nat.{ℕ, suc, _*_, _-_, _/_, _^_}
 use lib.Dec.{ltb}
 use Rattle.rules.specs.Refusals.{pick}

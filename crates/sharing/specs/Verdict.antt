@@ -1,17 +1,18 @@
 -- What a sharing answers and what it leaves in the lent row (01, "Sharing" and "Numbers that calls give back").
 use mathlib.Core.Path.{_≡_}
-use mathlib.Core.Bool.{Bool, true, false, not}
-use mathlib.Core.List.{List, [], _∷_, map, _++_}
+use mathlib.Core.Bool.{Bool, true, not}
+use mathlib.Core.List.{List, [], _∷_, _++_}
 use Prim.Native.Nat.{ℕ}
 use lib.Dec.{leb, ltb, eqb}
 use lib.ListN.{length, drop}
 use Rattle.rules.specs.Limits.{within, both, poolMin, poolMax, rateMin, rateMax, lengthMin, lengthMax, floorMin, floorMax, countMin, countMax, titlesMax}
 use Rattle.rules.specs.Refusals.{pick, refuse, firstHit, done, outsideLimits, wrongCount, noLanes, wrongRows}
 use Rattle.sharing.specs.declared.titles.Title.{Title}
+use Rattle.sharing.specs.declared.verdict.Tally.{Tally}
 use Rattle.sharing.specs.Titles.{titles, total}
 use Rattle.sharing.specs.Choice.{shared}
 
--- the four rows are of one length, at most sixteen, and the counts have room
+-- the four rows are of one length, at most sixteen, and the counts have room (01, "Sharing")
 unfoldable pub rowsFit : List ℕ → List ℕ → List ℕ → List ℕ → ℕ → Bool
 rowsFit rates lengths floors caps room =
     both (eqb (length lengths) (length rates))
@@ -19,7 +20,7 @@ rowsFit rates lengths floors caps room =
     (both (eqb (length caps) (length rates))
     (both (leb (length rates) titlesMax) (leb (length rates) room))))
 
--- each number of a title is within its limits
+-- each number of a title is within its limits (01, "What the product holds")
 unfoldable pub allowed : Title → Bool
 allowed t =
     both (within rateMin rateMax (t .rate))
@@ -35,7 +36,12 @@ unfoldable pub every : (Title → Bool) → List Title → Bool
 every p [] = true
 every p (t ∷ ts) = both (p t) (every p ts)
 
--- the answer for titles in rows, with room for so many counts
+-- what the code's one look at every title tells
+pub record Told (ts : List Title) (r : Tally) : Type 0 where
+  pub limits : r .allowed ≡ every allowed ts
+  pub order : r .ordered ≡ every ordered ts
+
+-- the answer for titles in rows, with room for so many counts: 01, "Numbers that calls give back", has the order 10 1 6 9
 unfoldable pub verdictOf : ℕ → List ℕ → List ℕ → List ℕ → List ℕ → ℕ → ℕ
 verdictOf pool rates lengths floors caps room =
     firstHit
@@ -45,7 +51,7 @@ verdictOf pool rates lengths floors caps room =
     ∷ refuse noLanes (ltb pool (total floors))
     ∷ [])
 
--- the lent row afterwards: the counts in its first places, or all of it as it was
+-- the lent row afterwards (01, "Sharing"): the counts in its first places, later places as they were; after a refusal, all of it as it was
 unfoldable pub rowAfter : ℕ → List ℕ → List ℕ → List ℕ → List ℕ → List ℕ → List ℕ
 rowAfter pool rates lengths floors caps row =
     pick (eqb (verdictOf pool rates lengths floors caps (length row)) done)

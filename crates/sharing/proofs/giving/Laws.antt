@@ -1,25 +1,24 @@
 -- Lanes given one at a time, each to the title to which it is worth most, end in settled counts (proofs/Exchange).
 -- Rests on the laws of a title's part of the sum: a lane below the cap is worth something, and no lane is worth more than the one before.
-use mathlib.Core.Path.{_≡_, refl, sym, subst, _∙_}
-use mathlib.Core.Bool.{true, false}
-use mathlib.Core.List.{List, [], _∷_, map}
+use mathlib.Core.Path.{_≡_, refl, sym}
+use mathlib.Core.List.{List, map}
 use mathlib.Core.Logic.{_⊎_, inl, inr}
-use Prim.Native.Nat.{ℕ, zero, suc, _+_, _*_, _≤_, _<_}
+use Prim.Native.Nat.{ℕ, suc, _+_, _*_, _≤_, _<_}
 use native.Mathlib.Omega.{arith}
 use native.Mathlib.Numerals.{add-one}
 use lib.ListN.{length, getD, set, List·getD-map}
 use borrow.Author.Tests.{lt-ltb, le-ltb}
-use Rattle.rules.specs.Limits.{countMin, countMax}
+use Rattle.rules.specs.Limits.{countMin}
 use Rattle.sharing.specs.declared.titles.Title.{Title}
 use Rattle.sharing.specs.Titles.{titleAt, nobody, total}
-use Rattle.sharing.specs.Term.{term, fall, worth, unit}
-use Rattle.sharing.specs.Choice.{Way, Choice, Shared, shared}
+use Rattle.sharing.specs.Term.{fall, worth, unit}
+use Rattle.sharing.specs.Choice.{Way, shared}
 use Rattle.sharing.specs.Giving.{Weighable, AllWeighable, Neediest}
 use Rattle.sharing.proofs.Tests.{side}
 use Rattle.sharing.proofs.Order.{Trio, less, same, more, trio}
 use Rattle.sharing.proofs.Search.{found, floors-way}
 use Rattle.sharing.proofs.Sums.{total-set, at-set, way-set}
-use Rattle.sharing.proofs.Exchange.{Given, Settled, settled-is-shared}
+use Rattle.sharing.proofs.Exchange.{Given, settled-is-shared}
 use Rattle.sharing.proofs.term.Laws.{falls, fall-rest, shrinks-on}
 
 worth-below : (t : Title) (k : ℕ) → k < t .cap → worth t k ≡ fall t k

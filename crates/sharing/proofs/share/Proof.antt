@@ -1,6 +1,5 @@
 -- `sharing::share` meets its contract: where nothing is refused the first places get the shared counts, otherwise the row stays.
-use mathlib.Core.Path.{_≡_, sym, _∙_}
-use native.Mathlib.Omega.{arith}
+use mathlib.Core.Path.{sym, _∙_}
 use lib.Seq.{length-take-le}
 use borrow.Author.Needs.{needs}
 use Rattle.sharing.proofs.verdict.Laws.{Ready, ready, row-done, row-refused}

@@ -2,8 +2,8 @@
 -- it; so it falls with each lane, and each fall is below the one before. And that the common factor makes every part whole.
 -- Rests on the laws of quotients; the rule of the common factor is computed at each count.
 use mathlib.Core.Path.{_≡_, refl, ap, subst}
-use mathlib.Core.Bool.{Bool, true}
-use Prim.Native.Nat.{ℕ, zero, suc, _+_, _*_, _-_, _/_, _^_, _≤_, _<_}
+use mathlib.Core.Bool.{Bool}
+use Prim.Native.Nat.{ℕ, suc, _+_, _*_, _-_, _/_, _^_, _≤_, _<_}
 use native.Mathlib.Omega.{arith}
 use native.Mathlib.Nat.{le-div-iff-mul-le, div-mul-le-self, mul-le-mul-left, mul-pos, le-refl, le-trans}
 use native.Mathlib.Decide.{le-ind}

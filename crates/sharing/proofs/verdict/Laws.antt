@@ -1,14 +1,14 @@
 -- One look at every title, a place at a time; what it means that the rows fit; and each refusal in its turn.
 -- Rests on induction over the rows.
 use mathlib.Core.Path.{_≡_, refl, sym, ap, _∙_}
-use mathlib.Core.Bool.{Bool, true, false, not}
+use mathlib.Core.Bool.{Bool, true, false}
 use mathlib.Core.List.{List, [], _∷_, _++_}
 use mathlib.Core.Logic.{_⊎_, inl, inr}
 use Prim.Native.Nat.{ℕ, zero, suc, _+_, _≤_, _<_}
 use native.Mathlib.Omega.{arith}
 use native.Mathlib.Numerals.{add-one}
-use lib.ListN.{length, getD, drop, drop-of-length-le}
-use lib.Dec.{leb, ltb, eqb}
+use lib.ListN.{length, drop, drop-of-length-le}
+use lib.Dec.{leb, eqb}
 use lib.Seq.{drop-cons}
 use borrow.Author.Tests.{eqb-true, leb-true, lt-ltb, le-ltb, ne-eqb}
 use Rattle.rules.specs.Limits.{both, within, poolMin, poolMax, rateMin, rateMax, lengthMin, lengthMax, floorMin, floorMax, countMin, titlesMax}

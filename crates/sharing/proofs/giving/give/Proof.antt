@@ -1,11 +1,11 @@
 -- `sharing::giving::give` meets its contract. The loop's invariant: the counts are those after `given` lanes (proofs/giving/Laws), which
 -- after the last one are the shared counts.
 use mathlib.Core.Path.{_≡_, sym, ap, ap₂, subst, _∙_}
-use mathlib.Core.List.{List, map}
+use mathlib.Core.List.{List}
 use mathlib.Core.Logic.{inl, inr, ⊎-elim}
 use Prim.Native.Nat.{ℕ, _≤_, _-_, _+_, _<_}
 use native.Mathlib.Omega.{arith}
-use lib.ListN.{length, getD, set}
+use lib.ListN.{length}
 use borrow.Author.Needs.{needs}
 use Rattle.sharing.specs.Titles.{titles, total}
 use Rattle.sharing.specs.Choice.{shared}

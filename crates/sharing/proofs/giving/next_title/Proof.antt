@@ -71,7 +71,7 @@ loop-again c =
     let e : unit * c .before .gain .result ≡ worth (titleAt ts (l .i)) (getD ks (l .i) 0) =
     c .before .gain .ensures ∙ ap (λ (t : Title). worth t (getD ks (l .i) 0)) (c .before .before .before .title-at .ensures) in
     let next = leads-next ts ks (l .inv) (inside (c .before .before .before .before)) e in
-    ⊎-elim (λ w. next (inl (w .0 .taken, w .1, w .2))) (λ w. next (inr (w .0 .left, w .1, w .2))) (c .if1 .came)
+    ⊎-elim (λ w. next (inl (omega (arith, w .0 .taken), w .1, w .2))) (λ w. next (inr (omega (arith, w .0 .left), w .1, w .2))) (c .if1 .came)
 
 returns : tie.Need-returns Inv-loop μ-loop
 returns c =

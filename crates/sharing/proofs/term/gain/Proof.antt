@@ -1,5 +1,5 @@
 -- `sharing::term::gain` meets its contract: below the cap it is the table's fall times the title's weight, and it fits 64 bits (proofs/term/Table).
-use mathlib.Core.Path.{sym, _∙_}
+use Prim.Native.Nat.{_<_}
 use native.Mathlib.Omega.{arith}
 use borrow.Author.Needs.{needs}
 use borrow.Author.Tests.{lt-ltb, le-ltb}
@@ -40,7 +40,8 @@ returns : tie.Need-returns
 unfolding worth
 returns c =
     let s = c .before .before .before in
-    rw (lt-ltb _ _ (c .before .before .if1 .taken)) (fall-is (s .args .t) (s .args .k) (omega arith) (omega arith))
+    let below : s .args .k < s .args .t .cap = omega (arith, c .before .before .if1 .taken) in
+    rw (lt-ltb _ _ below) (fall-is (s .args .t) (s .args .k) (omega arith) (omega arith))
 
 returns-2 : tie.Need-returns-2
 unfolding worth

@@ -1,13 +1,12 @@
 -- `sharing::verdict::examine` meets its contract. The loop's invariant: each flag, with what the titles ahead will add, is the test of all.
 use mathlib.Core.Path.{_≡_, refl, ap, _∙_}
-use mathlib.Core.Bool.{Bool}
-use Prim.Native.Nat.{ℕ, _<_, _-_}
+use Prim.Native.Nat.{_<_, _-_}
 use native.Mathlib.Omega.{arith}
 use lib.ListN.{length, drop}
 use borrow.Author.Needs.{needs}
 use Rattle.rules.specs.Limits.{both}
 use Rattle.sharing.specs.declared.titles.Title.{Title}
-use Rattle.sharing.specs.Titles.{titles, titleAt}
+use Rattle.sharing.specs.Titles.{titles}
 use Rattle.sharing.specs.Verdict.{allowed, ordered, every}
 use Rattle.sharing.proofs.titles.Laws.{titles-length}
 use Rattle.sharing.proofs.verdict.Laws.{passed-next, passed-all}
@@ -59,10 +58,11 @@ loop-again c =
 returns : tie.Need-returns Inv-loop μ-loop
 returns c =
     let s = c .before .before .before .before .before .before in
-    let n = titles-length _ _ _ _ (s .pre) in (
-      passed-all allowed _ (c .before .loop .good) (c .before .loop .i) (omega (arith, c .loop-test .left, n)) (c .before .loop .inv .0),
-      passed-all ordered _ (c .before .loop .kept) (c .before .loop .i) (omega (arith, c .loop-test .left, n)) (c .before .loop .inv .1),
-    )
+    let n = titles-length _ _ _ _ (s .pre) in
+    record {
+      limits = passed-all allowed _ (c .before .loop .good) (c .before .loop .i) (omega (arith, c .loop-test .left, n)) (c .before .loop .inv .0);
+      order = passed-all ordered _ (c .before .loop .kept) (c .before .loop .i) (omega (arith, c .loop-test .left, n)) (c .before .loop .inv .1);
+    }
 
 pub examine-spec : {M : Type 1} → statement M
 examine-spec =

@@ -24,7 +24,7 @@ inside : (c : tie.After-also) →
     let a = c .before .before .before .before .before .before .before .before .before .args in
     both (within poolMin poolMax (a .pool)) (every allowed (titles (a .rates .now) (a .lengths .now) (a .floors .now) (a .caps .now)))
     ≡ c .also .result
-inside c = sym (c .also .ensures ∙ ap₂ both (c .before .within .ensures) (c .before .before .examine .ensures .0))
+inside c = sym (c .also .ensures ∙ ap₂ both (c .before .within .ensures) (c .before .before .examine .ensures .limits))
 
 examine-requires : tie.Need-examine-requires
 examine-requires c κs = fit _ _ _ _ _ (fits c) .even
@@ -44,19 +44,19 @@ returns : tie.Need-returns
 returns c =
     let t = c .before .before .before in
     refused-lanes _ _ _ _ _ _ (fits (t .before .before .before .before)) (inside (t .before) ∙ t .if2 .taken)
-    (sym (t .before .before .before .examine .ensures .1) ∙ c .before .before .if3 .taken) (rw (c .before .floor-total .ensures) at (c .if4 .taken))
+    (sym (t .before .before .before .examine .ensures .order) ∙ c .before .before .if3 .taken) (omega (arith, c .if4 .taken, c .before .floor-total .ensures))
 
 returns-2 : tie.Need-returns-2
 returns-2 c =
     let t = c .before .before .before in
     accepted _ _ _ _ _ _ (fits (t .before .before .before .before)) (inside (t .before) ∙ t .if2 .taken)
-    (sym (t .before .before .before .examine .ensures .1) ∙ c .before .before .if3 .taken) (rw (c .before .floor-total .ensures) at (c .if4 .left))
+    (sym (t .before .before .before .examine .ensures .order) ∙ c .before .before .if3 .taken) (omega (arith, c .if4 .left, c .before .floor-total .ensures))
 
 returns-3 : tie.Need-returns-3
 returns-3 c =
     let t = c .before in
     refused-counts _ _ _ _ _ _ (fits (t .before .before .before .before)) (inside (t .before) ∙ t .if2 .taken)
-    (sym (t .before .before .before .examine .ensures .1) ∙ c .if3 .left)
+    (sym (t .before .before .before .examine .ensures .order) ∙ c .if3 .left)
 
 returns-4 : tie.Need-returns-4
 returns-4 c = refused-limits _ _ _ _ _ _ (fits (c .before .before .before .before)) (inside (c .before) ∙ c .if2 .left)
