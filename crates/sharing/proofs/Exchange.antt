@@ -1,14 +1,14 @@
 -- The theorem of the sharing: counts at which every lane given was worth at least as much as every lane withheld are the choice to be
 -- preferred to all (source 000, Theorem 2, ties included). A choice that differs takes too much, or is bettered by moving or adding a lane.
 -- Rests on the laws of a title's part of the sum (proofs/term/Laws) and of one changed count (proofs/Sums).
-use mathlib.Core.Path.{_≡_, refl, sym, _∙_}
+use mathlib.Core.Path.{_≡_, sym, _∙_}
 use mathlib.Core.Bool.{true, false, true≢false}
 use mathlib.Core.List.{List}
 use mathlib.Core.Logic.{_⊎_, inl, inr}
 use Prim.Native.Nat.{ℕ, zero, suc, _+_, _-_, _≤_, _<_}
 use native.Mathlib.Omega.{arith}
 use lib.ListN.{length, getD, set, length-set}
-use lib.Seq.{getD-set-other, ext-getD}
+use lib.Seq.{getD-set-same, getD-set-other, ext-getD}
 use Rattle.sharing.specs.declared.titles.Title.{Title}
 use Rattle.sharing.specs.Titles.{titleAt, total}
 use Rattle.sharing.specs.Term.{fall}
@@ -16,7 +16,7 @@ use Rattle.sharing.specs.Choice.{sumOf, atLeast, prefers, Way, Choice, S
 use Rattle.sharing.specs.Giving.{AllWeighable}
 use Rattle.sharing.proofs.Tests.{side}
 use Rattle.sharing.proofs.Order.{Trio, less, same, more, trio, or-view}
-use Rattle.sharing.proofs.Sums.{total-set, total-mono, sum-set, at-set, way-set, ranks}
+use Rattle.sharing.proofs.Sums.{total-set, sum-set, raised, way-set, ranks}
 use Rattle.sharing.proofs.term.Laws.{falls, fall-rest}
 
 -- a lane given to title i at count a was worth at least as much as one withheld from title j at count b, and more where j comes first
@@ -82,9 +82,7 @@ module _ (pool : ℕ) (ts : List Title) (ok : AllWeighable ts) (c x : List ℕ) 
       place = omega (arith, s .choice .way .places)
 
       above : total (set c i (suc (getD c i 0))) ≤ total x
-      above =
-          total-mono (set c i (suc (getD c i 0))) x (length-set c i _ ∙ s .choice .way .places ∙ sym (h .choice .way .places))
-          (λ j m. at-set (λ n k. n < length ts → k ≤ getD x n 0) c i (suc (getD c i 0)) place (λ _. g) (λ n _ b. up n b) j (omega (arith, s .choice .way .places, length-set c i (suc (getD c i 0)))))
+      above = raised (length ts) c x (s .choice .way .places) (h .choice .way .places) i l g up
 
       go : (total c ≡ pool) ⊎ ((j : ℕ) → j < length ts → titleAt ts j .cap ≤ getD c j 0) → ⊥
       go (inl e) = omega (arith, total-set c i (suc (getD c i 0)) place, above, h .choice .room)
@@ -97,23 +95,19 @@ module _ (pool : ℕ) (ts : List Title) (ok : AllWeighable ts) (c x : List ℕ) 
       y : List ℕ
       y = set x j (suc (getD x j 0))
 
-      place : j < length x
-      place = omega (arith, h .choice .way .places)
-
       way : Way ts y
       way = way-set ts x (h .choice .way) j (suc (getD x j 0)) l (omega (arith, h .choice .way .low j l)) (omega (arith, s .choice .way .high j l))
 
       under : total y ≤ total c
-      under =
-          total-mono y c (length-set x j _ ∙ h .choice .way .places ∙ sym (s .choice .way .places))
-          (λ i m. at-set (λ n k. n < length ts → k ≤ getD c n 0) x j (suc (getD x j 0)) place (λ _. g) (λ n _ b. up n b) i (omega (arith, h .choice .way .places, length-set x j (suc (getD x j 0)))))
+      under = raised (length ts) x c (h .choice .way .places) (s .choice .way .places) j l g up
 
       lesser : sumOf ts y < sumOf ts x
       lesser =
           omega (
             arith,
             sum-set ts x j (suc (getD x j 0)) l (h .choice .way .places),
-            falls (titleAt ts j) (ok .each j l) (getD x j 0) (omega (arith, ok .each j l .floor-low, h .choice .way .low j l)) (omega (arith, ok .each j l .cap-high, s .choice .way .high j l)),
+            falls (titleAt ts j) (ok .each j l) (getD x j 0) (omega (arith, ok .each j l .floor-low, h .choice .way .low j l))
+                (omega (arith, ok .each j l .cap-high, s .choice .way .high j l)),
           )
 
   -- more than c has at i and less at j: a lane moved from i to j is no greater a sum, and a better rank where it is the same
@@ -174,7 +168,7 @@ module _ (pool : ℕ) (ts : List Title) (ok : AllWeighable ts) (c x : List ℕ) 
       earlier b =
           ranks x y j (sym (length-set z j _ ∙ length-set x i p)) (omega (arith, h .choice .way .places))
           (λ n m. sym (getD-set-other z j n _ 0 (omega arith) ∙ getD-set-other x i n p 0 (omega arith)))
-          (omega (arith, at-set (λ n k. n ≡ j → k ≡ suc (getD x j 0)) z j (suc (getD x j 0)) (omega (arith, z-way .places)) (λ _. refl) (λ n a e. absurd (a e)) j refl))
+          (omega (arith, getD-set-same z j (suc (getD x j 0)) 0 (omega (arith, z-way .places))))
 
       equal : j < i → (sumOf ts y < sumOf ts x) ⊎ (sumOf ts x ≤ sumOf ts y) → ⊥
       equal b (inl m) = no-lesser y y-choice m

@@ -113,7 +113,8 @@ module _ (ts : List Title) (x y : List ℕ) where
       let e = or-antisym (sumOf ts x) (sumOf ts y) (atLeast x y) (atLeast y x) h k in
       least-antisym x y p (e .1) (e .2)
 
-  pub prefers-trans : (z : List ℕ) → length x ≡ length y → length y ≡ length z → prefers ts x y ≡ true → prefers ts y z ≡ true → prefers ts x z ≡ true
+  pub prefers-trans : (z : List ℕ) → length x ≡ length y → length y ≡ length z → prefers ts x y ≡ true → prefers ts y z ≡ true
+      → prefers ts x z ≡ true
   unfolding prefers
   prefers-trans z p q h k = or-trans (sumOf ts x) (sumOf ts y) (sumOf ts z) (λ r s. least-trans x y z p q r s) h k
 

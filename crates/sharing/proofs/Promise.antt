@@ -30,7 +30,8 @@ least pool ts x y s c = go (or-view (sumOf ts x) (sumOf ts y) (atLeast x y) (s .
 
 module _ (pool : ℕ) (rates lengths floors caps row : List ℕ) where
   -- the contract settles answer and row
-  pub one-outcome : {r s : ℕ} {a b : List ℕ} → Answered pool rates lengths floors caps row r a → Answered pool rates lengths floors caps row s b → (r ≡ s) × (a ≡ b)
+  pub one-outcome : {r s : ℕ} {a b : List ℕ} → Answered pool rates lengths floors caps row r a → Answered pool rates lengths floors caps row s b
+      → (r ≡ s) × (a ≡ b)
   one-outcome p q = (p .answer ∙ sym (q .answer), p .counts ∙ sym (q .counts))
 
   module _ (ok : verdictOf pool rates lengths floors caps (length row) ≡ done) where
@@ -51,10 +52,14 @@ module _ (pool : ℕ) (rates lengths floors caps row : List ℕ) where
 
     -- the first places hold the counts, and the later places stay
     pub first-places : take (length rates) (rowAfter pool rates lengths floors caps row) ≡ shared pool (titles rates lengths floors caps)
-    first-places = ap (take (length rates)) (sym (row-done pool rates lengths floors caps row ok refl)) ∙ take-at (shared pool (titles rates lengths floors caps)) _ (length rates) places
+    first-places =
+        ap (take (length rates)) (sym (row-done pool rates lengths floors caps row ok refl))
+        ∙ take-at (shared pool (titles rates lengths floors caps)) _ (length rates) places
 
     pub later-places : drop (length rates) (rowAfter pool rates lengths floors caps row) ≡ drop (length rates) row
-    later-places = ap (drop (length rates)) (sym (row-done pool rates lengths floors caps row ok refl)) ∙ drop-at (shared pool (titles rates lengths floors caps)) _ (length rates) places
+    later-places =
+        ap (drop (length rates)) (sym (row-done pool rates lengths floors caps row ok refl))
+        ∙ drop-at (shared pool (titles rates lengths floors caps)) _ (length rates) places
 
   -- a refusal writes nothing
   pub refusal-writes-nothing : (verdictOf pool rates lengths floors caps (length row) ≡ done → ⊥) → rowAfter pool rates lengths floors caps row ≡ row

@@ -47,8 +47,18 @@ at-set P x i v l p q j = go (trio j i)
     go (same e) = rw (e, getD-set-same x i v 0 l) p
     go (more h) = other (omega arith)
 
+-- one more at a place where the second row has more: still no more than the second row in all
+pub raised : (n : ℕ) (p q : List ℕ) → length p ≡ n → length q ≡ n → (i : ℕ) → i < n → getD p i 0 < getD q i 0
+    → ((j : ℕ) → j < n → getD p j 0 ≤ getD q j 0) → total (set p i (suc (getD p i 0))) ≤ total q
+raised n p q a b i l g up =
+    total-mono (set p i (suc (getD p i 0))) q (length-set p i _ ∙ a ∙ sym b)
+    (λ j m.
+    at-set (λ k v. k < n → v ≤ getD q k 0) p i (suc (getD p i 0)) (omega arith) (λ _. g) (λ k _ h. up k h) j
+    (omega (arith, length-set p i (suc (getD p i 0)))))
+
 -- a count set within floor and cap leaves a way a way
-pub way-set : (ts : List Title) (x : List ℕ) → Way ts x → (i v : ℕ) → i < length ts → titleAt ts i .floor ≤ v → v ≤ titleAt ts i .cap → Way ts (set x i v)
+pub way-set : (ts : List Title) (x : List ℕ) → Way ts x → (i v : ℕ) → i < length ts → titleAt ts i .floor ≤ v → v ≤ titleAt ts i .cap
+    → Way ts (set x i v)
 way-set ts x w i v l f c =
     record {
       places = length-set x i v ∙ w .places;

@@ -125,7 +125,9 @@ module _ (pool : ℕ) (rates lengths floors caps row : List ℕ) where
     pub roomy : length rates ≤ length row
 
   pub ready : verdictOf pool rates lengths floors caps (length row) ≡ done → Ready
-  ready e = go (outcome (rowsFit rates lengths floors caps (length row))) (outcome (both (within poolMin poolMax pool) (every allowed ts))) (outcome (every ordered ts)) (side pool (total floors))
+  ready e =
+      go (outcome (rowsFit rates lengths floors caps (length row))) (outcome (both (within poolMin poolMax pool) (every allowed ts)))
+      (outcome (every ordered ts)) (side pool (total floors))
     where
       ts : List Title
       ts = titles rates lengths floors caps
