@@ -1,0 +1,4 @@
+-- What holds of an agent over any series of notices.
+pub mod Order
+pub mod OneLog
+pub mod Overtaken
