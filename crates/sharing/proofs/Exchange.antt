@@ -107,7 +107,7 @@ module _ (pool : ℕ) (ts : List Title) (ok : AllWeighable ts) (c x : List ℕ) 
             arith,
             sum-set ts x j (suc (getD x j 0)) l (h .choice .way .places),
             falls (titleAt ts j) (ok .each j l) (getD x j 0) (omega (arith, ok .each j l .floor-low, h .choice .way .low j l))
-                (omega (arith, ok .each j l .cap-high, s .choice .way .high j l)),
+                (omega (arith, s .choice .way .high j l)),
           )
 
   -- more than c has at i and less at j: a lane moved from i to j is no greater a sum, and a better rank where it is the same
@@ -157,8 +157,10 @@ module _ (pool : ℕ) (ts : List Title) (ok : AllWeighable ts) (c x : List ℕ) 
             arith,
             sum-set ts x i p li (h .choice .way .places),
             rw kept at (sum-set ts z j (suc (getD x j 0)) lj (z-way .places)),
-            rw last at (fall-rest (titleAt ts i) p (omega (arith, ok .each i li .floor-low, s .choice .way .low i li))),
-            fall-rest (titleAt ts j) (getD x j 0) (omega (arith, ok .each j lj .floor-low, h .choice .way .low j lj)),
+            rw last at (fall-rest (titleAt ts i) (ok .each i li) p (omega (arith, ok .each i li .floor-low, s .choice .way .low i li))
+                (omega (arith, h .choice .way .high i li))),
+            fall-rest (titleAt ts j) (ok .each j lj) (getD x j 0) (omega (arith, ok .each j lj .floor-low, h .choice .way .low j lj))
+                (omega (arith, s .choice .way .high j lj)),
           )
 
       worth-it : fall (titleAt ts i) p ≤ fall (titleAt ts j) (getD x j 0)

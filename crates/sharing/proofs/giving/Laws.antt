@@ -32,7 +32,7 @@ worth-capped t k h = rw (le-ltb _ _ h)
 -- below the cap a lane is worth something
 pub worth-some : (t : Title) → Weighable t → (k : ℕ) → countMin ≤ k → k < t .cap → 0 < worth t k
 worth-some t w k l h =
-    omega (arith, worth-below t k h, fall-rest t k (omega arith), falls t w k (omega arith) (omega (arith, w .cap-high)))
+    omega (arith, worth-below t k h, fall-rest t w k l h, falls t w k l h)
 
 -- the title that leads among the first i, with what a lane is worth to it in units; r is the number of titles while none leads
 pub record Leading (ts : List Title) (ks : List ℕ) (i r m : ℕ) : Type 0 where
@@ -178,7 +178,7 @@ module _ (ts : List Title) (ok : AllWeighable ts) where
           omega (
             arith,
             worth-below (titleAt ts j) (getD c j 0) (omega arith),
-            shrinks-on (titleAt ts j) (getD c j 0) b (omega (arith, ok .each j l .floor-low, p .way .low j l)) d,
+            shrinks-on (titleAt ts j) (ok .each j l) (getD c j 0) b (omega (arith, ok .each j l .floor-low, p .way .low j l)) d e,
           )
 
       worth-here : worth (titleAt ts r) (getD c r 0) ≡ fall (titleAt ts r) (getD c r 0)
