@@ -4,7 +4,7 @@ use mathlib.Core.Path.{_≡_, refl, sym, ap, _∙_}
 use mathlib.Core.Logic.{⊎-elim}
 use Prim.Native.Nat.{ℕ, zero, suc, _+_, _-_, _*_, _/_, _%_, _^_, _≤_, _<_}
 use native.Mathlib.Omega.{arith}
-use native.Mathlib.Nat.{mod-lt, div-add-mod, mul-comm, div-div-eq-div-mul, pow-succ', eq-of-mul-eq-mul-left, add-right-cancel}
+use native.Mathlib.Nat.{mod-lt, div-add-mod, mul-comm, div-div-eq-div-mul, pow-succ', eq-of-mul-eq-mul-left, add-right-cancel, add-mul-div-left, add-mul-mod-self-left}
 use lib.Arith.{mod-mul}
 use lib.IntN.{pos, negsuc, _-ℤ_}
 use lib.Dec.{ltb, eqb}
@@ -14,6 +14,7 @@ use Rattle.rules.proofs.Tests.{decide}
 use Rattle.rules.specs.Refusals.{pick}
 use Rattle.grid.specs.Ticks.{slot, cellOf}
 use Rattle.grid.specs.Channels.{floorRem, shift, segment, channelCell, InG}
+use Rattle.grid.proofs.Ticks.{slot-pos, slot-half, half-cells}
 use Rattle.grid.proofs.Numbers.{mod-unique, mod-same, div-unique, pow-part, pow-less, top-unique, ne-zero-pos}
 
 -- slot j of count k, one later and moved from the shift up to 2^k
@@ -60,15 +61,6 @@ lifted-half A k j l =
     let e : suc k - A ≡ suc (k - A) = omega arith in
     let s : 2 ^ (k - A) ≤ 2 ^ k = pow-mono (omega arith) in
     rw e (omega arith)
-
-pub slot-pos : (K k : ℕ) → 0 < slot K k
-unfolding slot
-slot-pos K k = pow-pos (K - k)
-
--- a slot is two slots of one count more
-pub slot-half : (K k : ℕ) → k < K → slot K k ≡ 2 * slot K (suc k)
-unfolding slot
-slot-half K k l = let e : K - k ≡ suc (K - suc k) = omega arith in rw e (omega arith)
 
 module _ (P X b Y : ℕ) (p : 0 < P) (bit : b < 2) (e : Y + 1 ≡ 2 * X + b) where
   both-rem : (Y + 1) % (2 * P) ≡ 2 * (X % P) + b
@@ -149,3 +141,22 @@ distinct A K k t i j low high li lj e =
     let g : w * (2 ^ i - 1 + x % 2 ^ i) ≡ w * (2 ^ j - 1 + x % 2 ^ j) = mul-comm w (2 ^ i - 1 + x % 2 ^ i) ∙ add-right-cancel (t % w) f ∙ mul-comm (2 ^ j - 1 + x % 2 ^ j) w in
     let s : 2 ^ i - 1 + x % 2 ^ i ≡ 2 ^ j - 1 + x % 2 ^ j = eq-of-mul-eq-mul-left w (slot-pos K k) (2 ^ i - 1 + x % 2 ^ i) (2 ^ j - 1 + x % 2 ^ j) g in
     top-unique i j (2 ^ i + x % 2 ^ i) (omega arith) (omega arith) (omega arith) (omega arith)
+
+-- a slot later is a lifted slot later
+pub lifted-add : (A k j o : ℕ) → lifted A k (j + o) ≡ lifted A k j + o
+unfolding lifted
+lifted-add A k j o = omega arith
+
+-- the grid's period: 2^(K-1) ticks, for every count
+pub channel-period : (A K k d t n : ℕ) → k ≤ K → d < k → channelCell A K k d (t + 2 ^ (K - 1) * n) ≡ channelCell A K k d t
+channel-period A K k d t n high l =
+    let w : ℕ = slot K k in
+    let h : w * 2 ^ (k - 1) ≡ 2 ^ (K - 1) = half-cells K k (omega arith) high in
+    let e : t + 2 ^ (K - 1) * n ≡ t + w * (2 ^ (k - 1) * n) = ap (λ m. t + m * n) (sym h) ∙ omega arith in
+    let q : (t + 2 ^ (K - 1) * n) / w ≡ t / w + 2 ^ (k - 1) * n = ap (λ m. m / w) e ∙ add-mul-div-left t (2 ^ (k - 1) * n) (slot-pos K k) in
+    let r : (t + 2 ^ (K - 1) * n) % w ≡ t % w = ap (λ m. m % w) e ∙ add-mul-mod-self-left t w (2 ^ (k - 1) * n) in
+    let p : 2 ^ (k - 1) ≡ 2 ^ d * 2 ^ (k - 1 - d) = pow-part d (k - 1) (omega arith) in
+    let x : lifted A k (t / w + 2 ^ (k - 1) * n) % 2 ^ d ≡ lifted A k (t / w) % 2 ^ d =
+    ap (λ m. m % 2 ^ d) (lifted-add A k (t / w) (2 ^ (k - 1) * n) ∙ ap (λ m. lifted A k (t / w) + m * n) p ∙ omega arith)
+    ∙ add-mul-mod-self-left (lifted A k (t / w)) (2 ^ d) (2 ^ (k - 1 - d) * n) in
+    cell-lifted A K k d (t + 2 ^ (K - 1) * n) (omega arith) ∙ rw (q, r, x) (sym (cell-lifted A K k d t (omega arith)))

@@ -5,17 +5,17 @@ use mathlib.Core.Bool.{Bool, true, false, not, false≢true}
 use mathlib.Core.Logic.{_⊎_, inl, inr, ⊎-elim}
 use Prim.Native.Nat.{ℕ, zero, suc, _+_, _-_, _*_, _/_, _%_, _^_, _≤_, _<_}
 use native.Mathlib.Omega.{arith}
-use native.Mathlib.Nat.{add-zero, add-suc}
+use native.Mathlib.Nat.{add-zero, add-suc, mod-add-div}
 use lib.Dec.{ltb, eqb}
 use borrow.Author.Tests.{ltb-true, ltb-false, eqb-true, eqb-false, lt-ltb, le-ltb, eq-eqb, ne-eqb, not-true, not-false}
 use Rattle.rules.specs.Refusals.{pick}
 use Rattle.rules.specs.Search.{first}
 use Rattle.rules.proofs.Tests.{decide, fails, pick-true, pick-false}
-use Rattle.rules.proofs.Search.{below-suc, some-in, some-out, first-le, first-before, first-hit, first-least}
+use Rattle.rules.proofs.Search.{below-suc, some-in, some-out, first-le, first-before, first-hit, first-least, some-ext, first-ext}
 use Rattle.grid.specs.Channels.{channelCell, InG}
 use Rattle.grid.specs.Lanes.{isInG, isAdded, addedChannel, laneCell}
 use Rattle.grid.proofs.Numbers.{divides-lower}
-use Rattle.grid.proofs.Channels.{turn, raised, raise}
+use Rattle.grid.proofs.Channels.{turn, raised, raise, channel-period}
 pub use Rattle.grid.proofs.Channels.{distinct}
 
 -- the test says what the set says
@@ -183,3 +183,32 @@ pub lane-of-cell : (A K k t c : ℕ) → A ≤ k → k ≤ K → InG A K k t c �
 lane-of-cell A K k t c low high m =
     let e : k ≡ A + (k - A) = omega arith in
     rw e (lane-up A K t c (k - A) (omega arith) (rw e at m))
+
+-- lanes repeat with the grid's period
+module _ (A K t n : ℕ) (floor : A ≤ K) where
+  same-in : (k c : ℕ) → k ≤ K → isInG A K k (t + 2 ^ (K - 1) * n) c ≡ isInG A K k t c
+  unfolding isInG
+  same-in k c l =
+      some-ext (λ d. eqb (channelCell A K k d (t + 2 ^ (K - 1) * n)) c) (λ d. eqb (channelCell A K k d t) c) k
+      (λ d b. ap (λ x. eqb x c) (channel-period A K k d t n l b))
+
+  same-added : (l : ℕ) → l < K → addedChannel A K l (t + 2 ^ (K - 1) * n) ≡ addedChannel A K l t
+  unfolding addedChannel isAdded
+  same-added l b =
+      first-ext (isAdded A K l (t + 2 ^ (K - 1) * n)) (isAdded A K l t) (suc l)
+      (λ d i. ap not (ap (isInG A K l (t + 2 ^ (K - 1) * n)) (channel-period A K (suc l) d t n b i) ∙ same-in l (channelCell A K (suc l) d t) (omega arith)))
+
+  pub lane-period : (l : ℕ) → l < K → laneCell A K l (t + 2 ^ (K - 1) * n) ≡ laneCell A K l t
+  unfolding laneCell
+  lane-period l b =
+      ⊎-elim (λ h. rw h (channel-period A K A l t n floor (ltb-true l A h)))
+      (λ h. rw h
+      (let f : A ≤ l = ltb-false l A h in
+      let s : addedChannel A K l t ≤ l = rw (added-spare A K l t f b) (spare-le A K l t) in
+      ap (λ d. channelCell A K (suc l) d (t + 2 ^ (K - 1) * n)) (same-added l b) ∙ channel-period A K (suc l) (addedChannel A K l t) t n b (omega arith)))
+      (decide (ltb l A))
+
+-- so a lane's cell may be looked up by the tick's remainder
+pub lane-looked-up : (A K l t : ℕ) → A ≤ K → l < K → laneCell A K l t ≡ laneCell A K l (t % 2 ^ (K - 1))
+lane-looked-up A K l t floor b =
+    ap (laneCell A K l) (sym (mod-add-div t (2 ^ (K - 1)))) ∙ lane-period A K (t % 2 ^ (K - 1)) (t / 2 ^ (K - 1)) floor l b

@@ -1,5 +1,8 @@
--- Laws of this crate's definitions.
+-- Laws of this crate's definitions, each file on those above it.
 pub mod Numbers
+pub mod Ticks
 pub mod Channels
 pub mod Lanes
 pub mod Plan
+pub mod Signed
+pub mod Bounds

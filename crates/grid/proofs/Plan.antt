@@ -11,13 +11,15 @@ use lib.Dec.{leb, ltb, eqb}
 use lib.Pow.{pow-pos, pow-mono}
 use borrow.Author.Tests.{ltb-true, ltb-false, leb-true, eqb-true, lt-ltb, le-leb, eq-eqb}
 use Rattle.rules.specs.Limits.{both}
-use Rattle.rules.proofs.Tests.{decide, both-l, both-r, both-in}
-use Rattle.rules.proofs.Search.{some-in, some-out}
-use Rattle.grid.specs.Ticks.{slot, isSlotStart, holdsFilm, tickOf, roundedUp}
+use Rattle.rules.specs.Search.{first}
+use Rattle.rules.proofs.Tests.{decide, both-l, both-r, both-in, fails}
+use Rattle.rules.proofs.Search.{some-in, some-out, first-hit, first-least}
+use Rattle.grid.specs.Ticks.{slot, isSlotStart, holdsFilm, tickOf, roundedUp, cells}
 use Rattle.grid.specs.Channels.{channelCell}
-use Rattle.grid.specs.Plan.{takenFrom, inPlan}
+use Rattle.grid.specs.Plan.{takenFrom, inPlan, takenAfter, planAt, never}
+use Rattle.grid.proofs.Ticks.{slot-pos, all-cells, half-cells, slot-start, rounded-enough}
 use Rattle.grid.proofs.Numbers.{mod-unique, mod-same, div-unique, pow-part, top-unique}
-use Rattle.grid.proofs.Channels.{lifted, cell-lifted, slot-pos}
+use Rattle.grid.proofs.Channels.{lifted, cell-lifted, lifted-add}
 
 -- a box takes cell c from channel d at tick t
 pub record Taken (A K k a c t d : ℕ) : Type 0 where
@@ -50,19 +52,6 @@ taken-out A K k a c t h =
       },
     )
 
--- the slots of a count up to the last channel's window
-pub half-cells : (K k : ℕ) → 0 < k → k ≤ K → slot K k * 2 ^ (k - 1) ≡ 2 ^ (K - 1)
-unfolding slot
-half-cells K k p l =
-    let e : K - 1 ≡ (K - k) + (k - 1) = omega arith in
-    sym (ap (λ n. 2 ^ n) e ∙ lib.Pow.pow-add 2 (K - k) (k - 1))
-
-pub all-cells : (K k : ℕ) → k ≤ K → slot K k * 2 ^ k ≡ 2 ^ K
-unfolding slot
-all-cells K k l =
-    let e : K ≡ (K - k) + k = omega arith in
-    sym (ap (λ n. 2 ^ n) e ∙ lib.Pow.pow-add 2 (K - k) k)
-
 -- no channel is taken for longer than 2^(K-1) ticks
 pub window-end : (A K k a c t : ℕ) → k ≤ K → 0 < k → inPlan A K k a c t ≡ true → t < a + 2 ^ (K - 1)
 window-end A K k a c t l p h =
@@ -71,13 +60,6 @@ window-end A K k a c t l p h =
     let m : 2 ^ (r .0) ≤ 2 ^ (k - 1) = pow-mono (omega arith) in
     let n : slot K k * 2 ^ (r .0) ≤ slot K k * 2 ^ (k - 1) = mul-le-mul-left (slot K k) m in
     omega (arith, half-cells K k p l, r .1 .before)
-
--- a tick that is rounded up is long enough
-pub rounded-enough : (n m : ℕ) → 0 < m → n ≤ roundedUp n m * m
-unfolding roundedUp
-rounded-enough n m p =
-    let r : (n + (m - 1)) % m < m = mod-lt (n + (m - 1)) p in
-    omega (arith, div-add-mod' (n + (m - 1)) m)
 
 pub film-taken : (D A K k c : ℕ) → 0 < A → A ≤ k → k ≤ K → holdsFilm D A K c ≡ true → c < 2 ^ K - slot K k
 unfolding holdsFilm tickOf slot
@@ -106,11 +88,6 @@ pub wait-lt : (A K k a c d : ℕ) → wait A K k a c d < 2 ^ d
 unfolding wait
 wait-lt A K k a c d = mod-lt (c / slot K k + 1 + (2 ^ d - lifted A k (a / slot K k) % 2 ^ d)) (pow-pos d)
 
--- a slot later is a lifted slot later
-lifted-add : (A k j o : ℕ) → lifted A k (j + o) ≡ lifted A k j + o
-unfolding lifted
-lifted-add A k j o = omega arith
-
 -- the slots from x on until the remainder by P is that of n
 turn-to : (P x n : ℕ) → 0 < P → P ≤ n → n < 2 * P → (x + (n + (P - x % P)) % P) % P ≡ n - P
 turn-to P x n p l h =
@@ -127,13 +104,6 @@ turn-only P x n o p l h b e =
     let d : P * (x / P) + x % P ≡ x = div-add-mod x P in
     let f : P * ((x + o) / P) + (x + o) % P ≡ x + o = div-add-mod (x + o) P in
     mod-unique P o (n + (P - x % P)) ((x + o) / P) (x / P + 2) b (omega arith)
-
-pub slot-start : (K k a : ℕ) → isSlotStart K k a ≡ true → a / slot K k * slot K k ≡ a
-unfolding isSlotStart
-slot-start K k a h =
-    let e : a % slot K k ≡ 0 = eqb-true (a % slot K k) 0 h in
-    let d : a / slot K k * slot K k + a % slot K k ≡ a = div-add-mod' a (slot K k) in
-    omega arith
 
 module _ (A K k a c d : ℕ) (start : isSlotStart K k a ≡ true) (count : d < k) where
   -- on the channel that carries it the cell comes after that wait
@@ -231,3 +201,45 @@ in-time A K k a c low high start h =
       omega (arith, div-add-mod' c w),
       taken-in A K k a c (a + (wait A K k a c d * w + c % w)) d (wait-taken A K k a c d start (r .1) (r .2)),
     )
+
+-- the tick minus a at which cell c comes on channel d
+abbrev pub due : ℕ → ℕ → ℕ → ℕ → ℕ → ℕ → ℕ
+due A K k a c d = wait A K k a c d * slot K k + c % slot K k
+
+module _ (A K k a c : ℕ) (high : k ≤ K) (start : isSlotStart K k a ≡ true) where
+  -- the plan gives the tick at which the cell is taken, and no other
+  pub plan-only : (t : ℕ) → inPlan A K k a c t ≡ true → planAt A K k a c ≡ t - a
+  unfolding planAt takenAfter
+  plan-only t h =
+      let r = taken-out A K k a c t h in
+      let o : ℕ = first (λ o. inPlan A K k a c (a + o)) (2 ^ K) in
+      let e : a + (t - a) ≡ t = omega (arith, r .1 .from) in
+      let p : inPlan A K k a c (a + (t - a)) ≡ true = rw e h in
+      let l : o ≤ t - a = first-least (λ o. inPlan A K k a c (a + o)) (2 ^ K) (t - a) p in
+      let m : slot K k * 2 ^ (r .0) ≤ slot K k * 2 ^ k = mul-le-mul-left (slot K k) (pow-mono (omega (arith, r .1 .channel))) in
+      let b : o < 2 ^ K = omega (arith, r .1 .before, all-cells K k high) in
+      let s = taken-out A K k a c (a + o) (first-hit (λ o. inPlan A K k a c (a + o)) (2 ^ K) b) in
+      rw (lt-ltb o (2 ^ K) b) (omega (arith, once A K k a c (a + o) (s .0) t (r .0) start (s .1) (r .1) .0))
+
+  -- its closed form
+  pub plan-due : (d : ℕ) → d < k → Carrier K k c d → planAt A K k a c ≡ due A K k a c d
+  plan-due d l h =
+      plan-only (a + due A K k a c d) (taken-in A K k a c (a + due A K k a c d) d (wait-taken A K k a c d start l h)) ∙ omega arith
+
+  -- every cell but the last w is in the plan, at the number the plan gives and no later than its turn
+  pub plan-in : A ≤ k → c < 2 ^ K - slot K k → (inPlan A K k a c (a + planAt A K k a c) ≡ true) × (planAt A K k a c ≤ c)
+  plan-in low h =
+      let r = in-time A K k a c low high start h in
+      let s = taken-out A K k a c (r .0) (r .2) in
+      let e : planAt A K k a c ≡ r .0 - a = plan-only (r .0) (r .2) in
+      let f : a + planAt A K k a c ≡ r .0 = omega (arith, s .1 .from) in
+      (rw f (r .2), omega (arith, r .1))
+
+  -- and of the last w none is
+  pub plan-never : 2 ^ K - slot K k ≤ c → planAt A K k a c ≡ never
+  unfolding planAt takenAfter
+  plan-never h =
+      let p : ℕ → Bool = λ o. inPlan A K k a c (a + o) in
+      rw (fails (ltb (first p (2 ^ K)) (2 ^ K))
+      (λ t. let s = taken-out A K k a c (a + first p (2 ^ K)) (first-hit p (2 ^ K) (ltb-true (first p (2 ^ K)) (2 ^ K) t)) in
+      omega (arith, taken-cell A K k a c (a + first p (2 ^ K)) (s .0) high start (s .1)))) refl

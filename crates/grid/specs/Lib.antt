@@ -3,3 +3,4 @@ pub mod Ticks
 pub mod Channels
 pub mod Lanes
 pub mod Plan
+pub mod Bounds

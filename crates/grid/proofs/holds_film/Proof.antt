@@ -1,0 +1,30 @@
+-- `grid::holds_film` meets its contract: a cell's start is at most 2^10 lengths, and fits.
+-- Rests on the laws of ticks.
+use borrow.Author.Needs.{needs}
+use Rattle.grid.specs.Ticks.{holdsFilm}
+use Rattle.grid.proofs.Ticks.{film-room}
+use Rattle.grid.proofs.holds_film.Statement.{statement}
+use Rattle.grid.proofs.holds_film.Tie as tie
+use Rattle.grid.proofs.holds_film.Reads as reads
+use Rattle.grid.proofs.holds_film.Lts as lts
+use Rattle.grid.proofs.tick.Reads as tick-reads
+
+-- src/lib.rt:55:12
+tick-requires : tie.Need-tick-requires
+tick-requires c κs = search needs
+
+-- src/lib.rt:55:5
+mul-result : tie.Need-mul-result
+mul-result c =
+    record {
+      fits = film-room (c .before .args .cell) (c .before .args .cap) (c .tick .result) (c .before .args .length) (c .before .pre .1 .1)
+          (c .before .pre .1 .0 .high) (c .tick .ensures .high) (c .before .pre .0 .high);
+    }
+
+-- src/lib.rt:49:1
+returns : tie.Need-returns
+unfolding holdsFilm
+returns c = cc (c .tick .ensures .is)
+
+pub holds-film-spec : {M : Type 1} → statement M
+holds-film-spec = tie.close (tie.spec tick-requires mul-result returns)

@@ -1,0 +1,26 @@
+-- What the functions ask of their arguments and say of their results, each part by its name.
+use Prim.Native.Nat.{ℕ, _^_, _≤_, _<_}
+use mathlib.Core.Path.{_≡_}
+use Rattle.rules.specs.Limits.{countMax, lengthMin, lengthMax}
+
+-- r is the value v, and lies from lo to hi
+pub record Exactly (v lo hi r : ℕ) : Type 0 where
+  pub is : r ≡ v
+  pub low : lo ≤ r
+  pub high : r ≤ hi
+
+-- a length within its limits
+pub record Length (D : ℕ) : Type 0 where
+  pub low : lengthMin ≤ D
+  pub high : D ≤ lengthMax
+
+-- a floor and a cap that a title may have
+pub record FloorCap (A K : ℕ) : Type 0 where
+  pub low : 0 < A
+  pub fit : A ≤ K
+  pub high : K ≤ countMax
+
+-- a count that has slots under the cap
+pub record CountCap (k K : ℕ) : Type 0 where
+  pub fit : k ≤ K
+  pub high : K ≤ countMax
