@@ -4,7 +4,7 @@ use mathlib.Core.Path.{_≡_, refl, sym, ap, _∙_}
 use mathlib.Core.Logic.{⊎-elim}
 use Prim.Native.Nat.{ℕ, zero, suc, _+_, _-_, _*_, _/_, _%_, _^_, _≤_, _<_}
 use native.Mathlib.Omega.{arith}
-use native.Mathlib.Nat.{mod-lt, div-add-mod, mul-comm, div-div-eq-div-mul, pow-succ', eq-of-mul-eq-mul-left, add-right-cancel, add-mul-div-left, add-mul-mod-self-left}
+use native.Mathlib.Nat.{mod-lt, div-add-mod, mul-comm, div-div-eq-div-mul, pow-succ', eq-of-mul-eq-mul-left, add-right-cancel, add-mul-div-left, add-mul-mod-self-left, mul-le-mul-right}
 use lib.Arith.{mod-mul}
 use lib.IntN.{pos, negsuc, _-ℤ_}
 use lib.Dec.{ltb, eqb}
@@ -14,7 +14,8 @@ use Rattle.rules.proofs.Tests.{decide}
 use Rattle.rules.specs.Refusals.{pick}
 use Rattle.grid.specs.Ticks.{slot, cellOf}
 use Rattle.grid.specs.Channels.{floorRem, shift, segment, channelCell, InG}
-use Rattle.grid.proofs.Ticks.{slot-pos, slot-half, half-cells}
+use Rattle.grid.specs.Bounds.{IsCell}
+use Rattle.grid.proofs.Ticks.{slot-pos, slot-half, half-cells, all-cells}
 use Rattle.grid.proofs.Numbers.{mod-unique, mod-same, div-unique, pow-part, pow-less, top-unique, ne-zero-pos}
 
 -- slot j of count k, one later and moved from the shift up to 2^k
@@ -160,3 +161,21 @@ channel-period A K k d t n high l =
     ap (λ m. m % 2 ^ d) (lifted-add A k (t / w) (2 ^ (k - 1) * n) ∙ ap (λ m. lifted A k (t / w) + m * n) p ∙ omega arith)
     ∙ add-mul-mod-self-left (lifted A k (t / w)) (2 ^ d) (2 ^ (k - 1 - d) * n) in
     cell-lifted A K k d (t + 2 ^ (K - 1) * n) (omega arith) ∙ rw (q, r, x) (sym (cell-lifted A K k d t (omega arith)))
+
+-- every channel carries one of the 2^K cells
+pub cell-within : (A K k d t : ℕ) → k ≤ K → d < k → channelCell A K k d t < 2 ^ K
+cell-within A K k d t high l =
+    let w : ℕ = slot K k in
+    let x : ℕ = lifted A k (t / w) % 2 ^ d in
+    let b : x < 2 ^ d = mod-lt (lifted A k (t / w)) (pow-pos d) in
+    let r : t % w < w = mod-lt t (slot-pos K k) in
+    let m : 2 ^ suc d ≤ 2 ^ k = pow-mono l in
+    let n : suc (2 ^ d - 1 + x) * w ≤ 2 ^ k * w = mul-le-mul-right w (omega arith) in
+    omega (arith, cell-lifted A K k d t (omega arith), all-cells K k high)
+
+-- the cell, from the parts by which code computes it
+pub cell-parts : (A K k d t p r w : ℕ) → k ≤ K → d < k → p ≡ 2 ^ d → r ≡ floorRem (pos (t / w) -ℤ pos (shift A k)) (2 ^ d) → w ≡ slot K k → IsCell K (channelCell A K k d t) ((p + r - 1) * w + t % w)
+unfolding channelCell cellOf segment
+cell-parts A K k d t p r w high l e f g =
+    let q : (p + r - 1) * w + t % w ≡ (2 ^ d + floorRem (pos (t / slot K k) -ℤ pos (shift A k)) (2 ^ d) - 1) * slot K k + t % slot K k = rw (e, f, g) refl in
+    record { is = q; within = rw q (cell-within A K k d t high l) }

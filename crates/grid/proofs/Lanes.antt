@@ -67,6 +67,16 @@ module _ (A K k t : ℕ) where
       (λ h. omega (arith, raised-above d (ltb-false d (spare A K k t) h) l, ltb-false d (spare A K k t) h))
       (decide (ltb d (spare A K k t)))
 
+-- below the floor a lane carries its channel of count A
+pub lane-channel : (A K l t : ℕ) → l < A → laneCell A K l t ≡ channelCell A K A l t
+unfolding laneCell
+lane-channel A K l t b = rw (lt-ltb l A b) refl
+
+-- from the floor on it carries the channel that is added
+pub lane-added : (A K l t : ℕ) → A ≤ l → laneCell A K l t ≡ channelCell A K (suc l) (addedChannel A K l t) t
+unfolding laneCell
+lane-added A K l t b = rw (le-ltb l A b) refl
+
 module _ (A K k t : ℕ) (low : A ≤ k) (high : k < K) where
   -- the spare channel's cell is no cell of count k
   spare-fresh : InG A K k t (channelCell A K (suc k) (spare A K k t) t) → ⊥
@@ -113,9 +123,11 @@ module _ (A K k t : ℕ) (low : A ≤ k) (high : k < K) where
       let l : first (isAdded A K k t) (suc k) < suc k = omega (arith, spare-le A K k t) in
       added-only (first (isAdded A K k t) (suc k)) l (first-hit (isAdded A K k t) (suc k) l)
 
+  pub added-lt : addedChannel A K k t < suc k
+  added-lt = rw added-spare (omega (arith, spare-le A K k t))
+
   pub lane-spare : laneCell A K k t ≡ channelCell A K (suc k) (spare A K k t) t
-  unfolding laneCell
-  lane-spare = rw (le-ltb k A low) (ap (λ d. channelCell A K (suc k) d t) added-spare)
+  lane-spare = lane-added A K k t low ∙ ap (λ d. channelCell A K (suc k) d t) added-spare
 
 -- Theorem 1 of source 000: G(k, t) lies within G(k + 1, t)
 pub nested : (A K k t c : ℕ) → A ≤ k → k < K → InG A K k t c → InG A K (suc k) t c
@@ -151,11 +163,6 @@ nested-up A K k t c (suc n) low high m =
 pub nested-to : (A K k m t c : ℕ) → A ≤ k → k ≤ m → m ≤ K → InG A K k t c → InG A K m t c
 nested-to A K k m t c low l high i =
     let e : k + (m - k) ≡ m = omega arith in rw e at (nested-up A K k t c (m - k) low (omega arith) i)
-
--- below the floor a lane carries its channel of count A
-pub lane-channel : (A K l t : ℕ) → l < A → laneCell A K l t ≡ channelCell A K A l t
-unfolding laneCell
-lane-channel A K l t b = rw (lt-ltb l A b) refl
 
 pub cell-of-lane : (A K k l t : ℕ) → A ≤ k → k ≤ K → l < k → InG A K k t (laneCell A K l t)
 cell-of-lane A K k l t low high b =

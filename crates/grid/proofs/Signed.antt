@@ -1,6 +1,6 @@
 -- Laws of the signed slot difference and of its floor remainder, as the machine keeps them: each signed value is read
 -- back from its bits once, and everything after is about natural numbers. Rest on the machine's reading of a signed number.
-use mathlib.Core.Path.{_≡_, refl, sym, ap, subst, _∙_}
+use mathlib.Core.Path.{_≡_, refl, sym, ap, ap₂, subst, _∙_}
 use mathlib.Core.Bool.{Bool, true, false, false≢true}
 use mathlib.Core.Logic.{⊎-elim}
 use Prim.Native.Nat.{ℕ, zero, suc, _+_, _-_, _*_, _/_, _%_, _^_, _≤_, _<_}
@@ -14,7 +14,8 @@ use mir.Val.{Fits, SFits, toZ, ofZ}
 use mir.ValLaws.{toZ-ofZ, toZ-pos}
 use borrow.Author.Tests.{le-ltb, ltb-true, ltb-false}
 use Rattle.rules.proofs.Tests.{decide}
-use Rattle.grid.specs.Channels.{floorRem}
+use Rattle.grid.specs.Channels.{floorRem, shift}
+use Rattle.grid.specs.Bounds.{IsRest}
 
 -- below zero: x is -1 - n
 pub record Below (x : ℤ) (n : ℕ) : Type 0 where
@@ -53,15 +54,21 @@ module _ (x : ℤ) (n : ℕ) (fits : SFits w64 x) (b : Below x n) where
 pub cast-of : (z : ℤ) (n : ℕ) → z ≡ pos n → n < 2 ^ 63 → T (nonNeg z) × Fits w64 (natAbs z)
 cast-of z n e l = subst (λ z. T (nonNeg z) × Fits w64 (natAbs z)) (sym e) (tt, record { fits = omega arith })
 
-pub rem-below : (z x : ℤ) (n m : ℕ) → z ≡ pos n → x ≡ negsuc n → 0 < m → (m - 1 - natAbs z % m ≡ floorRem x m) × (m - 1 - natAbs z % m < m)
+pub rem-below : (z x : ℤ) (n m : ℕ) → z ≡ pos n → x ≡ negsuc n → 0 < m → IsRest (floorRem x m) m (m - 1 - natAbs z % m)
 unfolding floorRem
 rem-below z x n m e f p =
-    (ap (λ z. m - 1 - natAbs z % m) e ∙ sym (ap (λ x. floorRem x m) f), omega arith)
+    record {
+      is = ap (λ z. m - 1 - natAbs z % m) e ∙ sym (ap (λ x. floorRem x m) f);
+      less = omega arith;
+    }
 
-pub rem-above : (z x : ℤ) (n m : ℕ) → z ≡ pos n → x ≡ pos n → 0 < m → (natAbs z % m ≡ floorRem x m) × (natAbs z % m < m)
+pub rem-above : (z x : ℤ) (n m : ℕ) → z ≡ pos n → x ≡ pos n → 0 < m → IsRest (floorRem x m) m (natAbs z % m)
 unfolding floorRem
 rem-above z x n m e f p =
-    (ap (λ z. natAbs z % m) e ∙ sym (ap (λ x. floorRem x m) f), mod-lt (natAbs z) p)
+    record {
+      is = ap (λ z. natAbs z % m) e ∙ sym (ap (λ x. floorRem x m) f);
+      less = mod-lt (natAbs z) p;
+    }
 
 pub rem-room : (n m : ℕ) → 0 < m → n % m ≤ m - 1
 rem-room n m p = omega (arith, mod-lt n p)
@@ -81,3 +88,13 @@ module _ (j s : ℕ) (a : j < 2 ^ 62) (b : s < 2 ^ 62) where
 
   pub diff-read : toZ w64 (ofZ w64 (toZ w64 j -ℤ toZ w64 s)) ≡ pos j -ℤ pos s
   diff-read = toZ-ofZ w64 (toZ w64 j -ℤ toZ w64 s) diff-fits ∙ as-signed
+
+-- the floor remainder, from the parts by which code computes it
+pub rest-parts : (A k d j p m r : ℕ) (z : ℤ) → j < 2 ^ 62 → p < 2 ^ 62 → p ≡ 2 ^ (k - A) → z ≡ pos j -ℤ pos (p - 1) → m ≡ 2 ^ d → IsRest (floorRem (toZ w64 (ofZ w64 z)) m) m r → IsRest (floorRem (pos j -ℤ pos (shift A k)) (2 ^ d)) (2 ^ d) r
+unfolding shift
+rest-parts A k d j p m r z a b e f g h =
+    let fits : SFits w64 z = subst (λ z. SFits w64 z) (sym f) (diff-small j (p - 1) a (omega arith)) in
+    record {
+      is = h .is ∙ ap₂ floorRem (toZ-ofZ w64 z fits ∙ f ∙ ap (λ n. pos j -ℤ pos (n - 1)) e) g;
+      less = omega (arith, h .less);
+    }

@@ -24,3 +24,28 @@ pub record FloorCap (A K : ℕ) : Type 0 where
 pub record CountCap (k K : ℕ) : Type 0 where
   pub fit : k ≤ K
   pub high : K ≤ countMax
+
+-- a count between the floor and the cap
+pub record Counted (A K k : ℕ) : Type 0 where
+  pub floor : A ≤ k
+  pub fit : k ≤ K
+  pub high : K ≤ countMax
+
+-- the last tick that is asked about: twice the last asked time leaves room for every plan
+abbrev pub tickMax : ℕ
+tickMax = 2 ^ 42
+
+-- r is the remainder v by m
+pub record IsRest (v m r : ℕ) : Type 0 where
+  pub is : r ≡ v
+  pub less : r < m
+
+-- r is the cell v, one of the cells of cap K
+pub record IsCell (K v r : ℕ) : Type 0 where
+  pub is : r ≡ v
+  pub within : r < 2 ^ K
+
+-- r is the channel v of count k
+pub record IsChannel (k v r : ℕ) : Type 0 where
+  pub is : r ≡ v
+  pub within : r < k

@@ -1,13 +1,24 @@
 // Which cell each channel and lane carries at a tick. These functions are for the crates above, and say in a `requires`
 // what they build on; the calls that a customer makes have none and stand in those crates.
 
-ghost use Prim.Native.Nat.{_+_, _*_, _-_, _^_, _≤_, _<_};
+ghost use Prim.Native.Nat.{suc, _+_, _*_, _-_, _^_, _≤_, _<_};
 ghost use mathlib.Core.Path.{_≡_};
 ghost use lib.IntN.{pos, _-ℤ_};
 ghost use Rattle.rules.specs.Limits.{countMax};
 ghost use Rattle.grid.specs.Ticks.{slot as slotOf, isSlotStart, tickOf, holdsFilm};
-ghost use Rattle.grid.specs.Channels.{floorRem};
-ghost use Rattle.grid.specs.Bounds.{Exactly, Length, FloorCap, CountCap};
+ghost use Rattle.grid.specs.Channels.{floorRem, shift, channelCell};
+ghost use Rattle.grid.specs.Lanes.{isInG, addedChannel, laneCell};
+ghost use Rattle.grid.specs.Bounds.{
+  Exactly,
+  Length,
+  FloorCap,
+  CountCap,
+  Counted,
+  tickMax,
+  IsRest,
+  IsCell,
+  IsChannel,
+};
 
 // 2 to the power n.
 pub fn pow2(n: u64) -> u64
@@ -64,7 +75,7 @@ pub fn slot_difference(j: u64, s: u64) -> i64
 // The remainder of x by m that is never negative, exact below, at and above zero.
 pub fn floor_rem(x: i64, m: u64) -> u64
     requires { ⌜ 0 < m ⌝ }
-    ensures { λ r. ⌜ (r ≡ floorRem x m) × (r < m) ⌝ }
+    ensures { λ r. ⌜ IsRest (floorRem x m) m r ⌝ }
 {
     if x < 0 {
         // x is -1 - n: unlike -x, this n fits for every x below zero
@@ -73,4 +84,84 @@ pub fn floor_rem(x: i64, m: u64) -> u64
     } else {
         x as u64 % m
     }
+}
+
+// The place, from 0, of the segment that channel `channel` of count `count` carries in slot j among its 2^channel segments.
+pub fn place(floor: u64, count: u64, channel: u64, j: u64) -> u64
+    requires { ⌜ (floor ≤ count) × (count ≤ countMax) ⌝ }
+    requires { ⌜ (channel ≤ count) × (j ≤ tickMax) ⌝ }
+    ensures { λ r. ⌜ IsRest (floorRem (pos j -ℤ pos (shift floor count)) (2 ^ channel)) (2 ^ channel) r ⌝ }
+{
+    floor_rem(slot_difference(j, pow2(count - floor) - 1), pow2(channel))
+}
+
+// The cell that channel `channel` of count `count` carries at tick `tick`.
+pub fn channel_cell(floor: u64, cap: u64, count: u64, channel: u64, tick: u64) -> u64
+    requires { ⌜ Counted floor cap count ⌝ }
+    requires { ⌜ (channel < count) × (tick ≤ tickMax) ⌝ }
+    ensures { λ r. ⌜ IsCell cap (channelCell floor cap count channel tick) r ⌝ }
+{
+    let width = slot(cap, count);
+    let segment = pow2(channel) + place(floor, count, channel, tick / width);
+    (segment - 1) * width + tick % width
+}
+
+// Whether cell `cell` is in G(count, tick).
+pub fn in_g(floor: u64, cap: u64, count: u64, tick: u64, cell: u64) -> bool
+    requires { ⌜ Counted floor cap count ⌝ }
+    requires { ⌜ tick ≤ tickMax ⌝ }
+    ensures { λ r. ⌜ r ≡ isInG floor cap count tick cell ⌝ }
+{
+    let mut found = false;
+    let mut d = 0;
+    while d < count {
+        if channel_cell(floor, cap, count, d, tick) == cell {
+            found = true;
+        }
+        d += 1;
+    }
+    found
+}
+
+// The channel of count `lane` + 1 whose cell at tick `tick` is the one not in G(lane, tick).
+pub fn added_channel(floor: u64, cap: u64, lane: u64, tick: u64) -> u64
+    requires { ⌜ Counted floor cap (suc lane) ⌝ }
+    requires { ⌜ (floor ≤ lane) × (tick ≤ tickMax) ⌝ }
+    ensures { λ r. ⌜ IsChannel (suc lane) (addedChannel floor cap lane tick) r ⌝ }
+{
+    let mut first = 0;
+    let mut d = 0;
+    while d <= lane {
+        if first == d {
+            if in_g(
+                floor,
+                cap,
+                lane,
+                tick,
+                channel_cell(floor, cap, lane + 1, d, tick),
+            ) {
+                first = d + 1;
+            }
+        }
+        d += 1;
+    }
+    first
+}
+
+// The cell that lane `lane` carries at tick `tick`.
+pub fn lane_cell(floor: u64, cap: u64, lane: u64, tick: u64) -> u64
+    requires { ⌜ FloorCap floor cap ⌝ }
+    requires { ⌜ (lane < cap) × (tick ≤ tickMax) ⌝ }
+    ensures { λ r. ⌜ IsCell cap (laneCell floor cap lane tick) r ⌝ }
+{
+    if lane < floor {
+        return channel_cell(floor, cap, floor, lane, tick);
+    }
+    channel_cell(
+        floor,
+        cap,
+        lane + 1,
+        added_channel(floor, cap, lane, tick),
+        tick,
+    )
 }

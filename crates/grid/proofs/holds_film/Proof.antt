@@ -5,15 +5,10 @@ use Rattle.grid.specs.Ticks.{holdsFilm}
 use Rattle.grid.proofs.Ticks.{film-room}
 use Rattle.grid.proofs.holds_film.Statement.{statement}
 use Rattle.grid.proofs.holds_film.Tie as tie
-use Rattle.grid.proofs.holds_film.Reads as reads
-use Rattle.grid.proofs.holds_film.Lts as lts
-use Rattle.grid.proofs.tick.Reads as tick-reads
 
--- src/lib.rt:55:12
 tick-requires : tie.Need-tick-requires
 tick-requires c κs = search needs
 
--- src/lib.rt:55:5
 mul-result : tie.Need-mul-result
 mul-result c =
     record {
@@ -21,7 +16,6 @@ mul-result c =
           (c .before .pre .1 .0 .high) (c .tick .ensures .high) (c .before .pre .0 .high);
     }
 
--- src/lib.rt:49:1
 returns : tie.Need-returns
 unfolding holdsFilm
 returns c = cc (c .tick .ensures .is)

@@ -1,15 +1,13 @@
+-- `grid::pow2` meets its contract: a small power of two fits, so the shift loses nothing.
+-- Rests on the laws of bounds.
 use borrow.Author.Needs.{needs}
 use Rattle.grid.proofs.Bounds.{small-power}
 use Rattle.grid.proofs.pow2.Statement.{statement}
 use Rattle.grid.proofs.pow2.Tie as tie
-use Rattle.grid.proofs.pow2.Reads as reads
-use Rattle.grid.proofs.pow2.Lts as lts
 
--- src/lib.rt:17:5
 shl-result : tie.Need-shl-result
 shl-result c = search needs
 
--- src/lib.rt:13:1
 returns : tie.Need-returns
 returns c = small-power (c .args .n) (c .pre)
 

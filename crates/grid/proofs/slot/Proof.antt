@@ -1,20 +1,16 @@
+-- `grid::slot` meets its contract: it is the power of two that a slot is defined by.
+-- Rests on what its callee ensures.
 use borrow.Author.Needs.{needs}
 use Rattle.grid.specs.Ticks.{slot}
 use Rattle.grid.proofs.slot.Statement.{statement}
 use Rattle.grid.proofs.slot.Tie as tie
-use Rattle.grid.proofs.slot.Reads as reads
-use Rattle.grid.proofs.slot.Lts as lts
-use Rattle.grid.proofs.pow2.Reads as pow2-reads
 
--- src/lib.rt:26:10
 sub-pow2 : tie.Need-sub-pow2
 sub-pow2 c = search needs
 
--- src/lib.rt:26:5
 pow2-requires : tie.Need-pow2-requires
 pow2-requires c κs = search needs
 
--- src/lib.rt:21:1
 returns : tie.Need-returns
 unfolding slot
 returns c = c .pow2 .ensures
