@@ -7,15 +7,14 @@ ghost use Rattle.grid.specs.Bounds.{Exactly};
 ghost use Rattle.story.specs.Kept.{tickAt, atTickStart};
 ghost use Rattle.held.specs.Film.{Film};
 
-// The ms since the opening, 0 for a time before it.
-fn since(t: Title, time: u64) -> u64
-    ensures { λ r. ⌜ r ≡ time - t .opened ⌝ }
+// How far a moment lies after another, 0 where it lies before.
+pub fn since(from: u64, moment: u64) -> u64
+    ensures { λ r. ⌜ r ≡ moment - from ⌝ }
 {
-    let opened = t.opened;
-    if time < opened {
+    if moment < from {
         return 0;
     }
-    time - opened
+    moment - from
 }
 
 // The tick of a title that holds a time.
@@ -23,7 +22,7 @@ pub fn tick_at(t: Title, time: u64) -> u64
     requires { ⌜ Film t ⌝ }
     ensures { λ r. ⌜ Exactly (tickAt t time) 0 time r ⌝ }
 {
-    since(t, time) / grid::tick(t.length, t.floor, t.cap)
+    since(t.opened, time) / grid::tick(t.length, t.floor, t.cap)
 }
 
 // Whether a time is the start of a tick.
@@ -31,5 +30,5 @@ pub fn at_tick_start(t: Title, time: u64) -> bool
     requires { ⌜ Film t ⌝ }
     ensures { λ r. ⌜ r ≡ atTickStart t time ⌝ }
 {
-    since(t, time) % grid::tick(t.length, t.floor, t.cap) == 0
+    since(t.opened, time) % grid::tick(t.length, t.floor, t.cap) == 0
 }
