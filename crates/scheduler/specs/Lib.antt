@@ -1,2 +1,2 @@
--- What the calls answer before the pool is counted, and what the lanes held of any state are.
-pub mod Before
+-- What the calls give back besides what the story of events defines.
+pub mod Outcomes
