@@ -1,0 +1,2 @@
+-- What an event answers before the pool is counted.
+pub mod Before

@@ -1,0 +1,3 @@
+-- Laws of this crate's definitions.
+pub mod Compared
+pub mod Within

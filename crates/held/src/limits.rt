@@ -1,0 +1,155 @@
+// The limits of every stored number (01, "Numbers that calls give back").
+
+use rules::ASKED_MAX;
+use rules::COUNT_MAX;
+use rules::FLOOR_MAX;
+use rules::FLOOR_MIN;
+use rules::LENGTH_MAX;
+use rules::LENGTH_MIN;
+use rules::POOL_MAX;
+use rules::POOL_MIN;
+use rules::TITLES_MAX;
+use rules::within;
+use story::NONE;
+use story::State;
+use story::Title;
+ghost use mathlib.Core.Path.{_≡_};
+ghost use Prim.Native.Nat.{_≤_};
+ghost use lib.ListN.{length};
+ghost use lib.Dec.{leb, eqb};
+ghost use Rattle.rules.specs.Limits.{both, either, poolMin, titlesMax};
+ghost use Rattle.rules.specs.Search.{every};
+ghost use Rattle.story.specs.Kept.{rowOk, numbersOk, orderOk, titleOk, stateOk};
+ghost use Rattle.held.specs.Film.{slotOk};
+
+// Both tests hold.
+pub fn also(a: bool, b: bool) -> bool
+    ensures { λ r. ⌜ r ≡ both a b ⌝ }
+{
+    if a { b } else { false }
+}
+
+// The first n numbers of a row are within the limit of a time or a tick.
+fn row_ok(row: &[u64], n: usize) -> bool
+    requires { ⌜ n ≤ length (now row) ⌝ }
+    ensures { λ r. ⌜ r ≡ rowOk (now (row .entry)) n ⌝ }
+{
+    let mut ok = true;
+    let mut i = 0;
+    while i < n {
+        ok = also(row[i] <= ASKED_MAX, ok);
+        i += 1;
+    }
+    ok
+}
+
+// The three rows of a title.
+fn rows_ok(t: Title) -> bool
+    ensures { λ r. ⌜ r ≡ both (rowOk (t .ends) 11) (both (rowOk (t .dropped) 10) (rowOk (t .owed) 10)) ⌝ }
+{
+    let ends = t.ends;
+    let dropped = t.dropped;
+    let owed = t.owed;
+    also(
+        row_ok(&ends, 11),
+        also(row_ok(&dropped, 10), row_ok(&owed, 10)),
+    )
+}
+
+// The upper limits, which hold for every slot.
+fn numbers_ok(t: Title) -> bool
+    ensures { λ r. ⌜ r ≡ numbersOk t ⌝ }
+{
+    if t.mode > 2 {
+        return false;
+    }
+    if t.opened > ASKED_MAX {
+        return false;
+    }
+    if t.length > LENGTH_MAX {
+        return false;
+    }
+    if t.floor > FLOOR_MAX {
+        return false;
+    }
+    if t.cap > COUNT_MAX {
+        return false;
+    }
+    if t.count > COUNT_MAX {
+        return false;
+    }
+    if t.last > ASKED_MAX {
+        return false;
+    }
+    rows_ok(t)
+}
+
+// What holds besides for a title that is there: lower limits, and the order of floor, count and cap.
+fn order_ok(t: Title) -> bool
+    ensures { λ r. ⌜ r ≡ orderOk t ⌝ }
+{
+    if t.length < LENGTH_MIN {
+        return false;
+    }
+    if t.floor < FLOOR_MIN {
+        return false;
+    }
+    if t.floor > t.cap {
+        return false;
+    }
+    within(t.floor, t.cap, t.count)
+}
+
+// The numbers of a title, there or not.
+fn title_ok(t: Title) -> bool
+    ensures { λ r. ⌜ r ≡ titleOk t ⌝ }
+{
+    if numbers_ok(t) {
+        if t.mode == NONE {
+            return true;
+        }
+        return order_ok(t);
+    }
+    false
+}
+
+// A title's slot, in a state with some pool: a pool of 0 has no titles.
+fn slot_ok(pool: u64, t: Title) -> bool
+    ensures { λ r. ⌜ r ≡ both (titleOk t) (either (leb poolMin pool) (eqb (t .mode) 0)) ⌝ }
+{
+    if title_ok(t) {
+        if POOL_MIN <= pool {
+            return true;
+        }
+        return t.mode == NONE;
+    }
+    false
+}
+
+// The slots of a state.
+fn slots_ok(s: State) -> bool
+    ensures { λ r. ⌜ r ≡ every (slotOk s) titlesMax ⌝ }
+{
+    let pool = s.pool;
+    let mut ok = true;
+    let mut i = 0;
+    while i < TITLES_MAX {
+        let t = s.titles[i];
+        ok = also(slot_ok(pool, t), ok);
+        i += 1;
+    }
+    ok
+}
+
+// Whether every stored number of a state is within its limits.
+pub fn state_ok(s: State) -> bool
+    ensures { λ r. ⌜ r ≡ stateOk s ⌝ }
+{
+    if s.pool > POOL_MAX {
+        return false;
+    }
+    if s.last > ASKED_MAX {
+        return false;
+    }
+    slots_ok(s)
+}

@@ -1,0 +1,87 @@
+-- What dropping lanes and ending a count leave as it was, and what a title within its limits has.
+-- Rests on the laws of lists and searches.
+use mathlib.Core.Path.{_≡_, refl}
+use mathlib.Core.Bool.{Bool, true, false}
+use mathlib.Core.List.{List, [], _∷_}
+use Prim.Native.Nat.{ℕ, zero, suc, _≤_, _<_}
+use native.Mathlib.Omega.{arith}
+use lib.Dec.{leb, ltb}
+use lib.ListN.{getD, set}
+use borrow.Author.Tests.{le-leb, lt-ltb}
+use Rattle.rules.specs.Limits.{both, askedMax}
+use Rattle.rules.specs.Refusals.{pick}
+use Rattle.rules.proofs.Search.{every-in}
+use Rattle.story.specs.declared.Title.{Title}
+use Rattle.story.specs.Kept.{rowOk, titleOk, tickAt}
+use Rattle.story.specs.Next.{ended, dropLane, dropLanes, changedTitle}
+use Rattle.held.specs.Film.{Film}
+use Rattle.held.proofs.Within.{in-row, readable, count-fit, ends-ok, dropped-ok}
+use Rattle.owed.specs.Owing.{Owing, Sending, Changeable}
+
+-- a title with the same film, count and ends
+pub record Fixed (t q : Title) : Type 0 where
+  pub length : q .length ≡ t .length
+  pub floor : q .floor ≡ t .floor
+  pub cap : q .cap ≡ t .cap
+  pub count : q .count ≡ t .count
+  pub ends : q .ends ≡ t .ends
+
+pub fixed-drops : (t : Title) (n k i : ℕ) → Fixed t (dropLanes t n k i)
+unfolding dropLanes
+fixed-drops t n k zero = record { length = refl; floor = refl; cap = refl; count = refl; ends = refl }
+fixed-drops t n k (suc i) = go (both (leb k i) (ltb i (t .count))) (fixed-drops t n k i)
+  where
+    go : (b : Bool) → Fixed t (dropLanes t n k i) → Fixed t (pick b (dropLane (dropLanes t n k i) n i) (dropLanes t n k i))
+    go true f = record { length = f .length; floor = f .floor; cap = f .cap; count = f .count; ends = f .ends }
+    go false f = f
+
+pub fixed-owing : (t q : Title) → Fixed t q → Owing t → Owing q
+fixed-owing t q f o = record { cut = rw (f .floor, f .cap) (o .cut); ends = rw (f .ends) (o .ends) }
+
+-- what holds of a value, and of each place of a row, holds of each place once the value is stored
+pub stored : {A : Type 0} (P : A → Type 0) (row : List A) (i j : ℕ) (v d : A) → P v → P (getD row j d) → P (getD (set row i v) j d)
+stored P [] i j v d a b = b
+stored P (x ∷ xs) zero zero v d a b = a
+stored P (x ∷ xs) zero (suc j) v d a b = b
+stored P (x ∷ xs) (suc i) zero v d a b = b
+stored P (x ∷ xs) (suc i) (suc j) v d a b = stored P xs i j v d a b
+
+pub stored-row : (row : List ℕ) (n i v : ℕ) → v ≤ askedMax → rowOk row n ≡ true → rowOk (set row i v) n ≡ true
+stored-row row n i v l ok =
+    every-in (λ j. leb (getD (set row i v) j 0) askedMax) n
+    (λ j below. le-leb (getD (set row i v) j 0) askedMax (stored (λ x. x ≤ askedMax) row i j v 0 l (in-row row n j ok below)))
+
+pub ended-owing : (t : Title) (n : ℕ) → n ≤ askedMax → Owing t → Owing (ended t n)
+ended-owing t n l o = record { cut = o .cut; ends = stored-row (t .ends) 11 (t .count) n l (o .ends) }
+
+-- below the old count a lane is dropped or not by the new count alone
+pub drop-more : (t q : Title) (n k i : ℕ) → q ≡ dropLanes t n k i → i < t .count → pick (leb k i) (dropLane q n i) q ≡ dropLanes t n k (suc i)
+unfolding dropLanes
+drop-more t q n k i e l = rw (lt-ltb i (t .count) l, ← e) (go (leb k i))
+  where
+    go : (b : Bool) → pick b (dropLane q n i) q ≡ pick (both b true) (dropLane q n i) q
+    go true = refl
+    go false = refl
+
+-- a title that is there, in a state within its limits
+module _ (t : Title) (ok : titleOk t ≡ true) (there : t .mode ≡ 0 → ⊥) where
+  pub owing : Owing t
+  owing = record { cut = readable t ok there .cut; ends = ends-ok t ok }
+
+  pub sending : Sending t
+  sending = record { owing = owing; dropped = dropped-ok t ok }
+
+  pub changeable : Changeable t
+  changeable = record { film = readable t ok there; owing = owing; ruled = count-fit t ok there }
+
+-- the film of a title with the same length, floor and cap
+pub fixed-film : (t q : Title) → Fixed t q → Film t → Film q
+fixed-film t q f o = record { sized = rw (f .length) (o .sized); cut = rw (f .floor, f .cap) (o .cut) }
+
+pub changed-film : (t : Title) (τ k : ℕ) → Film t → Film (changedTitle t τ k)
+unfolding changedTitle
+changed-film t τ k o =
+    let u = ended t (tickAt t τ) in
+    let d = dropLanes u (tickAt t τ) k (t .count) in
+    let f = fixed-film u d (fixed-drops u (tickAt t τ) k (t .count)) (record { sized = o .sized; cut = o .cut }) in
+    record { sized = f .sized; cut = f .cut }

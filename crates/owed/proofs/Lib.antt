@@ -1,0 +1,2 @@
+-- Laws of titles that are changed and closed.
+pub mod Fixed

@@ -1,0 +1,62 @@
+-- `owed_within` meets its contract: the loop's number is the count of the owed ticks passed.
+use Prim.Native.Nat.{_+_, _≤_, _-_}
+use mathlib.Core.Path.{_≡_}
+use native.Mathlib.Omega.{arith}
+use native.Mathlib.Numerals.{add-one}
+use native.Mathlib.Nat.{le-antisymm}
+use Rattle.rules.specs.Search.{howMany}
+use Rattle.story.specs.Kept.{keptOwed, keptWithin}
+use borrow.Author.Needs.{needs}
+use Rattle.owed.proofs.owing.owed_within.Statement.{statement}
+use Rattle.owed.proofs.owing.owed_within.Tie as tie
+
+abbrev Inv-loop : tie.InvT-loop
+Inv-loop t lane from n owed₀ i₀ owed i = (i ≤ n) × (owed ≡ keptWithin t lane from i) × (owed ≤ i)
+
+abbrev μ-loop : tie.MeasureT-loop
+μ-loop t lane from n owed₀ i₀ owed i = n - i
+
+loop-holds : tie.Need-loop-holds Inv-loop μ-loop
+unfolding keptWithin howMany
+loop-holds c = search needs
+
+add-is-owed : tie.Need-add-is-owed Inv-loop μ-loop
+add-is-owed c = search needs
+
+is-owed-requires : tie.Need-is-owed-requires Inv-loop μ-loop
+is-owed-requires c κs = search needs
+
+one-if-requires : tie.Need-one-if-requires Inv-loop μ-loop
+one-if-requires c κs = search needs
+
+add-owed : tie.Need-add-owed Inv-loop μ-loop
+add-owed c = search needs
+
+add-i : tie.Need-add-i Inv-loop μ-loop
+add-i c = search needs
+
+loop-less : tie.Need-loop-less Inv-loop μ-loop
+loop-less c = search needs
+
+loop-again : tie.Need-loop-again Inv-loop μ-loop
+unfolding keptWithin howMany
+loop-again c = (omega arith, rw add-one (cc (c .one-if .ensures .is)), omega arith)
+
+returns : tie.Need-returns Inv-loop μ-loop
+returns c = record { is = cc (le-antisymm (c .before .loop .inv .0) (c .loop-test .left)); low = omega arith; high = omega arith }
+
+pub owed-within-spec : {M : Type 1} → statement M
+owed-within-spec =
+    tie.close
+    (tie.spec
+    Inv-loop
+    μ-loop
+    loop-holds
+    add-is-owed
+    is-owed-requires
+    one-if-requires
+    add-owed
+    add-i
+    loop-less
+    loop-again
+    returns)

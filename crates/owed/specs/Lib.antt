@@ -1,0 +1,2 @@
+-- What is asked of a title before its owed ticks are read.
+pub mod Owing

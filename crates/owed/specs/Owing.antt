@@ -1,0 +1,23 @@
+-- The numbers of a title by which its owed ticks are read, within their limits (01, "What the product holds").
+use Prim.Native.Nat.{_≤_}
+use mathlib.Core.Path.{_≡_}
+use mathlib.Core.Bool.{true}
+use Rattle.grid.specs.Bounds.{FloorCap}
+use Rattle.story.specs.declared.Title.{Title}
+use Rattle.story.specs.Kept.{rowOk}
+use Rattle.held.specs.Film.{Film}
+
+pub record Owing (t : Title) : Type 0 where
+  pub cut : FloorCap (t .floor) (t .cap)
+  pub ends : rowOk (t .ends) 11 ≡ true
+
+-- and those by which the cell of a sending lane is found
+pub record Sending (t : Title) : Type 0 where
+  pub owing : Owing t
+  pub dropped : rowOk (t .dropped) 10 ≡ true
+
+-- and those by which a title is changed or closed
+pub record Changeable (t : Title) : Type 0 where
+  pub film : Film t
+  pub owing : Owing t
+  pub ruled : t .count ≤ t .cap

@@ -1,0 +1,109 @@
+// What a change or a close makes of a title: the ruling count ends, and the lanes above the new count are dropped (01,
+// "Events").
+
+use crate::owing::owed_within;
+use crate::sending::reach;
+use held::ticks::tick_at;
+use story::CLOSED;
+use story::OPEN;
+use story::Title;
+ghost use Prim.Native.Nat.{ℕ, _≤_, _<_};
+ghost use mathlib.Core.Path.{_≡_};
+ghost use lib.Dec.{leb};
+ghost use Rattle.rules.specs.Limits.{askedMax, countMax};
+ghost use Rattle.rules.specs.Refusals.{pick};
+ghost use Rattle.story.specs.Next.{ended, dropLane, dropLanes, turned, changedTitle, closedTitle};
+ghost use Rattle.owed.specs.Owing.{Owing, Changeable};
+
+// A lane is dropped at a tick, and how many cells it owes is counted once, here.
+fn drop_lane(t: Title, tick: u64, lane: u64) -> Title
+    requires { ⌜ Owing t ⌝ }
+    requires { ⌜ (lane < t .cap) × (tick ≤ askedMax) ⌝ }
+    ensures { λ r. ⌜ r ≡ dropLane t tick lane ⌝ }
+{
+    let n = owed_within(t, lane, tick, reach(t));
+    let mut q = t;
+    q.dropped[lane as usize] = tick;
+    q.owed[lane as usize] = n;
+    q
+}
+
+// A lane from the new count up is dropped, one below it stays as it is.
+fn drop_above(t: Title, tick: u64, count: u64, lane: u64) -> Title
+    requires { ⌜ Owing t ⌝ }
+    requires { ⌜ (lane < t .cap) × (tick ≤ askedMax) ⌝ }
+    ensures { λ r. ⌜ r ≡ pick (leb count lane) (dropLane t tick lane) t ⌝ }
+{
+    if count <= lane {
+        return drop_lane(t, tick, lane);
+    }
+    t
+}
+
+// The lanes from the new count up to the old are dropped at a tick.
+fn drop_lanes(t: Title, tick: u64, count: u64) -> Title
+    requires { ⌜ Owing t ⌝ }
+    requires { ⌜ (t .count ≤ t .cap) × (tick ≤ askedMax) ⌝ }
+    ensures { λ r. ⌜ r ≡ dropLanes t tick count (t .count) ⌝ }
+{
+    let old = t.count;
+    let mut q = t;
+    let mut lane = 0;
+    while lane < old {
+        q = drop_above(q, tick, count, lane);
+        lane += 1;
+    }
+    q
+}
+
+// The ruling count ends at a tick.
+fn end_count(t: Title, tick: u64) -> Title
+    requires { ⌜ t .count ≤ countMax ⌝ }
+    ensures { λ r. ⌜ r ≡ ended t tick ⌝ }
+{
+    let mut q = t;
+    let count = t.count;
+    q.ends[count as usize] = tick;
+    q
+}
+
+// A title with another mode, count and latest event.
+fn turn(t: Title, mode: u64, count: u64, time: u64) -> Title
+    ensures { λ r. ⌜ r ≡ turned t mode count time ⌝ }
+{
+    let mut q = t;
+    q.mode = mode;
+    q.count = count;
+    q.last = time;
+    q
+}
+
+// A title whose count changes at a time. The event's own tick belongs to the new count: the old one ends before it.
+pub fn changed_title(t: Title, time: u64, count: u64) -> Title
+    requires { ⌜ Changeable t ⌝ }
+    requires { ⌜ time ≤ askedMax ⌝ }
+    ensures { λ r. ⌜ r ≡ changedTitle t time count ⌝ }
+{
+    let tick = tick_at(t, time);
+    turn(
+        drop_lanes(end_count(t, tick), tick, count),
+        OPEN,
+        count,
+        time,
+    )
+}
+
+// A title that closes at a time: all active lanes are dropped.
+pub fn closed_title(t: Title, time: u64) -> Title
+    requires { ⌜ Changeable t ⌝ }
+    requires { ⌜ time ≤ askedMax ⌝ }
+    ensures { λ r. ⌜ r ≡ closedTitle t time ⌝ }
+{
+    let tick = tick_at(t, time);
+    turn(
+        drop_lanes(end_count(t, tick), tick, 0),
+        CLOSED,
+        t.count,
+        time,
+    )
+}

@@ -1,0 +1,78 @@
+// What a lane shows: its usual cell while it is active, else its owed cells in the order of their ticks (01, "Events").
+
+use crate::owing::is_owed;
+use crate::owing::one_if;
+use grid::lane_cell;
+use grid::pow2;
+use held::lanes::ruling;
+use held::limits::also;
+use held::ticks::since;
+use story::Title;
+ghost use Prim.Native.Nat.{ℕ, suc, _+_, _-_, _≤_, _<_};
+ghost use mathlib.Core.Path.{_≡_};
+ghost use Rattle.rules.specs.Limits.{askedMax};
+ghost use Rattle.rules.specs.Search.{first, keepFirst};
+ghost use Rattle.grid.specs.Bounds.{Exactly, tickMax};
+ghost use Rattle.story.specs.Life.{reach as reachOf};
+ghost use Rattle.story.specs.Kept.{keptNth, sendingTick, shows as showsOf};
+ghost use Rattle.owed.specs.Owing.{Owing, Sending};
+
+// How far from its drop the last tick lies that a lane may owe.
+pub fn reach(t: Title) -> u64
+    requires { ⌜ Owing t ⌝ }
+    ensures { λ r. ⌜ Exactly (reachOf (t .cap)) 1 1024 r ⌝ }
+{
+    pow2(t.cap - 1)
+}
+
+// Where the first of the numbers below n is f, the first below n + 1, by the test of n.
+fn keep_first(f: u64, n: u64, b: bool) -> u64
+    requires { ⌜ n ≤ tickMax ⌝ }
+    ensures { λ r. ⌜ r ≡ keepFirst f n b ⌝ }
+{
+    if f < n {
+        return f;
+    }
+    if b { n } else { n + 1 }
+}
+
+// How far from a tick lies the owed tick that has `nth` owed ticks before it. The count of owed ticks is carried along.
+fn nth_owed(t: Title, lane: u64, from: u64, nth: u64) -> u64
+    requires { ⌜ Owing t ⌝ }
+    requires { ⌜ (lane < t .cap) × (from ≤ askedMax) ⌝ }
+    ensures { λ r. ⌜ Exactly (first (keptNth t lane from nth) (reachOf (t .cap))) 0 1024 r ⌝ }
+{
+    let end = reach(t);
+    let mut found = 0;
+    let mut owed = 0;
+    let mut i = 0;
+    while i < end {
+        let here = is_owed(t, lane, from + i);
+        found = keep_first(found, i, also(here, owed == nth));
+        owed += one_if(here);
+        i += 1;
+    }
+    found
+}
+
+// The tick whose cell a sending lane shows at a tick.
+fn sending_tick(t: Title, lane: u64, tick: u64) -> u64
+    requires { ⌜ Sending t ⌝ }
+    requires { ⌜ lane < t .cap ⌝ }
+    ensures { λ r. ⌜ Exactly (sendingTick t lane tick) 0 tickMax r ⌝ }
+{
+    let from = t.dropped[lane as usize];
+    from + nth_owed(t, lane, from, since(from, tick))
+}
+
+// The cell that a held lane shows at a tick.
+pub fn shows(t: Title, lane: u64, tick: u64) -> u64
+    requires { ⌜ Sending t ⌝ }
+    requires { ⌜ (lane < t .cap) × (tick ≤ tickMax) ⌝ }
+    ensures { λ r. ⌜ r ≡ showsOf t lane tick ⌝ }
+{
+    if lane < ruling(t) {
+        return lane_cell(t.floor, t.cap, lane, tick);
+    }
+    lane_cell(t.floor, t.cap, lane, sending_tick(t, lane, tick))
+}

@@ -1,0 +1,23 @@
+-- `settle` meets its contract: each way out decides whether the pool has lanes enough.
+use mathlib.Core.Path.{refl}
+use borrow.Author.Tests.{lt-ltb, le-ltb}
+use Rattle.rules.specs.Refusals.{firstHit}
+use Rattle.scheduler.specs.Outcomes.{settledAnswer}
+use borrow.Author.Needs.{needs}
+use borrow.Author.Needs.{needs}
+use Rattle.scheduler.proofs.settle.Statement.{statement}
+use Rattle.scheduler.proofs.settle.Tie as tie
+
+lanes-held-requires : tie.Need-lanes-held-requires
+lanes-held-requires c κs = search needs
+
+returns : tie.Need-returns
+unfolding settledAnswer firstHit
+returns c = simp (c .before .before .before .pre .1, ← c .before .before .lanes-held .ensures, lt-ltb _ _ (c .if1 .taken)) (refl, refl)
+
+returns-2 : tie.Need-returns-2
+unfolding settledAnswer firstHit
+returns-2 c = simp (c .before .before .before .pre .1, ← c .before .before .lanes-held .ensures, le-ltb _ _ (c .if1 .left)) (refl, refl)
+
+pub settle-spec : {M : Type 1} → statement M
+settle-spec = tie.close (tie.spec lanes-held-requires returns returns-2)

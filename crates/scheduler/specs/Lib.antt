@@ -1,0 +1,2 @@
+-- What the calls give back besides what the story of events defines.
+pub mod Outcomes

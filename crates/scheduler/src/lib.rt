@@ -1,0 +1,241 @@
+// The scheduler's calls. No public function has a `requires`: any numbers and any state may be handed in, and each contract
+// says what is answered. A refusal gives back the state as it came in, number for number, and writes nothing that is lent.
+
+use answers::verdicts::change_verdict;
+use answers::verdicts::close_verdict;
+use answers::verdicts::lane_verdict;
+use answers::verdicts::open_verdict;
+use answers::verdicts::title_of;
+use held::lanes::lanes_held;
+use held::limits::state_ok;
+use held::ticks::tick_at;
+use owed::dropping::changed_title;
+use owed::dropping::closed_title;
+use owed::sending::shows;
+use rules::ASKED_MAX;
+use rules::DONE;
+use rules::NO_LANES;
+use rules::OUTSIDE_LIMITS;
+use rules::POOL_MAX;
+use rules::POOL_MIN;
+use rules::within;
+use story::NONE;
+use story::OPEN;
+use story::State;
+use story::Title;
+ghost use Prim.Native.Nat.{ℕ, _≤_, _<_};
+ghost use mathlib.Core.Path.{_≡_};
+ghost use lib.Dec.{eqb};
+ghost use Rattle.rules.specs.Limits.{idMax};
+ghost use Rattle.rules.specs.Refusals.{pick};
+ghost use Rattle.story.specs.Kept.{titleAt};
+ghost use Rattle.story.specs.Next.{openedTitle, withTitle, openNext, changeNext, closeNext};
+ghost use Rattle.story.specs.Calls.{
+  blankTitle,
+  emptyPool,
+  freshAnswer,
+  freshNext,
+  tooMany,
+  openAnswer,
+  changeAnswer,
+  closeAnswer,
+  laneAnswer,
+  laneShows,
+};
+ghost use Rattle.held.specs.Film.{AllReadable};
+ghost use Rattle.scheduler.specs.Outcomes.{settledAnswer, heldShown};
+
+// What a fresh call gives back.
+pub struct Started {
+    pub answer: u8,
+    pub state: State,
+}
+
+// What an event gives back: the answer, and the next state or the one that came in.
+pub struct Outcome {
+    pub answer: u8,
+    pub state: State,
+}
+
+// What a lane question gives back: the answer, and the cell that goes out, 0 beside a refusal.
+pub struct Shown {
+    pub answer: u8,
+    pub cell: u64,
+}
+
+// The slot of an id that no event has named.
+fn blank_title() -> Title
+    ensures { λ r. ⌜ r ≡ blankTitle ⌝ }
+{
+    Title {
+        mode: NONE,
+        opened: 0,
+        length: 0,
+        floor: 0,
+        cap: 0,
+        count: 0,
+        last: 0,
+        ends: [0; 11],
+        dropped: [0; 10],
+        owed: [0; 10],
+    }
+}
+
+// A pool without titles.
+fn empty_pool(lanes: u64) -> State
+    ensures { λ r. ⌜ r ≡ emptyPool lanes ⌝ }
+{
+    let t = blank_title();
+    let titles = [t; 16];
+    State {
+        pool: lanes,
+        last: 0,
+        titles: titles,
+    }
+}
+
+// A fresh pool. A refusal gives a pool of 0 lanes.
+pub fn fresh(pool: u64) -> Started
+    ensures { λ r. ⌜ (r .answer ≡ freshAnswer pool) × (r .state ≡ freshNext pool) ⌝ }
+{
+    if within(POOL_MIN, POOL_MAX, pool) {
+        let state = empty_pool(pool);
+        return Started {
+            answer: DONE,
+            state: state,
+        };
+    }
+    let none = empty_pool(0);
+    Started {
+        answer: OUTSIDE_LIMITS,
+        state: none,
+    }
+}
+
+// The state with another title at an id, after an event at a time.
+fn with_title(s: State, id: u64, t: Title, time: u64) -> State
+    requires { ⌜ id ≤ idMax ⌝ }
+    ensures { λ r. ⌜ r ≡ withTitle s id t time ⌝ }
+{
+    let mut q = s;
+    q.last = time;
+    q.titles[id as usize] = t;
+    q
+}
+
+// A title opened at a time: no count has ended and no lane was dropped.
+fn opened_title(time: u64, length: u64, floor: u64, cap: u64, count: u64) -> Title
+    ensures { λ r. ⌜ r ≡ openedTitle time length floor cap count ⌝ }
+{
+    Title {
+        mode: OPEN,
+        opened: time,
+        length: length,
+        floor: floor,
+        cap: cap,
+        count: count,
+        last: time,
+        ends: [0; 11],
+        dropped: [0; 10],
+        owed: [0; 10],
+    }
+}
+
+// An event that only lanes may refuse: it is taken where the pool has as many as the next state would hold.
+fn settle(s: State, next: State, time: u64) -> Outcome
+    requires { ⌜ AllReadable next ⌝ }
+    requires { ⌜ next .pool ≡ s .pool ⌝ }
+    ensures { λ r. ⌜ (r .answer ≡ settledAnswer next time) × (r .state ≡ pick (eqb (settledAnswer next time) 0) next s) ⌝ }
+{
+    if s.pool < lanes_held(next, time) {
+        return Outcome {
+            answer: NO_LANES,
+            state: s,
+        };
+    }
+    Outcome {
+        answer: DONE,
+        state: next,
+    }
+}
+
+// Opens a title.
+pub fn open(s: State, id: u64, time: u64, length: u64, floor: u64, cap: u64, count: u64) -> Outcome
+    ensures { λ r. ⌜ r .answer ≡ openAnswer s id time length floor cap count ⌝ }
+    ensures { λ r. ⌜ r .state ≡ pick (eqb (openAnswer s id time length floor cap count) 0) (openNext s id time length floor cap count) s ⌝ }
+{
+    let first = open_verdict(s, id, time, length, floor, cap, count);
+    if first == DONE {
+        let next = with_title(s, id, opened_title(time, length, floor, cap, count), time);
+        return settle(s, next, time);
+    }
+    Outcome {
+        answer: first,
+        state: s,
+    }
+}
+
+// Changes the count of a title.
+pub fn change(s: State, id: u64, time: u64, count: u64) -> Outcome
+    ensures { λ r. ⌜ r .answer ≡ changeAnswer s id time count ⌝ }
+    ensures { λ r. ⌜ r .state ≡ pick (eqb (changeAnswer s id time count) 0) (changeNext s id time count) s ⌝ }
+{
+    let first = change_verdict(s, id, time, count);
+    if first == DONE {
+        let next = with_title(s, id, changed_title(title_of(s, id), time, count), time);
+        return settle(s, next, time);
+    }
+    Outcome {
+        answer: first,
+        state: s,
+    }
+}
+
+// Closes a title. It needs no lanes: a close only drops them.
+pub fn close(s: State, id: u64, time: u64) -> Outcome
+    ensures { λ r. ⌜ r .answer ≡ closeAnswer s id time ⌝ }
+    ensures { λ r. ⌜ r .state ≡ pick (eqb (closeAnswer s id time) 0) (closeNext s id time) s ⌝ }
+{
+    let answer = close_verdict(s, id, time);
+    if answer == DONE {
+        let next = with_title(s, id, closed_title(title_of(s, id), time), time);
+        return Outcome {
+            answer: DONE,
+            state: next,
+        };
+    }
+    Outcome {
+        answer: answer,
+        state: s,
+    }
+}
+
+// Which cell goes out on a lane of a title in the tick that holds a time.
+pub fn lane(s: State, id: u64, lane: u64, time: u64) -> Shown
+    ensures { λ r. ⌜ (r .answer ≡ laneAnswer s id lane time) × (r .cell ≡ laneShows s id lane time) ⌝ }
+{
+    let answer = lane_verdict(s, id, lane, time);
+    if answer == DONE {
+        let t = title_of(s, id);
+        return Shown {
+            answer: DONE,
+            cell: shows(t, lane, tick_at(t, time)),
+        };
+    }
+    Shown {
+        answer: answer,
+        cell: 0,
+    }
+}
+
+// How many lanes are held over all titles at a time; 0 where a number is outside its limits.
+pub fn held(s: State, time: u64) -> u64
+    ensures { λ r. ⌜ r ≡ heldShown s time ⌝ }
+{
+    if state_ok(s) {
+        if time <= ASKED_MAX {
+            return lanes_held(s, time);
+        }
+    }
+    0
+}
