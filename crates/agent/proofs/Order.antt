@@ -40,11 +40,11 @@ pub record Follows (pool : ℕ) (ns : List Notice) (g : Agent) : Type 0 where
 pub fresh-follows : (pool : ℕ) → Follows pool [] (freshAgent pool)
 unfolding replayed
 fresh-follows pool =
-    record
-    { sequence = refl
-    ; state = refl
-    ; told = record { tells = fresh-tells (lanesOf pool); funded = mathlib.Core.Logic.inr refl }
-    ; turn = start
+    record {
+      sequence = refl;
+      state = refl;
+      told = record { tells = fresh-tells (lanesOf pool); funded = mathlib.Core.Logic.inr refl };
+      turn = start;
     }
 
 -- both choices go the same way: in turn and accepted by the state, in turn and accepted after those heard
@@ -62,12 +62,12 @@ hear-notice pool ns g n w =
     (answer (lanesOf pool) (map eventOf ns) (eventOf n))
     (told-answer (lanesOf pool) (lanes-limit pool) (map eventOf ns) (g .state) (w .told) (eventOf n))
     (λ turn ok.
-      record
-      { sequence = eqb-true (n .sequence) (suc (length ns)) turn
-      ; state = ap (λ s. callNext s (n .title) (n .time) (eventOf n .act)) (w .state)
-      ; told = told-more (lanesOf pool) (lanes-limit pool) (map eventOf ns) (g .state) (w .told) (eventOf n) ok
-      ; turn = next (eqb-true (n .sequence) (suc (length ns)) turn) (w .turn)
-      })
+    record {
+      sequence = eqb-true (n .sequence) (suc (length ns)) turn;
+      state = ap (λ s. callNext s (n .title) (n .time) (eventOf n .act)) (w .state);
+      told = told-more (lanesOf pool) (lanes-limit pool) (map eventOf ns) (g .state) (w .told) (eventOf n) ok;
+      turn = next (eqb-true (n .sequence) (suc (length ns)) turn) (w .turn);
+    })
     w)
 
 -- one more reading
@@ -90,12 +90,3 @@ same-heard pool bss css e =
     let q : agentAfter pool bss .sequence ≡ agentAfter pool css .sequence = b .sequence ∙ ap length e ∙ sym (c .sequence) in
     let s : agentAfter pool bss .state ≡ agentAfter pool css .state = b .state ∙ ap (λ ns. replayed pool (map eventOf ns)) e ∙ sym (c .state) in
     λ i. record { sequence = q i; state = s i }
-
--- a reading that is refused changes nothing
-pub refused-stays : (g : Agent) (r : Reading) → (noticeAnswer g r ≡ 0 → ⊥) → noticed g r ≡ g
-refused-stays g r h = rw (ne-eqb (noticeAnswer g r) 0 h) refl
-
--- out of turn: early, late or again
-pub out-of-turn : (g : Agent) (n : Notice) → (n .sequence ≡ suc (g .sequence) → ⊥) → noticeAnswer g (reading.Whole n) ≡ outOfTurn
-unfolding noticeAnswer
-out-of-turn g n h = rw (ne-eqb (n .sequence) (suc (g .sequence)) h) refl

@@ -21,7 +21,6 @@ use Rattle.notice.specs.Decode.{readOf, noticeIn, kindIn, valueAt, standsTo, ro
 use Rattle.agent.specs.declared.Agent.{Agent}
 use Rattle.agent.specs.Turns.{freshAgent, noticeAnswer}
 use Rattle.agent.specs.Series.{agentAfter, heard}
-use Rattle.agent.proofs.Order.{same-heard, out-of-turn}
 
 abbrev opened : Notice
 opened = record { sequence = 1; title = 0; time = 0; kind = Open 12 2 4 3 }
