@@ -1,3 +1,4 @@
 // What a line of the operator's console means.
 pub mod bytes;
+pub mod commands;
 pub mod numbers;
