@@ -2,8 +2,7 @@
 use Prim.Native.Nat.{ℕ, _+_, _*_, _/_, _%_, min}
 use mathlib.Core.Bool.{Bool, true, false}
 use mathlib.Core.List.{List, [], _∷_}
-use lib.Dec.{ltb}
-use Rattle.rules.specs.Limits.{both}
+use lib.Dec.{eqb, ltb}
 use Rattle.rules.specs.Refusals.{pick}
 use Rattle.console_lines.specs.declared.numbers.Number.{Number}
 use Rattle.console_lines.specs.Bytes.{digit, digitOf, hexOf}
@@ -31,4 +30,8 @@ grow n b =
 
 -- v is above a limit; a limit of 0 stands for none
 unfoldable pub tooLarge : ℕ → ℕ → Bool
-tooLarge limit v = both (ltb 0 limit) (ltb limit v)
+tooLarge limit v = pick (eqb limit 0) false (ltb limit v)
+
+-- the same of a number as it is handed on
+unfoldable pub above : ℕ → Number → Bool
+above limit n = pick (eqb limit 0) false (pick (n .over) true (ltb limit (n .value)))

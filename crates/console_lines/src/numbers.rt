@@ -3,7 +3,7 @@
 use crate::bytes;
 ghost use mathlib.Core.Path.{_≡_};
 ghost use lib.ListN.{drop};
-ghost use Rattle.console_lines.specs.Numbers.{grow as grown, capped, amount, tooLarge};
+ghost use Rattle.console_lines.specs.Numbers.{grow as grown, capped, amount, above as beyond};
 
 // A number of any size, held at most at TOP; over says that it was larger.
 pub struct Number {
@@ -51,4 +51,17 @@ pub fn spelt(s: &[u8], from: usize) -> Number
         }
     }
     n
+}
+
+// Whether a number is above a limit, where 0 is none.
+pub fn above(limit: u64, n: Number) -> bool
+    ensures { λ r. ⌜ r ≡ beyond limit n ⌝ }
+{
+    if limit == 0 {
+        return false;
+    }
+    if n.over {
+        return true;
+    }
+    limit < n.value
 }
