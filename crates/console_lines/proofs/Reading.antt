@@ -1,5 +1,5 @@
 -- Laws of one word's reading: the tests that lead to each way out say which case of the definition it is.
-use Prim.Native.Nat.{ℕ, _+_, _-_, _%_, _<_, _≤_, min}
+use Prim.Native.Nat.{ℕ, zero, suc, _+_, _-_, _%_, _<_, _≤_, min}
 use mathlib.Core.Path.{_≡_, refl, sym, _∙_, ap}
 use mathlib.Core.Bool.{Bool, true, false}
 use mathlib.Core.List.{List}
@@ -13,8 +13,8 @@ use Rattle.console_lines.specs.declared.numbers.Number.{Number}
 use Rattle.console_lines.specs.declared.lines.Line.{Line}
 use Rattle.console_lines.specs.Bytes.{reach}
 use Rattle.console_lines.specs.Numbers.{top, amount, capped, above, tooLarge}
-use Rattle.console_lines.specs.Commands.{enough, verbOf, limitOf, oversized, badHex, oddHex, notNumber, unknownWord, noFault, tooFew, doWrite}
-use Rattle.console_lines.specs.Lines.{withFault, ended, goOn, withNumber, withKind, withHex}
+use Rattle.console_lines.specs.Commands.{enough, verbOf, limitOf, oversized, badHex, oddHex, notNumber, unknownWord, noFault, tooFew, tooLong, unread, doWrite, mostOf, crowded, takesHex, takesKind}
+use Rattle.console_lines.specs.Lines.{blank, withFault, ended, goOn, withNumber, withKind, withHex, withWord, wordAt, step, withVerb, longest, begun, readOn}
 
 -- a number as it is handed on is above a limit when the number itself is
 held-above : (limit v : ℕ) → limit ≤ top → (t u : Bool) → eqb limit 0 ≡ t → ltb top v ≡ u
@@ -74,3 +74,65 @@ module _ (s : List ℕ) (l : Line) (a e : ℕ) where
 
     pub number-whole : (t : Bool) → t ≡ above m (capped (amount 0 (drop a s))) → t ≡ false → goOn l (amount 0 (drop a s)) e ≡ withNumber s l a e
     number-whole t f g = rw (sym f ∙ g) at number-rest
+
+module _ (s : List ℕ) (l : Line) (a m : ℕ) (q : m ≡ mostOf (l .command)) where
+  pub word-crowded : m ≤ l .count → withFault l (crowded (l .command)) a ≡ withWord s l a
+  unfolding withWord
+  word-crowded h = rw (← q, le-leb _ _ h)
+
+  module _ (h : l .count < m) (t : Bool) (f : t ≡ takesHex (l .command)) (e : ℕ) (g : e ≡ reach Word s a) where
+    pub word-hex : t ≡ true → withHex s l a e ≡ withWord s l a
+    unfolding withWord
+    word-hex y = rw (← q, lt-leb _ _ h, ← f, y, ← g)
+
+    module _ (n : t ≡ false) (u : Bool) (k : u ≡ takesKind (l .command) (l .count)) where
+      pub word-kind : u ≡ true → withKind (take (e - a) (drop a s)) l a e ≡ withWord s l a
+      unfolding withWord wordAt
+      word-kind y = rw (← q, lt-leb _ _ h, ← f, n, ← k, y, ← g)
+
+      pub word-number : u ≡ false → withNumber s l a e ≡ withWord s l a
+      unfolding withWord
+      word-number y = rw (← q, lt-leb _ _ h, ← f, n, ← k, y, ← g)
+
+module _ (s : List ℕ) (l : Line) (a : ℕ) (q : a ≡ reach Separator s (l .place)) where
+  pub step-word : a < length s → withWord s l a ≡ step s l
+  unfolding step
+  step-word h = rw (← q, lt-ltb _ _ h)
+
+  pub step-end : length s ≤ a → ended l a ≡ step s l
+  unfolding step
+  step-end h = rw (← q, le-ltb _ _ h)
+
+module _ (s : List ℕ) where
+  pub begun-long : longest < length s → withFault blank tooLong longest ≡ begun s
+  unfolding begun
+  begun-long h = rw (lt-ltb _ _ h)
+
+  module _ (h : length s ≤ longest) (a : ℕ) (q : a ≡ reach Separator s 0) where
+    pub begun-blank : length s ≤ a → blank ≡ begun s
+    unfolding begun
+    begun-blank g = rw (le-ltb _ _ h, ← q, le-ltb _ _ g)
+
+    pub begun-hash : a < length s → getD s a 0 ≡ 35 → blank ≡ begun s
+    unfolding begun
+    begun-hash g e = rw (le-ltb _ _ h, ← q, lt-ltb _ _ g, eq-eqb _ _ e)
+
+    pub begun-verb : a < length s → (getD s a 0 ≡ 35 → ⊥) → (e : ℕ) → e ≡ reach Word s a
+        → withVerb (verbOf (take (e - a) (drop a s))) a e ≡ begun s
+    unfolding begun wordAt
+    begun-verb g n e r = rw (le-ltb _ _ h, ← q, lt-ltb _ _ g, ne-eqb _ _ n, ← r)
+
+-- a turn of the reading, and its two ways out
+module _ (s : List ℕ) (l : Line) where
+  pub read-on : (n m : ℕ) → n ≡ suc m → l .fault ≡ unread → readOn m s (step s l) ≡ readOn n s l
+  unfolding readOn
+  read-on n m e h = rw (e, eq-eqb _ _ h)
+
+  pub read-stop : (n : ℕ) → (l .fault ≡ unread → ⊥) → l ≡ readOn n s l
+  unfolding readOn
+  read-stop zero h = refl
+  read-stop (suc n) h = rw (ne-eqb _ _ h)
+
+  pub read-none : (n : ℕ) → n ≡ 0 → l ≡ readOn n s l
+  unfolding readOn
+  read-none n e = rw e

@@ -6,7 +6,7 @@ use mathlib.Core.Bool.{Bool, true, false}
 use mathlib.Core.List.{List, [], _∷_}
 use lib.ListN.{getD}
 use lib.Dec.{eqb, leb, ltb}
-use Rattle.rules.specs.Limits.{both, within}
+use Rattle.rules.specs.Limits.{both, either}
 use Rattle.rules.specs.Refusals.{pick}
 
 -- the bytes of a text
@@ -103,6 +103,14 @@ mostOf c = getD mostTable c 0
 -- the command may end after n words: sharing after its pool and whole titles, any other from its least on
 unfoldable pub enough : ℕ → ℕ → Bool
 enough c n = pick (eqb c doShare) (eqb (n % 4) 1) (leb (leastOf c) n)
+
+-- the command's word is HEX
+unfoldable pub takesHex : ℕ → Bool
+takesHex c = either (eqb c doRead) (eqb c doNotice)
+
+-- the word after a write's sequence is the notice's kind
+unfoldable pub takesKind : ℕ → ℕ → Bool
+takesKind c n = both (eqb c doWrite) (eqb n 1)
 
 -- the largest number of so many bytes
 abbrev pub byte : ℕ

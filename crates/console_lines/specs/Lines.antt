@@ -5,7 +5,7 @@ use mathlib.Core.Bool.{Bool, true, false}
 use mathlib.Core.List.{List, []}
 use lib.ListN.{length, getD, take, drop, set, replicate}
 use lib.Dec.{eqb, leb, ltb}
-use Rattle.rules.specs.Limits.{both, either, within}
+use Rattle.rules.specs.Limits.{within}
 use Rattle.rules.specs.Refusals.{pick}
 use Rattle.console_lines.specs.declared.bytes.Sort.the-variants.{Separator, Word, Digit, Hex}
 use Rattle.console_lines.specs.declared.numbers.Number.{Number}
@@ -70,3 +70,49 @@ withHex s l a e =
       count = 1;
       numbers = set (set (l .numbers) 0 a) 1 e;
     }))
+
+-- the word that starts at a
+unfoldable pub wordAt : List ℕ → ℕ → List ℕ
+wordAt s a = take (reach Word s a - a) (drop a s)
+
+-- the next word starts at a, and there is one
+unfoldable pub withWord : List ℕ → Line → ℕ → Line
+withWord s l a =
+    pick (leb (Commands.mostOf (l .command)) (l .count)) (withFault l (Commands.crowded (l .command)) a)
+    (pick (Commands.takesHex (l .command)) (withHex s l a (reach Word s a))
+    (pick (Commands.takesKind (l .command) (l .count)) (withKind (wordAt s a) l a (reach Word s a))
+    (withNumber s l a (reach Word s a))))
+
+-- the next word of the line, or its end
+unfoldable pub step : List ℕ → Line → Line
+step s l =
+    pick (ltb (reach Separator s (l .place)) (length s)) (withWord s l (reach Separator s (l .place)))
+    (ended l (reach Separator s (l .place)))
+
+-- the first word, at a, is the command v
+unfoldable pub withVerb : ℕ → ℕ → ℕ → Line
+withVerb v a e =
+    pick (eqb v Commands.none) (withFault blank Commands.unknownWord a)
+    (record { command = v; fault = Commands.unread; place = e; count = 0; numbers = replicate 72 0 })
+
+-- the longest line, its newline not counted
+abbrev pub longest : ℕ
+longest = 4095
+
+-- the first word: none, or one that begins with #, asks nothing
+unfoldable pub begun : List ℕ → Line
+begun s =
+    pick (ltb longest (length s)) (withFault blank Commands.tooLong longest)
+    (pick (ltb (reach Separator s 0) (length s))
+    (pick (eqb (getD s (reach Separator s 0) 0) 35) blank
+    (withVerb (Commands.verbOf (wordAt s (reach Separator s 0))) (reach Separator s 0) (reach Word s (reach Separator s 0))))
+    blank)
+
+-- reading on, at most so many words, until the line is whole or faulty
+unfoldable pub readOn : ℕ → List ℕ → Line → Line
+readOn zero s l = l
+readOn (suc n) s l = pick (eqb (l .fault) Commands.unread) (readOn n s (step s l)) l
+
+-- what the line s means. No command has more than 69 words after its own
+unfoldable pub meaning : List ℕ → Line
+meaning s = readOn 72 s (begun s)

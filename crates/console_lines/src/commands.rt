@@ -3,7 +3,7 @@
 ghost use mathlib.Core.Path.{_≡_};
 ghost use Prim.Native.Nat.{_≤_};
 ghost use Rattle.rules.specs.Refusals.{pick};
-ghost use Rattle.console_lines.specs.Commands.{same, verbOf, leastOf, mostOf, limitsOf, limitOf, enough as suffices, crowded, oversized};
+ghost use Rattle.console_lines.specs.Commands.{same, verbOf, leastOf, mostOf, limitsOf, limitOf, enough as suffices, crowded, oversized, takesHex, takesKind};
 
 // A line that asks nothing.
 pub const NONE: u8 = 0;
@@ -128,6 +128,26 @@ pub fn enough(command: u8, count: usize) -> bool
         return count % 4 == 1;
     }
     least(command) <= count
+}
+
+// Whether a command's word is HEX.
+pub fn takes_hex(command: u8) -> bool
+    ensures { λ r. ⌜ r ≡ takesHex command ⌝ }
+{
+    if command == READ {
+        return true;
+    }
+    command == NOTICE
+}
+
+// Whether the next word is the kind of a notice to write, which follows the sequence.
+pub fn takes_kind(command: u8, count: usize) -> bool
+    ensures { λ r. ⌜ r ≡ takesKind command count ⌝ }
+{
+    if command == WRITE {
+        return count == 1;
+    }
+    false
 }
 
 const FOUR_BYTES: u64 = 4_294_967_295;

@@ -7,7 +7,7 @@ use crate::numbers;
 ghost use mathlib.Core.Path.{_≡_};
 ghost use Prim.Native.Nat.{_<_, _≤_};
 ghost use lib.ListN.{length, take, drop};
-ghost use Rattle.console_lines.specs.Lines.{blank, withFault, ended, withNumber, withKind, withHex};
+ghost use Rattle.console_lines.specs.Lines.{blank, withFault, ended, withNumber, withKind, withHex, withWord, step as stepped, withVerb, begun, meaning};
 
 // No line is longer than this, its newline not counted.
 pub const LONGEST: usize = 4095;
@@ -111,4 +111,87 @@ fn take_hex(s: &[u8], line: Line, a: usize, e: usize) -> Line
     l.count = 1;
     l.place = e;
     l
+}
+
+// The next word starts at a.
+fn take_word(s: &[u8], line: Line, a: usize) -> Line
+    requires { ⌜ a < length (now s) ⌝ }
+    ensures { λ r. ⌜ r ≡ withWord (now (s .entry)) line a ⌝ }
+{
+    let command = line.command;
+    let count = line.count;
+    if commands::most(command) <= count {
+        return faulted(line, commands::crowded_fault(command), a);
+    }
+    let e = bytes::reach(s, a, Sort::Word);
+    if commands::takes_hex(command) {
+        return take_hex(s, line, a, e);
+    }
+    if commands::takes_kind(command, count) {
+        return take_kind(&s[a..e], line, a, e);
+    }
+    take_number(s, line, a, e)
+}
+
+// The next word, or the line's end.
+fn step(s: &[u8], line: Line) -> Line
+    ensures { λ r. ⌜ r ≡ stepped (now (s .entry)) line ⌝ }
+{
+    let place = line.place;
+    let a = bytes::reach(s, place, Sort::Separator);
+    if a < s.len() {
+        return take_word(s, line, a);
+    }
+    end(line, a)
+}
+
+// The first word, from a to e, is the command.
+fn take_verb(v: u8, a: usize, e: usize) -> Line
+    ensures { λ r. ⌜ r ≡ withVerb v a e ⌝ }
+{
+    if v == commands::NONE {
+        return faulted(empty(), commands::UNKNOWN_WORD, a);
+    }
+    Line {
+        command: v,
+        fault: commands::UNREAD,
+        place: e,
+        count: 0,
+        numbers: [0; 72],
+    }
+}
+
+fn begin(s: &[u8]) -> Line
+    ensures { λ r. ⌜ r ≡ begun (now (s .entry)) ⌝ }
+{
+    if LONGEST < s.len() {
+        return faulted(empty(), commands::TOO_LONG, LONGEST);
+    }
+    let a = bytes::reach(s, 0, Sort::Separator);
+    if a < s.len() {
+        if s[a] == b'#' {
+            return empty();
+        }
+        let e = bytes::reach(s, a, Sort::Word);
+        return take_verb(commands::verb(&s[a..e]), a, e);
+    }
+    empty()
+}
+
+// What a line means, given without its newline.
+pub fn parse(s: &[u8]) -> Line
+    ensures { λ r. ⌜ r ≡ meaning (now (s .entry)) ⌝ }
+{
+    let mut line = begin(s);
+    let mut left: usize = 72;
+    while 0 < left {
+        let fault = line.fault;
+        if fault == commands::UNREAD {
+            line = step(s, line);
+            left -= 1;
+        } else {
+            return line;
+        }
+    }
+    line
 }
