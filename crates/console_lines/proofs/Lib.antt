@@ -1,4 +1,1 @@
-pub mod Runs
-pub mod Spelling
-pub mod Tables
 pub mod Reading

@@ -1,4 +1,2 @@
-pub mod Bytes
-pub mod Numbers
-pub mod Commands
+-- What a line of the operator's console means.
 pub mod Lines

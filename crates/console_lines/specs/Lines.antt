@@ -7,12 +7,12 @@ use lib.ListN.{length, getD, take, drop, set, replicate}
 use lib.Dec.{eqb, leb, ltb}
 use Rattle.rules.specs.Limits.{within}
 use Rattle.rules.specs.Refusals.{pick}
-use Rattle.console_lines.specs.declared.bytes.Sort.the-variants.{Separator, Word, Digit, Hex}
-use Rattle.console_lines.specs.declared.numbers.Number.{Number}
+use Rattle.console_words.specs.declared.bytes.Sort.the-variants.{Separator, Word, Digit, Hex}
+use Rattle.console_words.specs.declared.numbers.Number.{Number}
 use Rattle.console_lines.specs.declared.lines.Line.{Line}
-use Rattle.console_lines.specs.Bytes.{reach}
-use Rattle.console_lines.specs.Numbers.{top, amount, tooLarge}
-use Rattle.console_lines.specs.Commands
+use Rattle.console_words.specs.Bytes.{reach}
+use Rattle.console_words.specs.Numbers.{top, amount, tooLarge}
+use Rattle.console_words.specs.Commands
 
 -- a line that answers nothing
 unfoldable pub blank : Line

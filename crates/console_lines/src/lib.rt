@@ -1,5 +1,3 @@
-// What a line of the operator's console means.
-pub mod bytes;
-pub mod commands;
+// What a line of the operator's console means. `lines::parse` answers it for every line of bytes, as specs/Lines.antt
+// defines it; `feed` cuts lines out of what was read. No public function has a `requires`.
 pub mod lines;
-pub mod numbers;

@@ -1,9 +1,9 @@
 // A line of the console, read word by word until it is whole or something is wrong with it.
 
-use crate::bytes;
-use crate::bytes::Sort;
-use crate::commands;
-use crate::numbers;
+use console_words::bytes;
+use console_words::bytes::Sort;
+use console_words::commands;
+use console_words::numbers;
 ghost use mathlib.Core.Path.{_≡_};
 ghost use Prim.Native.Nat.{_<_, _≤_};
 ghost use lib.ListN.{length, take, drop};
