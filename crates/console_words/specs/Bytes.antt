@@ -3,7 +3,7 @@ use Prim.Native.Nat.{ℕ, suc, _+_, _-_}
 use mathlib.Core.Bool.{Bool, true, false, not}
 use mathlib.Core.List.{List, [], _∷_}
 use lib.ListN.{drop}
-use lib.Dec.{eqb, ltb}
+use lib.Dec.{eqb}
 use Rattle.rules.specs.Limits.{within, either}
 use Rattle.rules.specs.Refusals.{pick}
 use Rattle.console_words.specs.declared.bytes.Sort.{Sort}
@@ -40,7 +40,3 @@ reach k s i = i + run k (drop i s)
 -- what a decimal digit is worth
 abbrev pub digitOf : ℕ → ℕ
 digitOf b = b - 48
-
--- what a hexadecimal digit is worth
-unfoldable pub hexOf : ℕ → ℕ
-hexOf b = pick (ltb b 65) (b - 48) (pick (ltb b 97) (b - 55) (b - 87))

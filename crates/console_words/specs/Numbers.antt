@@ -5,7 +5,7 @@ use mathlib.Core.List.{List, [], _∷_}
 use lib.Dec.{eqb, ltb}
 use Rattle.rules.specs.Refusals.{pick}
 use Rattle.console_words.specs.declared.numbers.Number.{Number}
-use Rattle.console_words.specs.Bytes.{digit, digitOf, hexOf}
+use Rattle.console_words.specs.Bytes.{digit, digitOf}
 
 -- the largest number that is handed on
 abbrev pub top : ℕ

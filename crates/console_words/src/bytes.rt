@@ -2,7 +2,7 @@
 
 ghost use mathlib.Core.Path.{_≡_};
 ghost use Prim.Native.Nat.{_<_};
-ghost use Rattle.console_words.specs.Bytes.{isSort, reach as reached, digitOf, hexOf};
+ghost use Rattle.console_words.specs.Bytes.{isSort, reach as reached, digitOf};
 
 // What a run of bytes may be made of.
 pub enum Sort {

@@ -1,0 +1,3 @@
+-- What the console writes.
+pub mod Output
+pub mod Digits
