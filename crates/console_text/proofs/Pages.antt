@@ -42,6 +42,9 @@ unfolding puts
 puts-append [] t p = refl
 puts-append (b ∷ s) t p = puts-append s t (put p b)
 
+pub puts-then : (p : Page) {q r : Page} (s t : List ℕ) → q ≡ puts p s → r ≡ puts q t → r ≡ puts p (s ++ t)
+puts-then p {q} {r} s t e f = f ∙ ap (λ (o : Page). puts o t) e ∙ sym (puts-append s t p)
+
 -- a turn of the writing loop, and its end
 pub puts-on : (p : Page) (s : List ℕ) (i : ℕ) → i < length s → puts (put p (getD s i 0)) (drop (i + 1) s) ≡ puts p (drop i s)
 unfolding puts

@@ -3,3 +3,4 @@
 // row's end: what has no room is left out. No public function has a `requires`.
 pub mod digits;
 pub mod output;
+pub mod words;
