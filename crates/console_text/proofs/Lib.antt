@@ -1,3 +1,4 @@
 pub mod Pages
 pub mod Printing
 pub mod Hex
+pub mod Parts

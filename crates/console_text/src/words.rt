@@ -2,62 +2,65 @@
 
 use crate::digits;
 use crate::output;
-use console_words::commands;
 ghost use mathlib.Core.Path.{_≡_};
+ghost use Prim.Native.Nat.{_-_, _≤_};
+ghost use lib.ListN.{length, take, drop};
 ghost use Rattle.console_text.specs.Output.{page, puts};
-ghost use Rattle.console_text.specs.Words.{refusalWords, laterWords, refusalText, faultWords, laterFaults, faultText, helpText, fromOne};
+ghost use Rattle.console_text.specs.Words.{refusalWords, refusalText, faultWords, faultText, helpText, fromOne};
 
-// The words of the refusals from SECOND_EVENT on.
-fn later_words(out: &mut [u8], at: usize, number: u8) -> usize
-    ensures { λ r. ⌜ page (now (out .exit)) r ≡ puts (page (now (out .entry)) at) (laterWords number) ⌝ }
+// The part of a row from a place to another.
+fn put_part(out: &mut [u8], at: usize, row: &[u8], from: usize, to: usize) -> usize
+    requires { ⌜ (from ≤ to) × (to ≤ length (now row)) ⌝ }
+    ensures { λ r. ⌜ page (now (out .exit)) r ≡ puts (page (now (out .entry)) at) (take (to - from) (drop from (now (row .entry)))) ⌝ }
 {
-    if number == rules::SECOND_EVENT {
-        return output::put(out, at, b"title has an event at this time");
-    }
-    if number == rules::NOT_AT_SLOT {
-        return output::put(out, at, b"not at a permitted slot start");
-    }
-    if number == rules::NO_LANES {
-        return output::put(out, at, b"too few free lanes");
-    }
-    if number == rules::WRONG_ROWS {
-        return output::put(out, at, b"rows do not match or room too short");
-    }
-    if number == rules::MALFORMED {
-        return output::put(out, at, b"malformed notice");
-    }
-    if number == rules::OUT_OF_TURN {
-        return output::put(out, at, b"notice out of turn, expected is ");
-    }
-    output::put(out, at, b"unknown refusal")
+    output::put(out, at, &row[from..to])
 }
+
+// By number: where each refusal's words begin, and behind the last where they end.
+const REFUSALS: [usize; 14] = [
+    0,
+    4,
+    23,
+    53,
+    85,
+    100,
+    116,
+    134,
+    165,
+    194,
+    212,
+    247,
+    263,
+    295,
+];
+
+// The same for the faults of a line, of which 0 is none.
+const FAULTS: [usize; 13] = [0, 0, 27, 39, 54, 70, 81, 97, 128, 151, 167, 186, 207];
 
 // The words of a refusal.
 fn refusal_words(out: &mut [u8], at: usize, number: u8) -> usize
     ensures { λ r. ⌜ page (now (out .exit)) r ≡ puts (page (now (out .entry)) at) (refusalWords number) ⌝ }
 {
-    if number == rules::DONE {
-        return output::put(out, at, b"done");
+    let words = b"done\
+        number out of range\
+        earlier than an accepted event\
+        title not there or lane not held\
+        id still in use\
+        title is closing\
+        count not possible\
+        title has an event at this time\
+        not at a permitted slot start\
+        too few free lanes\
+        rows do not match or room too short\
+        malformed notice\
+        notice out of turn, expected is ";
+    let k = number as usize;
+    if k < 13 {
+        let a = REFUSALS[k];
+        let e = REFUSALS[k + 1];
+        return put_part(out, at, words, a, e);
     }
-    if number == rules::OUTSIDE_LIMITS {
-        return output::put(out, at, b"number out of range");
-    }
-    if number == rules::TOO_EARLY {
-        return output::put(out, at, b"earlier than an accepted event");
-    }
-    if number == rules::NOT_THERE {
-        return output::put(out, at, b"title not there or lane not held");
-    }
-    if number == rules::ID_TAKEN {
-        return output::put(out, at, b"id still in use");
-    }
-    if number == rules::CLOSING {
-        return output::put(out, at, b"title is closing");
-    }
-    if number == rules::WRONG_COUNT {
-        return output::put(out, at, b"count not possible");
-    }
-    later_words(out, at, number)
+    at
 }
 
 // A refusal: its number, its words, and after OUT_OF_TURN the sequence that is expected.
@@ -73,51 +76,28 @@ pub fn put_refusal(out: &mut [u8], at: usize, number: u8, expected: u64) -> usiz
     c
 }
 
-// The words of the faults from TOO_LARGE on.
-fn later_faults(out: &mut [u8], at: usize, fault: u8) -> usize
-    ensures { λ r. ⌜ page (now (out .exit)) r ≡ puts (page (now (out .entry)) at) (laterFaults fault) ⌝ }
-{
-    if fault == commands::TOO_LARGE {
-        return output::put(out, at, b"number too large");
-    }
-    if fault == commands::ODD_HEX {
-        return output::put(out, at, b"odd count of hexadecimal digits");
-    }
-    if fault == commands::BAD_HEX {
-        return output::put(out, at, b"not a hexadecimal digit");
-    }
-    if fault == commands::TOO_MANY_IDS {
-        return output::put(out, at, b"more than 32 ids");
-    }
-    if fault == commands::TOO_MANY_TITLES {
-        return output::put(out, at, b"more than 17 titles");
-    }
-    if fault == commands::TOO_MANY_PLACES {
-        return output::put(out, at, b"more than 1024 places");
-    }
-    output::put(out, at, b"line not read")
-}
-
 // What is wrong with a line.
 fn fault_words(out: &mut [u8], at: usize, fault: u8) -> usize
     ensures { λ r. ⌜ page (now (out .exit)) r ≡ puts (page (now (out .entry)) at) (faultWords fault) ⌝ }
 {
-    if fault == commands::TOO_LONG {
-        return output::put(out, at, b"line longer than 4095 bytes");
+    let words = b"line longer than 4095 bytes\
+        unknown word\
+        too few numbers\
+        too many numbers\
+        not a digit\
+        number too large\
+        odd count of hexadecimal digits\
+        not a hexadecimal digit\
+        more than 32 ids\
+        more than 17 titles\
+        more than 1024 places";
+    let k = fault as usize;
+    if k < 12 {
+        let a = FAULTS[k];
+        let e = FAULTS[k + 1];
+        return put_part(out, at, words, a, e);
     }
-    if fault == commands::UNKNOWN_WORD {
-        return output::put(out, at, b"unknown word");
-    }
-    if fault == commands::TOO_FEW {
-        return output::put(out, at, b"too few numbers");
-    }
-    if fault == commands::TOO_MANY {
-        return output::put(out, at, b"too many numbers");
-    }
-    if fault == commands::NOT_NUMBER {
-        return output::put(out, at, b"not a digit");
-    }
-    later_faults(out, at, fault)
+    at
 }
 
 // A place of a line, counted from 1.

@@ -34,7 +34,7 @@ unfolding same
 same-refl [] = refl
 same-refl (a ∷ s) = rw (eq-eqb a a refl) (same-refl s)
 
-same-eq : (s t : List ℕ) → same s t ≡ true → s ≡ t
+pub same-eq : (s t : List ℕ) → same s t ≡ true → s ≡ t
 unfolding same
 same-eq [] [] e = refl
 same-eq [] (b ∷ t) e = cc

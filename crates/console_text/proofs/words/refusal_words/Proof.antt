@@ -1,163 +1,65 @@
--- `console_text::words::refusal_words` meets its contract: the tests that led to each way out say which words they are.
-use Prim.Native.Nat.{ℕ}
-use mathlib.Core.Path.{sym, _∙_, ap}
-use borrow.Author.Tests.{ne-eqb}
-use Rattle.console_words.specs.Commands.{text}
+-- `console_text::words::refusal_words` meets its contract: each text is the part of the row that the table gives, by one computed test.
+use Prim.Native.Nat.{ℕ, _<_}
+use mathlib.Core.Path.{refl, _∙_, ap}
+use Rattle.console_words.specs.Commands.{text, same}
 use Rattle.console_text.specs.Output.{page, puts}
-use Rattle.console_text.specs.Words.{refusalWords}
+use Rattle.console_text.specs.Words.{refusals, refusalWords}
+use Rattle.console_text.proofs.Parts.{Part, part-at, joined, begins, right, rightTo, no-text}
 use borrow.Author.Needs.{needs}
 use Rattle.console_text.proofs.words.refusal_words.Statement.{statement}
 use Rattle.console_text.proofs.words.refusal_words.Tie as tie
 
-slice-aggregate-put : tie.Need-slice-aggregate-put
-slice-aggregate-put c = search needs
+mul-a : tie.Need-mul-a
+mul-a c = search needs
 
-put-requires : tie.Need-put-requires
-put-requires c κs = search needs
+array-read-a : tie.Need-array-read-a
+array-read-a c = search needs
+
+add-e : tie.Need-add-e
+add-e c = search needs
+
+mul-e : tie.Need-mul-e
+mul-e c = search needs
+
+array-read-e : tie.Need-array-read-e
+array-read-e c = search needs
+
+-- every text of the table is its part of the row
+found : (k : ℕ) → k < 13 → Part (joined refusals) (begins 0 refusals) refusals k
+unfolding text joined begins rightTo right same
+found k h = part-at (joined refusals) (begins 0 refusals) refusals 13 refl k h
+
+put-part-requires : tie.Need-put-part-requires
+unfolding text joined begins
+put-part-requires c κs =
+    let p = found (c .before .before .before .before .before .args .number) (c .before .before .if1 .taken) in
+    (p .low, p .high)
 
 same-length : tie.Need-same-length
 same-length c = search needs
 
 returns : tie.Need-returns
-unfolding refusalWords text
+unfolding text joined begins refusalWords
 returns c =
-    let x = c .before .before .before .before .before .before .before .args in
-    c .before .before .put .ensures ∙ ap (λ (m : ℕ). puts (page (x .out .now) (x .at)) (refusalWords m)) (sym (c .before .before .before .before .before .if1 .taken))
-
-slice-aggregate-put-2 : tie.Need-slice-aggregate-put-2
-slice-aggregate-put-2 c = search needs
-
-put-requires-2 : tie.Need-put-requires-2
-put-requires-2 c κs = search needs
-
-same-length-2 : tie.Need-same-length-2
-same-length-2 c = search needs
+    let x = c .before .before .before .before .before .before .before .before .args in
+    c .before .before .put-part .ensures ∙ ap (puts (page (x .out .now) (x .at))) (found (x .number) (c .before .before .before .before .before .if1 .taken) .is)
 
 returns-2 : tie.Need-returns-2
-unfolding refusalWords text
-returns-2 c =
-    let x = c .before .before .before .before .before .before .before .before .args in
-    c .before .before .put2 .ensures ∙ ap (λ (m : ℕ). puts (page (x .out .now) (x .at)) (refusalWords m)) (sym (c .before .before .before .before .before .if2 .taken))
-
-slice-aggregate-put-3 : tie.Need-slice-aggregate-put-3
-slice-aggregate-put-3 c = search needs
-
-put-requires-3 : tie.Need-put-requires-3
-put-requires-3 c κs = search needs
-
-same-length-3 : tie.Need-same-length-3
-same-length-3 c = search needs
-
-returns-3 : tie.Need-returns-3
-unfolding refusalWords text
-returns-3 c =
-    let x = c .before .before .before .before .before .before .before .before .before .args in
-    c .before .before .put3 .ensures ∙ ap (λ (m : ℕ). puts (page (x .out .now) (x .at)) (refusalWords m)) (sym (c .before .before .before .before .before .if3 .taken))
-
-slice-aggregate-put-4 : tie.Need-slice-aggregate-put-4
-slice-aggregate-put-4 c = search needs
-
-put-requires-4 : tie.Need-put-requires-4
-put-requires-4 c κs = search needs
-
-same-length-4 : tie.Need-same-length-4
-same-length-4 c = search needs
-
-returns-4 : tie.Need-returns-4
-unfolding refusalWords text
-returns-4 c =
-    let x = c .before .before .before .before .before .before .before .before .before .before .args in
-    c .before .before .put4 .ensures ∙ ap (λ (m : ℕ). puts (page (x .out .now) (x .at)) (refusalWords m)) (sym (c .before .before .before .before .before .if4 .taken))
-
-slice-aggregate-put-5 : tie.Need-slice-aggregate-put-5
-slice-aggregate-put-5 c = search needs
-
-put-requires-5 : tie.Need-put-requires-5
-put-requires-5 c κs = search needs
-
-same-length-5 : tie.Need-same-length-5
-same-length-5 c = search needs
-
-returns-5 : tie.Need-returns-5
-unfolding refusalWords text
-returns-5 c =
-    let x = c .before .before .before .before .before .before .before .before .before .before .before .args in
-    c .before .before .put5 .ensures ∙ ap (λ (m : ℕ). puts (page (x .out .now) (x .at)) (refusalWords m)) (sym (c .before .before .before .before .before .if5 .taken))
-
-slice-aggregate-put-6 : tie.Need-slice-aggregate-put-6
-slice-aggregate-put-6 c = search needs
-
-put-requires-6 : tie.Need-put-requires-6
-put-requires-6 c κs = search needs
-
-same-length-6 : tie.Need-same-length-6
-same-length-6 c = search needs
-
-returns-6 : tie.Need-returns-6
-unfolding refusalWords text
-returns-6 c =
-    let x = c .before .before .before .before .before .before .before .before .before .before .before .before .args in
-    c .before .before .put6 .ensures ∙ ap (λ (m : ℕ). puts (page (x .out .now) (x .at)) (refusalWords m)) (sym (c .before .before .before .before .before .if6 .taken))
-
-slice-aggregate-put-7 : tie.Need-slice-aggregate-put-7
-slice-aggregate-put-7 c = search needs
-
-put-requires-7 : tie.Need-put-requires-7
-put-requires-7 c κs = search needs
-
-same-length-7 : tie.Need-same-length-7
-same-length-7 c = search needs
-
-returns-7 : tie.Need-returns-7
-unfolding refusalWords text
-returns-7 c =
-    let x = c .before .before .before .before .before .before .before .before .before .before .before .before .before .args in
-    c .before .before .put7 .ensures ∙ ap (λ (m : ℕ). puts (page (x .out .now) (x .at)) (refusalWords m)) (sym (c .before .before .before .before .before .if7 .taken))
-
-later-words-requires : tie.Need-later-words-requires
-later-words-requires c κs = search needs
-
-same-length-8 : tie.Need-same-length-8
-same-length-8 c = search needs
-
-returns-8 : tie.Need-returns-8
 unfolding refusalWords
-returns-8 c =
-    let x = c .before .before .before .before .before .before .before .before .before .before .before .before .args in
-    c .before .before .later-words .ensures ∙ ap (puts (page (x .out .now) (x .at))) (simp (ne-eqb _ _ (c .before .before .before .before .before .before .before .before .before .before .if1 .left), ne-eqb _ _ (c .before .before .before .before .before .before .before .before .before .if2 .left), ne-eqb _ _ (c .before .before .before .before .before .before .before .before .if3 .left), ne-eqb _ _ (c .before .before .before .before .before .before .before .if4 .left), ne-eqb _ _ (c .before .before .before .before .before .before .if5 .left), ne-eqb _ _ (c .before .before .before .before .before .if6 .left), ne-eqb _ _ (c .before .before .before .before .if7 .left)))
+returns-2 c =
+    let x = c .before .before .before .args in
+    no-text (page (x .out .now) (x .at)) refusals (x .number) (c .if1 .left)
 
 pub refusal-words-spec : {M : Type 1} → statement M
 refusal-words-spec =
     tie.close
     (tie.spec
-    slice-aggregate-put
-    put-requires
+    mul-a
+    array-read-a
+    add-e
+    mul-e
+    array-read-e
+    put-part-requires
     same-length
     returns
-    slice-aggregate-put-2
-    put-requires-2
-    same-length-2
-    returns-2
-    slice-aggregate-put-3
-    put-requires-3
-    same-length-3
-    returns-3
-    slice-aggregate-put-4
-    put-requires-4
-    same-length-4
-    returns-4
-    slice-aggregate-put-5
-    put-requires-5
-    same-length-5
-    returns-5
-    slice-aggregate-put-6
-    put-requires-6
-    same-length-6
-    returns-6
-    slice-aggregate-put-7
-    put-requires-7
-    same-length-7
-    returns-7
-    later-words-requires
-    same-length-8
-    returns-8)
+    returns-2)
