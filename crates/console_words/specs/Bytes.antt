@@ -7,7 +7,7 @@ use lib.Dec.{eqb}
 use Rattle.rules.specs.Limits.{within, either}
 use Rattle.rules.specs.Refusals.{pick}
 use Rattle.console_words.specs.declared.bytes.Sort.{Sort}
-use Rattle.console_words.specs.declared.bytes.Sort.the-variants.{Separator, Word, Digit, Hex}
+use Rattle.console_words.specs.declared.bytes.Sort.the-variants.{Separator, Word, Digit, Hex, Line}
 
 -- a space, a tab or a carriage return
 abbrev pub separator : ℕ → Bool
@@ -21,12 +21,13 @@ digit b = within 48 57 b
 abbrev pub hexDigit : ℕ → Bool
 hexDigit b = either (digit b) (either (within 97 102 b) (within 65 70 b))
 
--- the byte may stand in a run of that sort; a word is made of whatever parts no words
+-- the byte may stand in a run of that sort; a word is made of whatever parts no words, a line of whatever is no newline
 unfoldable pub isSort : Sort → ℕ → Bool
 isSort Separator b = separator b
 isSort Word b = not (separator b)
 isSort Digit b = digit b
 isSort Hex b = hexDigit b
+isSort Line b = not (eqb b 10)
 
 -- how many bytes of that sort s begins with
 unfoldable pub run : Sort → List ℕ → ℕ

@@ -10,6 +10,8 @@ pub enum Sort {
     Word,
     Digit,
     Hex,
+    // whatever ends no line
+    Line,
 }
 
 pub fn is_separator(b: u8) -> bool
@@ -50,6 +52,7 @@ pub fn is_sort(sort: Sort, b: u8) -> bool
         Sort::Word => !is_separator(b),
         Sort::Digit => is_digit(b),
         Sort::Hex => is_hex(b),
+        Sort::Line => b != b'\n',
     }
 }
 
