@@ -1,2 +1,4 @@
 pub mod Reading
 pub mod Moving
+pub mod Examples
+pub mod Settled

@@ -2,3 +2,4 @@ pub mod Pages
 pub mod Printing
 pub mod Hex
 pub mod Parts
+pub mod Settled

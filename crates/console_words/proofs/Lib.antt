@@ -1,3 +1,4 @@
 pub mod Runs
 pub mod Spelling
 pub mod Tables
+pub mod Settled
