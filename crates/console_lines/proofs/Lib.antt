@@ -1,3 +1,4 @@
+-- Laws of reading a line, with what follows of its meaning.
 pub mod Reading
 pub mod Moving
 pub mod Examples

@@ -6,7 +6,7 @@ use console_words::commands;
 use console_words::numbers;
 ghost use mathlib.Core.Path.{_≡_};
 ghost use Prim.Native.Nat.{_<_, _≤_};
-ghost use lib.ListN.{length, take, drop};
+ghost use lib.ListN.{length};
 ghost use Rattle.console_lines.specs.Lines.{blank, withFault, ended, withNumber, withKind, withHex, withWord, step as stepped, withVerb, begun, meaning};
 
 // No line is longer than this, its newline not counted.

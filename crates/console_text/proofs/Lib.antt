@@ -1,3 +1,4 @@
+-- Laws of pages, digits, hexadecimal and tables of texts.
 pub mod Pages
 pub mod Printing
 pub mod Hex

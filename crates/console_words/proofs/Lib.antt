@@ -1,3 +1,4 @@
+-- Laws of runs, spelt numbers and tables.
 pub mod Runs
 pub mod Spelling
 pub mod Tables

@@ -1,5 +1,5 @@
 -- The console's commands, the words that name them, and how many numbers each takes, of which size ("The operator's console", the table of lines).
-use Prim.Native.Nat.{ℕ, _+_, _%_, _-_, _^_}
+use Prim.Native.Nat.{ℕ, _%_}
 use Prim.Native.Char.{code}
 use Prim.Native.String.{String}
 use mathlib.Core.Bool.{Bool, true, false}

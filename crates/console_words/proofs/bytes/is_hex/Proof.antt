@@ -1,32 +1,23 @@
+-- `console_words::bytes::is_hex` meets its contract: the tests that led to each way out decide the definition's.
 use borrow.Author.Needs.{needs}
 use Rattle.console_words.proofs.bytes.is_hex.Statement.{statement}
 use Rattle.console_words.proofs.bytes.is_hex.Tie as tie
-use Rattle.console_words.proofs.bytes.is_hex.Reads as reads
-use Rattle.console_words.proofs.bytes.is_hex.Lts as lts
-use Rattle.console_words.proofs.bytes.is_digit.Reads as is-digit-reads
-use Rattle.rules.proofs.within.Reads as within-reads
 
--- src/bytes.rt:35:8
 is-digit-requires : tie.Need-is-digit-requires
 is-digit-requires c κs = search needs
 
--- src/bytes.rt:36:9
 returns : tie.Need-returns
 returns c = simp (← c .before .is-digit .ensures, c .if1 .taken)
 
--- src/bytes.rt:38:8
 within-requires : tie.Need-within-requires
 within-requires c κs = search needs
 
--- src/bytes.rt:39:9
 returns-2 : tie.Need-returns-2
 returns-2 c = simp (← c .before .before .before .is-digit .ensures, c .before .before .if1 .left, ← c .before .within .ensures, c .if2 .taken)
 
--- src/bytes.rt:41:5
 within-requires-2 : tie.Need-within-requires-2
 within-requires-2 c κs = search needs
 
--- src/bytes.rt:32:1
 returns-3 : tie.Need-returns-3
 returns-3 c = simp (← c .before .before .before .before .is-digit .ensures, c .before .before .before .if1 .left, ← c .before .before .within .ensures, c .before .if2 .left, ← c .within2 .ensures)
 

@@ -3,32 +3,23 @@ use Rattle.console_words.proofs.Spelling.{grow-over, grow-in}
 use borrow.Author.Needs.{needs}
 use Rattle.console_words.proofs.numbers.grow.Statement.{statement}
 use Rattle.console_words.proofs.numbers.grow.Tie as tie
-use Rattle.console_words.proofs.numbers.grow.Reads as reads
-use Rattle.console_words.proofs.numbers.grow.Lts as lts
-use Rattle.console_words.proofs.bytes.digit_of.Reads as digit-of-reads
 
--- src/numbers.rt:23:9
 digit-of-requires : tie.Need-digit-of-requires
 digit-of-requires c κs = search needs
 
--- src/numbers.rt:24:9
 sub-if1 : tie.Need-sub-if1
 sub-if1 c = search needs
 
--- src/numbers.rt:25:9
 returns : tie.Need-returns
 returns c =
     grow-over _ _ _ (c .before .digit-of .ensures .0) (c .before .digit-of .ensures .1) (c .if1 .taken)
 
--- src/numbers.rt:31:16
 mul-t6 : tie.Need-mul-t6
 mul-t6 c = search needs
 
--- src/numbers.rt:31:16
 add-t7 : tie.Need-add-t7
 add-t7 c = search needs
 
--- src/numbers.rt:18:1
 returns-2 : tie.Need-returns-2
 returns-2 c =
     grow-in _ _ _ (c .before .digit-of .ensures .0) (c .before .digit-of .ensures .1) (c .if1 .left)
