@@ -1,5 +1,5 @@
 -- Laws of digits: the store of a digit before those already there, and that digits read back as the number they were made from.
-use Prim.Native.Nat.{ℕ, zero, suc, _+_, _-_, _*_, _/_, _%_, _^_, _<_, _≤_}
+use Prim.Native.Nat.{ℕ, zero, suc, _+_, _-_, _*_, _/_, _%_, _^_, _<_, _≤_, min}
 use mathlib.Core.Path.{_≡_, refl, sym, _∙_, ap}
 use mathlib.Core.Bool.{Bool, true, false}
 use mathlib.Core.List.{List, [], _∷_, _++_}
@@ -12,7 +12,7 @@ use lib.Dec.{ltb}
 use Rattle.rules.specs.Limits.{within}
 use Rattle.rules.specs.Refusals.{pick}
 use Rattle.console_words.specs.Bytes.{digit, digitOf}
-use Rattle.console_words.specs.Numbers.{amount}
+use Rattle.console_words.specs.Numbers.{top, amount, capped}
 use Rattle.console_text.specs.Digits.{digits, decimal}
 
 stored : (row : List ℕ) (j d : ℕ) → j < length row → drop j (set row j d) ≡ d ∷ drop (suc j) row
@@ -72,3 +72,11 @@ read-digits (suc f) n s h =
 pub read-back : (n : ℕ) → n < 10 ^ 20 → amount 0 (decimal n) ≡ n
 unfolding decimal amount
 read-back n h = read-digits 20 n [] h
+
+-- the reader of numbers, handed printed digits, gives the number itself and says that it was not too large
+pub spelt-back : (n : ℕ) → n ≤ top → capped (amount 0 (decimal n)) ≡ record { value = n; over = false }
+unfolding capped
+spelt-back n h =
+    let small : n < 10 ^ 20 = omega arith in
+    let held : min n top ≡ n = omega arith in
+    rw (read-back n small, held, le-ltb _ _ h)

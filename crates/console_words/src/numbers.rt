@@ -2,6 +2,7 @@
 
 use crate::bytes;
 ghost use mathlib.Core.Path.{_≡_};
+ghost use Prim.Native.Nat.{min};
 ghost use lib.ListN.{drop};
 ghost use Rattle.console_words.specs.Numbers.{grow as grown, capped, amount, above as beyond};
 
@@ -64,4 +65,24 @@ pub fn above(limit: u64, n: Number) -> bool
         return true;
     }
     limit < n.value
+}
+
+// A number as a parameter of one byte takes it: at most its largest value, so that the call itself refuses it.
+pub fn as_byte(n: u64) -> u8
+    ensures { λ r. ⌜ r ≡ min n 255 ⌝ }
+{
+    if n < 255 {
+        return n as u8;
+    }
+    255
+}
+
+// The same for a parameter of four bytes.
+pub fn as_four_bytes(n: u64) -> u32
+    ensures { λ r. ⌜ r ≡ min n 4_294_967_295 ⌝ }
+{
+    if n < 4_294_967_295 {
+        return n as u32;
+    }
+    4_294_967_295
 }
