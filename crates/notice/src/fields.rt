@@ -2,7 +2,7 @@
 // Writer and reader both go by this table; a length stands nowhere else.
 
 ghost use mathlib.Core.Path.{_≡_};
-ghost use Prim.Native.Nat.{_<_, _≤_, _*_};
+ghost use Prim.Native.Nat.{_<_, _≤_};
 ghost use Rattle.notice.specs.Fields.{rows, fieldOf, isCarried, spanOf, startOf};
 
 // A row: bit k of kinds is set where kind k carries the field.

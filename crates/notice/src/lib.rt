@@ -136,7 +136,8 @@ fn place_after(found: Found, place: usize) -> usize
 
 // The next answer of a log, which moves past a notice.
 pub fn next<'s, 'a>(log: &'s mut Log<'a>) -> Found
-    ensures { λ r. ⌜ Steps (now (now (log .entry) .bytes)) (now (log .entry) .place) r (now (log .exit) .place) × (now (log .exit) .bytes ≡ now (log .entry) .bytes) ⌝ }
+    ensures { λ r. ⌜ Steps (now (now (log .entry) .bytes)) (now (log .entry) .place) r (now (log .exit) .place)
+        × (now (log .exit) .bytes ≡ now (log .entry) .bytes) ⌝ }
 {
     let place = log.place;
     let found = read_at(log.bytes, place);
