@@ -11,7 +11,7 @@ use Rattle.notice.specs.declared.Reading.{Reading}
 use Rattle.notice.specs.declared.Reading.the-variants as reading
 use Rattle.notice.specs.declared.Found.{Found}
 use Rattle.notice.specs.declared.Found.the-variants as found
-use Rattle.notice.specs.Decode.{readAt, readOf, isWhole, isAlone, numberOf, answerOf, Answer, number, end, Reads, Finds}
+use Rattle.notice.specs.Decode.{readAt, readOf, isWhole, isAlone, numberOf, answerOf, number, end, Reads, Finds}
 
 one-number : (b : Bool) (n : Notice)
     → numberOf (pick b (reading.Whole n) reading.Malformed) ≡ firstHit (refuse malformed (not b) ∷ [])

@@ -11,7 +11,7 @@ use lib.Seq.{sets, sets-eq}
 use borrow.Author.Tests.{lt-ltb, le-ltb}
 use Rattle.rules.specs.Refusals.{pick, firstHit}
 use Rattle.notice.specs.declared.Notice.{Notice}
-use Rattle.notice.specs.Fields.{fieldOf, tagOf, sizeOf, isCarried, spanOf, startOf, lengthOf, rows}
+use Rattle.notice.specs.Fields.{tagOf, sizeOf, isCarried, spanOf, startOf, lengthOf, rows}
 use Rattle.notice.specs.Numbers.{bigEndian}
 use Rattle.notice.specs.Encode.{kindOf, valuesIn, fieldBytes, rowBytes, bytesTo, bytesOf, Writes}
 

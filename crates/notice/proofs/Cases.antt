@@ -1,13 +1,13 @@
 -- Which case a reading is, from the tests that decide it.
 -- Rests on the definitions alone; `read` and `read_at` and the theorems go by these.
-use mathlib.Core.Path.{_≡_, refl, sym, ap, _∙_}
+use mathlib.Core.Path.{_≡_, refl}
 use mathlib.Core.Bool.{Bool, true, false}
 use mathlib.Core.List.{List, [], _∷_}
-use Prim.Native.Nat.{ℕ, zero, suc, _+_, _≤_, _<_}
+use Prim.Native.Nat.{ℕ, _+_, _≤_, _<_}
 use native.Mathlib.Nat.{zero-add}
 use native.Mathlib.Omega.{arith}
 use lib.Dec.{eqb, leb}
-use lib.ListN.{length, getD, List·getD-eq-default}
+use lib.ListN.{length, List·getD-eq-default}
 use borrow.Author.Tests.{le-leb, lt-leb}
 use Rattle.rules.specs.Limits.{both}
 use Rattle.rules.specs.Refusals.{pick}
@@ -17,7 +17,7 @@ use Rattle.notice.specs.declared.Reading.the-variants as reading
 use Rattle.notice.specs.declared.Found.{Found}
 use Rattle.notice.specs.declared.Found.the-variants as found
 use Rattle.notice.specs.Fields.{table, isKnown, lengthOf, rows}
-use Rattle.notice.specs.Decode.{standsTo, noticeIn, kindAt, isWhole, isAlone, readAt, readOf}
+use Rattle.notice.specs.Decode.{standsTo, noticeIn, kindAt, isWhole, readAt, readOf}
 
 pub at-end : (bs : List ℕ) (p : ℕ) → length bs ≤ p → found.End ≡ readAt bs p
 unfolding readAt

@@ -1,14 +1,13 @@
 -- Big-endian numbers: one more byte written or read, and the bounds that code asks.
 -- Rests on the laws of division alone.
-use mathlib.Core.Path.{_≡_, refl, sym, ap, _∙_}
+use mathlib.Core.Path.{_≡_, refl, ap, _∙_}
 use mathlib.Core.List.{List, [], _∷_}
 use Prim.Native.Nat.{ℕ, zero, suc, _+_, _*_, _-_, _≤_, _<_, _^_, _/_, _%_}
-use native.Mathlib.Nat.{pow-suc, pow-le-pow-right, div-div-eq-div-mul, le-trans}
-use native.Mathlib.Numerals.{add-one}
+use native.Mathlib.Nat.{pow-suc, pow-le-pow-right, div-div-eq-div-mul}
 use native.Mathlib.Omega.{arith}
 use lib.ListN.{set}
 use lib.Seq.{sets, set-comm}
-use Rattle.notice.specs.Numbers.{bigEndian, numberAt}
+use Rattle.notice.specs.Numbers.{bigEndian}
 
 -- a width up to eight bytes fits 64 bits, with one byte more while it is below eight
 pub fits-64 : (i : ℕ) → i < 8 → 256 ^ i * 256 ≤ 2 ^ 64

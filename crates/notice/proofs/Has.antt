@@ -1,8 +1,8 @@
 -- That some bytes stand at a place of a list, element by element, and how numbers come back from their bytes.
 -- Rests on the laws of lists and of division. The round trips in both directions go by these.
-use mathlib.Core.Path.{_≡_, refl, sym, ap, _∙_}
-use mathlib.Core.List.{List, [], _∷_, _++_}
-use Prim.Native.Nat.{ℕ, zero, suc, _+_, _*_, _-_, _≤_, _<_, _^_, _/_, _%_}
+use mathlib.Core.Path.{_≡_, sym, ap, _∙_}
+use mathlib.Core.List.{List, _++_}
+use Prim.Native.Nat.{ℕ, zero, suc, _+_, _-_, _≤_, _<_, _^_, _/_, _%_}
 use native.Mathlib.Nat.{add-zero, add-assoc, add-suc, pow-suc, pow-succ', div-one, div-eq-of-lt, div-add-mod', div-div-eq-div-mul}
 use native.Mathlib.Omega.{arith}
 use lib.Arith.{digits-div, digits-mod}

@@ -4,6 +4,7 @@ pub mod Cases
 pub mod Digits
 pub mod Each
 pub mod Has
+pub mod Held
 pub mod ReadBack
 pub mod Refused
 pub mod RoundTrip

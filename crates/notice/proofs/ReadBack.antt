@@ -1,28 +1,23 @@
 -- What reads as a notice writes back as the same bytes, so no two strings of bytes read as one notice.
 -- Rests on the field table's laws, on bytes at a place, and on the cases of a reading.
-use mathlib.Core.Path.{_≡_, refl, sym, ap, subst, _∙_}
+use mathlib.Core.Path.{_≡_, refl, sym, subst, _∙_}
 use mathlib.Core.Bool.{Bool, true, false}
 use mathlib.Core.List.{List, [], _∷_, _++_}
-use mathlib.Core.Logic.{⊎-elim}
-use Prim.Native.Nat.{ℕ, zero, suc, _+_, _-_, _≤_, _<_, _^_}
-use native.Mathlib.Nat.{add-zero, zero-add}
+use Prim.Native.Nat.{ℕ, zero, suc, _+_, _-_, _≤_, _<_}
+use native.Mathlib.Nat.{add-zero}
 use native.Mathlib.Omega.{arith}
 use lib.Dec.{eqb, leb}
 use lib.ListN.{length, getD, take, drop}
 use lib.Seq.{take-all}
 use borrow.Author.Tests.{eqb-true, leb-true}
-use Rattle.rules.specs.Limits.{both}
 use Rattle.rules.specs.Refusals.{pick}
 use Rattle.notice.specs.declared.Notice.{Notice}
-use Rattle.notice.specs.declared.Kind.{Kind}
-use Rattle.notice.specs.declared.Kind.the-variants.{Open, Change, Close}
-use Rattle.notice.specs.declared.Reading.{Reading}
 use Rattle.notice.specs.declared.Reading.the-variants as reading
 use Rattle.notice.specs.declared.Found.{Found}
 use Rattle.notice.specs.declared.Found.the-variants as found
-use Rattle.notice.specs.Fields.{table, tagOf, sizeOf, isCarried, isKnown, spanOf, startOf, lengthOf, rows}
+use Rattle.notice.specs.Fields.{table, tagOf, sizeOf, isCarried, isKnown, startOf, lengthOf, rows}
 use Rattle.notice.specs.Numbers.{bigEndian, numberAt}
-use Rattle.notice.specs.Encode.{kindOf, dataIn, valuesIn, fieldBytes, rowBytes, bytesTo, bytesOf}
+use Rattle.notice.specs.Encode.{kindOf, valuesIn, fieldBytes, rowBytes, bytesTo, bytesOf}
 use Rattle.notice.specs.Decode.{headStands, rowStands, standsTo, valueAt, kindIn, noticeIn, kindAt, isWhole, readAt, readOf}
 use Rattle.notice.specs.Log.{Bytes}
 use Rattle.notice.proofs.Table.{both-l, both-r, by-kind}

@@ -1,25 +1,24 @@
 -- Bad input gets 11 and nothing else: each way in which bytes can fail to be a notice.
 -- Rests on the cases of a reading and on the field table.
-use mathlib.Core.Path.{_≡_, refl, sym, ap, _∙_}
+use mathlib.Core.Path.{_≡_, refl, sym, _∙_}
 use mathlib.Core.Bool.{Bool, true, false}
 use mathlib.Core.List.{List, [], _∷_, _++_}
-use Prim.Native.Nat.{ℕ, zero, suc, _+_, _-_, _≤_, _<_}
-use native.Mathlib.Nat.{add-zero, zero-add, add-suc}
+use Prim.Native.Nat.{ℕ, zero, suc, _+_, _-_, _<_}
+use native.Mathlib.Nat.{zero-add, add-suc}
 use native.Mathlib.Omega.{arith}
-use lib.Dec.{eqb, leb}
+use lib.Dec.{eqb}
 use lib.ListN.{length, getD, take, length-append, length-take, List·getD-append}
 use lib.Seq.{getD-take}
 use borrow.Author.Tests.{ne-eqb}
 use Rattle.rules.specs.Limits.{both}
-use Rattle.rules.specs.Refusals.{pick}
 use Rattle.notice.specs.declared.Notice.{Notice}
 use Rattle.notice.specs.declared.Reading.the-variants as reading
 use Rattle.notice.specs.declared.Found.the-variants as found
 use Rattle.notice.specs.Fields.{table, tagOf, sizeOf, isCarried, isKnown, startOf, lengthOf, rows}
 use Rattle.notice.specs.Numbers.{numberAt}
 use Rattle.notice.specs.Encode.{kindOf, bytesOf}
-use Rattle.notice.specs.Decode.{headStands, rowStands, standsTo, kindAt, isWhole, isAlone, readAt, readOf}
-use Rattle.notice.specs.Log.{Fits}
+use Rattle.notice.specs.Decode.{headStands, rowStands, standsTo, kindAt, isWhole, readAt, readOf}
+use Rattle.notice.specs.Log.{FitsFields}
 use Rattle.notice.proofs.Bytes.{length-notice}
 use Rattle.notice.proofs.Each.{by-order}
 use Rattle.notice.proofs.Cases.{at-none, no-kind, no-rows, no-room, unknown}
@@ -93,7 +92,7 @@ pub wrong-length : (bs : List ℕ) → (lengthOf (kindAt bs 0) ≡ length bs →
 unfolding readOf
 wrong-length bs h = simp (ne-eqb _ _ h, never (isWhole bs 0))
 
-module _ (n : Notice) (fits : Fits n) where
+module _ (n : Notice) (fits : FitsFields n) where
   own-kind : kindAt (bytesOf n) 0 ≡ kindOf (n .kind)
   own-kind = kind-at (bytesOf n) 0 n fits (λ j lt. rw zero-add) (omega arith)
 

@@ -3,13 +3,11 @@
 use mathlib.Core.Path.{_≡_, refl, sym, ap, _∙_}
 use mathlib.Core.Bool.{Bool, true, false}
 use mathlib.Core.List.{List, [], _∷_, _++_, append-nil, append-assoc}
-use Prim.Native.Nat.{ℕ, zero, suc, _+_, _*_, _-_, _≤_, _<_, _^_}
+use Prim.Native.Nat.{ℕ, zero, suc, _+_, _-_, _≤_, _<_, _^_}
 use native.Mathlib.Nat.{add-zero, zero-add, add-suc}
 use native.Mathlib.Omega.{arith}
-use lib.Dec.{eqb}
 use lib.ListN.{length, getD, length-append}
 use borrow.Author.Tests.{eq-eqb}
-use Rattle.rules.specs.Limits.{both}
 use Rattle.rules.specs.Refusals.{pick}
 use Rattle.notice.specs.declared.Notice.{Notice}
 use Rattle.notice.specs.declared.Kind.{Kind}
@@ -20,7 +18,7 @@ use Rattle.notice.specs.Fields.{table, tagOf, sizeOf, isCarried, isKnown
 use Rattle.notice.specs.Numbers.{bigEndian, numberAt}
 use Rattle.notice.specs.Encode.{kindOf, dataIn, valuesIn, fieldBytes, rowBytes, bytesTo, bytesOf}
 use Rattle.notice.specs.Decode.{headStands, rowStands, standsTo, valueAt, kindIn, noticeIn, kindAt, isWhole, readAt, readOf}
-use Rattle.notice.specs.Log.{Fits, AllFit, none, more, logOf, Gives, ends, next}
+use Rattle.notice.specs.Log.{FitsFields, AllFit, none, more, logOf, Gives, ends, next}
 use Rattle.notice.proofs.Table.{sound, value-inside}
 use Rattle.notice.proofs.Bytes.{length-big, length-bytes, length-notice}
 use Rattle.notice.proofs.Has.{Has, has-left, has-right, has-middle, number-back}
@@ -109,7 +107,7 @@ kind-back bs p (Open l a k n) s t u v = simp (v 4 (omega arith) refl, v 5 (omega
 kind-back bs p (Change n) s t u v = simp (v 7 (omega arith) refl)
 kind-back bs p Close s t u v = refl
 
-module _ (bs : List ℕ) (p : ℕ) (n : Notice) (fits : Fits n) (has : Has bs p (bytesOf n)) (room : p + length (bytesOf n) ≤ length bs) where
+module _ (bs : List ℕ) (p : ℕ) (n : Notice) (fits : FitsFields n) (has : Has bs p (bytesOf n)) (room : p + length (bytesOf n) ≤ length bs) where
   value : (i : ℕ) → i < rows → isCarried (kindOf (n .kind)) i ≡ true → valueAt bs p (kindOf (n .kind)) i ≡ getD (valuesIn n) i 0
   unfolding bytesOf
   value i h c = values-back bs p (kindOf (n .kind)) (valuesIn n) has i h c (fits i h c)
@@ -142,7 +140,7 @@ module _ (bs : List ℕ) (p : ℕ) (n : Notice) (fits : Fits n) (has : Has bs p 
       sym (at-whole bs p (omega arith) all) ∙ rw (kind-at, notice-back, length-notice)
 
 -- alone, a notice's bytes read as that notice
-pub written-reads : (n : Notice) → Fits n → readOf (bytesOf n) ≡ reading.Whole n
+pub written-reads : (n : Notice) → FitsFields n → readOf (bytesOf n) ≡ reading.Whole n
 unfolding only
 written-reads n fits =
     let here : Has (bytesOf n) 0 (bytesOf n) = λ j lt. rw zero-add in

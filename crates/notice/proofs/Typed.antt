@@ -2,7 +2,7 @@
 -- Rests on the table.
 use mathlib.Core.Path.{_≡_}
 use mathlib.Core.Bool.{true}
-use mathlib.Core.List.{List, [], _∷_}
+use mathlib.Core.List.{_∷_}
 use Prim.Native.Nat.{ℕ, _<_, _^_}
 use native.Mathlib.Omega.{arith}
 use lib.ListN.{getD}
@@ -10,8 +10,8 @@ use Rattle.notice.specs.declared.Notice.{Notice}
 use Rattle.notice.specs.declared.Kind.{Kind}
 use Rattle.notice.specs.declared.Kind.the-variants.{Open, Change, Close}
 use Rattle.notice.specs.Fields.{table, sizeOf, isCarried, rows}
-use Rattle.notice.specs.Encode.{kindOf, dataIn, valuesIn}
-use Rattle.notice.specs.Log.{KindTyped, Typed, Fits}
+use Rattle.notice.specs.Encode.{kindOf, dataIn}
+use Rattle.notice.specs.Log.{KindTyped, Typed, FitsFields}
 use Rattle.notice.proofs.Each.{each, false-true}
 
 -- row i of a kind, after the rows that all kinds have
@@ -26,7 +26,7 @@ data-fits (Open l a k n) s t u h =
 data-fits (Change n) s t u h = ((λ _. omega arith), (false-true, (false-true, (false-true, (λ _. h)))))
 data-fits Close s t u h = ((λ _. omega arith), (false-true, (false-true, (false-true, false-true))))
 
-pub typed-fits : (n : Notice) → Typed n → Fits n
+pub typed-fits : (n : Notice) → Typed n → FitsFields n
 unfolding table
 typed-fits n h =
     let d = data-fits (n .kind) (n .sequence) (n .title) (n .time) (h .kind-fits) in

@@ -37,6 +37,31 @@ table =
     ∷ row 8 1 (2 ^ openKind + 2 ^ changeKind)
     ∷ []
 
+-- the rows by what they hold, the first being the kind
+abbrev pub kindRow : ℕ
+kindRow = 0
+
+abbrev pub sequenceRow : ℕ
+sequenceRow = 1
+
+abbrev pub titleRow : ℕ
+titleRow = 2
+
+abbrev pub timeRow : ℕ
+timeRow = 3
+
+abbrev pub lengthRow : ℕ
+lengthRow = 4
+
+abbrev pub floorRow : ℕ
+floorRow = 5
+
+abbrev pub capRow : ℕ
+capRow = 6
+
+abbrev pub countRow : ℕ
+countRow = 7
+
 -- how many rows the table has
 abbrev pub rows : ℕ
 rows = 8
@@ -69,7 +94,7 @@ startOf k (suc i) = startOf k i + spanOf k i
 
 -- a kind that the table knows is one that carries the first row, and its notices are this long
 abbrev pub isKnown : ℕ → Bool
-isKnown k = isCarried k 0
+isKnown k = isCarried k kindRow
 
 abbrev pub lengthOf : ℕ → ℕ
 lengthOf k = startOf k rows

@@ -29,8 +29,8 @@ pub record Typed (n : Notice) : Type 0 where
   pub kind-fits : KindTyped (n .kind)
 
 -- each value of a notice fits its field, as in every record of those widths
-abbrev pub Fits : Notice → Type 0
-Fits n = (i : ℕ) → i < rows → isCarried (kindOf (n .kind)) i ≡ true → getD (valuesIn n) i 0 < 256 ^ sizeOf i
+abbrev pub FitsFields : Notice → Type 0
+FitsFields n = (i : ℕ) → i < rows → isCarried (kindOf (n .kind)) i ≡ true → getD (valuesIn n) i 0 < 256 ^ sizeOf i
 
 unfoldable pub logOf : List Notice → List ℕ
 logOf [] = []
@@ -44,4 +44,4 @@ pub data Gives (bs : List ℕ) : ℕ → List Notice → Type 0 where
 -- all of a list of notices fit
 pub data AllFit : List Notice → Type 0 where
   none : AllFit []
-  more : {n : Notice} {ns : List Notice} → Fits n → AllFit ns → AllFit (n ∷ ns)
+  more : {n : Notice} {ns : List Notice} → FitsFields n → AllFit ns → AllFit (n ∷ ns)

@@ -4,8 +4,15 @@ use super::Kind;
 use super::Notice;
 use super::encode::CHANGE;
 use super::encode::OPEN;
+use super::fields::CAP;
+use super::fields::COUNT;
+use super::fields::FLOOR;
 use super::fields::HEAD;
+use super::fields::LENGTH;
 use super::fields::ROWS;
+use super::fields::SEQUENCE;
+use super::fields::TIME;
+use super::fields::TITLE;
 use super::fields::carried;
 use super::fields::entry;
 use super::fields::span;
@@ -16,23 +23,8 @@ ghost use mathlib.Core.Bool.{true};
 ghost use Prim.Native.Nat.{_+_, _<_, _≤_, _^_};
 ghost use lib.ListN.{length};
 ghost use Rattle.rules.specs.Limits.{both};
-ghost use Rattle.notice.specs.Fields.{spanOf, sizeOf, lengthOf, isCarried, isKnown};
+ghost use Rattle.notice.specs.Fields.{rows, spanOf, sizeOf, lengthOf, isCarried, isKnown};
 ghost use Rattle.notice.specs.Decode.{headStands, rowStands, standsTo, valueAt, kindIn, noticeIn};
-
-// The rows of the table by what they hold.
-const SEQUENCE: usize = 1;
-
-const TITLE: usize = 2;
-
-const TIME: usize = 3;
-
-const LENGTH: usize = 4;
-
-const FLOOR: usize = 5;
-
-const CAP: usize = 6;
-
-const COUNT: usize = 7;
 
 fn also(a: bool, b: bool) -> bool
     ensures { λ r. ⌜ r ≡ both a b ⌝ }
@@ -42,7 +34,7 @@ fn also(a: bool, b: bool) -> bool
 
 // Whether the row's tag and length stand at a place.
 fn head_stands(bytes: &[u8], at: usize, row: usize) -> bool
-    requires { ⌜ (row < 8) × (at + 3 ≤ length (now bytes)) ⌝ }
+    requires { ⌜ (row < rows) × (at + 3 ≤ length (now bytes)) ⌝ }
     ensures { λ r. ⌜ r ≡ headStands (now (bytes .entry)) at row ⌝ }
 {
     let f = entry(row);
@@ -53,7 +45,7 @@ fn head_stands(bytes: &[u8], at: usize, row: usize) -> bool
 
 // The same for a row that the kind may not carry.
 fn row_stands(bytes: &[u8], at: usize, kind: u8, row: usize) -> bool
-    requires { ⌜ (row < 8) × (at + spanOf kind row ≤ length (now bytes)) ⌝ }
+    requires { ⌜ (row < rows) × (at + spanOf kind row ≤ length (now bytes)) ⌝ }
     ensures { λ r. ⌜ r ≡ rowStands (now (bytes .entry)) at kind row ⌝ }
 {
     if carried(kind, row) {
@@ -66,7 +58,7 @@ fn row_stands(bytes: &[u8], at: usize, kind: u8, row: usize) -> bool
 // Whether all fields of the kind stand one after the other from a place on.
 pub fn rows_stand(bytes: &[u8], place: usize, kind: u8) -> bool
     requires { ⌜ place + lengthOf kind ≤ length (now bytes) ⌝ }
-    ensures { λ r. ⌜ r ≡ standsTo (now (bytes .entry)) place kind 8 ⌝ }
+    ensures { λ r. ⌜ r ≡ standsTo (now (bytes .entry)) place kind rows ⌝ }
 {
     let mut ok = true;
     let mut at = place;
@@ -81,7 +73,7 @@ pub fn rows_stand(bytes: &[u8], place: usize, kind: u8) -> bool
 
 // The value of a row that the kind carries, in a notice that starts at a place.
 fn value(bytes: &[u8], place: usize, kind: u8, row: usize) -> u64
-    requires { ⌜ (row < 8) × ((place + lengthOf kind ≤ length (now bytes)) × (isCarried kind row ≡ true)) ⌝ }
+    requires { ⌜ (row < rows) × ((place + lengthOf kind ≤ length (now bytes)) × (isCarried kind row ≡ true)) ⌝ }
     ensures { λ r. ⌜ (r ≡ valueAt (now (bytes .entry)) place kind row) × (r < 256 ^ sizeOf row) ⌝ }
 {
     let f = entry(row);

@@ -12,7 +12,7 @@ ghost use mathlib.Core.Path.{_≡_};
 ghost use Prim.Native.Nat.{_+_, _<_, _≤_};
 ghost use lib.ListN.{length};
 ghost use lib.Seq.{sets};
-ghost use Rattle.notice.specs.Fields.{spanOf, sizeOf, lengthOf};
+ghost use Rattle.notice.specs.Fields.{rows, spanOf, sizeOf, lengthOf};
 ghost use Rattle.notice.specs.Encode.{kindOf, valuesIn, fieldBytes, rowBytes, bytesTo};
 
 // The kinds by their numbers.
@@ -68,7 +68,7 @@ pub fn values(n: Notice) -> [u64; ROWS]
 
 // A row's tag, its length and its value, from at on.
 fn put_field(room: &mut [u8], at: usize, row: usize, v: u64)
-    requires { ⌜ (row < 8) × (at + (3 + sizeOf row) ≤ length (now room)) ⌝ }
+    requires { ⌜ (row < rows) × (at + (3 + sizeOf row) ≤ length (now room)) ⌝ }
     ensures { λ _. ⌜ now (room .exit) ≡ sets (now (room .entry)) at (fieldBytes row v) ⌝ }
 {
     let f = entry(row);
@@ -80,7 +80,7 @@ fn put_field(room: &mut [u8], at: usize, row: usize, v: u64)
 
 // The same for a row that the kind may not carry.
 fn put_row(room: &mut [u8], at: usize, kind: u8, row: usize, v: u64)
-    requires { ⌜ (row < 8) × (at + spanOf kind row ≤ length (now room)) ⌝ }
+    requires { ⌜ (row < rows) × (at + spanOf kind row ≤ length (now room)) ⌝ }
     ensures { λ _. ⌜ now (room .exit) ≡ sets (now (room .entry)) at (rowBytes kind row v) ⌝ }
 {
     if carried(kind, row) {
@@ -91,7 +91,7 @@ fn put_row(room: &mut [u8], at: usize, kind: u8, row: usize, v: u64)
 // Every field of a notice, from the room's start on.
 pub fn put_rows(room: &mut [u8], kind: u8, values: [u64; ROWS])
     requires { ⌜ lengthOf kind ≤ length (now room) ⌝ }
-    ensures { λ _. ⌜ now (room .exit) ≡ sets (now (room .entry)) 0 (bytesTo kind values 8) ⌝ }
+    ensures { λ _. ⌜ now (room .exit) ≡ sets (now (room .entry)) 0 (bytesTo kind values rows) ⌝ }
 {
     let mut at: usize = 0;
     let mut i: usize = 0;

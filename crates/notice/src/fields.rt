@@ -2,8 +2,8 @@
 // Writer and reader both go by this table; a length stands nowhere else.
 
 ghost use mathlib.Core.Path.{_≡_};
-ghost use Prim.Native.Nat.{_<_, _≤_, _*_};
-ghost use Rattle.notice.specs.Fields.{fieldOf, isCarried, spanOf, startOf};
+ghost use Prim.Native.Nat.{_<_, _≤_};
+ghost use Rattle.notice.specs.Fields.{rows, fieldOf, isCarried, spanOf, startOf};
 
 // A row: bit k of kinds is set where kind k carries the field.
 pub struct Field {
@@ -13,6 +13,23 @@ pub struct Field {
 }
 
 pub const ROWS: usize = 8;
+
+// The rows by what they hold.
+pub const KIND: usize = 0;
+
+pub const SEQUENCE: usize = 1;
+
+pub const TITLE: usize = 2;
+
+pub const TIME: usize = 3;
+
+pub const LENGTH: usize = 4;
+
+pub const FLOOR: usize = 5;
+
+pub const CAP: usize = 6;
+
+pub const COUNT: usize = 7;
 
 // Tag and two bytes of length stand before each value.
 pub const HEAD: usize = 3;
@@ -61,7 +78,7 @@ const FIELDS: [Field; ROWS] = [
 ];
 
 pub fn entry(row: usize) -> Field
-    requires { ⌜ row < 8 ⌝ }
+    requires { ⌜ row < rows ⌝ }
     ensures { λ r. ⌜ r ≡ fieldOf row ⌝ }
 {
     FIELDS[row]
@@ -69,7 +86,7 @@ pub fn entry(row: usize) -> Field
 
 // Whether a notice of the kind has the row's field. The table has no bit for a kind from 8 on.
 pub fn carried(kind: u8, row: usize) -> bool
-    requires { ⌜ row < 8 ⌝ }
+    requires { ⌜ row < rows ⌝ }
     ensures { λ r. ⌜ r ≡ isCarried kind row ⌝ }
 {
     let f = entry(row);
@@ -84,7 +101,7 @@ pub fn carried(kind: u8, row: usize) -> bool
 
 // How many bytes the row takes in a notice of the kind.
 pub fn span(kind: u8, row: usize) -> usize
-    requires { ⌜ row < 8 ⌝ }
+    requires { ⌜ row < rows ⌝ }
     ensures { λ r. ⌜ r ≡ spanOf kind row ⌝ }
 {
     let f = entry(row);
@@ -93,7 +110,7 @@ pub fn span(kind: u8, row: usize) -> usize
 
 // Where the row stands in a notice of the kind; past the last row, how long the notice is.
 pub fn start(kind: u8, row: usize) -> usize
-    requires { ⌜ row ≤ 8 ⌝ }
+    requires { ⌜ row ≤ rows ⌝ }
     ensures { λ r. ⌜ r ≡ startOf kind row ⌝ }
 {
     let mut at: usize = 0;

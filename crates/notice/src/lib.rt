@@ -8,11 +8,13 @@ use encode::number;
 use encode::put_rows;
 use encode::values;
 use fields::HEAD;
+use fields::KIND;
 use fields::ROWS;
 use fields::carried;
 use fields::start;
 ghost use mathlib.Core.Path.{_≡_};
-ghost use Rattle.notice.specs.Encode.{Writes};
+ghost use lib.ListN.{length};
+ghost use Rattle.notice.specs.Encode.{bytesOf, Writes};
 ghost use Rattle.notice.specs.Decode.{Reads, Finds, Steps, placeAfter};
 
 mod decode;
@@ -67,6 +69,14 @@ pub fn write(n: Notice, room: &mut [u8]) -> u8
     rules::DONE
 }
 
+// How many bytes the notice has, for callers that write one after another.
+pub fn size(n: Notice) -> usize
+    ensures { λ r. ⌜ r ≡ length (bytesOf n) ⌝ }
+{
+    let data = n.kind;
+    start(number(data), ROWS)
+}
+
 // Reads at a place of a log. The place may be any, also past the end.
 pub fn read_at(log: &[u8], place: usize) -> Found
     ensures { λ r. ⌜ Finds (now (log .entry)) place r ⌝ }
@@ -79,7 +89,7 @@ pub fn read_at(log: &[u8], place: usize) -> Found
         return Found::Malformed;
     }
     let kind = log[place + HEAD];
-    if carried(kind, 0) {
+    if carried(kind, KIND) {
         let size = start(kind, ROWS);
         if size <= left {
             if rows_stand(log, place, kind) {
@@ -126,7 +136,8 @@ fn place_after(found: Found, place: usize) -> usize
 
 // The next answer of a log, which moves past a notice.
 pub fn next<'s, 'a>(log: &'s mut Log<'a>) -> Found
-    ensures { λ r. ⌜ Steps (now (now (log .entry) .bytes)) (now (log .entry) .place) r (now (log .exit) .place) × (now (log .exit) .bytes ≡ now (log .entry) .bytes) ⌝ }
+    ensures { λ r. ⌜ Steps (now (now (log .entry) .bytes)) (now (log .entry) .place) r (now (log .exit) .place)
+        × (now (log .exit) .bytes ≡ now (log .entry) .bytes) ⌝ }
 {
     let place = log.place;
     let found = read_at(log.bytes, place);

@@ -180,6 +180,16 @@ fn changed(at: usize, to: u8)
     print_first(&bytes, 30);
 }
 
+// What is written reads back: shown for every record, and run for one outside every limit.
+fn survives(n: Notice) -> Reading
+    ensures { λ r. ⌜ r ≡ Reading.Whole n ⌝ }
+{
+    let mut room = [0u8; 45];
+    let size = notice::size(n);
+    notice::write(n, &mut room);
+    notice::read(&room[..size])
+}
+
 // Every limit passed, and still well formed.
 fn outside() -> Notice {
     Notice {
@@ -236,5 +246,6 @@ fn main() {
     changed(11, 1);
     changed(6, 5);
     changed(5, 1);
+    print_reading(survives(outside()));
     log();
 }

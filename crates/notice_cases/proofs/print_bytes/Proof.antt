@@ -1,6 +1,5 @@
 -- `notice_cases::print_bytes` is safe and ends: the place stays within the bytes.
 use Prim.Native.Nat.{_≤_, _-_}
-use native.Mathlib.Omega.{arith}
 use borrow.Author.Needs.{needs}
 use lib.ListN.{length}
 use Rattle.notice_cases.proofs.print_bytes.Statement.{statement}

@@ -1,8 +1,8 @@
 -- `decode::rows_stand` meets its contract: the rows passed stand or not, and the next one starts after them.
 -- Rests on the table's bounds.
 use Prim.Native.Nat.{_≤_, _-_, _+_}
-use mathlib.Core.Path.{_≡_, refl, sym, _∙_, ap}
-use native.Mathlib.Nat.{le-antisymm, add-zero}
+use mathlib.Core.Path.{_≡_, refl}
+use native.Mathlib.Nat.{le-antisymm}
 use native.Mathlib.Numerals.{add-one}
 use native.Mathlib.Omega.{arith}
 use borrow.Author.Needs.{needs}

@@ -1,12 +1,11 @@
 -- `encode::put_rows` meets its contract: the rows passed stand from the start on, and the next one starts after them.
 -- Rests on the table's bounds and on the law of one row more.
-use Prim.Native.Nat.{_≤_, _-_, _+_, suc}
+use Prim.Native.Nat.{_≤_, _-_}
 use mathlib.Core.Path.{_≡_, refl, _∙_}
 use native.Mathlib.Nat.{le-antisymm}
 use native.Mathlib.Numerals.{add-one}
 use native.Mathlib.Omega.{arith}
 use borrow.Author.Needs.{needs}
-use lib.ListN.{length}
 use lib.Seq.{sets, length-sets}
 use Rattle.notice.specs.Fields.{startOf}
 use Rattle.notice.specs.Encode.{bytesTo}

@@ -2,8 +2,6 @@
 -- Rests on the table's law that a value has at most eight bytes.
 use borrow.Author.Needs.{needs}
 use native.Mathlib.Omega.{arith}
-use mathlib.Core.Path.{ap}
-use Rattle.notice.specs.declared.fields.Field.{Field}
 use Rattle.notice.specs.Fields.{spanOf}
 use Rattle.notice.proofs.Table.{sound}
 use Rattle.notice.proofs.fields.span.Statement.{statement}

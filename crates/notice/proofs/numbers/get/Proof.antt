@@ -1,6 +1,6 @@
 -- `numbers::get` meets its contract: the bytes passed spell what is gathered, which stays below a power of 256.
 -- Rests on the bound of eight bytes.
-use Prim.Native.Nat.{_≤_, _<_, _-_, _^_, _*_}
+use Prim.Native.Nat.{_≤_, _<_, _-_, _^_}
 use mathlib.Core.Path.{_≡_}
 use native.Mathlib.Nat.{le-antisymm, pow-suc}
 use native.Mathlib.Numerals.{add-one}

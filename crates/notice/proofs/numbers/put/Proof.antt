@@ -5,7 +5,6 @@ use mathlib.Core.Path.{_≡_, refl, sym}
 use native.Mathlib.Nat.{div-one, add-zero}
 use native.Mathlib.Omega.{arith}
 use borrow.Author.Needs.{needs}
-use lib.ListN.{length-set}
 use lib.Seq.{sets, length-sets}
 use Rattle.notice.specs.Numbers.{bigEndian}
 use Rattle.notice.proofs.Digits.{put-more, left-more}
