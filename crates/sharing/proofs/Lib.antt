@@ -5,4 +5,3 @@ pub mod Search
 mod Sums
 pub mod Exchange
 pub mod Promise
-pub mod Cases

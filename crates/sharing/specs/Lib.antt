@@ -4,4 +4,3 @@ pub mod Term
 pub mod Choice
 pub mod Verdict
 pub mod Giving
-pub mod Cases
