@@ -1,0 +1,3 @@
+-- Laws of this crate's rows.
+pub mod Filled
+pub mod Asked
