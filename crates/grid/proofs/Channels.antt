@@ -6,17 +6,17 @@ use Prim.Native.Nat.{ℕ, zero, suc, _+_, _-_, _*_, _/_, _%_, _^_, _≤_, _<_}
 use native.Mathlib.Omega.{arith}
 use native.Mathlib.Nat.{mod-lt, div-add-mod, mul-comm, div-div-eq-div-mul, pow-succ', eq-of-mul-eq-mul-left, add-right-cancel, add-mul-div-left, add-mul-mod-self-left, mul-le-mul-right}
 use lib.Arith.{mod-mul}
-use lib.IntN.{pos, negsuc, _-ℤ_}
+use lib.IntN.{pos, _-ℤ_}
 use lib.Dec.{ltb, eqb}
 use lib.Pow.{pow-pos, pow-mono}
 use borrow.Author.Tests.{ltb-true, ltb-false, eqb-true, eqb-false}
 use Rattle.rules.proofs.Tests.{decide}
 use Rattle.rules.specs.Refusals.{pick}
 use Rattle.grid.specs.Ticks.{slot, cellOf}
-use Rattle.grid.specs.Channels.{floorRem, shift, segment, channelCell, InG}
+use Rattle.grid.specs.Channels.{floorRem, shift, segment, channelCell}
 use Rattle.grid.specs.Bounds.{IsCell}
 use Rattle.grid.proofs.Ticks.{slot-pos, slot-half, half-cells, all-cells}
-use Rattle.grid.proofs.Numbers.{mod-unique, mod-same, div-unique, pow-part, pow-less, top-unique, ne-zero-pos}
+use Rattle.grid.proofs.Numbers.{mod-unique, mod-same, pow-part, top-unique, ne-zero-pos}
 
 -- slot j of count k, one later and moved from the shift up to 2^k
 unfoldable pub lifted : ℕ → ℕ → ℕ → ℕ

@@ -5,13 +5,13 @@ use mathlib.Core.Bool.{Bool, true, false, not, false≢true}
 use mathlib.Core.Logic.{_⊎_, inl, inr, ⊎-elim}
 use Prim.Native.Nat.{ℕ, zero, suc, _+_, _-_, _*_, _/_, _%_, _^_, _≤_, _<_}
 use native.Mathlib.Omega.{arith}
-use native.Mathlib.Nat.{add-zero, add-suc, mod-add-div}
+use native.Mathlib.Nat.{add-zero, add-suc, mod-add-div, le-antisymm}
 use lib.Dec.{ltb, eqb}
 use borrow.Author.Tests.{ltb-true, ltb-false, eqb-true, eqb-false, lt-ltb, le-ltb, eq-eqb, ne-eqb, not-true, not-false}
 use Rattle.rules.specs.Refusals.{pick}
 use Rattle.rules.specs.Search.{first}
 use Rattle.rules.proofs.Tests.{decide, fails, pick-true, pick-false}
-use Rattle.rules.proofs.Search.{below-suc, some-in, some-out, first-le, first-before, first-hit, first-least, some-ext, first-ext}
+use Rattle.rules.proofs.Search.{some-in, some-out, first-le, first-before, first-hit, first-least, some-ext, first-ext}
 use Rattle.grid.specs.Channels.{channelCell, InG}
 use Rattle.grid.specs.Lanes.{isInG, isAdded, addedChannel, laneCell}
 use Rattle.grid.proofs.Numbers.{divides-lower}
@@ -190,6 +190,26 @@ pub lane-of-cell : (A K k t c : ℕ) → A ≤ k → k ≤ K → InG A K k t c �
 lane-of-cell A K k t c low high m =
     let e : k ≡ A + (k - A) = omega arith in
     rw e (lane-up A K t c (k - A) (omega arith) (rw e at m))
+
+-- no two lanes carry one cell
+lane-before : (A K l m t : ℕ) → A ≤ K → l < m → m < K → laneCell A K l t ≡ laneCell A K m t → ⊥
+lane-before A K l m t floor b high e =
+    ⊎-elim
+    (λ h. let f : m < A = ltb-true m A h in
+    let same : l ≡ m = distinct A K A t l m (omega arith) floor (omega arith) f
+    (sym (lane-channel A K l t (omega arith)) ∙ e ∙ lane-channel A K m t f) in
+    omega arith)
+    (λ h. let f : A ≤ m = ltb-false m A h in
+    let i = cell-of-lane A K m l t f (omega arith) b in
+    one-more A K m t f high .fresh (i .0, i .1, i .2 ∙ e))
+    (decide (ltb m A))
+
+pub lanes-apart : (A K l m t : ℕ) → A ≤ K → l < K → m < K → laneCell A K l t ≡ laneCell A K m t → l ≡ m
+lanes-apart A K l m t floor a b e =
+    ⊎-elim (λ h. absurd (lane-before A K l m t floor (ltb-true l m h) b e))
+    (λ h. ⊎-elim (λ g. absurd (lane-before A K m l t floor (ltb-true m l g) a (sym e)))
+    (λ g. le-antisymm (ltb-false m l g) (ltb-false l m h)) (decide (ltb m l)))
+    (decide (ltb l m))
 
 -- lanes repeat with the grid's period
 module _ (A K t n : ℕ) (floor : A ≤ K) where

@@ -28,9 +28,6 @@ div-unique m q r y l e = ap (λ n. n / m) e ∙ digits-div q l
 pub pow-part : (i k : ℕ) → i ≤ k → 2 ^ k ≡ 2 ^ i * 2 ^ (k - i)
 pow-part i k l = let e : k ≡ i + (k - i) = omega arith in ap (λ n. 2 ^ n) e ∙ pow-add 2 i (k - i)
 
-pub pow-less : (i k : ℕ) → i ≤ k → 2 ^ (k - i) ≤ 2 ^ k
-pow-less i k l = pow-mono (omega arith)
-
 -- at most one power of two has a number from itself up to its double
 pub top-unique : (i j n : ℕ) → 2 ^ i ≤ n → n < 2 ^ suc i → 2 ^ j ≤ n → n < 2 ^ suc j → i ≡ j
 top-unique i j n a b c d =

@@ -1,24 +1,23 @@
 -- Laws of the box plan: every cell but the last w is taken, on the channel that carries it, no later than its turn.
 -- Rest on the laws of the channels.
 use mathlib.Core.Path.{_≡_, refl, sym, ap, _∙_}
-use mathlib.Core.Bool.{Bool, true, false, false≢true}
-use mathlib.Core.Logic.{_⊎_, inl, inr, ⊎-elim}
-use Prim.Native.Nat.{ℕ, zero, suc, _+_, _-_, _*_, _/_, _%_, _^_, _≤_, _<_}
+use mathlib.Core.Bool.{Bool, true}
+use Prim.Native.Nat.{ℕ, suc, _+_, _-_, _*_, _/_, _%_, _^_, _≤_, _<_}
 use native.Mathlib.Omega.{arith}
 use native.Mathlib.Nat.{mod-lt, div-add-mod, div-add-mod', mul-le-mul-right, mul-le-mul-left, lt-of-mul-lt-mul-right, le-div-iff-mul-le, div-lt-iff-lt-mul, mul-sub}
-use lib.Count.{leadingZeros, leading-top}
+use lib.Count.{leading-top}
 use lib.Dec.{leb, ltb, eqb}
 use lib.Pow.{pow-pos, pow-mono}
-use borrow.Author.Tests.{ltb-true, ltb-false, leb-true, eqb-true, lt-ltb, le-leb, eq-eqb}
+use borrow.Author.Tests.{ltb-true, leb-true, eqb-true, lt-ltb, le-leb, eq-eqb}
 use Rattle.rules.specs.Limits.{both}
 use Rattle.rules.specs.Search.{first}
-use Rattle.rules.proofs.Tests.{decide, both-l, both-r, both-in, fails}
+use Rattle.rules.proofs.Tests.{both-l, both-r, both-in, fails}
 use Rattle.rules.proofs.Search.{some-in, some-out, first-hit, first-least}
-use Rattle.grid.specs.Ticks.{slot, isSlotStart, holdsFilm, tickOf, roundedUp, cells}
+use Rattle.grid.specs.Ticks.{slot, isSlotStart, holdsFilm, tickOf, roundedUp}
 use Rattle.grid.specs.Channels.{channelCell}
 use Rattle.grid.specs.Plan.{takenFrom, inPlan, takenAfter, planAt, never}
 use Rattle.grid.proofs.Ticks.{slot-pos, all-cells, half-cells, slot-start, rounded-enough}
-use Rattle.grid.proofs.Numbers.{mod-unique, mod-same, div-unique, pow-part, top-unique}
+use Rattle.grid.proofs.Numbers.{mod-unique, div-unique, top-unique}
 use Rattle.grid.proofs.Channels.{lifted, cell-lifted, lifted-add}
 
 -- a box takes cell c from channel d at tick t
@@ -205,6 +204,14 @@ in-time A K k a c low high start h =
 -- the tick minus a at which cell c comes on channel d
 abbrev pub due : ℕ → ℕ → ℕ → ℕ → ℕ → ℕ → ℕ
 due A K k a c d = wait A K k a c d * slot K k + c % slot K k
+
+-- a tick within a channel's window is one of fewer ticks than there are cells
+pub window-lt : (K k d o r : ℕ) → k ≤ K → d < k → o < 2 ^ d → r < slot K k → o * slot K k + r < 2 ^ K
+window-lt K k d o r high l b c =
+    let w : ℕ = slot K k in
+    let m : suc o * w ≤ 2 ^ d * w = mul-le-mul-right w b in
+    let n : 2 ^ d * w ≤ 2 ^ k * w = mul-le-mul-right w (pow-mono (omega arith)) in
+    omega (arith, all-cells K k high)
 
 module _ (A K k a c : ℕ) (high : k ≤ K) (start : isSlotStart K k a ≡ true) where
   -- the plan gives the tick at which the cell is taken, and no other

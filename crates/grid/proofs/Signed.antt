@@ -1,9 +1,9 @@
 -- Laws of the signed slot difference and of its floor remainder, as the machine keeps them: each signed value is read
 -- back from its bits once, and everything after is about natural numbers. Rest on the machine's reading of a signed number.
 use mathlib.Core.Path.{_≡_, refl, sym, ap, ap₂, subst, _∙_}
-use mathlib.Core.Bool.{Bool, true, false, false≢true}
+use mathlib.Core.Bool.{true, false, false≢true}
 use mathlib.Core.Logic.{⊎-elim}
-use Prim.Native.Nat.{ℕ, zero, suc, _+_, _-_, _*_, _/_, _%_, _^_, _≤_, _<_}
+use Prim.Native.Nat.{ℕ, zero, suc, _-_, _%_, _^_, _≤_, _<_}
 use native.Mathlib.Omega.{arith}
 use native.Mathlib.Nat.{mod-lt}
 use lib.Dec.{T, ltb}
@@ -12,7 +12,7 @@ use lib.Signed.{ltZ, nonNeg}
 use mir.Syntax.{w64}
 use mir.Val.{Fits, SFits, toZ, ofZ}
 use mir.ValLaws.{toZ-ofZ, toZ-pos}
-use borrow.Author.Tests.{le-ltb, ltb-true, ltb-false}
+use borrow.Author.Tests.{le-ltb, ltb-true}
 use Rattle.rules.proofs.Tests.{decide}
 use Rattle.grid.specs.Channels.{floorRem, shift}
 use Rattle.grid.specs.Bounds.{IsRest}

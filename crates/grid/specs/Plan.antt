@@ -1,11 +1,10 @@
 -- The box plan, and the call that writes it (01, "The box plan" and "Numbers that calls give back").
 use Prim.Native.Nat.{ℕ, _+_, _*_, _^_}
 use mathlib.Core.Bool.{Bool, not}
-use mathlib.Core.List.{List, [], _∷_}
+use mathlib.Core.List.{[], _∷_}
 use lib.Dec.{leb, ltb, eqb}
-use lib.ListN.{length}
 use Rattle.rules.specs.Limits.{both, either, within, floorMin, floorMax, countMin, countMax, askedMax}
-use Rattle.rules.specs.Refusals.{pick, Rule, refuse, firstHit, outsideLimits, wrongCount, notAtSlot, wrongRows}
+use Rattle.rules.specs.Refusals.{pick, refuse, firstHit, outsideLimits, wrongCount, notAtSlot, wrongRows}
 use Rattle.rules.specs.Search.{some, first}
 use Rattle.grid.specs.Ticks.{cells, slot, isSlotStart}
 use Rattle.grid.specs.Channels.{channelCell}
@@ -31,13 +30,17 @@ takenAfter A K k a c = first (λ o. inPlan A K k a c (a + o)) (cells K)
 unfoldable pub planAt : ℕ → ℕ → ℕ → ℕ → ℕ → ℕ
 planAt A K k a c = pick (ltb (takenAfter A K k a c) (cells K)) (takenAfter A K k a c) never
 
+-- the call's four numbers are within their limits
+abbrev pub planLimits : ℕ → ℕ → ℕ → ℕ → Bool
+planLimits A K k a =
+    both (within floorMin floorMax A)
+    (both (within countMin countMax K) (both (within countMin countMax k) (leb a askedMax)))
+
 -- the call's answer, for a lent row of n places
 unfoldable pub planAnswer : ℕ → ℕ → ℕ → ℕ → ℕ → ℕ
 planAnswer A K k a n =
     firstHit
-    (refuse outsideLimits
-    (not (both (within floorMin floorMax A)
-    (both (within countMin countMax K) (both (within countMin countMax k) (leb a askedMax)))))
+    (refuse outsideLimits (not (planLimits A K k a))
     ∷ refuse wrongCount (either (ltb K A) (not (within A K k)))
     ∷ refuse notAtSlot (not (isSlotStart K k a))
     ∷ refuse wrongRows (ltb n (cells K))

@@ -1,6 +1,6 @@
 -- `grid::added_channel` meets its contract. The invariant: the first of the channels passed that is added, as the search finds it.
 -- Rests on the laws of the lanes.
-use mathlib.Core.Path.{_≡_, refl, sym, ap, _∙_}
+use mathlib.Core.Path.{_≡_, sym, ap, _∙_}
 use mathlib.Core.Bool.{Bool, true, false, not}
 use mathlib.Core.Logic.{⊎-elim}
 use Prim.Native.Nat.{ℕ, suc, _+_, _-_, _≤_}

@@ -1,6 +1,6 @@
 -- `grid::channel_cell` meets its contract: its parts make up the cell, and the cell's own bound keeps every step small.
 -- Rests on the laws of the channels.
-use Prim.Native.Nat.{ℕ, _*_, _^_, _≤_}
+use Prim.Native.Nat.{_^_, _≤_}
 use native.Mathlib.Omega.{arith}
 use native.Mathlib.Nat.{div-le-self}
 use lib.Pow.{pow-mono}

@@ -1,0 +1,4 @@
+-- Laws of the plan call, each file on those above it.
+pub mod Refusals
+pub mod Parts
+pub mod Row

@@ -1,0 +1,2 @@
+-- What the plan call leaves in the lent row.
+pub mod Row

@@ -1,0 +1,111 @@
+// The box plan: at which tick after its start a box takes each cell. `plan` is a customer's call and has no `requires`.
+
+ghost use Prim.Native.Nat.{_^_, _≤_, _<_};
+ghost use mathlib.Core.Path.{_≡_};
+ghost use mathlib.Core.Bool.{true};
+ghost use lib.ListN.{length};
+ghost use Rattle.rules.specs.Limits.{askedMax};
+ghost use Rattle.grid.specs.Ticks.{isSlotStart};
+ghost use Rattle.grid.specs.Bounds.{Counted};
+ghost use Rattle.grid.specs.Plan.{planAt, planLimits, planAnswer};
+ghost use Rattle.plan.specs.Row.{written, Planned};
+use grid::is_slot_start;
+use grid::place;
+use grid::pow2;
+use grid::slot;
+use rules::ASKED_MAX;
+use rules::COUNT_MAX;
+use rules::COUNT_MIN;
+use rules::DONE;
+use rules::FLOOR_MAX;
+use rules::FLOOR_MIN;
+use rules::NOT_AT_SLOT;
+use rules::OUTSIDE_LIMITS;
+use rules::WRONG_COUNT;
+use rules::WRONG_ROWS;
+use rules::within;
+
+// The place of a cell that is never taken.
+pub const NEVER: u16 = 65_535;
+
+// Whether the four numbers are within their limits.
+fn in_limits(floor: u64, cap: u64, count: u64, arrival: u64) -> bool
+    ensures { λ r. ⌜ r ≡ planLimits floor cap count arrival ⌝ }
+{
+    if within(FLOOR_MIN, FLOOR_MAX, floor) {
+        if within(COUNT_MIN, COUNT_MAX, cap) {
+            if within(COUNT_MIN, COUNT_MAX, count) {
+                return arrival <= ASKED_MAX;
+            }
+        }
+    }
+    false
+}
+
+// The call's answer for a lent row of `places` places, by the order of refusals.
+fn answer(floor: u64, cap: u64, count: u64, arrival: u64, places: usize) -> u8
+    ensures { λ r. ⌜ r ≡ planAnswer floor cap count arrival places ⌝ }
+{
+    if in_limits(floor, cap, count, arrival) {
+        if cap < floor {
+            return WRONG_COUNT;
+        }
+        if within(floor, cap, count) {
+            if is_slot_start(cap, count, arrival) {
+                if (places as u64) < pow2(cap) {
+                    return WRONG_ROWS;
+                }
+                return DONE;
+            }
+            return NOT_AT_SLOT;
+        }
+        return WRONG_COUNT;
+    }
+    OUTSIDE_LIMITS
+}
+
+// What the plan gives for cell `cell`: the slots until the channel that carries it has its segment, and the ticks within.
+fn plan_at(floor: u64, cap: u64, count: u64, arrival: u64, cell: u64) -> u16
+    requires { ⌜ Counted floor cap count ⌝ }
+    requires { ⌜ isSlotStart cap count arrival ≡ true ⌝ }
+    requires { ⌜ (arrival ≤ askedMax) × (cell < 2 ^ cap) ⌝ }
+    ensures { λ r. ⌜ r ≡ planAt floor cap count arrival cell ⌝ }
+{
+    let width = slot(cap, count);
+    let before = cell / width;
+    if before + 1 < pow2(count) {
+        let channel = 63 - u64::leading_zeros(before + 1) as u64;
+        let size = pow2(channel);
+        let at = place(floor, count, channel, arrival / width);
+        let wait = (before + 1 + (size - at)) % size;
+        return (wait * width + cell % width) as u16;
+    }
+    NEVER
+}
+
+// Writes the plan into the first 2^cap places of the row.
+fn fill(floor: u64, cap: u64, count: u64, arrival: u64, row: &mut [u16])
+    requires { ⌜ Counted floor cap count ⌝ }
+    requires { ⌜ isSlotStart cap count arrival ≡ true ⌝ }
+    requires { ⌜ (arrival ≤ askedMax) × (2 ^ cap ≤ length (now row)) ⌝ }
+    ensures { λ _. ⌜ now (row .exit) ≡ written (planAt floor cap count arrival) (now (row .entry)) (2 ^ cap) ⌝ }
+{
+    let cells = pow2(cap);
+    let mut cell: u64 = 0;
+    while cell < cells {
+        row[cell as usize] = plan_at(floor, cap, count, arrival, cell);
+        cell += 1;
+    }
+}
+
+// Writes the plan of a box that starts at tick `arrival` under `count` into the first 2^cap places of the row, each cell's
+// tick minus the arrival, 65535 for the last slot's cells; later places stay. A refusal writes nothing.
+pub fn plan(floor: u64, cap: u64, count: u64, arrival: u64, row: &mut [u16]) -> u8
+    ensures { λ r. ⌜ Planned floor cap count arrival (now (row .entry)) r (now (row .exit)) ⌝ }
+{
+    let number = answer(floor, cap, count, arrival, row.len());
+    if number == DONE {
+        fill(floor, cap, count, arrival, row);
+    }
+    number
+}
