@@ -1,10 +1,9 @@
 -- Two agents of one pool that follow one log, each with notices lost, repeated, late or damaged on its way, are equal as
 -- soon as they have reached the same sequence. Rests on the order of what each heard.
 use mathlib.Core.Path.{_≡_, refl, sym, ap, _∙_}
-use mathlib.Core.Bool.{Bool, true, false}
-use mathlib.Core.Logic.{⊎-elim}
+use mathlib.Core.Bool.{true, false}
 use mathlib.Core.List.{List, [], _∷_, map}
-use Prim.Native.Nat.{ℕ, zero, suc}
+use Prim.Native.Nat.{ℕ, suc}
 use native.Mathlib.Omega.{arith}
 use lib.Dec.{eqb}
 use lib.ListN.{length}
@@ -16,9 +15,8 @@ use Rattle.notice.specs.declared.Reading.the-variants as reading
 use Rattle.notice.specs.Decode.{readOf}
 use Rattle.story.specs.Story.{answer}
 use Rattle.story.proofs.Runs.{lanesOf}
-use Rattle.agent.specs.declared.Agent.{Agent}
 use Rattle.agent.specs.Turns.{eventOf}
-use Rattle.agent.specs.Series.{agentAfter, hearing, heard, InTurn, start, next, Of, no-bytes, more-bytes, OneEach}
+use Rattle.agent.specs.Series.{agentAfter, hearing, heard, InTurn, next, Of, no-bytes, more-bytes, OneEach}
 use Rattle.agent.proofs.Order.{follows, same-heard}
 
 -- every notice of a list stands in the log

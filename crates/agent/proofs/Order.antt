@@ -5,21 +5,20 @@ use mathlib.Core.Path.{_≡_, refl, sym, ap, _∙_}
 use mathlib.Core.Bool.{Bool, true, false}
 use mathlib.Core.Logic.{⊎-elim}
 use mathlib.Core.List.{List, [], _∷_, map}
-use Prim.Native.Nat.{ℕ, zero, suc, _≤_}
-use native.Mathlib.Omega.{arith}
+use Prim.Native.Nat.{ℕ, suc}
 use lib.Dec.{eqb}
 use lib.ListN.{length}
-use borrow.Author.Tests.{eqb-true, eq-eqb, ne-eqb, eqb-false}
+use borrow.Author.Tests.{eqb-true}
 use Rattle.rules.specs.Limits.{both}
-use Rattle.rules.specs.Refusals.{pick, malformed, outOfTurn}
-use Rattle.rules.proofs.Tests.{decide, both-l, both-r}
+use Rattle.rules.specs.Refusals.{pick, outOfTurn}
+use Rattle.rules.proofs.Tests.{decide}
 use Rattle.notice.specs.declared.Notice.{Notice}
 use Rattle.notice.specs.declared.Reading.{Reading}
 use Rattle.notice.specs.declared.Reading.the-variants as reading
 use Rattle.notice.specs.Decode.{readOf}
 use Rattle.story.specs.declared.State.{State}
-use Rattle.story.specs.Story.{Event, answer, accepted, Accepted, none, more}
-use Rattle.story.specs.Runs.{answered, called, callNext, stateAfter}
+use Rattle.story.specs.Story.{Event, answer}
+use Rattle.story.specs.Runs.{answered, callNext}
 use Rattle.story.proofs.Runs.{Told, lanesOf, lanes-limit, fresh-tells, told-answer, told-more}
 use Rattle.agent.specs.declared.Agent.{Agent}
 use Rattle.agent.specs.Turns.{eventOf, freshAgent, noticeAnswer, noticeNext, noticed}

@@ -1,9 +1,9 @@
 -- A drop that overtakes the raise before it: the agent answers it with 12 and stays, then takes both once they come in
 -- turn, and is the agent that heard them in order. Computed from the definitions, over the notices' own bytes.
 use mathlib.Core.Path.{_≡_, refl}
-use mathlib.Core.List.{List, [], _∷_, _++_}
+use mathlib.Core.List.{List, [], _∷_}
 use Prim.Native.Nat.{ℕ}
-use Rattle.rules.specs.Refusals.{firstHit, outOfTurn}
+use Rattle.rules.specs.Refusals.{firstHit}
 use Rattle.rules.specs.Search.{some, first, howMany, after, total}
 use Rattle.grid.specs.Ticks.{tickOf, roundedUp, slot, isSlotStart, cellOf}
 use Rattle.grid.specs.Channels.{floorRem, shift, segment, channelCell}
@@ -12,15 +12,13 @@ use Rattle.grid.specs.Plan.{takenFrom, inPlan}
 use Rattle.story.specs.Life.{isAdmission, isActive, droppedAt, isAwaited, isOwed, reach, owedWithin, isNth, nthOwed, sends, onAir, isHeld}
 use Rattle.story.specs.Story.{tickIn, lifeOf, latestOf, heldIn, heldOver, answerTo}
 use Rattle.notice.specs.declared.Notice.{Notice}
-use Rattle.notice.specs.declared.Kind.the-variants.{Open, Change, Close}
+use Rattle.notice.specs.declared.Kind.the-variants.{Open, Change}
 use Rattle.notice.specs.declared.Reading.the-variants as reading
 use Rattle.notice.specs.Fields.{table, startOf, spanOf}
 use Rattle.notice.specs.Numbers.{bigEndian, numberAt}
 use Rattle.notice.specs.Encode.{bytesOf, bytesTo, rowBytes, fieldBytes}
 use Rattle.notice.specs.Decode.{readOf, noticeIn, kindIn, valueAt, standsTo, rowStands, headStands}
-use Rattle.agent.specs.declared.Agent.{Agent}
-use Rattle.agent.specs.Turns.{freshAgent, noticeAnswer}
-use Rattle.agent.specs.Series.{agentAfter, heard}
+use Rattle.agent.specs.Series.{heard}
 
 abbrev opened : Notice
 opened = record { sequence = 1; title = 0; time = 0; kind = Open 12 2 4 3 }

@@ -1,7 +1,6 @@
 -- Laws of one notice's turn, as the agent's code meets its cases.
 -- Rest on the definitions of the agent's answer and on nothing of the story.
 use mathlib.Core.Path.{_≡_, refl, sym, ap, _∙_}
-use mathlib.Core.Bool.{Bool, true, false}
 use Prim.Native.Nat.{ℕ, suc, _+_}
 use native.Mathlib.Numerals.{add-one}
 use lib.Dec.{eqb}

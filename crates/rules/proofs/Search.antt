@@ -1,14 +1,13 @@
 -- Laws of the bounded searches and counts: each crosses between a search and the fact it stands for.
 -- Order: some, every, first, howMany, after, total. Rest on the laws of tests.
-use mathlib.Core.Path.{_≡_, refl, sym, ap, ap₂, _∙_}
+use mathlib.Core.Path.{_≡_, refl, sym, _∙_}
 use mathlib.Core.Bool.{Bool, true, false, false≢true}
 use mathlib.Core.Logic.{_⊎_, inl, inr, ⊎-elim}
 use Prim.Native.Nat.{ℕ, zero, suc, _+_, _-_, _≤_, _<_}
 use native.Mathlib.Omega.{arith}
 use native.Mathlib.Nat.{le-antisymm}
 use lib.Dec.{ltb}
-use borrow.Author.Tests.{lt-ltb, le-ltb, ltb-true, ltb-false}
-use Rattle.rules.specs.Limits.{both, either}
+use borrow.Author.Tests.{ltb-true, ltb-false}
 use Rattle.rules.specs.Refusals.{pick}
 use Rattle.rules.specs.Search.{some, every, first, keepFirst, howMany, after, total}
 use Rattle.rules.proofs.Tests.{decide, both-l, both-r, both-in, either-l, either-r, either-out, fails, pick-true, pick-false}

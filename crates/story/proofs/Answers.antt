@@ -2,24 +2,24 @@
 -- tells the longer sequence. Rests on `Tells`, `turn-present` and the laws of listed refusals.
 use mathlib.Core.Path.{_≡_, refl, sym, ap, _∙_}
 use mathlib.Core.Bool.{Bool, true, false, not, false≢true}
-use mathlib.Core.Logic.{_⊎_, inl, inr, ⊎-elim}
-use mathlib.Core.List.{List, [], _∷_}
-use Prim.Native.Nat.{ℕ, zero, suc, _+_, _-_, _/_, _%_, _≤_, _<_, min, max}
+use mathlib.Core.Logic.{inl, inr, ⊎-elim}
+use mathlib.Core.List.{List, _∷_}
+use Prim.Native.Nat.{ℕ, _-_, _%_, _≤_, _<_, min, max}
 use native.Mathlib.Omega.{arith}
 use native.Mathlib.Nat.{le-antisymm}
 use lib.Dec.{ltb, leb, eqb, lit<}
-use borrow.Author.Tests.{ltb-true, ltb-false, lt-ltb, le-ltb, leb-true, leb-false, eqb-true, eqb-false, eq-eqb, ne-eqb, not-true, not-false}
-use Rattle.rules.specs.Limits.{both, either, within, idMax, eventTimeMax, lengthMin, lengthMax, floorMin, floorMax, countMin, countMax, titlesMax}
-use Rattle.rules.specs.Refusals.{pick, refuse, firstHit, outsideLimits, tooEarly, notThere, idTaken, isClosing, wrongCount, secondEvent, notAtSlot, noLanes}
-use Rattle.rules.proofs.Tests.{decide, both-l, both-r, both-in, either-false-l, either-false-r}
+use borrow.Author.Tests.{ltb-true, ltb-false, leb-true, eqb-true, eqb-false, not-false}
+use Rattle.rules.specs.Limits.{both, either, within, idMax, eventTimeMax, lengthMin, lengthMax, floorMin, floorMax, countMin, countMax}
+use Rattle.rules.specs.Refusals.{outsideLimits, tooEarly, notThere, idTaken, isClosing, wrongCount, secondEvent, notAtSlot, noLanes}
+use Rattle.rules.proofs.Tests.{decide, both-l, both-r, either-false-l, either-false-r}
 use Rattle.rules.proofs.Refusals.{hit-same, passed}
 use Rattle.grid.specs.Ticks.{tickOf, isSlotStart}
 use Rattle.story.specs.declared.Title.{Title}
 use Rattle.story.specs.declared.State.{State}
-use Rattle.story.specs.Kept.{titleAt, stateOk, tickAt, atTickStart, ruling, lanesHeld, isThere}
+use Rattle.story.specs.Kept.{titleAt, stateOk, tickAt, atTickStart, lanesHeld, isThere}
 use Rattle.story.specs.Next.{openedTitle, withTitle, openNext, changedTitle, changeNext, closedTitle, closeNext}
 use Rattle.story.specs.Calls.{eventOk, openOk, tooMany, openAnswer, atSlotStart, changeAnswer, closeAnswer}
-use Rattle.story.specs.Story.{Act, opens, changes, closes, Event, Life, lifeAfter, lifeOf, latestOf, lastTime, tickIn, countIn, heldOver, isThereIn, isSlotIn, withinLimits, overfull, answerTo, turn}
+use Rattle.story.specs.Story.{Act, opens, changes, closes, Event, Life, lifeAfter, lifeOf, latestOf, lastTime, tickIn, countIn, isSlotIn, overfull, answerTo, turn}
 use Rattle.story.specs.Runs.{callAnswer, callNext}
 use Rattle.story.proofs.Kept.{lifeIn, Present}
 use Rattle.story.proofs.Turn.{Turning, turnedTitle, turned-laid, turn-present, open-ruling}

@@ -1,8 +1,8 @@
 -- Laws of the clock: ticks begun by a moment, and the moments at which ticks begin.
 -- Rest on division with remainder and on the rounding up of the tick.
-use mathlib.Core.Path.{_≡_, refl, sym, ap, _∙_}
+use mathlib.Core.Path.{_≡_}
 use mathlib.Core.Logic.{⊎-elim}
-use Prim.Native.Nat.{ℕ, zero, suc, _+_, _-_, _*_, _/_, _%_, _^_, _≤_, _<_}
+use Prim.Native.Nat.{ℕ, _+_, _-_, _*_, _/_, _%_, _^_, _≤_, _<_}
 use native.Mathlib.Omega.{arith}
 use native.Mathlib.Nat.{div-add-mod', div-mul-le-self, le-div-iff-mul-le, mul-div-cancel, mul-le-mul-right}
 use Rattle.grid.specs.Ticks.{tickOf}

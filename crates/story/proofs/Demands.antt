@@ -1,25 +1,24 @@
 -- Demand 3 and what the state says of it: the page to read first. `cs` is any sequence of calls on a fresh pool, newest
 -- first; `es` are the accepted ones among them, decided from the sequence alone; `s` is the state that the calls leave.
 -- Each theorem cites its proof: Runs, Questions, World, Pool and Held, each over every pool, sequence, id and moment.
-use mathlib.Core.Path.{_≡_, refl, sym, ap, _∙_}
-use mathlib.Core.Bool.{Bool, true, false}
-use mathlib.Core.Logic.{_⊎_, inl, inr, ⊎-elim}
+use mathlib.Core.Path.{_≡_, refl, _∙_}
+use mathlib.Core.Bool.{true, false}
+use mathlib.Core.Logic.{⊎-elim}
 use mathlib.Core.List.{List, [], _∷_, _++_}
 use Prim.Native.Nat.{ℕ, suc, _+_, _≤_, _<_}
 use native.Mathlib.Omega.{arith}
-use lib.Dec.{ltb, leb, eqb, lit<}
-use borrow.Author.Tests.{ltb-true, ltb-false, leb-true, leb-false, eqb-true}
-use Rattle.rules.specs.Limits.{titlesMax, poolMax}
-use Rattle.rules.specs.Refusals.{pick, refuse, firstHit, Rule, outsideLimits, tooEarly, notThere, idTaken, isClosing, wrongCount, secondEvent, notAtSlot, noLanes}
+use lib.Dec.{leb, eqb, lit<}
+use borrow.Author.Tests.{ltb-true, leb-true, eqb-true}
+use Rattle.rules.specs.Limits.{titlesMax}
+use Rattle.rules.specs.Refusals.{pick, outsideLimits, tooEarly, notThere, idTaken, isClosing, wrongCount, secondEvent, notAtSlot, noLanes}
 use Rattle.rules.specs.Search.{howMany}
 use Rattle.rules.proofs.Tests.{decide}
 use Rattle.rules.proofs.Refusals.{past, last-hit}
 use Rattle.grid.specs.Ticks.{holdsFilm}
-use Rattle.story.specs.declared.State.{State}
 use Rattle.story.specs.Life.{isActive, isHeld, owes, cell}
 use Rattle.story.specs.Kept.{stateOk, lanesHeld}
 use Rattle.story.specs.Calls.{laneAnswer, laneShows, statusAnswer, statusCount, statusHeld}
-use Rattle.story.specs.Story.{Act, opens, changes, closes, Event, Life, lifeOf, latestOf, lastTime, upTo, countIn, airIn, heldIn, heldOver, overfull, answerTo, answer, taking, accepted, Accepted, none, more, laneAnswerTo, statusAnswerTo, lifeAt, airAt, Found, Begins}
+use Rattle.story.specs.Story.{opens, changes, Event, Life, lifeOf, lastTime, upTo, countIn, airIn, heldIn, heldOver, answerTo, answer, taking, accepted, Accepted, none, more, laneAnswerTo, statusAnswerTo, lifeAt, Found, Begins}
 use Rattle.story.specs.Runs.{answered, stateAfter}
 use Rattle.story.proofs.Held.{held-exactly, held-throughout}
 use Rattle.story.proofs.Tells.{lanes-told}

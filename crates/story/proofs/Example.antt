@@ -1,16 +1,15 @@
 -- A sequence that meets the theorems' hypotheses, computed from the definitions: a film opens, gains a lane, loses it,
 -- closes, and its id opens again with other numbers; one call of it is refused. Its boxes and lanes at chosen moments.
 use mathlib.Core.Path.{_≡_, refl}
-use mathlib.Core.Bool.{Bool, true, false}
 use mathlib.Core.List.{List, [], _∷_}
-use Prim.Native.Nat.{ℕ, suc, _+_, _≤_, _<_}
+use Prim.Native.Nat.{ℕ}
 use Rattle.rules.specs.Refusals.{firstHit}
 use Rattle.rules.specs.Search.{some, first, howMany, after, total}
 use Rattle.grid.specs.Ticks.{tickOf, roundedUp, slot, isSlotStart, cellOf}
 use Rattle.grid.specs.Channels.{floorRem, shift, segment, channelCell}
 use Rattle.grid.specs.Lanes.{isInG, isAdded, addedChannel, laneCell}
 use Rattle.grid.specs.Plan.{takenFrom, inPlan}
-use Rattle.story.specs.Life.{isAdmission, isActive, droppedAt, isAwaited, isOwed, reach, owedWithin, owes, isNth, nthOwed, Air, nothing, cell, sends, onAir, isHeld}
+use Rattle.story.specs.Life.{isAdmission, isActive, droppedAt, isAwaited, isOwed, reach, owedWithin, isNth, nthOwed, Air, nothing, cell, sends, onAir, isHeld}
 use Rattle.story.specs.Story.{opens, changes, closes, Event, tickIn, lifeOf, latestOf, upTo, heldIn, heldOver, answerTo, accepted, airAt, Begins}
 use Rattle.story.proofs.Passed.{event}
 

@@ -9,12 +9,12 @@ use native.Mathlib.Nat.{le-antisymm}
 use lib.Dec.{ltb}
 use borrow.Author.Tests.{ltb-true, ltb-false, lt-ltb, le-ltb}
 use Rattle.rules.specs.Limits.{both}
-use Rattle.rules.specs.Search.{some, first, howMany, after}
+use Rattle.rules.specs.Search.{howMany, after}
 use Rattle.rules.proofs.Tests.{decide, same}
 use Rattle.rules.proofs.Search
 use Rattle.grid.specs.Plan.{inPlan}
 use Rattle.grid.specs.Lanes.{laneCell}
-use Rattle.story.specs.Life.{isAdmission, isActive, droppedAt, isAwaited, isOwed, reach, owedWithin, owes, isNth, nthOwed, Air, cell, sends, onAir, isCell, isHeld}
+use Rattle.story.specs.Life.{isAdmission, isActive, droppedAt, isAwaited, isOwed, reach, owedWithin, owes, isNth, nthOwed, sends, onAir, isCell, isHeld}
 use Rattle.story.proofs.Owed.{after-between, sends-while, sends-until, air-sends, air-active}
 
 -- the numbers below k, all below m

@@ -1,24 +1,22 @@
 -- What is read off a stored title is what its life says: at every tick from its latest event on, which lanes are held and
 -- what each shows. Rests on `kept-owed`, and on what the events keep true of a title (`Present`).
-use mathlib.Core.Path.{_≡_, refl, sym, ap, _∙_}
-use mathlib.Core.Bool.{Bool, true, false, false≢true}
-use mathlib.Core.Logic.{_⊎_, inl, inr, ⊎-elim}
-use mathlib.Core.List.{List}
-use Prim.Native.Nat.{ℕ, zero, suc, _+_, _-_, _*_, _/_, _%_, _^_, _≤_, _<_}
+use mathlib.Core.Path.{_≡_, refl, sym, _∙_}
+use mathlib.Core.Bool.{true, false, false≢true}
+use mathlib.Core.Logic.{_⊎_, ⊎-elim}
+use Prim.Native.Nat.{ℕ, _+_, _-_, _%_, _≤_, _<_}
 use native.Mathlib.Omega.{arith}
-use native.Mathlib.Nat.{le-antisymm}
-use lib.Dec.{ltb, leb, eqb}
+use lib.Dec.{ltb, eqb}
 use lib.ListN.{getD, length}
-use borrow.Author.Tests.{ltb-true, ltb-false, lt-ltb, le-ltb, eqb-false, ne-eqb}
-use Rattle.rules.specs.Limits.{both, either, askedMax, eventTimeMax, lengthMin, lengthMax, floorMin, floorMax, countMax}
+use borrow.Author.Tests.{ltb-true, ltb-false, lt-ltb, le-ltb, ne-eqb}
+use Rattle.rules.specs.Limits.{either, askedMax, eventTimeMax, lengthMin, lengthMax, floorMin, floorMax, countMax}
 use Rattle.rules.specs.Refusals.{pick}
-use Rattle.rules.specs.Search.{first, howMany, after}
-use Rattle.rules.proofs.Tests.{decide, same, pick-true, pick-false}
+use Rattle.rules.specs.Search.{first}
+use Rattle.rules.proofs.Tests.{decide, same}
 use Rattle.rules.proofs.Search
 use Rattle.grid.specs.Ticks.{tickOf}
 use Rattle.grid.specs.Lanes.{laneCell}
 use Rattle.story.specs.declared.Title.{Title}
-use Rattle.story.specs.Life.{isActive, droppedAt, isOwed, reach, owedWithin, owes, isNth, nthOwed, Air, cell, sends, onAir, isHeld, isCell, Ruled, Legal, isRuling, lastEnd}
+use Rattle.story.specs.Life.{isActive, droppedAt, isOwed, reach, owedWithin, owes, isNth, nthOwed, cell, sends, onAir, isHeld, Ruled, Legal, isRuling, lastEnd}
 use Rattle.story.specs.Kept.{tickAt, ruling, keptOwed, keptWithin, keptHeld, titleHeld, keptNth, sendingTick, shows}
 use Rattle.story.specs.Story.{Life, tickIn, heldIn}
 use Rattle.story.proofs.Clock.{tick-pos, tick-mono}

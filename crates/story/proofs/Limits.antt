@@ -1,23 +1,22 @@
 -- No reached state gets 1 for itself: what the events keep true of a title keeps its numbers within their limits.
 -- Rests on `Present` and `Tells`.
-use mathlib.Core.Path.{_≡_, refl, sym, ap, _∙_}
-use mathlib.Core.Bool.{Bool, true, false}
-use mathlib.Core.Logic.{_⊎_, inl, inr, ⊎-elim}
+use mathlib.Core.Path.{_≡_, refl, ap}
+use mathlib.Core.Bool.{true}
+use mathlib.Core.Logic.{_⊎_, ⊎-elim}
 use mathlib.Core.List.{List, []}
 use Prim.Native.Nat.{ℕ, _≤_, _<_}
 use native.Mathlib.Omega.{arith}
 use lib.Dec.{leb, eqb}
 use lib.ListN.{getD}
 use borrow.Author.Tests.{le-leb}
-use Rattle.rules.specs.Limits.{both, either, within, poolMin, poolMax, askedMax, lengthMin, lengthMax, floorMin, floorMax, countMax, titlesMax}
+use Rattle.rules.specs.Limits.{both, either, poolMin, poolMax, askedMax, lengthMin, lengthMax, floorMin, floorMax, countMax, titlesMax}
 use Rattle.rules.specs.Search.{every}
 use Rattle.rules.proofs.Tests.{both-in, either-l, either-r}
 use Rattle.rules.proofs.Search
 use Rattle.story.specs.declared.Title.{Title}
 use Rattle.story.specs.declared.State.{State}
 use Rattle.story.specs.Kept.{titleAt, rowOk, numbersOk, orderOk, titleOk, stateOk}
-use Rattle.story.specs.Calls.{blankTitle}
-use Rattle.story.specs.Story.{Life, Event, lifeOf, latestOf, lastTime}
+use Rattle.story.specs.Story.{Life, Event, lifeOf, latestOf}
 use Rattle.story.proofs.Kept.{Present}
 use Rattle.story.proofs.Tells.{TellsTitle, absent, present, Tells}
 

@@ -1,21 +1,20 @@
 -- What every accepted sequence keeps true of a life, in the sequence's own terms. The stored state serves as the witness:
 -- it tells the sequence, and what it keeps of a title are facts about the title's rule.
-use mathlib.Core.Path.{_≡_, refl, sym, ap, _∙_, subst}
+use mathlib.Core.Path.{_≡_, refl, sym, _∙_}
 use mathlib.Core.Logic.{_⊎_, inl, inr}
-use mathlib.Core.List.{List, [], _∷_}
-use Prim.Native.Nat.{ℕ, _+_, _-_, _*_, _/_, _≤_, _<_}
+use mathlib.Core.List.{List}
+use Prim.Native.Nat.{ℕ, _≤_, _<_}
 use native.Mathlib.Omega.{arith}
-use Rattle.rules.specs.Limits.{poolMax, titlesMax, idMax}
-use Rattle.grid.specs.Ticks.{tickOf}
+use Rattle.rules.specs.Limits.{poolMax, titlesMax}
 use Rattle.story.specs.declared.Title.{Title}
 use Rattle.story.specs.declared.State.{State}
 use Rattle.story.specs.Life.{Ruled}
-use Rattle.story.specs.Kept.{titleAt, tickAt, ruling}
+use Rattle.story.specs.Kept.{titleAt, tickAt}
 use Rattle.story.specs.Calls.{emptyPool}
 use Rattle.story.specs.Runs.{callNext}
 use Rattle.story.specs.Story.{Event, Life, unopened, tickLength, tickIn, lifeOf, latestOf, lastTime, Accepted, none, more}
-use Rattle.story.proofs.Kept.{lifeIn, Present, tick-some, later}
-use Rattle.story.proofs.Tells.{TellsTitle, absent, present, Tells}
+use Rattle.story.proofs.Kept.{lifeIn, Present, tick-some}
+use Rattle.story.proofs.Tells.{TellsTitle, absent, present}
 use Rattle.story.proofs.Runs.{Told, told-more, fresh-tells}
 
 -- a life whose latest event was at m: its rule keeps to floor and cap and is steady from then on

@@ -1,18 +1,18 @@
 -- What an accepted event has passed, as facts about the sequence before it. Rests on the laws of listed refusals.
 use mathlib.Core.Path.{_≡_}
 use mathlib.Core.Bool.{Bool, true, false, not}
-use mathlib.Core.List.{List, [], _∷_}
+use mathlib.Core.List.{List, _∷_}
 use Prim.Native.Nat.{ℕ, _-_, _%_, _≤_, _<_, min}
 use native.Mathlib.Omega.{arith}
 use lib.Dec.{ltb, leb, eqb, lit<}
 use borrow.Author.Tests.{ltb-false, leb-true, eqb-true, eqb-false, not-false}
-use Rattle.rules.specs.Limits.{both, either, within, idMax, eventTimeMax, lengthMin, lengthMax, floorMin, floorMax, countMin, countMax}
+use Rattle.rules.specs.Limits.{both, within, idMax, eventTimeMax, lengthMin, lengthMax, floorMin, floorMax, countMin, countMax}
 use Rattle.rules.specs.Refusals.{outsideLimits, tooEarly, notThere, idTaken, isClosing, wrongCount, secondEvent, notAtSlot, noLanes}
-use Rattle.rules.proofs.Tests.{both-l, both-r, either-false-l, either-false-r}
+use Rattle.rules.proofs.Tests.{both-l, both-r, either-false-r}
 use Rattle.rules.proofs.Refusals.{passed}
 use Rattle.grid.proofs.Numbers.{ne-zero-pos}
 use Rattle.grid.specs.Ticks.{isSlotStart}
-use Rattle.story.specs.Story.{Act, opens, changes, closes, Event, Life, tickLength, tickIn, lifeOf, latestOf, lastTime, countIn, heldOver, isThereIn, isSlotIn, withinLimits, openLimits, overfull, answerTo}
+use Rattle.story.specs.Story.{Act, opens, changes, closes, Event, Life, tickLength, tickIn, lifeOf, latestOf, lastTime, countIn, heldOver, isThereIn, isSlotIn, withinLimits, openLimits, answerTo}
 
 abbrev pub event : ℕ → ℕ → Act → Event
 event i τ a = record { time = τ; title = i; act = a }

@@ -2,10 +2,10 @@
 -- the pool. An opening or a change is accepted only so; a close holds no lane more; between events lanes are only released.
 -- Rests on the laws of held lanes and on what accepted sequences keep true of a life.
 use mathlib.Core.Path.{_≡_, refl, sym, ap, _∙_}
-use mathlib.Core.Bool.{Bool, true, false}
-use mathlib.Core.Logic.{_⊎_, inl, inr, ⊎-elim}
+use mathlib.Core.Bool.{true, false}
+use mathlib.Core.Logic.{⊎-elim}
 use mathlib.Core.List.{List, [], _∷_}
-use Prim.Native.Nat.{ℕ, zero, suc, _+_, _-_, _≤_, _<_}
+use Prim.Native.Nat.{ℕ, _≤_, _<_}
 use native.Mathlib.Omega.{arith}
 use lib.Dec.{ltb, leb, eqb}
 use borrow.Author.Tests.{le-ltb, leb-true, le-leb}
@@ -14,7 +14,7 @@ use Rattle.rules.specs.Refusals.{pick}
 use Rattle.rules.specs.Search.{howMany, total}
 use Rattle.rules.proofs.Tests.{decide}
 use Rattle.rules.proofs.Search
-use Rattle.story.specs.Life.{isActive, droppedAt, owes, isHeld}
+use Rattle.story.specs.Life.{isActive, droppedAt, isHeld}
 use Rattle.story.specs.Story.{Act, opens, changes, closes, Event, Life, unopened, tickLength, tickIn, turn, lifeAfter, lifeOf, latestOf, lastTime, upTo, isHeldIn, heldIn, heldOver, answerTo, Accepted, none, more}
 use Rattle.story.proofs.Clock.{tick-mono}
 use Rattle.story.proofs.Held.{dropped-le, held-active, held-sending, held-falls, owes-local, dropped-local}

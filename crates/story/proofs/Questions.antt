@@ -2,28 +2,27 @@
 -- Rests on `Told` and on what is read off a title.
 use mathlib.Core.Path.{_≡_, refl, sym, ap, _∙_}
 use mathlib.Core.Bool.{Bool, true, false, not, false≢true}
-use mathlib.Core.Logic.{_⊎_, inl, inr, ⊎-elim}
-use mathlib.Core.List.{List, [], _∷_}
-use Prim.Native.Nat.{ℕ, zero, suc, _+_, _-_, _≤_, _<_}
+use mathlib.Core.Logic.{⊎-elim}
+use mathlib.Core.List.{List}
+use Prim.Native.Nat.{ℕ, _-_, _≤_, _<_}
 use native.Mathlib.Omega.{arith}
-use lib.Dec.{ltb, leb, eqb, lit<}
-use lib.ListN.{getD, length}
-use borrow.Author.Tests.{ltb-true, ltb-false, lt-ltb, le-ltb, leb-true, eq-eqb, not-false}
+use lib.Dec.{ltb, leb, lit<}
+use borrow.Author.Tests.{ltb-true, ltb-false, le-ltb, leb-true, eq-eqb, not-false}
 use Rattle.rules.specs.Limits.{both, poolMax, idMax, laneMax, askedMax, titlesMax}
-use Rattle.rules.specs.Refusals.{pick, refuse, firstHit, outsideLimits, tooEarly, notThere, wrongRows}
-use Rattle.rules.specs.Search.{every, after}
+use Rattle.rules.specs.Refusals.{outsideLimits, tooEarly, notThere, wrongRows}
+use Rattle.rules.specs.Search.{after}
 use Rattle.rules.proofs.Tests.{decide, both-l, both-r}
 use Rattle.rules.proofs.Search
 use Rattle.rules.proofs.Refusals.{hit-same, passed}
 use Rattle.story.specs.declared.Title.{Title}
 use Rattle.story.specs.declared.State.{State}
-use Rattle.story.specs.Life.{isActive, droppedAt, reach, owes, cell, onAir, isHeld}
-use Rattle.story.specs.Kept.{titleAt, stateOk, tickAt, ruling, keptHeld, titleHeld, shows}
-use Rattle.story.specs.Calls.{blankTitle, laneHeld, laneAnswer, laneShows, statusAnswer, statusCount, statusHeld}
+use Rattle.story.specs.Life.{isActive, droppedAt, reach, owes, cell, isHeld}
+use Rattle.story.specs.Kept.{titleAt, stateOk, tickAt, shows}
+use Rattle.story.specs.Calls.{laneHeld, laneAnswer, laneShows, statusAnswer, statusCount, statusHeld}
 use Rattle.story.specs.Story.{Event, Life, unopened, lifeOf, latestOf, lastTime, tickIn, countIn, airIn, isHeldIn, heldIn, laneAnswerTo, statusAnswerTo}
 use Rattle.story.proofs.Held.{held-sending}
-use Rattle.story.proofs.Kept.{lifeIn, Present, later, held-kept, shows-kept, mode-some}
-use Rattle.story.proofs.Tells.{TellsTitle, absent, present, Tells, owes-none, count-told, held-told}
+use Rattle.story.proofs.Kept.{later, held-kept, shows-kept, mode-some}
+use Rattle.story.proofs.Tells.{TellsTitle, absent, present, owes-none, count-told, held-told}
 use Rattle.story.proofs.Runs.{Told, sound-state}
 
 -- a lane that no count has is never held

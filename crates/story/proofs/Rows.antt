@@ -9,10 +9,10 @@ use native.Mathlib.Omega.{arith}
 use lib.Dec.{ltb, leb, eqb}
 use lib.ListN.{getD, set, length, length-set}
 use lib.Seq.{getD-set-same, getD-set-other}
-use borrow.Author.Tests.{lt-ltb, le-ltb, ltb-true, ltb-false, eqb-true, eqb-false}
+use borrow.Author.Tests.{eqb-true, eqb-false}
 use Rattle.rules.specs.Limits.{both}
 use Rattle.rules.specs.Refusals.{pick}
-use Rattle.rules.proofs.Tests.{decide, same}
+use Rattle.rules.proofs.Tests.{decide}
 use Rattle.story.specs.declared.Title.{Title}
 use Rattle.story.specs.Life.{reach}
 use Rattle.story.specs.Kept.{keptWithin, keptOwed, wants, wantsFrom}

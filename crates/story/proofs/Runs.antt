@@ -1,28 +1,27 @@
 -- The state tells the story of any run: after every sequence of calls on a fresh pool, whatever each was answered, the
 -- state keeps what the accepted ones among them say. Rests on `answer-told` and `next-told`, once for each call.
 use mathlib.Core.Path.{_≡_, refl, sym, ap, _∙_}
-use mathlib.Core.Bool.{Bool, true, false, not, false≢true}
-use mathlib.Core.Logic.{_⊎_, inl, inr, ⊎-elim}
+use mathlib.Core.Bool.{true, false, false≢true}
+use mathlib.Core.Logic.{inl, inr, ⊎-elim}
 use mathlib.Core.List.{List, [], _∷_}
-use Prim.Native.Nat.{ℕ, zero, suc, _+_, _≤_, _<_}
+use Prim.Native.Nat.{ℕ, _≤_, _<_}
 use native.Mathlib.Omega.{arith}
-use lib.Dec.{ltb, leb, eqb, lit<}
+use lib.Dec.{leb, eqb}
 use lib.ListN.{getD-replicate}
-use borrow.Author.Tests.{ltb-false, lt-ltb, leb-true, eqb-true, eq-eqb, not-false}
-use Rattle.rules.specs.Limits.{both, either, within, poolMin, poolMax, countMin, countMax, titlesMax}
-use Rattle.rules.specs.Refusals.{pick, refuse, firstHit, outsideLimits, tooEarly, notThere, idTaken, wrongCount, noLanes}
-use Rattle.rules.specs.Search.{howMany, total}
-use Rattle.rules.proofs.Tests.{decide, both-l, both-r}
+use borrow.Author.Tests.{lt-ltb, leb-true, eqb-true, eq-eqb}
+use Rattle.rules.specs.Limits.{within, poolMin, poolMax, titlesMax}
+use Rattle.rules.specs.Refusals.{pick}
+use Rattle.rules.specs.Search.{howMany}
+use Rattle.rules.proofs.Tests.{decide, both-r}
 use Rattle.rules.proofs.Search
-use Rattle.rules.proofs.Refusals.{passed}
 use Rattle.story.specs.declared.State.{State}
 use Rattle.story.specs.Life.{isActive}
 use Rattle.story.specs.Kept.{noTitle, stateOk}
-use Rattle.story.specs.Calls.{blankTitle, emptyPool, freshNext}
-use Rattle.story.specs.Story.{Act, opens, changes, closes, Event, Life, unopened, lifeOf, latestOf, lastTime, isHeldIn, heldIn, heldOver, isThereIn, overfull, answerTo, answer, taking, accepted, Accepted, none, more, withinLimits, openLimits}
-use Rattle.story.specs.Runs.{callAnswer, callNext, answered, called, stateAfter}
+use Rattle.story.specs.Calls.{blankTitle, emptyPool}
+use Rattle.story.specs.Story.{Act, opens, changes, closes, Event, Life, unopened, lifeOf, latestOf, isHeldIn, heldIn, heldOver, isThereIn, answerTo, answer, taking, accepted}
+use Rattle.story.specs.Runs.{callNext, answered, called, stateAfter}
 use Rattle.story.proofs.Held.{held-active}
-use Rattle.story.proofs.Tells.{TellsTitle, absent, Tells}
+use Rattle.story.proofs.Tells.{absent, Tells}
 use Rattle.story.proofs.Limits.{Funded, state-ok}
 use Rattle.story.proofs.Answers.{answer-told, next-told}
 use Rattle.story.proofs.Passed.{event, opening, changing, closing}

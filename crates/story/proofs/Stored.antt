@@ -1,17 +1,17 @@
 -- Owed ticks need no history: of each count the end of its latest admission's slot decides. Shown for any rule that
 -- changes only at permitted slot starts: what the stored ends say of a lane's ticks is what 01 says over all admissions.
 -- Rests on the grid's laws and on the laws of owed ticks.
-use mathlib.Core.Path.{_≡_, refl, sym, ap, _∙_}
-use mathlib.Core.Bool.{Bool, true, false, false≢true}
+use mathlib.Core.Path.{_≡_, refl, sym, _∙_}
+use mathlib.Core.Bool.{Bool, true}
 use mathlib.Core.Logic.{⊎-elim}
 use Prim.Native.Nat.{ℕ, zero, suc, _+_, _-_, _*_, _/_, _%_, _^_, _≤_, _<_, min, max}
 use native.Mathlib.Omega.{arith}
-use native.Mathlib.Nat.{le-antisymm, div-add-mod', mul-le-mul-right}
+use native.Mathlib.Nat.{div-add-mod', mul-le-mul-right}
 use lib.Dec.{ltb, leb, eqb}
 use lib.ListN.{getD}
-use borrow.Author.Tests.{ltb-true, ltb-false, lt-ltb, leb-true, le-leb, eqb-true, eqb-false, eq-eqb, ne-eqb}
+use borrow.Author.Tests.{ltb-true, ltb-false, lt-ltb, leb-true, le-leb, eqb-true, eqb-false, eq-eqb}
 use Rattle.rules.specs.Limits.{both}
-use Rattle.rules.specs.Search.{some, after}
+use Rattle.rules.specs.Search.{some}
 use Rattle.rules.proofs.Tests.{decide, both-l, both-r, both-in, same}
 use Rattle.rules.proofs.Search
 use Rattle.grid.specs.Ticks.{slot, isSlotStart}
@@ -21,7 +21,7 @@ use Rattle.grid.specs.Plan.{inPlan}
 use Rattle.grid.proofs.Numbers.{mod-unique, divides-lower}
 use Rattle.grid.proofs.Ticks.{slot-pos}
 use Rattle.grid.proofs.Lanes.{lane-not-in}
-use Rattle.grid.proofs.Plan.{Taken, taken-in, taken-out}
+use Rattle.grid.proofs.Plan.{taken-in, taken-out}
 use Rattle.story.specs.declared.Title.{Title}
 use Rattle.story.specs.Life.{isAdmission, isOwed, isRuling, lastEnd, Ruled, Legal}
 use Rattle.story.specs.Kept.{wantsFrom, wants, keptOwed}

@@ -1,30 +1,30 @@
 -- The state tells the story: what each slot keeps is what the sequence of accepted events says of its id, and what is
 -- read off the state at any moment from the last event on is what the sequence says then. Rests on `Present`.
 use mathlib.Core.Path.{_≡_, refl, sym, ap, _∙_}
-use mathlib.Core.Bool.{Bool, true, false, false≢true}
-use mathlib.Core.Logic.{_⊎_, inl, inr, ⊎-elim}
-use mathlib.Core.List.{List, [], _∷_}
-use Prim.Native.Nat.{ℕ, zero, suc, _+_, _-_, _*_, _/_, _%_, _≤_, _<_}
+use mathlib.Core.Bool.{true, false, false≢true}
+use mathlib.Core.Logic.{inl, ⊎-elim}
+use mathlib.Core.List.{List, _∷_}
+use Prim.Native.Nat.{ℕ, zero, suc, _-_, _/_, _≤_, _<_}
 use native.Mathlib.Omega.{arith}
 use native.Mathlib.Nat.{sub-self, zero-mod, zero-div}
-use lib.Dec.{ltb, leb, eqb}
-use lib.ListN.{getD, set, length, replicate, length-set, length-replicate}
+use lib.Dec.{ltb, eqb}
+use lib.ListN.{getD, set, length, replicate, length-set}
 use lib.Seq.{getD-set-same, getD-set-other}
-use borrow.Author.Tests.{ltb-true, ltb-false, lt-ltb, le-ltb, leb-true, le-leb, eqb-true, eqb-false, eq-eqb, ne-eqb}
-use Rattle.rules.specs.Limits.{both, either, within, askedMax, eventTimeMax, lengthMin, lengthMax, floorMin, floorMax, countMax, titlesMax}
+use borrow.Author.Tests.{lt-ltb, eqb-true, eqb-false, ne-eqb}
+use Rattle.rules.specs.Limits.{either, eventTimeMax, lengthMin, lengthMax, floorMin, floorMax, countMax, titlesMax}
 use Rattle.rules.specs.Refusals.{pick}
-use Rattle.rules.specs.Search.{some, howMany, after, total}
-use Rattle.rules.proofs.Tests.{decide, both-l, both-r, either-l}
+use Rattle.rules.specs.Search.{some, howMany, after}
+use Rattle.rules.proofs.Tests.{decide}
 use Rattle.rules.proofs.Search
 use Rattle.grid.specs.Ticks.{tickOf}
 use Rattle.story.specs.declared.Title.{Title}
 use Rattle.story.specs.declared.State.{State}
-use Rattle.story.specs.Life.{droppedAt, isOwed, isAwaited, reach, owedWithin, owes, Ruled, Legal, lastEnd}
+use Rattle.story.specs.Life.{droppedAt, isOwed, isAwaited, reach, owedWithin, owes, lastEnd}
 use Rattle.story.specs.Kept.{titleAt, tickAt, ruling, titleHeld, lanesHeld, isThere}
 use Rattle.story.specs.Next.{openedTitle, withTitle}
 use Rattle.story.specs.Calls.{blankTitle}
 use Rattle.story.specs.Story.{Life, Event, unopened, lifeAfter, lifeOf, latestOf, lastTime, tickIn, countIn, heldIn, heldOver, isThereIn}
-use Rattle.story.proofs.Kept.{lifeIn, Sized, Present, title-held-kept, later}
+use Rattle.story.proofs.Kept.{lifeIn, Present, title-held-kept, later}
 use Rattle.story.proofs.Turn.{open-ruling}
 
 -- a row of zeros holds 0 everywhere

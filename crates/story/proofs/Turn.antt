@@ -1,20 +1,20 @@
 -- A change or a close keeps the stored numbers true: after it they tell the turned rule. A close is a turn to no lanes,
 -- so one law serves both. Rests on `kept-owed` and on the laws of rows, clock and drops.
 use mathlib.Core.Path.{_≡_, refl, sym, ap, _∙_}
-use mathlib.Core.Bool.{Bool, true, false, false≢true}
+use mathlib.Core.Bool.{Bool, true, false}
 use mathlib.Core.Logic.{_⊎_, inl, inr, ⊎-elim}
 use mathlib.Core.List.{List}
-use Prim.Native.Nat.{ℕ, zero, suc, _+_, _-_, _*_, _/_, _%_, _^_, _≤_, _<_, min, max}
+use Prim.Native.Nat.{ℕ, suc, _+_, _-_, _%_, _^_, _≤_, _<_, min, max}
 use native.Mathlib.Omega.{arith}
 use native.Mathlib.Nat.{le-antisymm, div-le-self}
 use lib.Dec.{ltb, leb, eqb}
 use lib.ListN.{getD, set, length, length-set}
 use lib.Seq.{getD-set-same, getD-set-other}
 use lib.Pow.{pow-mono}
-use borrow.Author.Tests.{ltb-true, ltb-false, lt-ltb, le-ltb, leb-true, leb-false, le-leb, lt-leb, eqb-true, eqb-false, eq-eqb, ne-eqb}
-use Rattle.rules.specs.Limits.{both, askedMax, eventTimeMax}
+use borrow.Author.Tests.{ltb-true, ltb-false, lt-ltb, le-ltb, le-leb, lt-leb, eqb-true, eqb-false, eq-eqb, ne-eqb}
+use Rattle.rules.specs.Limits.{askedMax, eventTimeMax}
 use Rattle.rules.specs.Refusals.{pick}
-use Rattle.rules.specs.Search.{howMany, after}
+use Rattle.rules.specs.Search.{after}
 use Rattle.rules.proofs.Tests.{decide, both-in}
 use Rattle.rules.proofs.Search
 use Rattle.grid.specs.Ticks.{tickOf, isSlotStart}
@@ -24,7 +24,7 @@ use Rattle.story.specs.Kept.{tickAt, ruling, keptOwed, keptWithin}
 use Rattle.story.specs.Next.{ended, dropLanes, turned}
 use Rattle.story.specs.Story.{turn}
 use Rattle.story.proofs.Clock.{later-tick}
-use Rattle.story.proofs.Held.{dropped-le, dropped-local, owes-local}
+use Rattle.story.proofs.Held.{dropped-le, owes-local}
 use Rattle.story.proofs.Stored.{kept-owed, EndsAt}
 use Rattle.story.proofs.Kept.{Sized, Present, tick-some}
 use Rattle.story.proofs.Rows.{filled, set-high, filled-length, filled-high, filled-in, filled-out, withRows, isDropped, drop-rows}

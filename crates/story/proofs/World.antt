@@ -3,29 +3,26 @@
 -- earlier opening is held, so every cell that its boxes still awaited has gone out by then.
 -- Rests on `film-in-time` for one life, and on what accepted sequences keep true of lives.
 use mathlib.Core.Path.{_≡_, refl, sym, ap, _∙_}
-use mathlib.Core.Bool.{Bool, true, false, false≢true}
-use mathlib.Core.Logic.{_⊎_, inl, inr, ⊎-elim}
-use mathlib.Core.List.{List, [], _∷_}
-use Prim.Native.Nat.{ℕ, zero, suc, _+_, _-_, _*_, _/_, _%_, _≤_, _<_}
+use mathlib.Core.Bool.{true, false, false≢true}
+use mathlib.Core.Logic.{⊎-elim}
+use mathlib.Core.List.{List, _∷_}
+use Prim.Native.Nat.{ℕ, suc, _+_, _-_, _*_, _/_, _%_, _≤_, _<_}
 use native.Mathlib.Omega.{arith}
 use native.Mathlib.Nat.{mul-le-mul-right}
 use lib.Dec.{ltb, leb, eqb}
-use borrow.Author.Tests.{ltb-true, ltb-false, lt-ltb, le-ltb, leb-true, leb-false, le-leb, lt-leb, eqb-true, eq-eqb}
-use Rattle.rules.specs.Limits.{either, poolMax, titlesMax}
-use Rattle.rules.specs.Refusals.{pick}
-use Rattle.rules.specs.Search.{howMany}
+use borrow.Author.Tests.{ltb-true, ltb-false, le-ltb, leb-false, lt-leb, eqb-true, eq-eqb}
+use Rattle.rules.specs.Limits.{poolMax, titlesMax}
 use Rattle.rules.proofs.Tests.{decide, both-l, either-false-l, either-false-r}
 use Rattle.rules.proofs.Search
 use Rattle.grid.specs.Ticks.{holdsFilm, isSlotStart}
-use Rattle.story.specs.Life.{isAdmission, isActive, cell, onAir, isHeld, Ruled}
-use Rattle.story.specs.Story.{Act, opens, changes, closes, Event, Life, unopened, tickLength, tickIn, momentOf, turn, underRule, lifeAfter, lifeOf, latestOf, lastTime, upTo, countIn, airIn, isHeldIn, heldIn, isThereIn, answerTo, answer, Accepted, none, more, lifeAt, airAt, Found, Begins}
-use Rattle.story.proofs.Clock.{tick-mono, tick-of-moment, begun, begins, on-its-tick}
+use Rattle.story.specs.Life.{isAdmission, isActive, cell, onAir, isHeld}
+use Rattle.story.specs.Story.{Act, opens, changes, closes, Event, Life, tickLength, tickIn, momentOf, turn, underRule, lifeAfter, lifeOf, latestOf, lastTime, upTo, countIn, isHeldIn, heldIn, isThereIn, answerTo, answer, Accepted, none, more, lifeAt, airAt, Found, Begins}
+use Rattle.story.proofs.Clock.{tick-mono, tick-of-moment, begun, on-its-tick}
 use Rattle.story.proofs.InTime.{film-in-time}
 use Rattle.story.proofs.Held.{air-local, held-falls}
 use Rattle.story.proofs.Turn.{turn-before}
 use Rattle.story.proofs.Passed.{event, Turned, opening, changing, closing, in-order}
 use Rattle.story.proofs.Lively.{Lively, lively, newest}
-use Rattle.story.proofs.Pool.{upTo-all}
 
 -- the life as it stood at an earlier moment is the same opening, and its rule the same up to that moment
 pub record Stood (L M : Life) (τ : ℕ) : Type 0 where

@@ -1,14 +1,13 @@
 -- The definitions give what 01 prints in every starred case: one test, computed over the whole table, and a lemma that
 -- carries it to each entry. Assumes nothing.
-use mathlib.Core.Path.{_≡_, refl, ap, _∙_}
-use mathlib.Core.Bool.{Bool, true, false, false≢true}
-use mathlib.Core.List.{List, [], _∷_, _++_, flatMap}
+use mathlib.Core.Path.{_≡_, refl}
+use mathlib.Core.Bool.{true, false≢true}
+use mathlib.Core.List.{List, [], _∷_, flatMap}
 use Prim.Native.Nat.{ℕ, zero, suc, _<_}
 use native.Mathlib.Omega.{arith}
 use lib.Dec.{eqb}
 use lib.ListN.{length, getD}
 use borrow.Author.Tests.{eqb-true}
-use Rattle.rules.specs.Limits.{both}
 use Rattle.rules.specs.Refusals.{firstHit}
 use Rattle.rules.specs.Search.{some, first, howMany, after, total}
 use Rattle.rules.proofs.Tests.{both-l, both-r}

@@ -10,7 +10,7 @@ use Rattle.grid.specs.Ticks.{tickOf}
 use Rattle.grid.specs.Lanes.{isInG, laneCell}
 use Rattle.grid.specs.Plan.{planAt, never}
 use Rattle.story.specs.Life.{Air, nothing, cell}
-use Rattle.story.specs.Story.{Act, opens, changes, closes, Event, answer, airAt}
+use Rattle.story.specs.Story.{Act, opens, changes, Event, answer, airAt}
 use Rattle.sharing.specs.Verdict.{verdictOf, rowAfter}
 
 -- a case of 01 by its number: what the definitions give, and what is printed

@@ -1,7 +1,5 @@
 -- `agent::fresh_agent` meets its contract: a fresh pool beside sequence 0.
 use mathlib.Core.Path.{ap}
-use Rattle.story.specs.declared.State.{State}
-use Rattle.agent.specs.declared.Agent.{Agent}
 use Rattle.agent.proofs.Turns.{agentOf}
 use borrow.Author.Needs.{needs}
 use Rattle.agent.proofs.fresh_agent.Statement.{statement}

@@ -1,5 +1,4 @@
 -- `agent::turn` meets its contract: the test of the turn, then the event's answer.
-use mathlib.Core.Path.{sym, _∙_}
 use Rattle.agent.proofs.Turns.{turn-taken, turn-refused, turn-other}
 use borrow.Author.Needs.{needs}
 use Rattle.agent.proofs.turn.Statement.{statement}
