@@ -1,7 +1,7 @@
 -- No reached state gets 1 for itself: what the events keep true of a title keeps its numbers within their limits.
 -- Rests on `Present` and `Tells`.
 use mathlib.Core.Path.{_≡_, refl, ap}
-use mathlib.Core.Bool.{true}
+use mathlib.Core.Bool.{Bool, true}
 use mathlib.Core.Logic.{_⊎_, ⊎-elim}
 use mathlib.Core.List.{List, []}
 use Prim.Native.Nat.{ℕ, _≤_, _<_}
@@ -77,15 +77,23 @@ nobody L m t (present r e f p) z =
 abbrev pub Funded : ℕ → List Event → Type 0
 Funded lanes es = (0 < lanes) ⊎ (es ≡ [])
 
+-- a slot is within its limits, and empty where the pool has no lanes
+slot-ok : (lanes : ℕ) (es : List Event) (s : State) → Tells lanes es s → Funded lanes es → (i : ℕ) → i < titlesMax → both (titleOk (titleAt s i)) (either (leb poolMin (s .pool)) (eqb (titleAt s i .mode) 0)) ≡ true
+slot-ok lanes es s w funded i b =
+    let some-lane : Bool = leb poolMin (s .pool) in
+    let empty : Bool = eqb (titleAt s i .mode) 0 in
+    both-in (titleOk (titleAt s i)) (either some-lane empty)
+    (title-ok (lifeOf es i) (latestOf es i) (titleAt s i) (w .title i b))
+    (⊎-elim (λ p. either-l some-lane empty (le-leb poolMin (s .pool) (omega (arith, w .pool))))
+    (λ e. either-r some-lane empty (nobody (lifeOf es i) (latestOf es i) (titleAt s i) (w .title i b) (untold es i e)))
+    funded)
+
 pub state-ok : (lanes : ℕ) (es : List Event) (s : State) → Tells lanes es s → lanes ≤ poolMax → Funded lanes es → stateOk s ≡ true
 unfolding stateOk
 state-ok lanes es s w high funded =
-    rw (le-leb (s .pool) poolMax (omega (arith, w .pool)), le-leb (s .last) askedMax (omega (arith, w .last, w .limit)))
-    (Search.every-in (λ i. both (titleOk (titleAt s i)) (either (leb poolMin (s .pool)) (eqb (titleAt s i .mode) 0))) titlesMax
-    (λ i b.
-    both-in (titleOk (titleAt s i)) (either (leb poolMin (s .pool)) (eqb (titleAt s i .mode) 0))
-    (title-ok (lifeOf es i) (latestOf es i) (titleAt s i) (w .title i b))
-    (⊎-elim
-    (λ p. either-l (leb poolMin (s .pool)) (eqb (titleAt s i .mode) 0) (le-leb poolMin (s .pool) (omega (arith, w .pool))))
-    (λ e. either-r (leb poolMin (s .pool)) (eqb (titleAt s i .mode) 0) (nobody (lifeOf es i) (latestOf es i) (titleAt s i) (w .title i b) (untold es i e)))
-    funded)))
+    let slots : ℕ → Bool = λ i. both (titleOk (titleAt s i)) (either (leb poolMin (s .pool)) (eqb (titleAt s i .mode) 0)) in
+    both-in (leb (s .pool) poolMax) (both (leb (s .last) askedMax) (every slots titlesMax))
+    (le-leb (s .pool) poolMax (omega (arith, w .pool)))
+    (both-in (leb (s .last) askedMax) (every slots titlesMax)
+    (le-leb (s .last) askedMax (omega (arith, w .last, w .limit)))
+    (Search.every-in slots titlesMax (slot-ok lanes es s w funded)))

@@ -15,7 +15,7 @@ use borrow.Author.Tests.{ltb-true, ltb-false, lt-ltb, le-ltb, le-leb, lt-leb, eq
 use Rattle.rules.specs.Limits.{askedMax, eventTimeMax}
 use Rattle.rules.specs.Refusals.{pick}
 use Rattle.rules.specs.Search.{after}
-use Rattle.rules.proofs.Tests.{decide, both-in}
+use Rattle.rules.proofs.Tests.{decide, both-in, pick-true, pick-false}
 use Rattle.rules.proofs.Search
 use Rattle.grid.specs.Ticks.{tickOf, isSlotStart}
 use Rattle.story.specs.declared.Title.{Title}
@@ -77,10 +77,10 @@ open-ruling t e = rw e refl
 
 -- below its tick a turn changes nothing, from it on the new count rules
 pub turn-before : (r : ℕ → ℕ) (n q u : ℕ) → u < n → turn r n q u ≡ r u
-turn-before r n q u l = rw (lt-leb n u l) refl
+turn-before r n q u l = pick-false (leb n u) q (r u) (lt-leb n u l)
 
 pub turn-from : (r : ℕ → ℕ) (n q u : ℕ) → n ≤ u → turn r n q u ≡ q
-turn-from r n q u l = rw (le-leb n u l) refl
+turn-from r n q u l = pick-true (leb n u) q (r u) (le-leb n u l)
 
 module _ (t : Title) (r : ℕ → ℕ) (τ q m c : ℕ) (h : Turning t r τ q m c) where
   -- the turn comes in a later tick than the latest event
