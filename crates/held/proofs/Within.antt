@@ -9,7 +9,7 @@ use native.Mathlib.Omega.{arith}
 use lib.Dec.{leb, eqb}
 use lib.ListN.{getD}
 use borrow.Author.Tests.{leb-true, ne-eqb}
-use Rattle.rules.specs.Limits.{both, either, within, askedMax, countMax, titlesMax, poolMin, floorMin}
+use Rattle.rules.specs.Limits.{both, either, within, askedMax, countMax, titlesMax, poolMin, floorMin, countPlaces, lanePlaces}
 use Rattle.rules.specs.Search.{every}
 use Rattle.rules.proofs.Tests.{both-l, both-r, either-out}
 use Rattle.rules.proofs.Search.{every-out}
@@ -54,11 +54,11 @@ module _ (t : Title) (ok : titleOk t ≡ true) where
   unfolding orderOk
   count-fit there = let o = order there in search (both-l, both-r, leb-true) depth 12
 
-  pub ends-ok : rowOk (t .ends) 11 ≡ true
+  pub ends-ok : rowOk (t .ends) countPlaces ≡ true
   unfolding numbersOk
   ends-ok = let n = numbers in search (both-l, both-r) depth 12
 
-  pub dropped-ok : rowOk (t .dropped) 10 ≡ true
+  pub dropped-ok : rowOk (t .dropped) lanePlaces ≡ true
   unfolding numbersOk
   dropped-ok = let n = numbers in search (both-l, both-r) depth 12
 

@@ -2,8 +2,10 @@
 
 use rules::ASKED_MAX;
 use rules::COUNT_MAX;
+use rules::COUNT_PLACES;
 use rules::FLOOR_MAX;
 use rules::FLOOR_MIN;
+use rules::LANE_PLACES;
 use rules::LENGTH_MAX;
 use rules::LENGTH_MIN;
 use rules::POOL_MAX;
@@ -17,7 +19,7 @@ ghost use mathlib.Core.Path.{_≡_};
 ghost use Prim.Native.Nat.{_≤_};
 ghost use lib.ListN.{length};
 ghost use lib.Dec.{leb, eqb};
-ghost use Rattle.rules.specs.Limits.{both, either, poolMin, titlesMax};
+ghost use Rattle.rules.specs.Limits.{both, either, poolMin, countPlaces, lanePlaces, titlesMax};
 ghost use Rattle.rules.specs.Search.{every};
 ghost use Rattle.story.specs.Kept.{rowOk, numbersOk, orderOk, titleOk, stateOk};
 ghost use Rattle.held.specs.Film.{slotOk};
@@ -45,14 +47,14 @@ fn row_ok(row: &[u64], n: usize) -> bool
 
 // The three rows of a title.
 fn rows_ok(t: Title) -> bool
-    ensures { λ r. ⌜ r ≡ both (rowOk (t .ends) 11) (both (rowOk (t .dropped) 10) (rowOk (t .owed) 10)) ⌝ }
+    ensures { λ r. ⌜ r ≡ both (rowOk (t .ends) countPlaces) (both (rowOk (t .dropped) lanePlaces) (rowOk (t .owed) lanePlaces)) ⌝ }
 {
     let ends = t.ends;
     let dropped = t.dropped;
     let owed = t.owed;
     also(
-        row_ok(&ends, 11),
-        also(row_ok(&dropped, 10), row_ok(&owed, 10)),
+        row_ok(&ends, COUNT_PLACES),
+        also(row_ok(&dropped, LANE_PLACES), row_ok(&owed, LANE_PLACES)),
     )
 }
 

@@ -8,7 +8,7 @@ use native.Mathlib.Omega.{arith}
 use lib.Dec.{leb, ltb}
 use lib.ListN.{getD, set}
 use borrow.Author.Tests.{le-leb, lt-ltb}
-use Rattle.rules.specs.Limits.{both, askedMax}
+use Rattle.rules.specs.Limits.{both, askedMax, countPlaces}
 use Rattle.rules.specs.Refusals.{pick}
 use Rattle.rules.proofs.Search.{every-in}
 use Rattle.story.specs.declared.Title.{Title}
@@ -52,7 +52,7 @@ stored-row row n i v l ok =
     (λ j below. le-leb (getD (set row i v) j 0) askedMax (stored (λ x. x ≤ askedMax) row i j v 0 l (in-row row n j ok below)))
 
 pub ended-owing : (t : Title) (n : ℕ) → n ≤ askedMax → Owing t → Owing (ended t n)
-ended-owing t n l o = record { cut = o .cut; ends = stored-row (t .ends) 11 (t .count) n l (o .ends) }
+ended-owing t n l o = record { cut = o .cut; ends = stored-row (t .ends) countPlaces (t .count) n l (o .ends) }
 
 -- below the old count a lane is dropped or not by the new count alone
 pub drop-more : (t q : Title) (n k i : ℕ) → q ≡ dropLanes t n k i → i < t .count → pick (leb k i) (dropLane q n i) q ≡ dropLanes t n k (suc i)

@@ -1,4 +1,5 @@
 -- The numbers of a title by which its owed ticks are read, within their limits (01, "What the product holds").
+use Rattle.rules.specs.Limits.{countPlaces, lanePlaces}
 use Prim.Native.Nat.{_≤_}
 use mathlib.Core.Path.{_≡_}
 use mathlib.Core.Bool.{true}
@@ -9,12 +10,12 @@ use Rattle.held.specs.Film.{Film}
 
 pub record Owing (t : Title) : Type 0 where
   pub cut : FloorCap (t .floor) (t .cap)
-  pub ends : rowOk (t .ends) 11 ≡ true
+  pub ends : rowOk (t .ends) countPlaces ≡ true
 
 -- and those by which the cell of a sending lane is found
 pub record Sending (t : Title) : Type 0 where
   pub owing : Owing t
-  pub dropped : rowOk (t .dropped) 10 ≡ true
+  pub dropped : rowOk (t .dropped) lanePlaces ≡ true
 
 -- and those by which a title is changed or closed
 pub record Changeable (t : Title) : Type 0 where

@@ -1,5 +1,5 @@
 -- The limits of each number (01, "What the product holds"). A later request moves a limit here and nowhere else.
-use Prim.Native.Nat.{ℕ, _^_}
+use Prim.Native.Nat.{ℕ, _+_, _^_}
 use mathlib.Core.Bool.{Bool, true, false}
 use lib.Dec.{leb}
 
@@ -48,6 +48,13 @@ askedMax = 2 ^ 41
 
 abbrev pub laneMax : ℕ
 laneMax = 9
+
+-- a row with a place for each count from 0 to the largest, and one with a place for each lane
+abbrev pub countPlaces : ℕ
+countPlaces = countMax + 1
+
+abbrev pub lanePlaces : ℕ
+lanePlaces = laneMax + 1
 
 -- 01, "Sharing": at most this many titles, as many as there are ids
 abbrev pub titlesMax : ℕ

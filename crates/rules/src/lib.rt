@@ -32,6 +32,10 @@ pub const EVENT_TIME_MAX: u64 = 1_099_511_627_776;
 pub const ASKED_MAX: u64 = 2_199_023_255_552;
 
 pub const LANE_MAX: u64 = 9;
+// A row with a place for each count from 0 to the largest, and one with a place for each lane.
+pub const COUNT_PLACES: usize = 11;
+
+pub const LANE_PLACES: usize = 10;
 // 01, "Sharing": at most this many titles, as many as there are ids.
 pub const TITLES_MAX: usize = 16;
 

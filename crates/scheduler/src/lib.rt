@@ -13,11 +13,14 @@ use owed::dropping::changed_title;
 use owed::dropping::closed_title;
 use owed::sending::shows;
 use rules::ASKED_MAX;
+use rules::COUNT_PLACES;
 use rules::DONE;
+use rules::LANE_PLACES;
 use rules::NO_LANES;
 use rules::OUTSIDE_LIMITS;
 use rules::POOL_MAX;
 use rules::POOL_MIN;
+use rules::TITLES_MAX;
 use rules::within;
 use story::NONE;
 use story::OPEN;
@@ -75,9 +78,9 @@ fn blank_title() -> Title
         cap: 0,
         count: 0,
         last: 0,
-        ends: [0; 11],
-        dropped: [0; 10],
-        owed: [0; 10],
+        ends: [0; COUNT_PLACES],
+        dropped: [0; LANE_PLACES],
+        owed: [0; LANE_PLACES],
     }
 }
 
@@ -86,7 +89,7 @@ fn empty_pool(lanes: u64) -> State
     ensures { λ r. ⌜ r ≡ emptyPool lanes ⌝ }
 {
     let t = blank_title();
-    let titles = [t; 16];
+    let titles = [t; TITLES_MAX];
     State {
         pool: lanes,
         last: 0,
@@ -135,9 +138,9 @@ fn opened_title(time: u64, length: u64, floor: u64, cap: u64, count: u64) -> Tit
         cap: cap,
         count: count,
         last: time,
-        ends: [0; 11],
-        dropped: [0; 10],
-        owed: [0; 10],
+        ends: [0; COUNT_PLACES],
+        dropped: [0; LANE_PLACES],
+        owed: [0; LANE_PLACES],
     }
 }
 

@@ -8,7 +8,7 @@ use native.Mathlib.Omega.{arith}
 use lib.Dec.{ltb, eqb}
 use lib.ListN.{getD, length}
 use borrow.Author.Tests.{ltb-true, ltb-false, lt-ltb, le-ltb, ne-eqb}
-use Rattle.rules.specs.Limits.{either, askedMax, eventTimeMax, lengthMin, lengthMax, floorMin, floorMax, countMax}
+use Rattle.rules.specs.Limits.{either, askedMax, eventTimeMax, lengthMin, lengthMax, floorMin, floorMax, countMax, countPlaces, lanePlaces}
 use Rattle.rules.specs.Refusals.{pick}
 use Rattle.rules.specs.Search.{first}
 use Rattle.rules.proofs.Tests.{decide, same}
@@ -39,9 +39,9 @@ pub record Sized (t : Title) : Type 0 where
   pub count-low : t .floor ≤ t .count
   pub count-high : t .count ≤ t .cap
   pub last-high : t .last ≤ eventTimeMax
-  pub ends-long : length (t .ends) ≡ 11
-  pub dropped-long : length (t .dropped) ≡ 10
-  pub owed-long : length (t .owed) ≡ 10
+  pub ends-long : length (t .ends) ≡ countPlaces
+  pub dropped-long : length (t .dropped) ≡ lanePlaces
+  pub owed-long : length (t .owed) ≡ lanePlaces
   pub ends-high : (j : ℕ) → getD (t .ends) j 0 ≤ askedMax
   pub dropped-high : (j : ℕ) → getD (t .dropped) j 0 ≤ askedMax
   pub owed-high : (j : ℕ) → getD (t .owed) j 0 ≤ askedMax

@@ -9,7 +9,7 @@ use native.Mathlib.Omega.{arith}
 use lib.Dec.{leb, eqb}
 use lib.ListN.{getD}
 use borrow.Author.Tests.{le-leb}
-use Rattle.rules.specs.Limits.{both, either, poolMin, poolMax, askedMax, lengthMin, lengthMax, floorMin, floorMax, countMax, titlesMax}
+use Rattle.rules.specs.Limits.{both, either, poolMin, poolMax, askedMax, lengthMin, lengthMax, floorMin, floorMax, countMax, titlesMax, countPlaces, lanePlaces}
 use Rattle.rules.specs.Search.{every}
 use Rattle.rules.proofs.Tests.{both-in, either-l, either-r}
 use Rattle.rules.proofs.Search
@@ -36,9 +36,9 @@ numbers-ok t r p =
       le-leb (t .cap) countMax (z .cap-high),
       le-leb (t .count) countMax (omega (arith, z .count-high, z .cap-high)),
       le-leb (t .last) askedMax (omega (arith, z .last-high)),
-      row-ok (t .ends) 11 (z .ends-high),
-      row-ok (t .dropped) 10 (z .dropped-high),
-      row-ok (t .owed) 10 (z .owed-high),
+      row-ok (t .ends) countPlaces (z .ends-high),
+      row-ok (t .dropped) lanePlaces (z .dropped-high),
+      row-ok (t .owed) lanePlaces (z .owed-high),
     )
     refl
 

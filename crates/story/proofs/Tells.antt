@@ -11,7 +11,7 @@ use lib.Dec.{ltb, eqb}
 use lib.ListN.{getD, set, length, replicate, length-set}
 use lib.Seq.{getD-set-same, getD-set-other}
 use borrow.Author.Tests.{lt-ltb, eqb-true, eqb-false, ne-eqb}
-use Rattle.rules.specs.Limits.{either, eventTimeMax, lengthMin, lengthMax, floorMin, floorMax, countMax, titlesMax}
+use Rattle.rules.specs.Limits.{either, eventTimeMax, lengthMin, lengthMax, floorMin, floorMax, countMax, titlesMax, countPlaces, lanePlaces}
 use Rattle.rules.specs.Refusals.{pick}
 use Rattle.rules.specs.Search.{some, howMany, after}
 use Rattle.rules.proofs.Tests.{decide}
@@ -60,18 +60,18 @@ opened-present τ D A K k late d d′ a a′ K′ low high =
             ends-long = refl;
             dropped-long = refl;
             owed-long = refl;
-            ends-high = λ j. rw (zeros 11 j) (omega arith);
-            dropped-high = λ j. rw (zeros 10 j) (omega arith);
-            owed-high = λ j. rw (zeros 10 j) (omega arith);
+            ends-high = λ j. rw (zeros countPlaces j) (omega arith);
+            dropped-high = λ j. rw (zeros lanePlaces j) (omega arith);
+            owed-high = λ j. rw (zeros lanePlaces j) (omega arith);
           };
       since = omega arith;
       on-tick = rw sub-self (zero-mod (tickOf D A K));
       steady = λ u le. refl;
       ruled = record { low = λ u p. low; high = λ u. high };
       legal = record { turns = λ u f. absurd (f refl) };
-      ends = λ c lo hi other. zeros 11 c ∙ rw start refl;
-      drops = λ l lane off. zeros 10 l ∙ rw start refl;
-      owing = λ l lane off. zeros 10 l ∙ rw (zeros 10 l) (sym (owes-none A K (λ t. k) l (reach K)));
+      ends = λ c lo hi other. zeros countPlaces c ∙ rw start refl;
+      drops = λ l lane off. zeros lanePlaces l ∙ rw start refl;
+      owing = λ l lane off. zeros lanePlaces l ∙ rw (zeros lanePlaces l) (sym (owes-none A K (λ t. k) l (reach K)));
     }
 
 -- what a slot keeps of an id: nothing, where no event has named it, or the rule of its life

@@ -4,7 +4,7 @@ use mathlib.Core.Bool.{Bool, not}
 use mathlib.Core.List.{List, [], _∷_}
 use lib.Dec.{leb, ltb, eqb}
 use lib.ListN.{getD, length, replicate}
-use Rattle.rules.specs.Limits.{both, either, within, poolMin, poolMax, idMax, floorMin, floorMax, countMin, countMax, lengthMin, lengthMax, eventTimeMax, askedMax, laneMax}
+use Rattle.rules.specs.Limits.{both, either, within, poolMin, poolMax, idMax, floorMin, floorMax, countMin, countMax, lengthMin, lengthMax, eventTimeMax, askedMax, laneMax, countPlaces, lanePlaces, titlesMax}
 use Rattle.rules.specs.Refusals.{pick, refuse, firstHit, outsideLimits, tooEarly, notThere, idTaken, isClosing, wrongCount, secondEvent, notAtSlot, noLanes, wrongRows}
 use Rattle.rules.specs.Search.{every}
 use Rattle.grid.specs.Ticks.{isSlotStart}
@@ -17,11 +17,11 @@ use Rattle.story.specs.Next.{openNext, changeNext}
 abbrev pub blankTitle : Title
 blankTitle =
     record
-    { mode = 0; opened = 0; length = 0; floor = 0; cap = 0; count = 0; last = 0; ends = replicate 11 0; dropped = replicate 10 0; owed = replicate 10 0 }
+    { mode = 0; opened = 0; length = 0; floor = 0; cap = 0; count = 0; last = 0; ends = replicate countPlaces 0; dropped = replicate lanePlaces 0; owed = replicate lanePlaces 0 }
 
 -- a pool without titles
 abbrev pub emptyPool : ℕ → State
-emptyPool n = record { pool = n; last = 0; titles = replicate 16 blankTitle }
+emptyPool n = record { pool = n; last = 0; titles = replicate titlesMax blankTitle }
 
 abbrev pub freshAnswer : ℕ → ℕ
 freshAnswer n = firstHit (refuse outsideLimits (not (within poolMin poolMax n)) ∷ [])

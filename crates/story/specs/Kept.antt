@@ -5,7 +5,7 @@ use mathlib.Core.Bool.{Bool}
 use mathlib.Core.List.{List, []}
 use lib.Dec.{leb, ltb, eqb}
 use lib.ListN.{getD}
-use Rattle.rules.specs.Limits.{both, either, within, poolMin, poolMax, floorMin, floorMax, countMax, lengthMin, lengthMax, askedMax, titlesMax}
+use Rattle.rules.specs.Limits.{both, either, within, poolMin, poolMax, floorMin, floorMax, countMax, lengthMin, lengthMax, askedMax, titlesMax, countPlaces, lanePlaces}
 use Rattle.rules.specs.Refusals.{pick}
 use Rattle.rules.specs.Search.{some, every, first, howMany, total}
 use Rattle.grid.specs.Ticks.{tickOf, slot}
@@ -38,7 +38,7 @@ numbersOk t =
     (both (leb (t .cap) countMax)
     (both (leb (t .count) countMax)
     (both (leb (t .last) askedMax)
-    (both (rowOk (t .ends) 11) (both (rowOk (t .dropped) 10) (rowOk (t .owed) 10)))))))))
+    (both (rowOk (t .ends) countPlaces) (both (rowOk (t .dropped) lanePlaces) (rowOk (t .owed) lanePlaces)))))))))
 
 -- a title that is there has its lower limits too, a floor no higher than its cap and a count from floor to cap
 unfoldable pub orderOk : Title → Bool

@@ -2,7 +2,7 @@
 use Prim.Native.Nat.{ℕ, zero, suc}
 use lib.Dec.{leb, ltb}
 use lib.ListN.{set, replicate}
-use Rattle.rules.specs.Limits.{both}
+use Rattle.rules.specs.Limits.{both, countPlaces, lanePlaces}
 use Rattle.rules.specs.Refusals.{pick}
 use Rattle.story.specs.declared.Title.{Title}
 use Rattle.story.specs.declared.State.{State}
@@ -13,7 +13,7 @@ use Rattle.story.specs.Kept.{titleAt, tickAt, keptWithin}
 abbrev pub openedTitle : ℕ → ℕ → ℕ → ℕ → ℕ → Title
 openedTitle τ D A K k =
     record
-    { mode = 1; opened = τ; length = D; floor = A; cap = K; count = k; last = τ; ends = replicate 11 0; dropped = replicate 10 0; owed = replicate 10 0 }
+    { mode = 1; opened = τ; length = D; floor = A; cap = K; count = k; last = τ; ends = replicate countPlaces 0; dropped = replicate lanePlaces 0; owed = replicate lanePlaces 0 }
 
 -- the ruling count ends at tick n: the slot of its latest admission does
 abbrev pub ended : Title → ℕ → Title

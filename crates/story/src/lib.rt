@@ -1,8 +1,9 @@
 // What the scheduler keeps, number by number. What the numbers mean is defined in specs/, and that they tell the story of
 // the accepted events is proved in proofs/. The calls stand in the crate above.
 
-ghost use mathlib.Core.Path.{_≡_};
-ghost use mathlib.Core.List.{[]};
+use rules::COUNT_PLACES;
+use rules::LANE_PLACES;
+use rules::TITLES_MAX;
 
 // Whether a slot has a title: none, one that is open, one that is closing.
 pub const NONE: u64 = 0;
@@ -23,15 +24,15 @@ pub struct Title {
     // the time of its latest accepted event
     pub last: u64,
     // for each count, the end of the slot of its latest admission, 0 where it never ruled
-    pub ends: [u64; 11],
+    pub ends: [u64; COUNT_PLACES],
     // for each lane, the tick at which it was last dropped, and how many cells it owed then
-    pub dropped: [u64; 10],
-    pub owed: [u64; 10],
+    pub dropped: [u64; LANE_PLACES],
+    pub owed: [u64; LANE_PLACES],
 }
 
 // The pool: its lanes, the time of the last accepted event, and a slot for each id.
 pub struct State {
     pub pool: u64,
     pub last: u64,
-    pub titles: [Title; 16],
+    pub titles: [Title; TITLES_MAX],
 }

@@ -1,4 +1,5 @@
 -- `rows_ok` meets its contract: each row is as long as its type says, and the tests are joined.
+use Rattle.rules.specs.Limits.{countPlaces, lanePlaces}
 use mathlib.Core.Path.{_≡_}
 use native.Mathlib.Omega.{arith}
 use lib.ListN.{length}
@@ -11,19 +12,19 @@ slice-aggregate-row-ok : tie.Need-slice-aggregate-row-ok
 slice-aggregate-row-ok c = search needs
 
 row-ok-requires : tie.Need-row-ok-requires
-row-ok-requires c κs = let e : length (c .before .before .before .before .args .t .ends) ≡ 11 = search needs in omega arith
+row-ok-requires c κs = let e : length (c .before .before .before .before .args .t .ends) ≡ countPlaces = search needs in omega arith
 
 slice-aggregate-row-ok-2 : tie.Need-slice-aggregate-row-ok-2
 slice-aggregate-row-ok-2 c = search needs
 
 row-ok-requires-2 : tie.Need-row-ok-requires-2
-row-ok-requires-2 c κs = let e : length (c .before .before .before .before .before .before .args .t .dropped) ≡ 10 = search needs in omega arith
+row-ok-requires-2 c κs = let e : length (c .before .before .before .before .before .before .args .t .dropped) ≡ lanePlaces = search needs in omega arith
 
 slice-aggregate-row-ok-3 : tie.Need-slice-aggregate-row-ok-3
 slice-aggregate-row-ok-3 c = search needs
 
 row-ok-requires-3 : tie.Need-row-ok-requires-3
-row-ok-requires-3 c κs = let e : length (c .before .before .before .before .before .before .before .before .args .t .owed) ≡ 10 = search needs in omega arith
+row-ok-requires-3 c κs = let e : length (c .before .before .before .before .before .before .before .before .args .t .owed) ≡ lanePlaces = search needs in omega arith
 
 also-requires : tie.Need-also-requires
 also-requires c κs = search needs

@@ -4,7 +4,7 @@ use native.Mathlib.Omega.{arith}
 use native.Mathlib.Nat.{mul-le-mul}
 use lib.ListN.{getD}
 use borrow.Author.Tests.{lt-ltb, le-ltb}
-use Rattle.rules.specs.Limits.{askedMax}
+use Rattle.rules.specs.Limits.{askedMax, countPlaces}
 use Rattle.story.specs.Kept.{wantsFrom}
 use Rattle.held.proofs.Within.{in-row}
 use borrow.Author.Needs.{needs}
@@ -34,7 +34,7 @@ add-if1-2 : tie.Need-add-if1-2
 add-if1-2 c =
     let p : c .before .before .slot .result * c .pow2 .result ≤ 2 ^ 20 = mul-le-mul (c .before .before .slot .ensures .high) (c .pow2 .ensures .high) in
     let a = c .before .before .before in
-    let e : getD (a .args .t1 .ends) (a .args .count) 0 ≤ askedMax = in-row (a .args .t1 .ends) 11 (a .args .count) (a .pre .0 .ends) (omega arith) in
+    let e : getD (a .args .t1 .ends) (a .args .count) 0 ≤ askedMax = in-row (a .args .t1 .ends) countPlaces (a .args .count) (a .pre .0 .ends) (omega arith) in
     omega arith
 
 channel-cell-requires : tie.Need-channel-cell-requires

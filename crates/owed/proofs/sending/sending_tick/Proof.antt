@@ -2,7 +2,7 @@
 use Prim.Native.Nat.{_+_, _≤_}
 use native.Mathlib.Omega.{arith}
 use lib.ListN.{getD}
-use Rattle.rules.specs.Limits.{askedMax}
+use Rattle.rules.specs.Limits.{askedMax, lanePlaces}
 use Rattle.story.specs.Kept.{sendingTick}
 use Rattle.held.proofs.Within.{in-row}
 use borrow.Author.Needs.{needs}
@@ -10,7 +10,7 @@ use Rattle.owed.proofs.sending.sending_tick.Statement.{statement}
 use Rattle.owed.proofs.sending.sending_tick.Tie as tie
 
 dropped-low : (a : tie.Start) → getD (a .args .t1 .dropped) (a .args .lane) 0 ≤ askedMax
-dropped-low a = in-row (a .args .t1 .dropped) 10 (a .args .lane) (a .pre .0 .dropped) (omega (arith, a .pre .0 .owing .cut .high))
+dropped-low a = in-row (a .args .t1 .dropped) lanePlaces (a .args .lane) (a .pre .0 .dropped) (omega (arith, a .pre .0 .owing .cut .high))
 
 mul-from : tie.Need-mul-from
 mul-from c = omega (arith, c .pre .0 .owing .cut .high)
