@@ -1,0 +1,3 @@
+-- What the listing program prints.
+pub mod Lines
+pub mod Steps
