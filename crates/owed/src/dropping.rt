@@ -12,7 +12,7 @@ ghost use mathlib.Core.Path.{_≡_};
 ghost use lib.Dec.{leb};
 ghost use Rattle.rules.specs.Limits.{askedMax, countMax};
 ghost use Rattle.rules.specs.Refusals.{pick};
-ghost use Rattle.story.specs.Next.{ended, dropLane, dropLanes, turned, changedTitle, closedTitle};
+ghost use Rattle.story.specs.Next.{ended, dropLane, dropLanes, turned, changedTitle, closedTitle, turnedTitle};
 ghost use Rattle.owed.specs.Owing.{Owing, Changeable};
 
 // A lane is dropped at a tick, and how many cells it owes is counted once, here.
@@ -78,32 +78,36 @@ fn turn(t: Title, mode: u64, count: u64, time: u64) -> Title
     q
 }
 
-// A title whose count changes at a time. The event's own tick belongs to the new count: the old one ends before it.
-pub fn changed_title(t: Title, time: u64, count: u64) -> Title
+// A turn at a time to so many lanes, with the mode and the count that are stored. The event's own tick belongs to the new
+// count: the old one ends before it.
+fn turned_title(t: Title, time: u64, lanes: u64, mode: u64, count: u64) -> Title
     requires { ⌜ Changeable t ⌝ }
     requires { ⌜ time ≤ askedMax ⌝ }
-    ensures { λ r. ⌜ r ≡ changedTitle t time count ⌝ }
+    ensures { λ r. ⌜ r ≡ turnedTitle t time lanes mode count ⌝ }
 {
     let tick = tick_at(t, time);
     turn(
-        drop_lanes(end_count(t, tick), tick, count),
-        OPEN,
+        drop_lanes(end_count(t, tick), tick, lanes),
+        mode,
         count,
         time,
     )
 }
 
-// A title that closes at a time: all active lanes are dropped.
+// A title whose count changes at a time.
+pub fn changed_title(t: Title, time: u64, count: u64) -> Title
+    requires { ⌜ Changeable t ⌝ }
+    requires { ⌜ time ≤ askedMax ⌝ }
+    ensures { λ r. ⌜ r ≡ changedTitle t time count ⌝ }
+{
+    turned_title(t, time, count, OPEN, count)
+}
+
+// A title that closes at a time: all active lanes are dropped, and the count is kept.
 pub fn closed_title(t: Title, time: u64) -> Title
     requires { ⌜ Changeable t ⌝ }
     requires { ⌜ time ≤ askedMax ⌝ }
     ensures { λ r. ⌜ r ≡ closedTitle t time ⌝ }
 {
-    let tick = tick_at(t, time);
-    turn(
-        drop_lanes(end_count(t, tick), tick, 0),
-        CLOSED,
-        t.count,
-        time,
-    )
+    turned_title(t, time, 0, CLOSED, t.count)
 }

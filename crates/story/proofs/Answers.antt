@@ -17,12 +17,12 @@ use Rattle.grid.specs.Ticks.{tickOf, isSlotStart}
 use Rattle.story.specs.declared.Title.{Title}
 use Rattle.story.specs.declared.State.{State}
 use Rattle.story.specs.Kept.{titleAt, stateOk, tickAt, atTickStart, lanesHeld, isThere}
-use Rattle.story.specs.Next.{openedTitle, withTitle, openNext, changedTitle, changeNext, closedTitle, closeNext}
+use Rattle.story.specs.Next.{openedTitle, withTitle, openNext, changedTitle, changeNext, closedTitle, closeNext, turnedTitle}
 use Rattle.story.specs.Calls.{eventOk, openOk, tooMany, openAnswer, atSlotStart, changeAnswer, closeAnswer}
 use Rattle.story.specs.Story.{Act, opens, changes, closes, Event, Life, lifeAfter, lifeOf, latestOf, lastTime, tickIn, countIn, isSlotIn, overfull, answerTo, turn}
 use Rattle.story.specs.Runs.{callAnswer, callNext}
 use Rattle.story.proofs.Kept.{lifeIn, Present}
-use Rattle.story.proofs.Turn.{Turning, turnedTitle, turned-laid, turn-present, open-ruling}
+use Rattle.story.proofs.Turn.{Turning, turned-laid, turn-present, open-ruling}
 use Rattle.story.proofs.Passed.{event, within-low, within-high}
 use Rattle.story.proofs.Tells.{TellsTitle, absent, present, Tells, opened-present, count-told, there-told, closing-told, lanes-told, told-with, blank-away}
 

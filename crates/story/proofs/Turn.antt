@@ -21,7 +21,7 @@ use Rattle.grid.specs.Ticks.{tickOf, isSlotStart}
 use Rattle.story.specs.declared.Title.{Title}
 use Rattle.story.specs.Life.{isActive, droppedAt, isOwed, reach, owedWithin, owes, Ruled, Legal, isRuling, lastEnd}
 use Rattle.story.specs.Kept.{tickAt, ruling, keptOwed, keptWithin}
-use Rattle.story.specs.Next.{ended, dropLanes, turned}
+use Rattle.story.specs.Next.{ended, dropLanes, turned, turnedTitle}
 use Rattle.story.specs.Story.{turn}
 use Rattle.story.proofs.Clock.{later-tick}
 use Rattle.story.proofs.Held.{dropped-le, owes-local}
@@ -44,10 +44,6 @@ pub record Turning (t : Title) (r : ℕ → ℕ) (τ q m c : ℕ) : Type 0 where
   pub count-low : t .floor ≤ c
   pub count-high : c ≤ t .cap
   pub rules : pick (eqb m 1) c 0 ≡ q
-
--- the title after the turn, as the definitions of the next state have it
-abbrev pub turnedTitle : Title → ℕ → ℕ → ℕ → ℕ → Title
-turnedTitle t τ q m c = turned (dropLanes (ended t (tickAt t τ)) (tickAt t τ) q (t .count)) m c τ
 
 -- the two rows of lanes after it
 abbrev pub droppedRow : Title → ℕ → ℕ → List ℕ

@@ -39,13 +39,17 @@ turned t mode k τ =
     record
     { mode = mode; opened = t .opened; length = t .length; floor = t .floor; cap = t .cap; count = k; last = τ; ends = t .ends; dropped = t .dropped; owed = t .owed }
 
+-- a turn at τ to q lanes: the ruling count ends, the lanes above are dropped, and mode m and count c are stored
+abbrev pub turnedTitle : Title → ℕ → ℕ → ℕ → ℕ → Title
+turnedTitle t τ q m c = turned (dropLanes (ended t (tickAt t τ)) (tickAt t τ) q (t .count)) m c τ
+
 -- a title whose count changes to k at τ
 unfoldable pub changedTitle : Title → ℕ → ℕ → Title
-changedTitle t τ k = turned (dropLanes (ended t (tickAt t τ)) (tickAt t τ) k (t .count)) 1 k τ
+changedTitle t τ k = turnedTitle t τ k 1 k
 
--- a title that closes at τ: all active lanes are dropped; the count is kept as it was
+-- a title that closes at τ is a turn to no lanes; the count is kept as it was
 unfoldable pub closedTitle : Title → ℕ → Title
-closedTitle t τ = turned (dropLanes (ended t (tickAt t τ)) (tickAt t τ) 0 (t .count)) 2 (t .count) τ
+closedTitle t τ = turnedTitle t τ 0 2 (t .count)
 
 -- the state with another title at an id, after an event at τ
 abbrev pub withTitle : State → ℕ → Title → ℕ → State

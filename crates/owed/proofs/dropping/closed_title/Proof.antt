@@ -1,36 +1,15 @@
--- `closed_title` meets its contract: each step is its definition at the tick of the time.
-use Prim.Native.Nat.{_≤_}
-use mathlib.Core.Path.{_∙_}
-use native.Mathlib.Omega.{arith}
-use Rattle.rules.specs.Limits.{askedMax}
+-- `closed_title` meets its contract: it is a turn.
+use borrow.Author.Needs.{needs}
 use Rattle.story.specs.Next.{closedTitle}
-use Rattle.owed.proofs.Fixed.{ended-owing}
-use borrow.Author.Needs.{needs}
-use borrow.Author.Needs.{needs}
 use Rattle.owed.proofs.dropping.closed_title.Statement.{statement}
 use Rattle.owed.proofs.dropping.closed_title.Tie as tie
 
-tick-at-requires : tie.Need-tick-at-requires
-tick-at-requires c κs = search needs
-
-end-count-requires : tie.Need-end-count-requires
-end-count-requires c κs = search needs
-
-drop-lanes-requires : tie.Need-drop-lanes-requires
-drop-lanes-requires c κs =
-    let a = c .before .before in
-    let n = c .before .tick-at in
-    let early : n .result ≤ askedMax = omega arith in
-    rw (c .end-count .ensures) (ended-owing (a .args .t) (n .result) early (a .pre .0 .owing), (a .pre .0 .ruled, early))
-
-turn-requires : tie.Need-turn-requires
-turn-requires c κs = search needs
+turned-title-requires : tie.Need-turned-title-requires
+turned-title-requires c κs = search needs
 
 returns : tie.Need-returns
 unfolding closedTitle
-returns c = c .turn .ensures ∙ simp (c .before .drop-lanes .ensures, c .before .before .end-count .ensures, c .before .before .before .tick-at .ensures .is)
+returns c = c .turned-title .ensures
 
 pub closed-title-spec : {M : Type 1} → statement M
-closed-title-spec =
-    tie.close
-    (tie.spec tick-at-requires end-count-requires drop-lanes-requires turn-requires returns)
+closed-title-spec = tie.close (tie.spec turned-title-requires returns)
