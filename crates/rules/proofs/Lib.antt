@@ -1,3 +1,4 @@
 -- Laws of this crate's definitions.
 pub mod Search
 pub mod Tests
+pub mod Refusals

@@ -1,14 +1,13 @@
 -- Laws of the bounded searches and counts: each crosses between a search and the fact it stands for.
 -- Order: some, every, first, howMany, after, total. Rest on the laws of tests.
-use mathlib.Core.Path.{_≡_, refl, sym, ap, ap₂, _∙_}
+use mathlib.Core.Path.{_≡_, refl, sym, _∙_}
 use mathlib.Core.Bool.{Bool, true, false, false≢true}
 use mathlib.Core.Logic.{_⊎_, inl, inr, ⊎-elim}
 use Prim.Native.Nat.{ℕ, zero, suc, _+_, _-_, _≤_, _<_}
 use native.Mathlib.Omega.{arith}
 use native.Mathlib.Nat.{le-antisymm}
 use lib.Dec.{ltb}
-use borrow.Author.Tests.{lt-ltb, le-ltb, ltb-true, ltb-false}
-use Rattle.rules.specs.Limits.{both, either}
+use borrow.Author.Tests.{ltb-true, ltb-false}
 use Rattle.rules.specs.Refusals.{pick}
 use Rattle.rules.specs.Search.{some, every, first, keepFirst, howMany, after, total}
 use Rattle.rules.proofs.Tests.{decide, both-l, both-r, both-in, either-l, either-r, either-out, fails, pick-true, pick-false}
@@ -126,6 +125,9 @@ module _ (p : ℕ → Bool) where
   howMany-flat m zero f = rw (native.Mathlib.Nat.add-zero m) refl
   howMany-flat m (suc k) f = rw (native.Mathlib.Nat.add-suc m k) (howMany-miss (m + k) (f (m + k) (omega arith)) ∙ howMany-flat m k f)
 
+  pub howMany-some : (n i : ℕ) → i < n → p i ≡ true → 0 < howMany p n
+  howMany-some n i l h = omega (arith, howMany-hit i h, howMany-mono (suc i) n l)
+
   -- the number that passes with just i before it
   pub howMany-at : (n i : ℕ) → i < howMany p n → (u : ℕ) × (u < n) × (p u ≡ true) × (howMany p u ≡ i)
   howMany-at zero i l = absurd (omega (arith, howMany-le zero))
@@ -162,6 +164,24 @@ module _ (p : ℕ → Bool) where
   pub after-none : (n i : ℕ) → after p n ≤ i → i < n → p i ≡ false
   after-none n i a l = fails (p i) (λ t. omega (arith, after-above n i l t))
 
+  -- numbers that fail from m on don't move it
+  pub after-flat : (m n : ℕ) → m ≤ n → ((i : ℕ) → m ≤ i → i < n → p i ≡ false) → after p n ≡ after p m
+  after-flat m n le f =
+      le-antisymm (up (after p n) refl) (down (after p m) refl)
+    where
+      up : (x : ℕ) → after p n ≡ x → x ≤ after p m
+      up zero e = omega arith
+      up (suc j) e =
+          after-above m j
+          (⊎-elim (λ t. ltb-true j m t)
+          (λ t. absurd (false≢true (sym (f j (ltb-false j m t) (omega (arith, after-le n))) ∙ after-last n j e)))
+          (decide (ltb j m)))
+          (after-last n j e)
+
+      down : (x : ℕ) → after p m ≡ x → x ≤ after p n
+      down zero e = omega arith
+      down (suc j) e = after-above n j (omega (arith, after-le m)) (after-last m j e)
+
 -- searches see a test only through its answers below the bound
 module _ (p q : ℕ → Bool) where
   pub some-ext : (n : ℕ) → ((i : ℕ) → i < n → p i ≡ q i) → some p n ≡ some q n
@@ -179,6 +199,16 @@ module _ (p q : ℕ → Bool) where
   howMany-ext zero f = refl
   howMany-ext (suc n) f = rw (f n (omega arith), howMany-ext n (λ i l. f i (omega arith))) refl
 
+  -- a test that passes wherever another does passes at least as often
+  pub howMany-wider : (n : ℕ) → ((i : ℕ) → i < n → p i ≡ true → q i ≡ true) → howMany p n ≤ howMany q n
+  howMany-wider zero f = omega (arith, howMany-le p zero)
+  howMany-wider (suc n) f =
+      let ih : howMany p n ≤ howMany q n = howMany-wider n (λ i l. f i (omega arith)) in
+      ⊎-elim
+      (λ t. omega (arith, howMany-hit p n t, howMany-hit q n (f n (omega arith) t)))
+      (λ t. omega (arith, howMany-miss p n t, howMany-step q n))
+      (decide (p n))
+
   pub after-ext : (n : ℕ) → ((i : ℕ) → i < n → p i ≡ q i) → after p n ≡ after q n
   unfolding after
   after-ext zero f = refl
@@ -194,3 +224,10 @@ module _ (f g : ℕ → ℕ) where
   unfolding total
   total-le zero e = omega arith
   total-le (suc n) e = omega (arith, e n (omega arith), total-le n (λ i l. e i (omega arith)))
+
+-- a part is at most the sum
+pub total-at : (f : ℕ → ℕ) (n i : ℕ) → i < n → f i ≤ total f n
+unfolding total
+total-at f zero i l = absurd (omega arith)
+total-at f (suc n) i l =
+    ⊎-elim (λ b. omega (arith, total-at f n i b)) (λ e. rw e (omega arith)) (below-suc i n l)

@@ -1,10 +1,10 @@
 -- No box runs dry, for one title's life: each cell that holds film is on air on one of the title's lanes at or after the
 -- box's start and no later than the cell's turn, whatever the rule does after the start. Rests on the grid's laws (every
 -- such cell is in the plan, on a channel, and so on a lane) and on the laws of owed ticks.
-use mathlib.Core.Path.{_≡_, refl, sym, ap, _∙_}
+use mathlib.Core.Path.{_≡_, sym, ap, _∙_}
 use mathlib.Core.Bool.{Bool, true, false, false≢true}
 use mathlib.Core.Logic.{⊎-elim}
-use Prim.Native.Nat.{ℕ, zero, suc, _+_, _-_, _≤_, _<_}
+use Prim.Native.Nat.{ℕ, _+_, _-_, _≤_, _<_}
 use native.Mathlib.Omega.{arith}
 use native.Mathlib.Nat.{le-antisymm}
 use lib.Dec.{ltb}
@@ -16,7 +16,7 @@ use Rattle.grid.specs.Ticks.{isSlotStart, holdsFilm}
 use Rattle.grid.specs.Channels.{InG}
 use Rattle.grid.specs.Plan.{inPlan}
 use Rattle.grid.specs.Lanes.{laneCell}
-use Rattle.story.specs.Life.{isAdmission, isActive, droppedAt, isOwed, reach, owedWithin, Air, cell, sends, onAir, Ruled}
+use Rattle.story.specs.Life.{isAdmission, isActive, droppedAt, isOwed, reach, owedWithin, cell, onAir, Ruled}
 use Rattle.grid.proofs.Lanes.{lane-of-cell}
 use Rattle.grid.proofs.Plan.{window-end, in-time, film-taken, taken-out}
 use Rattle.story.proofs.Owed.{after-between, owed-in, sends-owed, rank-le, air-sends, air-active}

@@ -1,22 +1,21 @@
 -- Laws of a lane's owed ticks: none beyond its reach, each goes out in its turn, and the lane is held for just as many
 -- ticks as it owes cells. Rest on the laws of the grid and of bounded counts, and on what `isOwed` says only through
 -- `owed-in` and `owed-reach`.
-use mathlib.Core.Path.{_≡_, refl, sym, ap, _∙_}
+use mathlib.Core.Path.{_≡_, refl}
 use mathlib.Core.Bool.{Bool, true, false, false≢true}
 use mathlib.Core.Logic.{⊎-elim}
-use Prim.Native.Nat.{ℕ, zero, suc, _+_, _-_, _≤_, _<_, _^_}
+use Prim.Native.Nat.{ℕ, zero, suc, _+_, _-_, _≤_, _<_}
 use native.Mathlib.Omega.{arith}
-use native.Mathlib.Nat.{le-antisymm, sub-self}
+use native.Mathlib.Nat.{le-antisymm}
 use lib.Dec.{ltb, eqb}
-use borrow.Author.Tests.{ltb-true, ltb-false, lt-ltb, le-ltb, eqb-true, eq-eqb}
+use borrow.Author.Tests.{ltb-true, ltb-false, lt-ltb, eqb-true, eq-eqb}
 use Rattle.rules.specs.Limits.{both}
-use Rattle.rules.specs.Refusals.{pick}
-use Rattle.rules.specs.Search.{some, first, howMany, after}
-use Rattle.rules.proofs.Tests.{decide, both-l, both-r, both-in, fails, same, pick-true, pick-false}
+use Rattle.rules.specs.Search.{first, howMany, after}
+use Rattle.rules.proofs.Tests.{decide, both-l, both-r, both-in}
 use Rattle.rules.proofs.Search
 use Rattle.grid.specs.Plan.{inPlan}
 use Rattle.grid.specs.Lanes.{laneCell}
-use Rattle.story.specs.Life.{isAdmission, isActive, droppedAt, isAwaited, isOwed, reach, owedWithin, owes, isNth, nthOwed, Air, nothing, cell, sends, onAir, isCell, isHeld}
+use Rattle.story.specs.Life.{isAdmission, isActive, droppedAt, isAwaited, isOwed, reach, owedWithin, owes, isNth, nthOwed, cell, sends, onAir, isCell}
 
 -- the tick after the last one that passes is the same, seen from any tick between the two
 pub after-between : (p : ℕ → Bool) (u t : ℕ) → after p u ≤ t → t ≤ u → after p t ≡ after p u

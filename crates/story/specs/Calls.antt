@@ -1,17 +1,17 @@
 -- What each call answers, in 01's order of refusals, read off the state as it stands (01, "Numbers that calls give back").
-use Prim.Native.Nat.{ℕ, min, _%_}
-use mathlib.Core.Bool.{Bool, true, false, not}
+use Prim.Native.Nat.{ℕ, min}
+use mathlib.Core.Bool.{Bool, not}
 use mathlib.Core.List.{List, [], _∷_}
 use lib.Dec.{leb, ltb, eqb}
 use lib.ListN.{getD, length, replicate}
-use Rattle.rules.specs.Limits.{both, either, within, poolMin, poolMax, idMax, floorMin, floorMax, countMin, countMax, lengthMin, lengthMax, eventTimeMax, askedMax, laneMax, titlesMax}
+use Rattle.rules.specs.Limits.{both, either, within, poolMin, poolMax, idMax, floorMin, floorMax, countMin, countMax, lengthMin, lengthMax, eventTimeMax, askedMax, laneMax}
 use Rattle.rules.specs.Refusals.{pick, refuse, firstHit, outsideLimits, tooEarly, notThere, idTaken, isClosing, wrongCount, secondEvent, notAtSlot, noLanes, wrongRows}
 use Rattle.rules.specs.Search.{every}
 use Rattle.grid.specs.Ticks.{isSlotStart}
 use Rattle.story.specs.declared.Title.{Title}
 use Rattle.story.specs.declared.State.{State}
 use Rattle.story.specs.Kept.{titleAt, stateOk, tickAt, atTickStart, ruling, keptHeld, titleHeld, lanesHeld, isThere, shows}
-use Rattle.story.specs.Next.{openedTitle, openNext, changeNext, closeNext}
+use Rattle.story.specs.Next.{openNext, changeNext}
 
 -- the slot of an id that no event has named
 abbrev pub blankTitle : Title

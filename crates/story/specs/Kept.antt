@@ -1,14 +1,14 @@
 -- What the scheduler keeps, and what it reads off it: the numbers' limits, ticks, lanes held, and what a lane shows (01,
 -- "Events", "Status" and "Numbers that calls give back").
-use Prim.Native.Nat.{ℕ, zero, suc, _+_, _-_, _*_, _/_, _%_, _^_}
-use mathlib.Core.Bool.{Bool, true, false, not}
-use mathlib.Core.List.{List, [], _∷_}
+use Prim.Native.Nat.{ℕ, suc, _+_, _-_, _*_, _/_, _%_, _^_}
+use mathlib.Core.Bool.{Bool}
+use mathlib.Core.List.{List, []}
 use lib.Dec.{leb, ltb, eqb}
-use lib.ListN.{getD, set, replicate}
-use Rattle.rules.specs.Limits.{both, either, within, poolMin, poolMax, floorMin, floorMax, countMin, countMax, lengthMin, lengthMax, askedMax, titlesMax}
+use lib.ListN.{getD}
+use Rattle.rules.specs.Limits.{both, either, within, poolMin, poolMax, floorMin, floorMax, countMax, lengthMin, lengthMax, askedMax, titlesMax}
 use Rattle.rules.specs.Refusals.{pick}
 use Rattle.rules.specs.Search.{some, every, first, howMany, total}
-use Rattle.grid.specs.Ticks.{tickOf, slot, isSlotStart}
+use Rattle.grid.specs.Ticks.{tickOf, slot}
 use Rattle.grid.specs.Channels.{channelCell}
 use Rattle.grid.specs.Lanes.{laneCell}
 use Rattle.story.specs.declared.Title.{Title}

@@ -3,3 +3,5 @@ pub mod Life
 pub mod Kept
 pub mod Next
 pub mod Calls
+pub mod Story
+pub mod Runs

@@ -1,6 +1,5 @@
 -- What an accepted event makes of the state (01, "Events").
 use Prim.Native.Nat.{ℕ, zero, suc}
-use mathlib.Core.List.{List}
 use lib.Dec.{leb, ltb}
 use lib.ListN.{set, replicate}
 use Rattle.rules.specs.Limits.{both}

@@ -1,0 +1,5 @@
+-- What holds of an agent over any series of notices.
+pub mod Turns
+pub mod Order
+pub mod OneLog
+pub mod Overtaken

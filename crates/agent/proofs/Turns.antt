@@ -1,0 +1,78 @@
+-- Laws of one notice's turn, as the agent's code meets its cases.
+-- Rest on the definitions of the agent's answer and on nothing of the story.
+use mathlib.Core.Path.{_≡_, refl, sym, ap, _∙_}
+use Prim.Native.Nat.{ℕ, suc, _+_}
+use native.Mathlib.Numerals.{add-one}
+use lib.Dec.{eqb}
+use borrow.Author.Tests.{eq-eqb, ne-eqb}
+use Rattle.rules.specs.Refusals.{pick, malformed, outOfTurn}
+use Rattle.notice.specs.declared.Notice.{Notice}
+use Rattle.notice.specs.declared.Kind.{Kind}
+use Rattle.notice.specs.declared.Reading.{Reading}
+use Rattle.notice.specs.declared.Reading.the-variants as reading
+use Rattle.story.specs.declared.State.{State}
+use Rattle.story.specs.Runs.{answered, called, callAnswer, callNext}
+use Rattle.agent.specs.declared.Agent.{Agent}
+use Rattle.agent.specs.Turns.{actOf, eventOf, noticeAnswer, noticed}
+
+abbrev pub agentOf : ℕ → State → Agent
+agentOf n s = record { sequence = n; state = s }
+
+-- what a call answers and leaves, by the notice's kind
+pub enacts : (s : State) (n : Notice) (k : Kind) (a : ℕ) (t : State) → n .kind ≡ k → a ≡ callAnswer s (n .title) (n .time) (actOf k) → t ≡ pick (eqb (callAnswer s (n .title) (n .time) (actOf k)) 0) (callNext s (n .title) (n .time) (actOf k)) s → (a ≡ answered s (eventOf n)) × (t ≡ called s (eventOf n))
+enacts s n k a t e p q = (
+  p ∙ sym (ap (λ x. callAnswer s (n .title) (n .time) (actOf x)) e),
+  q ∙ sym (ap (λ x. pick (eqb (callAnswer s (n .title) (n .time) (actOf x)) 0) (callNext s (n .title) (n .time) (actOf x)) s) e),
+)
+
+-- what an agent makes of a notice
+abbrev pub Turn : Agent → Notice → ℕ → Agent → Type 0
+Turn g n a h = (a ≡ noticeAnswer g (reading.Whole n)) × (h ≡ noticed g (reading.Whole n))
+
+-- in turn: the answer is the event's
+in-turn : (g : Agent) (n : Notice) → n .sequence ≡ g .sequence + 1 → noticeAnswer g (reading.Whole n) ≡ answered (g .state) (eventOf n)
+unfolding noticeAnswer
+in-turn g n e = ap (λ b. pick b (answered (g .state) (eventOf n)) outOfTurn) (eq-eqb (n .sequence) (suc (g .sequence)) (e ∙ add-one (g .sequence)))
+
+pub turn-taken : (g : Agent) (n : Notice) (a : ℕ) (s : State) → n .sequence ≡ g .sequence + 1 → a ≡ answered (g .state) (eventOf n) → s ≡ called (g .state) (eventOf n) → a ≡ 0 → Turn g n a (agentOf (n .sequence) s)
+turn-taken g n a s e p q z =
+    let zero-answer : answered (g .state) (eventOf n) ≡ 0 = sym p ∙ z in
+    let in-state : s ≡ callNext (g .state) (n .title) (n .time) (actOf (n .kind)) =
+    q ∙ ap (λ b. pick b (callNext (g .state) (n .title) (n .time) (actOf (n .kind))) (g .state)) (eq-eqb (answered (g .state) (eventOf n)) 0 zero-answer) in (
+      p ∙ sym (in-turn g n e),
+      ap (agentOf (n .sequence)) in-state
+          ∙ sym (ap (λ b. pick b (agentOf (n .sequence) (callNext (g .state) (n .title) (n .time) (actOf (n .kind)))) g) (eq-eqb (noticeAnswer g (reading.Whole n)) 0 (in-turn g n e ∙ zero-answer))),
+    )
+
+-- refused: the agent stays
+stays : (g : Agent) (r : Reading) → (noticeAnswer g r ≡ 0 → ⊥) → g ≡ noticed g r
+stays g r h = rw (ne-eqb (noticeAnswer g r) 0 h) refl
+
+pub turn-refused : (g : Agent) (n : Notice) (a : ℕ) → n .sequence ≡ g .sequence + 1 → a ≡ answered (g .state) (eventOf n) → (a ≡ 0 → ⊥) → Turn g n a g
+turn-refused g n a e p z =
+    (p ∙ sym (in-turn g n e), stays g (reading.Whole n) (λ h. z (p ∙ sym (in-turn g n e) ∙ h)))
+
+pub out-of-turn : (g : Agent) (n : Notice) → (n .sequence ≡ suc (g .sequence) → ⊥) → noticeAnswer g (reading.Whole n) ≡ outOfTurn
+unfolding noticeAnswer
+out-of-turn g n h = ap (λ b. pick b (answered (g .state) (eventOf n)) outOfTurn) (ne-eqb (n .sequence) (suc (g .sequence)) h)
+
+pub turn-other : (g : Agent) (n : Notice) → (n .sequence ≡ g .sequence + 1 → ⊥) → Turn g n outOfTurn g
+turn-other g n h =
+    let e : noticeAnswer g (reading.Whole n) ≡ outOfTurn = out-of-turn g n (λ q. h (q ∙ sym (add-one (g .sequence)))) in
+    (sym e, stays g (reading.Whole n) (λ z. let o : outOfTurn ≡ 0 = sym e ∙ z in omega native.Mathlib.Omega.arith))
+
+pub malformed-stays : (g : Agent) → (malformed ≡ noticeAnswer g reading.Malformed) × (g ≡ noticed g reading.Malformed)
+unfolding noticeAnswer
+malformed-stays g = (refl, refl)
+
+-- by what the bytes read as
+pub reads-as : (g : Agent) (r q : Reading) (a : ℕ) (h : Agent) → r ≡ q → (a ≡ noticeAnswer g q) × (h ≡ noticed g q) → (a ≡ noticeAnswer g r) × (h ≡ noticed g r)
+reads-as g r q a h e w = rw e w
+
+-- a reading that is refused changes nothing
+pub refused-stays : (g : Agent) (r : Reading) → (noticeAnswer g r ≡ 0 → ⊥) → noticed g r ≡ g
+refused-stays g r h = sym (stays g r h)
+
+-- two outcomes that the contract of the agent's call admits are equal
+pub one-outcome : (g : Agent) (r : Reading) (a b : ℕ) (h k : Agent) → (a ≡ noticeAnswer g r) × (h ≡ noticed g r) → (b ≡ noticeAnswer g r) × (k ≡ noticed g r) → (a ≡ b) × (h ≡ k)
+one-outcome g r a b h k p q = (p .0 ∙ sym (q .0), p .1 ∙ sym (q .1))

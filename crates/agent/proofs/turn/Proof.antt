@@ -1,0 +1,32 @@
+-- `agent::turn` meets its contract: the test of the turn, then the event's answer.
+use Rattle.agent.proofs.Turns.{turn-taken, turn-refused, turn-other}
+use borrow.Author.Needs.{needs}
+use Rattle.agent.proofs.turn.Statement.{statement}
+use Rattle.agent.proofs.turn.Tie as tie
+
+cast-if1 : tie.Need-cast-if1
+cast-if1 c = search needs
+
+cast-if1-2 : tie.Need-cast-if1-2
+cast-if1-2 c = search needs
+
+add-if1 : tie.Need-add-if1
+add-if1 c = search needs
+
+enact-requires : tie.Need-enact-requires
+enact-requires c κs = search needs
+
+returns : tie.Need-returns
+returns c =
+    turn-taken _ _ _ _ (c .before .before .before .before .if1 .taken) (c .before .before .enact .ensures .0) (c .before .before .enact .ensures .1) (c .before .if2 .taken)
+
+returns-2 : tie.Need-returns-2
+returns-2 c =
+    turn-refused _ _ _ (c .before .before .before .if1 .taken) (c .before .enact .ensures .0) (c .if2 .left)
+
+returns-3 : tie.Need-returns-3
+returns-3 c = turn-other _ _ (c .if1 .left)
+
+pub turn-spec : {M : Type 1} → statement M
+turn-spec =
+    tie.close (tie.spec cast-if1 cast-if1-2 add-if1 enact-requires returns returns-2 returns-3)

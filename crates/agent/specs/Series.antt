@@ -1,0 +1,46 @@
+-- A series of byte strings handed to a fresh agent of a pool, newest first, and the notices that count among them, told
+-- from the series alone (01, "Notices": a refused event doesn't advance the sequence).
+use Prim.Native.Nat.{ℕ, suc}
+use mathlib.Core.Path.{_≡_}
+use mathlib.Core.List.{List, [], _∷_, map}
+use lib.Dec.{eqb}
+use lib.ListN.{length}
+use Rattle.rules.specs.Limits.{both}
+use Rattle.rules.specs.Refusals.{pick}
+use Rattle.notice.specs.declared.Notice.{Notice}
+use Rattle.notice.specs.declared.Reading.{Reading}
+use Rattle.notice.specs.declared.Reading.the-variants as reading
+use Rattle.notice.specs.Decode.{readOf}
+use Rattle.story.specs.Story.{answer}
+use Rattle.agent.specs.declared.Agent.{Agent}
+use Rattle.agent.specs.Turns.{eventOf, freshAgent, noticed}
+
+-- the agent after a series
+unfoldable pub agentAfter : ℕ → List (List ℕ) → Agent
+agentAfter pool [] = freshAgent pool
+agentAfter pool (bs ∷ bss) = noticed (agentAfter pool bss) (readOf bs)
+
+-- the notices heard, after one more reading: it counts if it is the next in turn and its event is accepted after theirs
+abbrev pub hearing : ℕ → List Notice → Reading → List Notice
+hearing lanes ns (reading.Whole n) =
+    pick (both (eqb (n .sequence) (suc (length ns))) (eqb (answer lanes (map eventOf ns) (eventOf n)) 0)) (n ∷ ns) ns
+hearing lanes ns reading.Malformed = ns
+
+-- the notices heard of a series, newest first
+unfoldable pub heard : ℕ → List (List ℕ) → List Notice
+heard lanes [] = []
+heard lanes (bs ∷ bss) = hearing lanes (heard lanes bss) (readOf bs)
+
+-- sequences 1, 2, 3, .. with none left out
+pub data InTurn : List Notice → Type 0 where
+  start : InTurn []
+  next : {n : Notice} {ns : List Notice} → n .sequence ≡ suc (length ns) → InTurn ns → InTurn (n ∷ ns)
+
+-- every notice of a series stands in a log, given by which notices it has
+pub data Of (log : Notice → Type 0) : List (List ℕ) → Type 0 where
+  no-bytes : Of log []
+  more-bytes : {bs : List ℕ} {bss : List (List ℕ)} → ((n : Notice) → readOf bs ≡ reading.Whole n → log n) → Of log bss → Of log (bs ∷ bss)
+
+-- no two different notices of a log share a sequence
+abbrev pub OneEach : (Notice → Type 0) → Type 0
+OneEach log = (m n : Notice) → log m → log n → m .sequence ≡ n .sequence → m ≡ n

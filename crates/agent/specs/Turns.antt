@@ -1,0 +1,42 @@
+-- The agent's call (01, "Notices" and "Numbers that calls give back"): 11, 12, then the event's own refusals.
+use Prim.Native.Nat.{ℕ, suc}
+use lib.Dec.{eqb}
+use Rattle.rules.specs.Refusals.{pick, malformed, outOfTurn}
+use Rattle.notice.specs.declared.Notice.{Notice}
+use Rattle.notice.specs.declared.Kind.{Kind}
+use Rattle.notice.specs.declared.Kind.the-variants.{Open, Change, Close}
+use Rattle.notice.specs.declared.Reading.{Reading}
+use Rattle.notice.specs.declared.Reading.the-variants as reading
+use Rattle.story.specs.Calls.{freshNext}
+use Rattle.story.specs.Story.{Act, opens, changes, closes, Event}
+use Rattle.story.specs.Runs.{answered, callNext}
+use Rattle.agent.specs.declared.Agent.{Agent}
+
+-- what a notice's kind does
+abbrev pub actOf : Kind → Act
+actOf (Open d a k n) = opens d a k n
+actOf (Change n) = changes n
+actOf Close = closes
+
+-- the event that a notice carries
+abbrev pub eventOf : Notice → Event
+eventOf n = record { time = n .time; title = n .title; act = actOf (n .kind) }
+
+-- a fresh agent has accepted nothing; a refused one has a pool of 0 lanes
+abbrev pub freshAgent : ℕ → Agent
+freshAgent pool = record { sequence = 0; state = freshNext pool }
+
+-- what a notice in its turn is answered is what its event is
+unfoldable pub noticeAnswer : Agent → Reading → ℕ
+noticeAnswer g (reading.Whole n) = pick (eqb (n .sequence) (suc (g .sequence))) (answered (g .state) (eventOf n)) outOfTurn
+noticeAnswer g reading.Malformed = malformed
+
+-- the agent that an accepted notice leaves
+abbrev pub noticeNext : Agent → Reading → Agent
+noticeNext g (reading.Whole n) =
+    record { sequence = n .sequence; state = callNext (g .state) (n .title) (n .time) (actOf (n .kind)) }
+noticeNext g reading.Malformed = g
+
+-- the agent after a notice: as it came in where the notice is refused
+abbrev pub noticed : Agent → Reading → Agent
+noticed g r = pick (eqb (noticeAnswer g r) 0) (noticeNext g r) g

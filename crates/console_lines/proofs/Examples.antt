@@ -1,0 +1,62 @@
+-- Lines with their meaning, computed: command, fault, place, and the numbers.
+use Prim.Native.Nat.{ℕ, suc, zero}
+use Prim.Native.String.{String}
+use mathlib.Core.Path.{_≡_, refl}
+use mathlib.Core.List.{List, [], _∷_}
+use lib.ListN.{take}
+use Rattle.console_words.specs.Bytes.{isSort, run, reach}
+use Rattle.console_words.specs.Numbers.{amount, tooLarge}
+use Rattle.console_words.specs.Commands.{text, same, verbOf, leastOf, mostOf, enough, takesHex, takesKind, limitsOf, limitOf, crowded, oversized}
+use Rattle.console_lines.specs.declared.lines.Line.{Line}
+use Rattle.console_lines.specs.Lines.{blank, withFault, ended, goOn, withNumber, withKind, withHex, wordAt, withWord, step, withVerb, begun, readOn, meaning}
+
+unfoldable pub told : Line → List ℕ
+told l = l .command ∷ l .fault ∷ l .place ∷ take (l .count) (l .numbers)
+
+unfoldable pub each : List String → List (List ℕ)
+unfolding told isSort run reach amount tooLarge text same verbOf leastOf mostOf enough takesHex takesKind limitsOf limitOf crowded oversized blank withFault ended goOn withNumber withKind withHex wordAt withWord step withVerb begun readOn meaning
+each [] = []
+each (s ∷ rest) = told (meaning (text s)) ∷ each rest
+
+abbrev pub lines : List String
+lines =
+    "lane 3 0 12" ∷
+    "  close\t007 18446744073709551616 \r" ∷
+    "# a remark" ∷
+    "Help" ∷
+    "open 1 2" ∷
+    "status 5x" ∷
+    "plan 2 4 4 0 1025" ∷
+    "share 8 1 2 3" ∷
+    "write 7 close 1 18446744073709551615" ∷
+    "write 7 close 1 18446744073709551616" ∷
+    "write 7 lane" ∷
+    "read 0aF0" ∷
+    "notice 0aF" ∷
+    "notice 0g" ∷
+    "help me" ∷
+    []
+
+abbrev pub meanings : List (List ℕ)
+meanings =
+    (5 ∷ 0 ∷ 11 ∷ 3 ∷ 0 ∷ 12 ∷ []) ∷
+    (4 ∷ 0 ∷ 34 ∷ 7 ∷ 18446744073709551615 ∷ []) ∷
+    (0 ∷ 0 ∷ 0 ∷ []) ∷
+    (0 ∷ 2 ∷ 0 ∷ []) ∷
+    (2 ∷ 3 ∷ 8 ∷ 1 ∷ 2 ∷ []) ∷
+    (6 ∷ 5 ∷ 8 ∷ []) ∷
+    (7 ∷ 11 ∷ 13 ∷ 2 ∷ 4 ∷ 4 ∷ 0 ∷ []) ∷
+    (8 ∷ 3 ∷ 13 ∷ 8 ∷ 1 ∷ 2 ∷ 3 ∷ []) ∷
+    (15 ∷ 0 ∷ 36 ∷ 7 ∷ 1 ∷ 18446744073709551615 ∷ []) ∷
+    (15 ∷ 6 ∷ 16 ∷ 7 ∷ 1 ∷ []) ∷
+    (11 ∷ 2 ∷ 8 ∷ 7 ∷ []) ∷
+    (9 ∷ 0 ∷ 9 ∷ 5 ∷ []) ∷
+    (10 ∷ 7 ∷ 7 ∷ []) ∷
+    (10 ∷ 8 ∷ 8 ∷ []) ∷
+    (12 ∷ 4 ∷ 5 ∷ []) ∷
+    []
+
+-- the lines above, one after the other, mean what the list says
+pub shown : each lines ≡ meanings
+unfolding told each isSort run reach amount tooLarge text same verbOf leastOf mostOf enough takesHex takesKind limitsOf limitOf crowded oversized blank withFault ended goOn withNumber withKind withHex wordAt withWord step withVerb begun readOn meaning
+shown = refl

@@ -1,0 +1,138 @@
+-- Every line is read to its end: what it means is never "not read yet". Each word that is taken leaves less room for further words.
+use Prim.Native.Nat.{ℕ, zero, suc, _+_, _-_, _%_, _<_, _≤_}
+use mathlib.Core.Path.{_≡_, refl, sym, _∙_, ap}
+use mathlib.Core.Bool.{Bool, true, false}
+use mathlib.Core.List.{List}
+use native.Mathlib.Omega.{arith}
+use borrow.Author.Tests.{leb-false, leb-true, eqb-true, eqb-false, ne-eqb}
+use lib.ListN.{length, getD, drop}
+use lib.Dec.{eqb, leb, ltb}
+use Rattle.rules.specs.Limits.{both, either, within}
+use Rattle.rules.specs.Refusals.{pick}
+use Rattle.console_words.specs.declared.bytes.Sort.the-variants.{Separator, Word, Digit, Hex}
+use Rattle.console_words.specs.Bytes.{reach}
+use Rattle.console_words.specs.Numbers.{amount, tooLarge}
+use Rattle.console_words.specs.Commands
+use Rattle.console_words.proofs.Tables.{both-l, both-r, up-to, allUpTo}
+use Rattle.console_lines.specs.declared.lines.Line.{Line}
+use Rattle.console_lines.specs.Lines.{withFault, ended, goOn, withNumber, withKind, withHex, wordAt, withWord, step, begun, readOn, meaning}
+
+-- how many words a line may still have, its kind counted for one
+unfoldable room : Line → ℕ
+room l = (69 - l .count) + pick (eqb (l .command) Commands.doWrite) 1 0
+
+pick-case : {A : Type 0} (P : A → Type 0) (t : Bool) (a b : A) → (t ≡ true → P a) → (t ≡ false → P b) → P (pick t a b)
+pick-case P true a b f g = f refl
+pick-case P false a b f g = g refl
+
+-- a line that is still to be read has less room than l
+abbrev Falls : Line → Line → Type 0
+Falls l m = m .fault ≡ Commands.unread → suc (room m) ≤ room l
+
+-- a fault is not "not read yet"
+abbrev known : ℕ → Type 0
+known f = f ≡ Commands.unread → ⊥
+
+stops : (l : Line) (f p : ℕ) → known f → Falls l (withFault l f p)
+unfolding withFault
+stops l f p h = λ u. absurd (h u)
+
+crowded-known : (c : ℕ) → known (Commands.crowded c)
+unfolding Commands.crowded
+crowded-known c =
+    pick-case known (eqb c Commands.doStatus) _ _ (λ e u. omega arith)
+    (λ e. pick-case known (eqb c Commands.doShare) _ _ (λ e u. omega arith) (λ e u. omega arith))
+
+oversized-known : (c : ℕ) → known (Commands.oversized c)
+unfolding Commands.oversized
+oversized-known c = pick-case known (eqb c Commands.doPlan) _ _ (λ e u. omega arith) (λ e u. omega arith)
+
+few : (c : ℕ) → Commands.mostOf c ≤ 69
+unfolding Commands.mostOf allUpTo
+few c = up-to 69 Commands.mostTable refl c
+
+-- a number takes one word
+number-falls : (s : List ℕ) (l : Line) (a e : ℕ) → l .count < Commands.mostOf (l .command) → Falls l (withNumber s l a e)
+unfolding withNumber goOn room
+number-falls s l a e h =
+    pick-case (Falls l) (ltb (reach Digit s a) e) _ _ (λ t. stops l Commands.notNumber (reach Digit s a) (λ u. omega arith))
+    (λ t. pick-case (Falls l) (tooLarge (Commands.limitOf (l .command) (l .count)) (amount 0 (drop a s))) _ _
+    (λ q. stops l (Commands.oversized (l .command)) a (oversized-known (l .command)))
+    (λ q u. omega (arith, few (l .command))))
+
+-- HEX is the one word of its command
+hex-falls : (s : List ℕ) (l : Line) (a e : ℕ) → l .count < 1 → Falls l (withHex s l a e)
+unfolding withHex room
+hex-falls s l a e h =
+    pick-case (Falls l) (ltb (reach Hex s a) e) _ _ (λ t. stops l Commands.badHex (reach Hex s a) (λ u. omega arith))
+    (λ t. pick-case (Falls l) (eqb ((e - a) % 2) 1) _ _ (λ q. stops l Commands.oddHex a (λ u. omega arith)) (λ q u. omega arith))
+
+kind-less : (c v n : ℕ) → c ≡ Commands.doWrite → 2 ≤ v
+    → suc (n + pick (eqb (Commands.doWrite + v) Commands.doWrite) 1 0) ≤ n + pick (eqb c Commands.doWrite) 1 0
+kind-less c v n h g =
+    let more : Commands.doWrite + v ≡ Commands.doWrite → ⊥ = λ q. let z : Commands.doWrite + v ≡ Commands.doWrite = q in omega arith in
+    rw (ne-eqb _ _ more, h) (omega arith)
+
+-- the kind makes a write one of three commands that are no write without kind
+kind-falls : (w : List ℕ) (l : Line) (a e : ℕ) → l .command ≡ Commands.doWrite → Falls l (withKind w l a e)
+unfolding withKind room
+kind-falls w l a e h =
+    pick-case (Falls l) (within Commands.doOpen Commands.doClose (Commands.verbOf w)) _ _
+    (λ t u. kind-less (l .command) (Commands.verbOf w) (69 - l .count) h
+    (leb-true _ _ (both-l (leb Commands.doOpen (Commands.verbOf w)) (leb (Commands.verbOf w) Commands.doClose) t)))
+    (λ t. stops l Commands.unknownWord a (λ u. omega arith))
+
+hex-one : (c : ℕ) → Commands.takesHex c ≡ true → Commands.mostOf c ≡ 1
+unfolding Commands.takesHex Commands.mostOf
+hex-one c e = by-read (eqb c Commands.doRead) refl where
+  by-read : (t : Bool) → eqb c Commands.doRead ≡ t → getD Commands.mostTable c 0 ≡ 1
+  by-read true q = rw (eqb-true c Commands.doRead q)
+  by-read false q = rw (eqb-true c Commands.doNotice (rw q at e))
+
+kind-write : (c n : ℕ) → Commands.takesKind c n ≡ true → c ≡ Commands.doWrite
+unfolding Commands.takesKind
+kind-write c n k = eqb-true c Commands.doWrite (both-l (eqb c Commands.doWrite) (eqb n 1) k)
+
+word-falls : (s : List ℕ) (l : Line) (a : ℕ) → Falls l (withWord s l a)
+unfolding withWord
+word-falls s l a =
+    pick-case (Falls l) (leb (Commands.mostOf (l .command)) (l .count)) _ _
+    (λ t. stops l (Commands.crowded (l .command)) a (crowded-known (l .command)))
+    (λ t. let h : l .count < Commands.mostOf (l .command) = leb-false _ _ t in
+    pick-case (Falls l) (Commands.takesHex (l .command)) _ _
+    (λ q. hex-falls s l a (reach Word s a) (omega (arith, hex-one (l .command) q)))
+    (λ q. pick-case (Falls l) (Commands.takesKind (l .command) (l .count)) _ _
+    (λ k. kind-falls (wordAt s a) l a (reach Word s a) (kind-write (l .command) (l .count) k))
+    (λ k. number-falls s l a (reach Word s a) h)))
+
+step-falls : (s : List ℕ) (l : Line) → Falls l (step s l)
+unfolding step ended
+step-falls s l =
+    pick-case (Falls l) (ltb (reach Separator s (l .place)) (length s)) _ _ (λ t. word-falls s l (reach Separator s (l .place)))
+    (λ t. stops l _ (reach Separator s (l .place)) (pick-case known (Commands.enough (l .command) (l .count)) _ _ (λ q u. omega arith) (λ q u. omega arith)))
+
+after : (n : ℕ) (s : List ℕ) (l : Line) (t : Bool) → eqb (l .fault) Commands.unread ≡ t
+    → (l .fault ≡ Commands.unread → room l < suc n)
+    → (((step s l) .fault ≡ Commands.unread → room (step s l) < n) → (readOn n s (step s l)) .fault ≡ Commands.unread → ⊥)
+    → (pick t (readOn n s (step s l)) l) .fault ≡ Commands.unread → ⊥
+after n s l true e h more =
+    more (λ u. let full : room l < suc n = h (eqb-true _ _ e) in let less : suc (room (step s l)) ≤ room l = step-falls s l u in omega arith)
+after n s l false e h more = eqb-false _ _ e
+
+read-through : (n : ℕ) (s : List ℕ) (l : Line) → (l .fault ≡ Commands.unread → room l < n) → (readOn n s l) .fault ≡ Commands.unread → ⊥
+unfolding readOn
+read-through zero s l h = λ u. let none : room l < 0 = h u in omega arith
+read-through (suc n) s l h = after n s l (eqb (l .fault) Commands.unread) refl h (read-through n s (step s l))
+
+one-more : (t : Bool) → pick t 1 0 ≤ 1
+one-more true = omega arith
+one-more false = omega arith
+
+small : (l : Line) → room l < 72
+unfolding room
+small l = let k : pick (eqb (l .command) Commands.doWrite) 1 0 ≤ 1 = one-more (eqb (l .command) Commands.doWrite) in omega arith
+
+-- the reader's answer is a whole line or a fault of it
+pub finished : (s : List ℕ) → (meaning s) .fault ≡ Commands.unread → ⊥
+unfolding meaning
+finished s = read-through 72 s (begun s) (λ u. small (begun s))

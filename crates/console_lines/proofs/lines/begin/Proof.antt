@@ -1,0 +1,97 @@
+-- `console_lines::lines::begin` meets its contract: its tests are those of the definition, and a word stays within the line.
+use Prim.Native.Nat.{ℕ, _-_, _+_}
+use mathlib.Core.Path.{_≡_, refl, sym, _∙_, ap}
+use native.Mathlib.Omega.{arith}
+use Rattle.console_lines.specs.declared.lines.Line.{Line}
+use Rattle.console_words.specs.Commands.{tooLong}
+use Rattle.console_lines.specs.Lines.{withFault, withVerb, longest}
+use Rattle.console_words.specs.declared.bytes.Sort.the-variants.{Word}
+use Rattle.console_words.proofs.Runs.{reach-low, reach-high}
+use Rattle.console_lines.proofs.Reading.{begun-long, begun-hash, begun-verb, begun-blank}
+use borrow.Author.Needs.{needs}
+use Rattle.console_lines.proofs.lines.begin.Statement.{statement}
+use Rattle.console_lines.proofs.lines.begin.Tie as tie
+
+empty-requires : tie.Need-empty-requires
+empty-requires c κs = search needs
+
+faulted-requires : tie.Need-faulted-requires
+faulted-requires c κs = search needs
+
+returns : tie.Need-returns
+returns c =
+    let x = c .before .before .before .before .args in
+    c .faulted .ensures ∙ ap (λ (l : Line). withFault l tooLong longest) (c .before .empty .ensures) ∙ begun-long (x .s .now) (c .before .before .if1 .taken)
+
+reach-requires : tie.Need-reach-requires
+reach-requires c κs = search needs
+
+shared-slice-read-if3 : tie.Need-shared-slice-read-if3
+shared-slice-read-if3 c = search needs
+
+empty-requires-2 : tie.Need-empty-requires-2
+empty-requires-2 c κs = search needs
+
+returns-2 : tie.Need-returns-2
+returns-2 c =
+    let x = c .before .before .before .before .before .before .before .args in
+    c .empty2 .ensures ∙ begun-hash (x .s .now) (c .before .before .before .before .before .if1 .left) _ (c .before .before .before .before .reach .ensures) (c .before .before .before .if2 .taken) (c .before .if3 .taken)
+
+reach-requires-2 : tie.Need-reach-requires-2
+reach-requires-2 c κs = search needs
+
+sub-verb : tie.Need-sub-verb
+sub-verb c =
+    let x = c .before .before .before .before .before .before .before .args in
+    omega (arith, c .reach2 .ensures, reach-low Word (x .s .now) (c .before .before .before .before .reach .result), reach-high Word (x .s .now) (c .before .before .before .before .reach .result) (omega arith))
+
+part-verb-start : tie.Need-part-verb-start
+part-verb-start c =
+    let x = c .before .before .before .before .before .before .before .args in
+    omega (arith, c .reach2 .ensures, reach-low Word (x .s .now) (c .before .before .before .before .reach .result), reach-high Word (x .s .now) (c .before .before .before .before .reach .result) (omega arith))
+
+part-verb-end : tie.Need-part-verb-end
+part-verb-end c =
+    let x = c .before .before .before .before .before .before .before .args in
+    omega (arith, c .reach2 .ensures, reach-low Word (x .s .now) (c .before .before .before .before .reach .result), reach-high Word (x .s .now) (c .before .before .before .before .reach .result) (omega arith))
+
+verb-requires : tie.Need-verb-requires
+verb-requires c κs = search needs
+
+take-verb-requires : tie.Need-take-verb-requires
+take-verb-requires c κs = search needs
+
+returns-3 : tie.Need-returns-3
+returns-3 c =
+    let x = c .before .before .before .before .before .before .before .before .before .before .args in
+    c .take-verb .ensures ∙ ap (λ (v : ℕ). withVerb v (c .before .before .before .before .before .before .before .reach .result) (c .before .before .before .reach2 .result)) (c .before .verb .ensures)
+    ∙ begun-verb (x .s .now) (c .before .before .before .before .before .before .before .before .if1 .left) _ (c .before .before .before .before .before .before .before .reach .ensures) (c .before .before .before .before .before .before .if2 .taken) (c .before .before .before .before .if3 .left) _ (c .before .before .before .reach2 .ensures)
+
+empty-requires-3 : tie.Need-empty-requires-3
+empty-requires-3 c κs = search needs
+
+returns-4 : tie.Need-returns-4
+returns-4 c =
+    let x = c .before .before .before .before .before .args in
+    c .empty3 .ensures ∙ begun-blank (x .s .now) (c .before .before .before .if1 .left) _ (c .before .before .reach .ensures) (c .before .if2 .left)
+
+pub begin-spec : {M : Type 1} → statement M
+begin-spec =
+    tie.close
+    (tie.spec
+    empty-requires
+    faulted-requires
+    returns
+    reach-requires
+    shared-slice-read-if3
+    empty-requires-2
+    returns-2
+    reach-requires-2
+    sub-verb
+    part-verb-start
+    part-verb-end
+    verb-requires
+    take-verb-requires
+    returns-3
+    empty-requires-3
+    returns-4)

@@ -1,0 +1,28 @@
+-- `console_lines::lines::step` meets its contract: the test says whether a word is left.
+use mathlib.Core.Path.{_≡_, refl, sym, _∙_, ap}
+use Rattle.console_lines.proofs.Reading.{step-word, step-end}
+use borrow.Author.Needs.{needs}
+use Rattle.console_lines.proofs.lines.step.Statement.{statement}
+use Rattle.console_lines.proofs.lines.step.Tie as tie
+
+reach-requires : tie.Need-reach-requires
+reach-requires c κs = search needs
+
+take-word-requires : tie.Need-take-word-requires
+take-word-requires c κs = search needs
+
+returns : tie.Need-returns
+returns c =
+    let x = c .before .before .before .before .args in
+    c .take-word .ensures ∙ step-word (x .s .now) (x .line) _ (c .before .before .reach .ensures) (c .before .if1 .taken)
+
+end-requires : tie.Need-end-requires
+end-requires c κs = search needs
+
+returns-2 : tie.Need-returns-2
+returns-2 c =
+    let x = c .before .before .before .before .args in
+    c .end .ensures ∙ step-end (x .s .now) (x .line) _ (c .before .before .reach .ensures) (c .before .if1 .left)
+
+pub step-spec : {M : Type 1} → statement M
+step-spec = tie.close (tie.spec reach-requires take-word-requires returns end-requires returns-2)

@@ -1,0 +1,81 @@
+-- `console_lines::lines::take_number` meets its contract: its tests are those of the definition, and a number that is held
+-- at most at the top is above a limit when the number itself is.
+use Prim.Native.Nat.{ℕ}
+use mathlib.Core.Path.{_≡_, refl, sym, _∙_, ap}
+use native.Mathlib.Omega.{arith}
+use Rattle.console_words.specs.Numbers.{above, capped}
+use Rattle.console_lines.specs.Lines.{withFault, goOn}
+use Rattle.console_lines.proofs.Reading.{number-bad, number-large, number-whole}
+use borrow.Author.Needs.{needs}
+use Rattle.console_lines.proofs.lines.take_number.Statement.{statement}
+use Rattle.console_lines.proofs.lines.take_number.Tie as tie
+
+reach-requires : tie.Need-reach-requires
+reach-requires c κs = search needs
+
+faulted-requires : tie.Need-faulted-requires
+faulted-requires c κs = search needs
+
+returns : tie.Need-returns
+returns c =
+    let x = c .before .before .before .before .args in
+    c .faulted .ensures ∙ number-bad (x .s .now) (x .line) (x .a) (x .e) _ (c .before .before .reach .ensures) (c .before .if1 .taken)
+
+spelt-requires : tie.Need-spelt-requires
+spelt-requires c κs = search needs
+
+limit-requires : tie.Need-limit-requires
+limit-requires c κs = search needs
+
+above-requires : tie.Need-above-requires
+above-requires c κs = search needs
+
+oversized-fault-requires : tie.Need-oversized-fault-requires
+oversized-fault-requires c κs = search needs
+
+faulted-requires-2 : tie.Need-faulted-requires-2
+faulted-requires-2 c κs = search needs
+
+returns-2 : tie.Need-returns-2
+returns-2 c =
+    let x = c .before .before .before .before .before .before .before .before .before .args in
+    c .faulted2 .ensures ∙ ap (λ (f : ℕ). withFault (x .line) f (x .a)) (c .before .oversized-fault .ensures)
+    ∙ number-large (x .s .now) (x .line) (x .a) (x .e) _ (c .before .before .before .before .before .before .before .reach .ensures) (c .before .before .before .before .before .before .if1 .left) _ (c .before .before .before .before .limit .ensures) (omega arith) _
+    (c .before .before .before .above .ensures ∙ ap (above (c .before .before .before .before .limit .result)) (c .before .before .before .before .before .spelt .ensures))
+    (c .before .before .if2 .taken)
+
+mul-l : tie.Need-mul-l
+mul-l c = search needs
+
+element-write-l : tie.Need-element-write-l
+element-write-l c = search needs
+
+add-l : tie.Need-add-l
+add-l c = search needs
+
+returns-3 : tie.Need-returns-3
+unfolding goOn capped
+returns-3 c =
+    let x = c .before .before .before .before .before .before .before .args in
+    rw (c .before .before .before .spelt .ensures)
+    (number-whole (x .s .now) (x .line) (x .a) (x .e) _ (c .before .before .before .before .before .reach .ensures) (c .before .before .before .before .if1 .left) _ (c .before .before .limit .ensures) (omega arith) _
+    (c .before .above .ensures ∙ ap (above (c .before .before .limit .result)) (c .before .before .before .spelt .ensures))
+    (c .if2 .left))
+
+pub take-number-spec : {M : Type 1} → statement M
+take-number-spec =
+    tie.close
+    (tie.spec
+    reach-requires
+    faulted-requires
+    returns
+    spelt-requires
+    limit-requires
+    above-requires
+    oversized-fault-requires
+    faulted-requires-2
+    returns-2
+    mul-l
+    element-write-l
+    add-l
+    returns-3)

@@ -1,0 +1,97 @@
+-- `console_lines::lines::take_word` meets its contract: its tests are those of the definition, and a word stays within the line.
+use Prim.Native.Nat.{ℕ, _-_, _+_}
+use mathlib.Core.Path.{_≡_, refl, sym, _∙_, ap}
+use native.Mathlib.Omega.{arith}
+use Rattle.console_lines.specs.Lines.{withFault}
+use Rattle.console_words.specs.declared.bytes.Sort.the-variants.{Word}
+use Rattle.console_words.proofs.Runs.{reach-low, reach-high}
+use Rattle.console_lines.proofs.Reading.{word-crowded, word-hex, word-kind, word-number}
+use borrow.Author.Needs.{needs}
+use Rattle.console_lines.proofs.lines.take_word.Statement.{statement}
+use Rattle.console_lines.proofs.lines.take_word.Tie as tie
+
+most-requires : tie.Need-most-requires
+most-requires c κs = search needs
+
+crowded-fault-requires : tie.Need-crowded-fault-requires
+crowded-fault-requires c κs = search needs
+
+faulted-requires : tie.Need-faulted-requires
+faulted-requires c κs = search needs
+
+returns : tie.Need-returns
+returns c =
+    let x = c .before .before .before .before .before .args in
+    c .faulted .ensures ∙ ap (λ (f : ℕ). withFault (x .line) f (x .a)) (c .before .crowded-fault .ensures)
+    ∙ word-crowded (x .s .now) (x .line) (x .a) _ (c .before .before .before .most .ensures .0) (c .before .before .if1 .taken)
+
+reach-requires : tie.Need-reach-requires
+reach-requires c κs = search needs
+
+takes-hex-requires : tie.Need-takes-hex-requires
+takes-hex-requires c κs = search needs
+
+take-hex-requires : tie.Need-take-hex-requires
+take-hex-requires c κs =
+    let x = c .before .before .before .before .before .before .args in
+    omega (arith, c .before .before .reach .ensures, reach-low Word (x .s .now) (x .a), reach-high Word (x .s .now) (x .a) (omega arith))
+
+returns-2 : tie.Need-returns-2
+returns-2 c =
+    let x = c .before .before .before .before .before .before .before .args in
+    c .take-hex .ensures ∙ word-hex (x .s .now) (x .line) (x .a) _ (c .before .before .before .before .before .most .ensures .0) (c .before .before .before .before .if1 .left) _ (c .before .before .takes-hex .ensures) _ (c .before .before .before .reach .ensures) (c .before .if2 .taken)
+
+takes-kind-requires : tie.Need-takes-kind-requires
+takes-kind-requires c κs = search needs
+
+sub-take-kind : tie.Need-sub-take-kind
+sub-take-kind c =
+    let x = c .before .before .before .before .before .before .before .before .args in
+    omega (arith, c .before .before .before .before .reach .ensures, reach-low Word (x .s .now) (x .a), reach-high Word (x .s .now) (x .a) (omega arith))
+
+part-take-kind-start : tie.Need-part-take-kind-start
+part-take-kind-start c =
+    let x = c .before .before .before .before .before .before .before .before .args in
+    omega (arith, c .before .before .before .before .reach .ensures, reach-low Word (x .s .now) (x .a), reach-high Word (x .s .now) (x .a) (omega arith))
+
+part-take-kind-end : tie.Need-part-take-kind-end
+part-take-kind-end c =
+    let x = c .before .before .before .before .before .before .before .before .args in
+    omega (arith, c .before .before .before .before .reach .ensures, reach-low Word (x .s .now) (x .a), reach-high Word (x .s .now) (x .a) (omega arith))
+
+take-kind-requires : tie.Need-take-kind-requires
+take-kind-requires c κs = search needs
+
+returns-3 : tie.Need-returns-3
+returns-3 c =
+    let x = c .before .before .before .before .before .before .before .before .before .before .args in
+    c .take-kind .ensures ∙ word-kind (x .s .now) (x .line) (x .a) _ (c .before .before .before .before .before .before .before .before .most .ensures .0) (c .before .before .before .before .before .before .before .if1 .left) _ (c .before .before .before .before .before .takes-hex .ensures) _ (c .before .before .before .before .before .before .reach .ensures) (c .before .before .before .before .if2 .left) _ (c .before .before .before .takes-kind .ensures) (c .before .before .if3 .taken)
+
+take-number-requires : tie.Need-take-number-requires
+take-number-requires c κs = search needs
+
+returns-4 : tie.Need-returns-4
+returns-4 c =
+    let x = c .before .before .before .before .before .before .before .before .before .args in
+    c .take-number .ensures ∙ word-number (x .s .now) (x .line) (x .a) _ (c .before .before .before .before .before .before .before .most .ensures .0) (c .before .before .before .before .before .before .if1 .left) _ (c .before .before .before .before .takes-hex .ensures) _ (c .before .before .before .before .before .reach .ensures) (c .before .before .before .if2 .left) _ (c .before .before .takes-kind .ensures) (c .before .if3 .left)
+
+pub take-word-spec : {M : Type 1} → statement M
+take-word-spec =
+    tie.close
+    (tie.spec
+    most-requires
+    crowded-fault-requires
+    faulted-requires
+    returns
+    reach-requires
+    takes-hex-requires
+    take-hex-requires
+    returns-2
+    takes-kind-requires
+    sub-take-kind
+    part-take-kind-start
+    part-take-kind-end
+    take-kind-requires
+    returns-3
+    take-number-requires
+    returns-4)

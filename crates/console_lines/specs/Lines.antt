@@ -1,0 +1,118 @@
+-- What a line of the console means: which command with which numbers, or what is wrong with it and at which byte
+-- ("The operator's console", lines). A line is read from the left, word by word; the first thing wrong decides.
+use Prim.Native.Nat.{ℕ, zero, suc, _+_, _-_, _%_, min}
+use mathlib.Core.Bool.{Bool, true, false}
+use mathlib.Core.List.{List, []}
+use lib.ListN.{length, getD, take, drop, set, replicate}
+use lib.Dec.{eqb, leb, ltb}
+use Rattle.rules.specs.Limits.{within}
+use Rattle.rules.specs.Refusals.{pick}
+use Rattle.console_words.specs.declared.bytes.Sort.the-variants.{Separator, Word, Digit, Hex}
+use Rattle.console_words.specs.declared.numbers.Number.{Number}
+use Rattle.console_lines.specs.declared.lines.Line.{Line}
+use Rattle.console_words.specs.Bytes.{reach}
+use Rattle.console_words.specs.Numbers.{top, amount, tooLarge}
+use Rattle.console_words.specs.Commands
+
+-- a line that answers nothing
+unfoldable pub blank : Line
+blank = record { command = Commands.none; fault = Commands.noFault; place = 0; count = 0; numbers = replicate 72 0 }
+
+-- the reading stops at a place: for a fault, or for none at the line's end
+unfoldable pub withFault : Line → ℕ → ℕ → Line
+withFault l f p = record { command = l .command; fault = f; place = p; count = l .count; numbers = l .numbers }
+
+-- no word is left
+unfoldable pub ended : Line → ℕ → Line
+ended l p = withFault l (pick (Commands.enough (l .command) (l .count)) Commands.noFault Commands.tooFew) p
+
+-- the next number of the command is v, and the reading goes on at e
+unfoldable pub goOn : Line → ℕ → ℕ → Line
+goOn l v e =
+    record {
+      command = l .command;
+      fault = l .fault;
+      place = e;
+      count = l .count + 1;
+      numbers = set (l .numbers) (l .count) (min v top);
+    }
+
+-- the word from a to e is a number: digits only, and no larger than its limit
+unfoldable pub withNumber : List ℕ → Line → ℕ → ℕ → Line
+withNumber s l a e =
+    pick (ltb (reach Digit s a) e) (withFault l Commands.notNumber (reach Digit s a))
+    (pick (tooLarge (Commands.limitOf (l .command) (l .count)) (amount 0 (drop a s)))
+    (withFault l (Commands.oversized (l .command)) a)
+    (goOn l (amount 0 (drop a s)) e))
+
+-- the word is the kind of the notice to write: open, change or close
+unfoldable pub withKind : List ℕ → Line → ℕ → ℕ → Line
+withKind w l a e =
+    pick (within Commands.doOpen Commands.doClose (Commands.verbOf w))
+    (record {
+      command = Commands.doWrite + Commands.verbOf w;
+      fault = l .fault;
+      place = e;
+      count = l .count;
+      numbers = l .numbers;
+    })
+    (withFault l Commands.unknownWord a)
+
+-- the word from a to e is hexadecimal: an even count of digits. Kept are its two ends
+unfoldable pub withHex : List ℕ → Line → ℕ → ℕ → Line
+withHex s l a e =
+    pick (ltb (reach Hex s a) e) (withFault l Commands.badHex (reach Hex s a))
+    (pick (eqb ((e - a) % 2) 1) (withFault l Commands.oddHex a)
+    (record {
+      command = l .command;
+      fault = l .fault;
+      place = e;
+      count = 1;
+      numbers = set (set (l .numbers) 0 a) 1 e;
+    }))
+
+-- the word that starts at a
+unfoldable pub wordAt : List ℕ → ℕ → List ℕ
+wordAt s a = take (reach Word s a - a) (drop a s)
+
+-- the next word starts at a, and there is one
+unfoldable pub withWord : List ℕ → Line → ℕ → Line
+withWord s l a =
+    pick (leb (Commands.mostOf (l .command)) (l .count)) (withFault l (Commands.crowded (l .command)) a)
+    (pick (Commands.takesHex (l .command)) (withHex s l a (reach Word s a))
+    (pick (Commands.takesKind (l .command) (l .count)) (withKind (wordAt s a) l a (reach Word s a))
+    (withNumber s l a (reach Word s a))))
+
+-- the next word of the line, or its end
+unfoldable pub step : List ℕ → Line → Line
+step s l =
+    pick (ltb (reach Separator s (l .place)) (length s)) (withWord s l (reach Separator s (l .place)))
+    (ended l (reach Separator s (l .place)))
+
+-- the first word, at a, is the command v
+unfoldable pub withVerb : ℕ → ℕ → ℕ → Line
+withVerb v a e =
+    pick (eqb v Commands.none) (withFault blank Commands.unknownWord a)
+    (record { command = v; fault = Commands.unread; place = e; count = 0; numbers = replicate 72 0 })
+
+-- the longest line, its newline not counted
+abbrev pub longest : ℕ
+longest = 4095
+
+-- the first word: none, or one that begins with #, asks nothing
+unfoldable pub begun : List ℕ → Line
+begun s =
+    pick (ltb longest (length s)) (withFault blank Commands.tooLong longest)
+    (pick (ltb (reach Separator s 0) (length s))
+    (pick (eqb (getD s (reach Separator s 0) 0) 35) blank
+    (withVerb (Commands.verbOf (wordAt s (reach Separator s 0))) (reach Separator s 0) (reach Word s (reach Separator s 0))))
+    blank)
+
+-- reading on, at most so many words, until the line is whole or faulty
+unfoldable pub readOn : ℕ → List ℕ → Line → Line
+readOn zero s l = l
+readOn (suc n) s l = pick (eqb (l .fault) Commands.unread) (readOn n s (step s l)) l
+
+-- what the line s means. No command has more than 69 words after its own
+unfoldable pub meaning : List ℕ → Line
+meaning s = readOn 72 s (begun s)

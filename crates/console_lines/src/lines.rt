@@ -1,0 +1,197 @@
+// A line of the console, read word by word until it is whole or something is wrong with it.
+
+use console_words::bytes;
+use console_words::bytes::Sort;
+use console_words::commands;
+use console_words::numbers;
+ghost use mathlib.Core.Path.{_≡_};
+ghost use Prim.Native.Nat.{_<_, _≤_};
+ghost use lib.ListN.{length};
+ghost use Rattle.console_lines.specs.Lines.{blank, withFault, ended, withNumber, withKind, withHex, withWord, step as stepped, withVerb, begun, meaning};
+
+// No line is longer than this, its newline not counted.
+pub const LONGEST: usize = 4095;
+
+// What a line asks. Where fault is 0 the command is one of `commands`, NONE for a line that answers nothing, and its
+// numbers are the first count of numbers, each at most the largest 64-bit number; of HEX the first two numbers are the
+// places where its digits begin and end. Otherwise fault says what is wrong, and place at which byte, from 0.
+pub struct Line {
+    pub command: u8,
+    pub fault: u8,
+    pub place: usize,
+    pub count: usize,
+    pub numbers: [u64; 72],
+}
+
+fn empty() -> Line
+    ensures { λ r. ⌜ r ≡ blank ⌝ }
+{
+    Line {
+        command: commands::NONE,
+        fault: commands::NO_FAULT,
+        place: 0,
+        count: 0,
+        numbers: [0; 72],
+    }
+}
+
+fn faulted(line: Line, fault: u8, place: usize) -> Line
+    ensures { λ r. ⌜ r ≡ withFault line fault place ⌝ }
+{
+    let mut l = line;
+    l.fault = fault;
+    l.place = place;
+    l
+}
+
+// The line has no further word.
+fn end(line: Line, place: usize) -> Line
+    ensures { λ r. ⌜ r ≡ ended line place ⌝ }
+{
+    if commands::enough(line.command, line.count) {
+        return faulted(line, commands::NO_FAULT, place);
+    }
+    faulted(line, commands::TOO_FEW, place)
+}
+
+// The word from a to e is a number.
+fn take_number(s: &[u8], line: Line, a: usize, e: usize) -> Line
+    requires { ⌜ line .count < 70 ⌝ }
+    ensures { λ r. ⌜ r ≡ withNumber (now (s .entry)) line a e ⌝ }
+{
+    let p = bytes::reach(s, a, Sort::Digit);
+    if p < e {
+        return faulted(line, commands::NOT_NUMBER, p);
+    }
+    let command = line.command;
+    let count = line.count;
+    let n = numbers::spelt(s, a);
+    if numbers::above(commands::limit(command, count), n) {
+        return faulted(line, commands::oversized_fault(command), a);
+    }
+    let mut l = line;
+    l.numbers[count] = n.value;
+    l.count = count + 1;
+    l.place = e;
+    l
+}
+
+// The word is the kind of the notice to write.
+fn take_kind(word: &[u8], line: Line, a: usize, e: usize) -> Line
+    ensures { λ r. ⌜ r ≡ withKind (now (word .entry)) line a e ⌝ }
+{
+    let v = commands::verb(word);
+    if v < commands::OPEN {
+        return faulted(line, commands::UNKNOWN_WORD, a);
+    }
+    if commands::CLOSE < v {
+        return faulted(line, commands::UNKNOWN_WORD, a);
+    }
+    let mut l = line;
+    l.command = commands::WRITE + v;
+    l.place = e;
+    l
+}
+
+// The word from a to e is hexadecimal.
+fn take_hex(s: &[u8], line: Line, a: usize, e: usize) -> Line
+    requires { ⌜ a ≤ e ⌝ }
+    ensures { λ r. ⌜ r ≡ withHex (now (s .entry)) line a e ⌝ }
+{
+    let p = bytes::reach(s, a, Sort::Hex);
+    if p < e {
+        return faulted(line, commands::BAD_HEX, p);
+    }
+    if (e - a) % 2 == 1 {
+        return faulted(line, commands::ODD_HEX, a);
+    }
+    let mut l = line;
+    l.numbers[0] = a as u64;
+    l.numbers[1] = e as u64;
+    l.count = 1;
+    l.place = e;
+    l
+}
+
+// The next word starts at a.
+fn take_word(s: &[u8], line: Line, a: usize) -> Line
+    requires { ⌜ a < length (now s) ⌝ }
+    ensures { λ r. ⌜ r ≡ withWord (now (s .entry)) line a ⌝ }
+{
+    let command = line.command;
+    let count = line.count;
+    if commands::most(command) <= count {
+        return faulted(line, commands::crowded_fault(command), a);
+    }
+    let e = bytes::reach(s, a, Sort::Word);
+    if commands::takes_hex(command) {
+        return take_hex(s, line, a, e);
+    }
+    if commands::takes_kind(command, count) {
+        return take_kind(&s[a..e], line, a, e);
+    }
+    take_number(s, line, a, e)
+}
+
+// The next word, or the line's end.
+fn step(s: &[u8], line: Line) -> Line
+    ensures { λ r. ⌜ r ≡ stepped (now (s .entry)) line ⌝ }
+{
+    let place = line.place;
+    let a = bytes::reach(s, place, Sort::Separator);
+    if a < s.len() {
+        return take_word(s, line, a);
+    }
+    end(line, a)
+}
+
+// The first word, from a to e, is the command.
+fn take_verb(v: u8, a: usize, e: usize) -> Line
+    ensures { λ r. ⌜ r ≡ withVerb v a e ⌝ }
+{
+    if v == commands::NONE {
+        return faulted(empty(), commands::UNKNOWN_WORD, a);
+    }
+    Line {
+        command: v,
+        fault: commands::UNREAD,
+        place: e,
+        count: 0,
+        numbers: [0; 72],
+    }
+}
+
+fn begin(s: &[u8]) -> Line
+    ensures { λ r. ⌜ r ≡ begun (now (s .entry)) ⌝ }
+{
+    if LONGEST < s.len() {
+        return faulted(empty(), commands::TOO_LONG, LONGEST);
+    }
+    let a = bytes::reach(s, 0, Sort::Separator);
+    if a < s.len() {
+        if s[a] == b'#' {
+            return empty();
+        }
+        let e = bytes::reach(s, a, Sort::Word);
+        return take_verb(commands::verb(&s[a..e]), a, e);
+    }
+    empty()
+}
+
+// What a line means, given without its newline.
+pub fn parse(s: &[u8]) -> Line
+    ensures { λ r. ⌜ r ≡ meaning (now (s .entry)) ⌝ }
+{
+    let mut line = begin(s);
+    let mut left: usize = 72;
+    while 0 < left {
+        let fault = line.fault;
+        if fault == commands::UNREAD {
+            line = step(s, line);
+            left -= 1;
+        } else {
+            return line;
+        }
+    }
+    line
+}

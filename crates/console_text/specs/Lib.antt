@@ -1,0 +1,4 @@
+-- What the console writes.
+pub mod Output
+pub mod Digits
+pub mod Words

@@ -1,0 +1,14 @@
+pub mod Answers
+pub mod Bytes
+pub mod Cases
+pub mod Digits
+pub mod Each
+pub mod Has
+pub mod Held
+pub mod ReadBack
+pub mod Refused
+pub mod RoundTrip
+pub mod Settled
+pub mod Table
+pub mod Typed
+pub mod Worked

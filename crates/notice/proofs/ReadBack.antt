@@ -1,0 +1,171 @@
+-- What reads as a notice writes back as the same bytes, so no two strings of bytes read as one notice.
+-- Rests on the field table's laws, on bytes at a place, and on the cases of a reading.
+use mathlib.Core.Path.{_≡_, refl, sym, subst, _∙_}
+use mathlib.Core.Bool.{Bool, true, false}
+use mathlib.Core.List.{List, [], _∷_, _++_}
+use Prim.Native.Nat.{ℕ, zero, suc, _+_, _-_, _≤_, _<_}
+use native.Mathlib.Nat.{add-zero}
+use native.Mathlib.Omega.{arith}
+use lib.Dec.{eqb, leb}
+use lib.ListN.{length, getD, take, drop}
+use lib.Seq.{take-all}
+use borrow.Author.Tests.{eqb-true, leb-true}
+use Rattle.rules.specs.Refusals.{pick}
+use Rattle.notice.specs.declared.Notice.{Notice}
+use Rattle.notice.specs.declared.Reading.the-variants as reading
+use Rattle.notice.specs.declared.Found.{Found}
+use Rattle.notice.specs.declared.Found.the-variants as found
+use Rattle.notice.specs.Fields.{table, tagOf, sizeOf, isCarried, isKnown, startOf, lengthOf, rows}
+use Rattle.notice.specs.Numbers.{bigEndian, numberAt}
+use Rattle.notice.specs.Encode.{kindOf, valuesIn, fieldBytes, rowBytes, bytesTo, bytesOf}
+use Rattle.notice.specs.Decode.{headStands, rowStands, standsTo, valueAt, kindIn, noticeIn, kindAt, isWhole, readAt, readOf}
+use Rattle.notice.specs.Log.{Bytes}
+use Rattle.notice.proofs.Table.{both-l, both-r, by-kind}
+use Rattle.notice.proofs.Each.{each, false-true}
+use Rattle.notice.proofs.Bytes.{length-big, length-bytes, length-notice}
+use Rattle.notice.proofs.Has.{Has, has-both, has-part, bytes-back}
+use Rattle.notice.proofs.Cases.{only, alone}
+use Rattle.notice.proofs.RoundTrip.{first-value}
+
+-- ---- one field
+
+-- where a head stands, the field of the value that stands after it stands
+field-stands : (bs : List ℕ) → Bytes bs → (at i : ℕ) → headStands bs at i ≡ true
+    → Has bs at (fieldBytes i (numberAt bs (at + 3) (sizeOf i)))
+unfolding headStands fieldBytes
+field-stands bs small at i stands =
+    let v = numberAt bs (at + 3) (sizeOf i) in
+    let tag : getD bs at 0 ≡ tagOf i = eqb-true _ _ (both-l _ _ stands) in
+    let size : numberAt bs (at + 1) 2 ≡ sizeOf i = eqb-true _ _ (both-r (eqb (getD bs at 0) (tagOf i)) _ stands) in
+    let e : at + 1 + length (bigEndian 2 (sizeOf i)) ≡ at + 3 = omega (arith, length-big 2 (sizeOf i)) in
+    has-both bs at (tagOf i ∷ []) (bigEndian 2 (sizeOf i) ++ bigEndian (sizeOf i) v)
+    (one at tag)
+    (has-both bs (at + 1) (bigEndian 2 (sizeOf i)) (bigEndian (sizeOf i) v)
+    (rw size at (bytes-back bs small (at + 1) 2))
+    (rw e (bytes-back bs small (at + 3) (sizeOf i))))
+  where
+    one : (a : ℕ) {x : ℕ} → getD bs a 0 ≡ x → Has bs a (x ∷ [])
+    one a h zero lt = rw add-zero h
+    one a h (suc j) lt = absurd (omega arith)
+
+-- ---- all rows of a kind
+
+module _ (bs : List ℕ) (small : Bytes bs) (p k : ℕ) (vs : List ℕ) (same : (i : ℕ) → i < rows → isCarried k i ≡ true → getD vs i 0 ≡ valueAt bs p k i) where
+  rows-stand : (i : ℕ) → i ≤ rows → standsTo bs p k i ≡ true → Has bs p (bytesTo k vs i)
+  unfolding standsTo rowStands bytesTo rowBytes valueAt
+  rows-stand zero h s = λ j lt. absurd (omega arith)
+  rows-stand (suc i) h s =
+      has-both bs p (bytesTo k vs i) (pick (isCarried k i) (fieldBytes i (getD vs i 0)) [])
+      (rows-stand i (omega arith) (both-l _ _ s))
+      (rw length-bytes (go (isCarried k i) refl (both-r (standsTo bs p k i) _ s)))
+    where
+      go : (b : Bool) → isCarried k i ≡ b → pick b (headStands bs (p + startOf k i) i) true ≡ true
+          → Has bs (p + startOf k i) (pick b (fieldBytes i (getD vs i 0)) [])
+      go true c t = rw (same i h c) (field-stands bs small (p + startOf k i) i t)
+      go false c t = λ j lt. absurd (omega arith)
+
+-- ---- the kind and the notice
+
+-- the notice that is made of a kind's values has those values
+kind-same : (bs : List ℕ) (p k : ℕ) → isKnown k ≡ true → kindOf (noticeIn bs p k .kind) ≡ k
+unfolding noticeIn kindIn
+kind-same bs p = by-kind (λ (k : ℕ). kindOf (noticeIn bs p k .kind) ≡ k) refl refl refl
+
+module _ (bs : List ℕ) (p : ℕ) where
+  -- kind k's own data, rows 4 to 7
+  abbrev Same : ℕ → ℕ → Type 0
+  Same k i = isCarried k i ≡ true → getD (valuesIn (noticeIn bs p k)) i 0 ≡ valueAt bs p k i
+
+  data-same : (k : ℕ) → isKnown k ≡ true → Same k 4 × (Same k 5 × (Same k 6 × Same k 7))
+  unfolding table noticeIn kindIn
+  data-same =
+      by-kind (λ (k : ℕ). Same k 4 × (Same k 5 × (Same k 6 × Same k 7)))
+      ((λ _. refl), ((λ _. refl), ((λ _. refl), (λ _. refl))))
+      (false-true, (false-true, (false-true, (λ _. refl))))
+      (false-true, (false-true, (false-true, false-true)))
+
+  values-same : (k : ℕ) → isKnown k ≡ true → kindAt bs p ≡ k → (i : ℕ) → i < rows → Same k i
+  unfolding noticeIn
+  values-same k known at =
+      let d = data-same k known in
+      each (Same k) 8
+      (((((((((tt, λ _. kind-same bs p k known ∙ (sym at ∙ sym (first-value bs p k))), λ _. refl), λ _. refl), λ _. refl), d .0), d .1 .0), d .1 .1 .0), d .1 .1 .1))
+
+-- ---- the theorems
+
+-- what a log that gives a notice at a place has there
+pub record Stands (bs : List ℕ) (p : ℕ) (n : Notice) (e : ℕ) : Type 0 where
+  pub has : Has bs p (bytesOf n)
+  pub after : e ≡ p + length (bytesOf n)
+  pub inside : e ≤ length bs
+
+record Found-at (bs : List ℕ) (p : ℕ) (n : Notice) (e : ℕ) : Type 0 where
+  pub all : isWhole bs p ≡ true
+  pub notice : noticeIn bs p (kindAt bs p) ≡ n
+  pub end : p + lengthOf (kindAt bs p) ≡ e
+
+found-at : (bs : List ℕ) (p : ℕ) (n : Notice) (e : ℕ) → readAt bs p ≡ found.At n e → Found-at bs p n e
+unfolding readAt
+found-at bs p n e is = go (leb (length bs) p) (isWhole bs p) refl is
+  where
+    go : (a w : Bool) → isWhole bs p ≡ w
+        → pick a found.End (pick w (found.At (noticeIn bs p (kindAt bs p)) (p + lengthOf (kindAt bs p))) found.Malformed) ≡ found.At n e
+        → Found-at bs p n e
+    go true w s t = absurd (let z : _≡_ {A = ℕ} 0 1 = cc in omega arith)
+    go false true s t = record { all = s; notice = cc; end = cc }
+    go false false s t = absurd (let z : _≡_ {A = ℕ} 0 1 = cc in omega arith)
+
+as-notice : (bs : List ℕ) (p k : ℕ) (m : Notice) → kindOf (m .kind) ≡ k → Has bs p (bytesTo k (valuesIn m) rows) → Has bs p (bytesOf m)
+unfolding bytesOf
+as-notice bs p k m same h = subst (λ (q : ℕ). Has bs p (bytesTo q (valuesIn m) rows)) (sym same) h
+
+-- where a log gives a notice, that notice's bytes stand, and the place after it is where they end
+pub read-stands : (bs : List ℕ) → Bytes bs → (p : ℕ) (n : Notice) (e : ℕ) → readAt bs p ≡ found.At n e → Stands bs p n e
+read-stands bs small p n e is =
+    let f = found-at bs p n e is in
+    let k = kindAt bs p in
+    let m = noticeIn bs p k in
+    let known : isKnown k ≡ true = both-l _ _ (f .all) in
+    let rest = both-r (isKnown k) _ (f .all) in
+    let fits : p + lengthOf k ≤ length bs = leb-true _ _ (both-l _ _ rest) in
+    let stand : standsTo bs p k rows ≡ true = both-r (leb (p + lengthOf k) (length bs)) _ rest in
+    let there = rows-stand bs small p k (valuesIn m) (values-same bs p k known refl) rows (omega arith) stand in
+    let same = kind-same bs p k known in
+    let made : Stands bs p m (p + lengthOf k) =
+    record { has = as-notice bs p k m same there; after = sym (rw (length-notice, same)); inside = fits } in
+    rw (f .notice, f .end) at made
+
+-- what reads as a notice in a log is that notice's bytes
+pub read-writes-at : (bs : List ℕ) → Bytes bs → (p : ℕ) (n : Notice) (e : ℕ) → readAt bs p ≡ found.At n e
+    → take (length (bytesOf n)) (drop p bs) ≡ bytesOf n
+read-writes-at bs small p n e is =
+    let s = read-stands bs small p n e is in
+    has-part bs p (bytesOf n) (omega (arith, s .after, s .inside)) (s .has)
+
+whole-at : (len : ℕ) (n : Notice) (f : Found) → only len f ≡ reading.Whole n → f ≡ found.At n len
+unfolding only
+whole-at len n (found.At m e) h = go (eqb e len) refl h
+  where
+    go : (b : Bool) → eqb e len ≡ b → pick b (reading.Whole m) reading.Malformed ≡ reading.Whole n → found.At m e ≡ found.At n len
+    go true s t = cc (eqb-true e len s)
+    go false s t = absurd (let z : _≡_ {A = ℕ} 0 1 = cc in omega arith)
+whole-at len n found.End h = absurd (let z : _≡_ {A = ℕ} 0 1 = cc in omega arith)
+whole-at len n found.Malformed h = absurd (let z : _≡_ {A = ℕ} 0 1 = cc in omega arith)
+
+-- alone, what reads as a notice stands at the start of a log that ends with it
+alone-at : (bs : List ℕ) (n : Notice) → readOf bs ≡ reading.Whole n → readAt bs 0 ≡ found.At n (length bs)
+alone-at bs n is = whole-at (length bs) n (readAt bs 0) (sym (alone bs) ∙ is)
+
+-- and so its bytes are all that was read
+pub read-writes : (bs : List ℕ) → Bytes bs → (n : Notice) → readOf bs ≡ reading.Whole n → bytesOf n ≡ bs
+read-writes bs small n is =
+    let s = read-stands bs small 0 n (length bs) (alone-at bs n is) in
+    let long : length bs ≤ length (bytesOf n) = omega (arith, s .after) in
+    sym (read-writes-at bs small 0 n (length bs) (alone-at bs n is)) ∙ take-all (length (bytesOf n)) bs long
+
+-- no two strings of bytes read as one notice, and none reads as two
+pub one-string : (bs cs : List ℕ) → Bytes bs → Bytes cs → (n : Notice) → readOf bs ≡ reading.Whole n → readOf cs ≡ reading.Whole n → bs ≡ cs
+one-string bs cs b c n p q = sym (read-writes bs b n p) ∙ read-writes cs c n q
+
+pub one-notice : (bs : List ℕ) (m n : Notice) → readOf bs ≡ reading.Whole m → readOf bs ≡ reading.Whole n → m ≡ n
+one-notice bs m n p q = cc

@@ -1,0 +1,57 @@
+-- Worked numbers of 01, "Notices": the three lengths, case 12, and values outside the limits.
+-- Rests on the table and on the round trip.
+use mathlib.Core.Path.{_≡_, refl}
+use mathlib.Core.List.{[], _∷_}
+use Prim.Native.Nat.{ℕ, _-_, _≤_, _^_}
+use native.Mathlib.Omega.{arith}
+use lib.ListN.{length}
+use Rattle.notice.specs.declared.Notice.{Notice}
+use Rattle.notice.specs.declared.Kind.the-variants.{Open, Change}
+use Rattle.notice.specs.declared.Reading.the-variants as reading
+use Rattle.notice.specs.Fields.{table, openKind, changeKind, closeKind, spanOf, startOf, lengthOf}
+use Rattle.notice.specs.Numbers.{bigEndian}
+use Rattle.notice.specs.Encode.{kindOf, fieldBytes, rowBytes, bytesTo, bytesOf}
+use Rattle.notice.specs.Decode.{readOf}
+use Rattle.notice.proofs.RoundTrip.{written-reads, kind-known}
+use Rattle.notice.proofs.Table.{by-kind}
+use Rattle.notice.proofs.Bytes.{length-notice}
+use Rattle.notice.proofs.Typed.{typed-fits}
+
+-- the lengths of the three kinds
+pub open-length : lengthOf openKind ≡ 45
+unfolding table startOf spanOf
+open-length = refl
+
+pub change-length : lengthOf changeKind ≡ 30
+unfolding table startOf spanOf
+change-length = refl
+
+pub close-length : lengthOf closeKind ≡ 26
+unfolding table startOf spanOf
+close-length = refl
+
+-- sequence 2, title 0, time 4, count 3
+pub case-12 : bytesOf (record { sequence = 2; title = 0; time = 4; kind = Change 3 })
+    ≡ 1 ∷ 0 ∷ 1 ∷ 2
+    ∷ 2 ∷ 0 ∷ 4 ∷ 0 ∷ 0 ∷ 0 ∷ 2
+    ∷ 3 ∷ 0 ∷ 1 ∷ 0
+    ∷ 4 ∷ 0 ∷ 8 ∷ 0 ∷ 0 ∷ 0 ∷ 0 ∷ 0 ∷ 0 ∷ 0 ∷ 4
+    ∷ 8 ∷ 0 ∷ 1 ∷ 3
+    ∷ []
+unfolding table bytesOf bytesTo rowBytes fieldBytes bigEndian
+case-12 = refl
+
+-- values outside the limits are well formed and survive
+pub outside-survive : readOf (bytesOf (record { sequence = 2 ^ 32 - 1; title = 255; time = 2 ^ 64 - 1; kind = Open (2 ^ 32 - 1) 255 255 255 }))
+    ≡ reading.Whole (record { sequence = 2 ^ 32 - 1; title = 255; time = 2 ^ 64 - 1; kind = Open (2 ^ 32 - 1) 255 255 255 })
+outside-survive =
+    written-reads (record { sequence = 2 ^ 32 - 1; title = 255; time = 2 ^ 64 - 1; kind = Open (2 ^ 32 - 1) 255 255 255 })
+    (typed-fits (record { sequence = 2 ^ 32 - 1; title = 255; time = 2 ^ 64 - 1; kind = Open (2 ^ 32 - 1) 255 255 255 })
+    (record { sequence-fits = omega arith; title-fits = omega arith; time-fits = omega arith; kind-fits = omega arith }))
+
+-- no notice is longer than an open
+pub longest : (n : Notice) → length (bytesOf n) ≤ 45
+unfolding table startOf spanOf
+longest n =
+    rw length-notice
+    (by-kind (λ (k : ℕ). lengthOf k ≤ 45) (omega arith) (omega arith) (omega arith) (kindOf (n .kind)) (kind-known (n .kind)))

@@ -1,0 +1,26 @@
+-- `decode::row_stands` meets its contract: by whether the kind carries the row.
+use borrow.Author.Needs.{needs}
+use native.Mathlib.Omega.{arith}
+use Rattle.notice.specs.Fields.{spanOf}
+use Rattle.notice.specs.Decode.{rowStands}
+use Rattle.notice.proofs.decode.row_stands.Statement.{statement}
+use Rattle.notice.proofs.decode.row_stands.Tie as tie
+
+carried-requires : tie.Need-carried-requires
+carried-requires c κs = search needs
+
+head-stands-requires : tie.Need-head-stands-requires
+unfolding spanOf
+head-stands-requires c κs =
+    (c .before .before .before .pre .0, omega (arith, rw (← c .before .carried .ensures, c .if1 .taken) at (c .before .before .before .pre .1)))
+
+returns : tie.Need-returns
+unfolding rowStands
+returns c = rw (← c .before .before .carried .ensures, c .before .if1 .taken) (c .head-stands .ensures)
+
+returns-2 : tie.Need-returns-2
+unfolding rowStands
+returns-2 c = rw (← c .before .carried .ensures, c .if1 .left)
+
+pub row-stands-spec : {M : Type 1} → statement M
+row-stands-spec = tie.close (tie.spec carried-requires head-stands-requires returns returns-2)

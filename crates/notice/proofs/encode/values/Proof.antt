@@ -1,0 +1,73 @@
+-- `encode::values` meets its contract: by the kind.
+use borrow.Author.Needs.{needs}
+use Rattle.notice.proofs.encode.values.Statement.{statement}
+use Rattle.notice.proofs.encode.values.Tie as tie
+
+cast-sequence : tie.Need-cast-sequence
+cast-sequence c = search needs
+
+cast-title : tie.Need-cast-title
+cast-title c = search needs
+
+enum-known-kind : tie.Need-enum-known-kind
+enum-known-kind c = search needs
+
+cast-t12 : tie.Need-cast-t12
+cast-t12 c = search needs
+
+cast-t13 : tie.Need-cast-t13
+cast-t13 c = search needs
+
+cast-t14 : tie.Need-cast-t14
+cast-t14 c = search needs
+
+cast-t15 : tie.Need-cast-t15
+cast-t15 c = search needs
+
+cast-t16 : tie.Need-cast-t16
+cast-t16 c = search needs
+
+enum-known-kind-2 : tie.Need-enum-known-kind-2
+enum-known-kind-2 c = search needs
+
+cast-t17 : tie.Need-cast-t17
+cast-t17 c = search needs
+
+cast-t18 : tie.Need-cast-t18
+cast-t18 c = search needs
+
+enum-told : tie.Need-enum-told
+enum-told c = search needs
+
+cast-t19 : tie.Need-cast-t19
+cast-t19 c = search needs
+
+returns : tie.Need-returns
+returns c = rw (c .before .kind .given .1)
+
+returns-2 : tie.Need-returns-2
+returns-2 c = rw (c .before .kind2 .given .1)
+
+returns-3 : tie.Need-returns-3
+returns-3 c = rw (c .enum-told .given .1)
+
+pub values-spec : {M : Type 1} → statement M
+values-spec =
+    tie.close
+    (tie.spec
+    cast-sequence
+    cast-title
+    enum-known-kind
+    cast-t12
+    cast-t13
+    cast-t14
+    cast-t15
+    cast-t16
+    enum-known-kind-2
+    cast-t17
+    cast-t18
+    enum-told
+    cast-t19
+    returns
+    returns-2
+    returns-3)

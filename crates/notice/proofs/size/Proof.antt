@@ -1,0 +1,18 @@
+-- `notice::size` meets its contract: a notice is as long as its kind says.
+use mathlib.Core.Path.{sym, _∙_}
+use borrow.Author.Needs.{needs}
+use Rattle.notice.proofs.Bytes.{length-notice}
+use Rattle.notice.proofs.size.Statement.{statement}
+use Rattle.notice.proofs.size.Tie as tie
+
+number-requires : tie.Need-number-requires
+number-requires c κs = search needs
+
+start-requires : tie.Need-start-requires
+start-requires c κs = search needs
+
+returns : tie.Need-returns
+returns c = c .start .ensures ∙ rw (c .before .number .ensures) (sym (length-notice _))
+
+pub size-spec : {M : Type 1} → statement M
+size-spec = tie.close (tie.spec number-requires start-requires returns)

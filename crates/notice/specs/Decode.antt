@@ -1,0 +1,106 @@
+-- What bytes read as (01, "Notices"), decided field by field from the table.
+use Prim.Native.Nat.{ℕ, zero, suc, _+_}
+use mathlib.Core.Path.{_≡_}
+use mathlib.Core.Bool.{Bool, true, not}
+use mathlib.Core.List.{List, [], _∷_}
+use lib.Dec.{eqb, leb}
+use lib.ListN.{length, getD}
+use Rattle.rules.specs.Limits.{both}
+use Rattle.rules.specs.Refusals.{pick, firstHit, refuse, done, malformed}
+use Rattle.notice.specs.declared.Notice.{Notice}
+use Rattle.notice.specs.declared.Kind.{Kind}
+use Rattle.notice.specs.declared.Kind.the-variants.{Open, Change, Close}
+use Rattle.notice.specs.declared.Reading.{Reading}
+use Rattle.notice.specs.declared.Reading.the-variants as reading
+use Rattle.notice.specs.declared.Found.{Found}
+use Rattle.notice.specs.declared.Found.the-variants as found
+use Rattle.notice.specs.Fields.{sequenceRow, titleRow, timeRow, lengthRow, floorRow, capRow, countRow, openKind, changeKind, headSize, tagOf, sizeOf, isCarried, isKnown, startOf, lengthOf, rows}
+use Rattle.notice.specs.Numbers.{numberAt}
+
+-- tag and length of row i stand at a place
+unfoldable pub headStands : List ℕ → ℕ → ℕ → Bool
+headStands bs at i = both (eqb (getD bs at 0) (tagOf i)) (eqb (numberAt bs (at + 1) 2) (sizeOf i))
+
+-- nothing is asked of a row that the kind does not carry
+unfoldable pub rowStands : List ℕ → ℕ → ℕ → ℕ → Bool
+rowStands bs at k i = pick (isCarried k i) (headStands bs at i) true
+
+-- the first rows of a notice of kind k stand one after the other from place p on
+unfoldable pub standsTo : List ℕ → ℕ → ℕ → ℕ → Bool
+standsTo bs p k zero = true
+standsTo bs p k (suc i) = both (standsTo bs p k i) (rowStands bs (p + startOf k i) k i)
+
+-- the value of row i in a notice of kind k that starts at place p
+unfoldable pub valueAt : List ℕ → ℕ → ℕ → ℕ → ℕ
+valueAt bs p k i = numberAt bs (p + startOf k i + headSize) (sizeOf i)
+
+-- each kind carries only its own data
+unfoldable pub kindIn : List ℕ → ℕ → ℕ → Kind
+kindIn bs p k =
+    pick (eqb k openKind) (Open (valueAt bs p k lengthRow) (valueAt bs p k floorRow) (valueAt bs p k capRow) (valueAt bs p k countRow))
+    (pick (eqb k changeKind) (Change (valueAt bs p k countRow))
+    Close)
+
+unfoldable pub noticeIn : List ℕ → ℕ → ℕ → Notice
+noticeIn bs p k =
+    record { sequence = valueAt bs p k sequenceRow; title = valueAt bs p k titleRow; time = valueAt bs p k timeRow; kind = kindIn bs p k }
+
+-- the kind's number is the value of the first field
+abbrev pub kindAt : List ℕ → ℕ → ℕ
+kindAt bs p = getD bs (p + headSize) 0
+
+-- a whole notice stands at place p: a known kind, as many bytes as its notices have, and all its fields
+abbrev pub isWhole : List ℕ → ℕ → Bool
+isWhole bs p =
+    both (isKnown (kindAt bs p))
+    (both (leb (p + lengthOf (kindAt bs p)) (length bs))
+    (standsTo bs p (kindAt bs p) rows))
+
+-- reading a log at a place: the notice and the place after it, "end" with no byte left or past the end, or not well formed
+unfoldable pub readAt : List ℕ → ℕ → Found
+readAt bs p =
+    pick (leb (length bs) p) found.End
+    (pick (isWhole bs p) (found.At (noticeIn bs p (kindAt bs p)) (p + lengthOf (kindAt bs p)))
+    found.Malformed)
+
+-- after "end" and after 11 the place stays
+abbrev pub placeAfter : Found → ℕ → ℕ
+placeAfter (found.At n e) p = e
+placeAfter found.End p = p
+placeAfter found.Malformed p = p
+
+-- one notice and nothing after it
+abbrev pub isAlone : List ℕ → Bool
+isAlone bs = both (isWhole bs 0) (eqb (lengthOf (kindAt bs 0)) (length bs))
+
+unfoldable pub readOf : List ℕ → Reading
+readOf bs = pick (isAlone bs) (reading.Whole (noticeIn bs 0 (kindAt bs 0))) reading.Malformed
+
+-- 01's number for each case of a reading
+abbrev pub numberOf : Reading → ℕ
+numberOf (reading.Whole n) = done
+numberOf reading.Malformed = malformed
+
+-- a log has one answer more, which is no refusal
+pub data Answer : Type 0 where
+  number : ℕ → Answer
+  end : Answer
+
+abbrev pub answerOf : Found → Answer
+answerOf (found.At n e) = number done
+answerOf found.End = end
+answerOf found.Malformed = number malformed
+
+-- what the two calls promise: the case with its values, and 01's number for it
+pub record Reads (bs : List ℕ) (r : Reading) : Type 0 where
+  pub is : r ≡ readOf bs
+  pub answers : numberOf r ≡ firstHit (refuse malformed (not (isAlone bs)) ∷ [])
+
+pub record Finds (bs : List ℕ) (p : ℕ) (r : Found) : Type 0 where
+  pub is : r ≡ readAt bs p
+  pub answers : answerOf r ≡ pick (leb (length bs) p) end (number (firstHit (refuse malformed (not (isWhole bs p)) ∷ [])))
+
+-- what a reader's step promises: the answer at its place, and the place that it keeps
+pub record Steps (bs : List ℕ) (p : ℕ) (r : Found) (after : ℕ) : Type 0 where
+  pub finds : Finds bs p r
+  pub moves : after ≡ placeAfter r p

@@ -1,0 +1,155 @@
+// The notices that carry the head-end's events to every box (01, "Notices"): one record in memory, its bytes, and a
+// reader of logs. Every record can be written, since each part has exactly the width of its field in the table.
+// No public function has a `requires`: any bytes and any place have an answer.
+
+use decode::notice_in;
+use decode::rows_stand;
+use encode::number;
+use encode::put_rows;
+use encode::values;
+use fields::HEAD;
+use fields::KIND;
+use fields::ROWS;
+use fields::carried;
+use fields::start;
+ghost use mathlib.Core.Path.{_≡_};
+ghost use lib.ListN.{length};
+ghost use Rattle.notice.specs.Encode.{bytesOf, Writes};
+ghost use Rattle.notice.specs.Decode.{Reads, Finds, Steps, placeAfter};
+
+mod decode;
+mod encode;
+mod fields;
+mod numbers;
+
+pub struct Notice {
+    pub sequence: u32,
+    pub title: u8,
+    pub time: u64,
+    pub kind: Kind,
+}
+
+// A kind carries only its own data.
+pub enum Kind {
+    Open {
+        length: u32,
+        floor: u8,
+        cap: u8,
+        count: u8,
+    },
+    Change {
+        count: u8,
+    },
+    Close,
+}
+
+// What one notice's bytes read as.
+pub enum Reading {
+    Whole(Notice),
+    Malformed,
+}
+
+// What a log has at a place: a notice and the place after it, no byte more, or no notice.
+pub enum Found {
+    At(Notice, usize),
+    End,
+    Malformed,
+}
+
+// Writes the notice at the start of the room: 0, and later bytes stay; 10 where the room is too short, and nothing is written.
+pub fn write(n: Notice, room: &mut [u8]) -> u8
+    ensures { λ r. ⌜ Writes n (now (room .entry)) r (now (room .exit)) ⌝ }
+{
+    let data = n.kind;
+    let kind = number(data);
+    if room.len() < start(kind, ROWS) {
+        return rules::WRONG_ROWS;
+    }
+    put_rows(room, kind, values(n));
+    rules::DONE
+}
+
+// How many bytes the notice has, for callers that write one after another.
+pub fn size(n: Notice) -> usize
+    ensures { λ r. ⌜ r ≡ length (bytesOf n) ⌝ }
+{
+    let data = n.kind;
+    start(number(data), ROWS)
+}
+
+// Reads at a place of a log. The place may be any, also past the end.
+pub fn read_at(log: &[u8], place: usize) -> Found
+    ensures { λ r. ⌜ Finds (now (log .entry)) place r ⌝ }
+{
+    if log.len() <= place {
+        return Found::End;
+    }
+    let left = log.len() - place;
+    if left <= HEAD {
+        return Found::Malformed;
+    }
+    let kind = log[place + HEAD];
+    if carried(kind, KIND) {
+        let size = start(kind, ROWS);
+        if size <= left {
+            if rows_stand(log, place, kind) {
+                return Found::At(notice_in(log, place, kind), place + size);
+            }
+        }
+    }
+    Found::Malformed
+}
+
+// Reads one notice and nothing after it.
+pub fn read(bytes: &[u8]) -> Reading
+    ensures { λ r. ⌜ Reads (now (bytes .entry)) r ⌝ }
+{
+    match read_at(bytes, 0) {
+        Found::At(n, end) => {
+            if end == bytes.len() {
+                Reading::Whole(n)
+            } else {
+                Reading::Malformed
+            }
+        }
+        Found::End => Reading::Malformed,
+        Found::Malformed => Reading::Malformed,
+    }
+}
+
+// A reader that keeps its log and its place.
+pub struct Log<'a> {
+    pub bytes: &'a [u8],
+    pub place: usize,
+}
+
+// Where a reader goes on after an answer: past a notice, and nowhere after "end" and 11.
+fn place_after(found: Found, place: usize) -> usize
+    ensures { λ r. ⌜ r ≡ placeAfter found place ⌝ }
+{
+    match found {
+        Found::At(_, end) => end,
+        Found::End => place,
+        Found::Malformed => place,
+    }
+}
+
+// The next answer of a log, which moves past a notice.
+pub fn next<'s, 'a>(log: &'s mut Log<'a>) -> Found
+    ensures { λ r. ⌜ Steps (now (now (log .entry) .bytes)) (now (log .entry) .place) r (now (log .exit) .place)
+        × (now (log .exit) .bytes ≡ now (log .entry) .bytes) ⌝ }
+{
+    let place = log.place;
+    let found = read_at(log.bytes, place);
+    let after = place_after(found, place);
+    log.place = after;
+    found
+}
+
+// The same from a log and a place, for callers that keep no reader.
+pub fn next_in(bytes: &[u8], place: usize) -> Found
+    ensures { λ r. ⌜ Finds (now (bytes .entry)) place r ⌝ }
+{
+    let mut log = Log { bytes, place };
+    next(&mut log)
+}

@@ -1,0 +1,251 @@
+// Runs notices through the product's calls and prints what they answer, for the gate to compare: case 12 of 01 and its
+// neighbours of 29 and 31 bytes, a room that is too short, a log read to its end, and notices with one thing wrong.
+
+use libc::STDOUT_FILENO;
+use notice::Found;
+use notice::Kind;
+use notice::Notice;
+use notice::Reading;
+ghost use mathlib.Core.Path.{_≡_};
+ghost use Prim.Native.Nat.{_<_};
+ghost use lib.ListN.{length};
+
+// Case 12 as the paper has it, and one byte more.
+fn case_12() -> [u8; 31]
+    ensures { λ r. ⌜ 31 ≡ length r ⌝ }
+{
+    [
+        1,
+        0,
+        1,
+        2,
+        2,
+        0,
+        4,
+        0,
+        0,
+        0,
+        2,
+        3,
+        0,
+        1,
+        0,
+        4,
+        0,
+        8,
+        0,
+        0,
+        0,
+        0,
+        0,
+        0,
+        0,
+        4,
+        8,
+        0,
+        1,
+        3,
+        0,
+    ]
+}
+
+// A call's answer starts a line, and each number after it has a space before it.
+fn print_answer(n: u8) {
+    io::print_decimal(STDOUT_FILENO, n as u64);
+}
+
+fn print_number(n: u64) {
+    io::write_all(STDOUT_FILENO, b" ");
+    io::print_decimal(STDOUT_FILENO, n);
+}
+
+fn end_line() {
+    io::write_all(STDOUT_FILENO, b"\n");
+}
+
+// The bytes in hexadecimal, and the end of the line.
+fn print_bytes(bytes: &[u8]) {
+    io::write_all(STDOUT_FILENO, b" ");
+    let mut i: usize = 0;
+    while i < bytes.len() {
+        io::print_hex(STDOUT_FILENO, wide(bytes[i]), 2);
+        i += 1;
+    }
+    end_line();
+}
+
+fn wide(b: u8) -> u64 {
+    b as u64
+}
+
+// Sequence, kind, title and time, then what the kind carries.
+fn print_notice(n: Notice) {
+    print_number(n.sequence as u64);
+    let title = n.title;
+    let time = n.time;
+    let kind = n.kind;
+    match kind {
+        Kind::Open {
+            length,
+            floor,
+            cap,
+            count,
+        } => {
+            print_number(1);
+            print_number(title as u64);
+            print_number(time);
+            print_number(length as u64);
+            print_number(floor as u64);
+            print_number(cap as u64);
+            print_number(count as u64);
+        }
+        Kind::Change { count } => {
+            print_number(2);
+            print_number(title as u64);
+            print_number(time);
+            print_number(count as u64);
+        }
+        Kind::Close => {
+            print_number(3);
+            print_number(title as u64);
+            print_number(time);
+        }
+    }
+}
+
+// The answer's number, and the notice where there is one.
+fn print_reading(r: Reading) {
+    match r {
+        Reading::Whole(n) => {
+            print_answer(rules::DONE);
+            print_notice(n);
+        }
+        Reading::Malformed => print_answer(rules::MALFORMED),
+    }
+    end_line();
+}
+
+fn print_found(f: Found) {
+    match f {
+        Found::At(n, place) => {
+            print_answer(rules::DONE);
+            print_notice(n);
+            print_number(place as u64);
+        }
+        Found::End => {
+            io::write_all(STDOUT_FILENO, b"end");
+        }
+        Found::Malformed => print_answer(rules::MALFORMED),
+    }
+    end_line();
+}
+
+// What the first n bytes read as.
+fn print_first(bytes: &[u8], n: usize) {
+    if n <= bytes.len() {
+        print_reading(notice::read(&bytes[..n]));
+    }
+}
+
+fn neighbours() {
+    let bytes = case_12();
+    print_first(&bytes, 29);
+    print_first(&bytes, 30);
+    print_first(&bytes, 31);
+    print_first(&bytes, 0);
+}
+
+// Case 12 written, into room enough and into a byte too little.
+fn written() {
+    let n = Notice {
+        sequence: 2,
+        title: 0,
+        time: 4,
+        kind: Kind::Change { count: 3 },
+    };
+    let mut room = [255u8; 32];
+    print_answer(notice::write(n, &mut room));
+    print_bytes(&room);
+    let mut short = [255u8; 29];
+    print_answer(notice::write(n, &mut short));
+    print_bytes(&short);
+}
+
+// Case 12 with one byte changed.
+fn changed(at: usize, to: u8)
+    requires { ⌜ at < 30 ⌝ }
+{
+    let mut bytes = case_12();
+    bytes[at] = to;
+    print_first(&bytes, 30);
+}
+
+// What is written reads back: shown for every record, and run for one outside every limit.
+fn survives(n: Notice) -> Reading
+    ensures { λ r. ⌜ r ≡ Reading.Whole n ⌝ }
+{
+    let mut room = [0u8; 45];
+    let size = notice::size(n);
+    notice::write(n, &mut room);
+    notice::read(&room[..size])
+}
+
+// Every limit passed, and still well formed.
+fn outside() -> Notice {
+    Notice {
+        sequence: 4294967295,
+        title: 255,
+        time: 18446744073709551615,
+        kind: Kind::Open {
+            length: 4294967295,
+            floor: 255,
+            cap: 255,
+            count: 255,
+        },
+    }
+}
+
+// An open and a close back to back, and five bytes that are no notice.
+fn fill(bytes: &mut [u8]) {
+    let close = Notice {
+        sequence: 7,
+        title: 3,
+        time: 8,
+        kind: Kind::Close,
+    };
+    print_answer(notice::write(outside(), bytes));
+    end_line();
+    if 71 <= bytes.len() {
+        print_answer(notice::write(close, &mut bytes[45..71]));
+        end_line();
+    }
+}
+
+// A log read from each notice's place, at its end and past it.
+fn log() {
+    let mut bytes = [0u8; 76];
+    fill(&mut bytes);
+    print_log(&bytes);
+}
+
+fn print_log(bytes: &[u8]) {
+    print_bytes(bytes);
+    print_found(notice::next_in(bytes, 0));
+    print_found(notice::next_in(bytes, 45));
+    print_found(notice::next_in(bytes, 71));
+    print_found(notice::next_in(bytes, 76));
+    print_found(notice::read_at(bytes, 18446744073709551615));
+}
+
+fn main() {
+    neighbours();
+    written();
+    // an unknown kind, another tag, a descending tag, and another length in either byte
+    changed(3, 4);
+    changed(4, 9);
+    changed(11, 1);
+    changed(6, 5);
+    changed(5, 1);
+    print_reading(survives(outside()));
+    log();
+}

@@ -1,0 +1,2 @@
+-- Of lanes given one at a time.
+pub mod Laws

@@ -1,0 +1,3 @@
+-- Of a title's part of the sum.
+pub mod Laws
+mod Table

@@ -1,0 +1,2 @@
+-- Of the four rows and their titles.
+pub mod Laws

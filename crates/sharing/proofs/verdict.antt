@@ -1,0 +1,2 @@
+-- Of the refusals.
+pub mod Laws

@@ -1,0 +1,33 @@
+// The sharing of lanes among titles (01, "Sharing"): the counts with the least sum of rate x D / (2^k - 1), compared exactly.
+//
+// `share` is the one call. It has no `requires`: its contract settles the answer and the whole lent row for all inputs, by definitions in
+// specs/Choice and specs/Verdict that say "least over all choices" and say nothing of how the code gets there. The code gives the lanes
+// out one at a time, so its work grows with lanes times titles.
+ghost use Rattle.sharing.specs.Verdict.{Answered};
+
+mod giving;
+mod term;
+mod titles;
+mod verdict;
+
+// Shares a pool of lanes among the titles whose rates, lengths, floors and caps stand in four rows: the counts go into the first places of
+// `counts`, later places stay. The answer is 0, or the first that hits of 10 (rows of different length, no room for the counts, more than
+// sixteen titles), 1 (a number outside its limits, the pool's included), 6 (a floor above its cap) and 9 (the floors exceed the pool); a
+// refusal writes nothing. No titles is done, with nothing written, where the pool is within its limits.
+pub fn share(
+    pool: u64,
+    rates: &[u32],
+    lengths: &[u32],
+    floors: &[u32],
+    caps: &[u32],
+    counts: &mut [u32],
+) -> u8
+    ensures { λ r. ⌜ Answered pool (now (rates .entry)) (now (lengths .entry)) (now (floors .entry)) (now (caps .entry)) (now (counts .entry)) r (now (counts .exit)) ⌝ }
+{
+    let answer = verdict::verdict(pool, rates, lengths, floors, caps, counts.len());
+    if answer == rules::DONE {
+        let n = rates.len();
+        giving::fill(pool, rates, lengths, floors, caps, &mut counts[..n]);
+    }
+    answer
+}

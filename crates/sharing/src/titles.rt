@@ -1,0 +1,42 @@
+// A title's numbers, gathered from the four rows.
+ghost use mathlib.Core.Path.{_≡_};
+ghost use Prim.Native.Nat.{_≤_, _<_};
+ghost use lib.ListN.{length};
+ghost use Rattle.rules.specs.Limits.{titlesMax};
+ghost use Rattle.sharing.specs.Titles.{titleAt, titles, total, Even};
+
+// What the sharing knows of a title.
+pub struct Title {
+    pub rate: u32,
+    pub length: u32,
+    pub floor: u32,
+    pub cap: u32,
+}
+
+// The title at a place of the rows.
+pub fn title_at(rates: &[u32], lengths: &[u32], floors: &[u32], caps: &[u32], i: usize) -> Title
+    requires { ⌜ Even (now rates) (now lengths) (now floors) (now caps) ⌝ }
+    requires { ⌜ i < length (now rates) ⌝ }
+    ensures { λ r. ⌜ r ≡ titleAt (titles (now (rates .entry)) (now (lengths .entry)) (now (floors .entry)) (now (caps .entry))) i ⌝ }
+{
+    Title {
+        rate: rates[i],
+        length: lengths[i],
+        floor: floors[i],
+        cap: caps[i],
+    }
+}
+
+// The floors together: what any choice takes at least.
+pub fn floor_total(floors: &[u32]) -> u64
+    requires { ⌜ length (now floors) ≤ titlesMax ⌝ }
+    ensures { λ r. ⌜ r ≡ total (now (floors .entry)) ⌝ }
+{
+    let mut sum: u64 = 0;
+    let mut i = 0;
+    while i < floors.len() {
+        sum += floors[i] as u64;
+        i += 1;
+    }
+    sum
+}

@@ -1,0 +1,96 @@
+// Which sharings are refused, and with which number.
+ghost use mathlib.Core.Path.{_≡_};
+ghost use Rattle.rules.specs.Limits.{both};
+ghost use Rattle.sharing.specs.Titles.{titles, Even};
+ghost use Rattle.sharing.specs.Verdict.{rowsFit, allowed as allowedOf, Told, verdictOf};
+use super::titles::Title;
+use super::titles::floor_total;
+use super::titles::title_at;
+use rules::within;
+
+// What one look at every title tells.
+pub struct Tally {
+    // each number is within its limits
+    pub allowed: bool,
+    // no floor is above its cap
+    pub ordered: bool,
+}
+
+// Both tests hold.
+fn also(a: bool, b: bool) -> bool
+    ensures { λ r. ⌜ r ≡ both a b ⌝ }
+{
+    if a { b } else { false }
+}
+
+// Four rows of one length, at most sixteen titles, and room for their counts.
+fn rows_fit(rates: &[u32], lengths: &[u32], floors: &[u32], caps: &[u32], room: usize) -> bool
+    ensures { λ r. ⌜ r ≡ rowsFit (now (rates .entry)) (now (lengths .entry)) (now (floors .entry)) (now (caps .entry)) room ⌝ }
+{
+    let n = rates.len();
+    let rooms = also(n <= rules::TITLES_MAX, n <= room);
+    also(
+        lengths.len() == n,
+        also(floors.len() == n, also(caps.len() == n, rooms)),
+    )
+}
+
+// Each number of the title is within its limits.
+fn allowed(t: Title) -> bool
+    ensures { λ r. ⌜ r ≡ allowedOf t ⌝ }
+{
+    let rate = within(rules::RATE_MIN, rules::RATE_MAX, t.rate as u64);
+    let length = within(rules::LENGTH_MIN, rules::LENGTH_MAX, t.length as u64);
+    let floor = within(rules::FLOOR_MIN, rules::FLOOR_MAX, t.floor as u64);
+    let cap = within(rules::COUNT_MIN, rules::COUNT_MAX, t.cap as u64);
+    also(rate, also(length, also(floor, cap)))
+}
+
+// One look at every title.
+fn examine(rates: &[u32], lengths: &[u32], floors: &[u32], caps: &[u32]) -> Tally
+    requires { ⌜ Even (now rates) (now lengths) (now floors) (now caps) ⌝ }
+    ensures { λ r. ⌜ Told (titles (now (rates .entry)) (now (lengths .entry)) (now (floors .entry)) (now (caps .entry))) r ⌝ }
+{
+    let mut good = true;
+    let mut kept = true;
+    let mut i = 0;
+    while i < rates.len() {
+        let t = title_at(rates, lengths, floors, caps, i);
+        good = also(good, allowed(t));
+        kept = also(kept, t.floor <= t.cap);
+        i += 1;
+    }
+    Tally {
+        allowed: good,
+        ordered: kept,
+    }
+}
+
+// The answer, by the order of 01: the first refusal that hits, or done.
+pub fn verdict(
+    pool: u64,
+    rates: &[u32],
+    lengths: &[u32],
+    floors: &[u32],
+    caps: &[u32],
+    room: usize,
+) -> u8
+    ensures { λ r. ⌜ r ≡ verdictOf pool (now (rates .entry)) (now (lengths .entry)) (now (floors .entry)) (now (caps .entry)) room ⌝ }
+{
+    if rows_fit(rates, lengths, floors, caps, room) {
+        let t = examine(rates, lengths, floors, caps);
+        let inside = also(within(rules::POOL_MIN, rules::POOL_MAX, pool), t.allowed);
+        if inside {
+            let kept = t.ordered;
+            if kept {
+                if pool < floor_total(floors) {
+                    return rules::NO_LANES;
+                }
+                return rules::DONE;
+            }
+            return rules::WRONG_COUNT;
+        }
+        return rules::OUTSIDE_LIMITS;
+    }
+    rules::WRONG_ROWS
+}

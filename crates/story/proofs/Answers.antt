@@ -1,0 +1,289 @@
+-- After any accepted sequence the state answers every event as the sequence says, and an accepted one leaves a state that
+-- tells the longer sequence. Rests on `Tells`, `turn-present` and the laws of listed refusals.
+use mathlib.Core.Path.{_≡_, refl, sym, ap, _∙_}
+use mathlib.Core.Bool.{Bool, true, false, not, false≢true}
+use mathlib.Core.Logic.{inl, inr, ⊎-elim}
+use mathlib.Core.List.{List, _∷_}
+use Prim.Native.Nat.{ℕ, _-_, _%_, _≤_, _<_, min, max}
+use native.Mathlib.Omega.{arith}
+use native.Mathlib.Nat.{le-antisymm}
+use lib.Dec.{ltb, leb, eqb, lit<}
+use borrow.Author.Tests.{ltb-true, ltb-false, leb-true, eqb-true, eqb-false, not-false}
+use Rattle.rules.specs.Limits.{both, either, within, idMax, eventTimeMax, lengthMin, lengthMax, floorMin, floorMax, countMin, countMax}
+use Rattle.rules.specs.Refusals.{outsideLimits, tooEarly, notThere, idTaken, isClosing, wrongCount, secondEvent, notAtSlot, noLanes}
+use Rattle.rules.proofs.Tests.{decide, both-l, both-r, either-false-l, either-false-r}
+use Rattle.rules.proofs.Refusals.{hit-same, passed}
+use Rattle.grid.specs.Ticks.{tickOf, isSlotStart}
+use Rattle.story.specs.declared.Title.{Title}
+use Rattle.story.specs.declared.State.{State}
+use Rattle.story.specs.Kept.{titleAt, stateOk, tickAt, atTickStart, lanesHeld, isThere}
+use Rattle.story.specs.Next.{openedTitle, withTitle, openNext, changedTitle, changeNext, closedTitle, closeNext}
+use Rattle.story.specs.Calls.{eventOk, openOk, tooMany, openAnswer, atSlotStart, changeAnswer, closeAnswer}
+use Rattle.story.specs.Story.{Act, opens, changes, closes, Event, Life, lifeAfter, lifeOf, latestOf, lastTime, tickIn, countIn, isSlotIn, overfull, answerTo, turn}
+use Rattle.story.specs.Runs.{callAnswer, callNext}
+use Rattle.story.proofs.Kept.{lifeIn, Present}
+use Rattle.story.proofs.Turn.{Turning, turnedTitle, turned-laid, turn-present, open-ruling}
+use Rattle.story.proofs.Passed.{event, within-low, within-high}
+use Rattle.story.proofs.Tells.{TellsTitle, absent, present, Tells, opened-present, count-told, there-told, closing-told, lanes-told, told-with, blank-away}
+
+-- a title that is open: the rule of its life, its count and its latest event
+record Open (L : Life) (m : ℕ) (t : Title) (τ : ℕ) : Type 0 where
+  rule : ℕ → ℕ
+  life : L ≡ lifeIn t rule
+  latest : m ≡ t .last
+  here : Present t rule
+  mode : t .mode ≡ 1
+  count : countIn L τ ≡ t .count
+
+open-title : (L : Life) (m : ℕ) (t : Title) (τ : ℕ) → TellsTitle L m t → m ≤ τ → isThere t τ ≡ true → eqb (t .mode) 2 ≡ false → Open L m t τ
+open-title L m t τ (absent e f g) le there off =
+    absurd (false≢true (sym (blank-away τ) ∙ ap (λ x. isThere x τ) (sym g) ∙ there))
+open-title L m t τ (present r e f p) le there off =
+    let o : t .mode ≡ 1 = ⊎-elim (λ x. x) (λ x. absurd (eqb-false (t .mode) 2 off x)) (p .mode) in
+    record
+    { rule = r; life = e; latest = f; here = p; mode = o; count = count-told L m t τ (present r e f p) le ∙ open-ruling t o }
+
+-- a slot start of an open title, told from its life
+slot-told : (L : Life) (m : ℕ) (t : Title) (τ k : ℕ) → Open L m t τ → atSlotStart t k τ ≡ isSlotIn L k τ
+unfolding atTickStart tickAt tickIn
+slot-told L m t τ k o = rw (o .life) refl
+
+-- the slot of the smaller count, and of the floor for a close, is one expression
+change-slot : (A c k : ℕ) → A ≤ c → A ≤ k → max A (min c k) ≡ min c k
+change-slot A c k p q = omega arith
+
+close-slot : (A c : ℕ) → max A (min c 0) ≡ A
+close-slot A c = omega arith
+
+-- the life that a turned title tells has the title's own numbers
+life-turned : (t : Title) (τ q m c : ℕ) (r : ℕ → ℕ) → lifeIn (turnedTitle t τ q m c) r ≡ lifeIn t r
+life-turned t τ q m c r = ap (λ x. lifeIn x r) (turned-laid t τ q m c)
+
+module _ (lanes : ℕ) (es : List Event) (s : State) (w : Tells lanes es s) where
+  -- the pool is too small for the state after an event just where it is for the sequence after it
+  full-told : (e : Event) (s′ : State) → Tells lanes (e ∷ es) s′ → tooMany s′ (e .time) ≡ overfull lanes (e ∷ es) (e .time)
+  full-told e s′ w′ =
+      ap (λ n. ltb n (lanesHeld s′ (e .time))) (w′ .pool)
+      ∙ ap (λ n. ltb lanes n) (sym (lanes-told lanes (e ∷ es) s′ (e .time) w′ (omega arith)))
+
+  module _ (ok : stateOk s ≡ true) (i τ : ℕ) where
+    -- a good state leaves only the event's own numbers to be tested
+    limits-told : (b : Bool) → not (both (eventOk s i τ) b) ≡ not (both (both (leb i idMax) (leb τ eventTimeMax)) b)
+    limits-told b = rw ok refl
+
+    event-out : eventOk s i τ ≡ true → (i ≤ idMax) × (τ ≤ eventTimeMax)
+    event-out h =
+        let nums : both (leb i idMax) (leb τ eventTimeMax) ≡ true = both-r (stateOk s) (both (leb i idMax) (leb τ eventTimeMax)) h in (
+          leb-true i idMax (both-l (leb i idMax) (leb τ eventTimeMax) nums),
+          leb-true τ eventTimeMax (both-r (leb i idMax) (leb τ eventTimeMax) nums),
+        )
+
+    limits-out : (b : Bool) → not (both (eventOk s i τ) b) ≡ false → (i ≤ idMax) × (τ ≤ eventTimeMax) × (b ≡ true)
+    limits-out b h =
+        let all : both (eventOk s i τ) b ≡ true = not-false (both (eventOk s i τ) b) h in
+        let nums = event-out (both-l (eventOk s i τ) b all) in
+        (nums .0, nums .1, both-r (eventOk s i τ) b all)
+
+    -- not before the last event
+    late-out : ltb τ (s .last) ≡ false → lastTime es ≤ τ
+    late-out h = omega (arith, ltb-false τ (s .last) h, w .last)
+
+    seen : lastTime es ≤ τ → latestOf es i ≤ τ
+    seen le = omega (arith, w .newest i)
+
+    -- an opening within its limits, not too early, with a count from floor to cap
+    open-next : (D A K k : ℕ) → i ≤ idMax → τ ≤ eventTimeMax → openOk D A K k ≡ true → lastTime es ≤ τ → either (ltb K A) (not (within A K k)) ≡ false → Tells lanes (event i τ (opens D A K k) ∷ es) (openNext s i τ D A K k)
+    open-next D A K k id limit nums late order =
+        let k-ok : Bool = within countMin countMax k in
+        let K-ok : Bool = within countMin countMax K in
+        let A-ok : Bool = within floorMin floorMax A in
+        let D-ok : Bool = within lengthMin lengthMax D in
+        let d : D-ok ≡ true = both-l D-ok (both A-ok (both K-ok k-ok)) nums in
+        let rest : both A-ok (both K-ok k-ok) ≡ true = both-r D-ok (both A-ok (both K-ok k-ok)) nums in
+        let a : A-ok ≡ true = both-l A-ok (both K-ok k-ok) rest in
+        let c : K-ok ≡ true = both-l K-ok k-ok (both-r A-ok (both K-ok k-ok) rest) in
+        let count : within A K k ≡ true = not-false (within A K k) (either-false-r (ltb K A) (not (within A K k)) order) in
+        told-with lanes es s (event i τ (opens D A K k)) (openedTitle τ D A K k) w (omega arith) late limit
+        (present (λ t. k) refl refl
+        (opened-present τ D A K k limit (within-low lengthMin lengthMax D d) (within-high lengthMin lengthMax D d) (within-low floorMin floorMax A a) (within-high floorMin floorMax A a) (within-high countMin countMax K c) (within-low A K k count) (within-high A K k count)))
+
+    open-told : (D A K k : ℕ) → openAnswer s i τ D A K k ≡ answerTo lanes es (event i τ (opens D A K k)) (lifeOf es i) (opens D A K k)
+    unfolding openAnswer answerTo
+    open-told D A K k =
+        hit-same outsideLimits _ _ _ _ (limits-told (openOk D A K k))
+        (λ t1.
+        let n = limits-out (openOk D A K k) t1 in
+        hit-same tooEarly _ _ _ _ (ap (λ x. ltb τ x) (w .last))
+        (λ t2.
+        hit-same idTaken _ _ _ _ (sym (there-told (lifeOf es i) (latestOf es i) (titleAt s i) τ (w .title i (omega (arith, n .0))) (seen (late-out t2))))
+        (λ t4.
+        hit-same wrongCount _ _ _ _ refl
+        (λ t6.
+        hit-same noLanes _ _ _ _
+        (full-told (event i τ (opens D A K k)) (openNext s i τ D A K k) (open-next D A K k (n .0) (n .1) (n .2) (late-out t2) t6))
+        (λ t9. refl)))))
+
+    -- a turn of an open title
+    turn-next : (t : Title) (q m c : ℕ) (a : Act) → titleAt s i ≡ t → (o : Open (lifeOf es i) (latestOf es i) t τ) → i ≤ idMax → τ ≤ eventTimeMax → lastTime es ≤ τ → Turning t (o .rule) τ q m c → lifeAfter (lifeIn t (o .rule)) τ a ≡ lifeIn t (turn (o .rule) (tickAt t τ) q) → Tells lanes (event i τ a ∷ es) (withTitle s i (turnedTitle t τ q m c) τ)
+    turn-next t q m c a e o id limit late turning same =
+        told-with lanes es s (event i τ a) (turnedTitle t τ q m c) w (omega arith) late limit
+        (present (turn (o .rule) (tickAt t τ) q)
+        (ap (λ L. lifeAfter L τ a) (o .life) ∙ same ∙ sym (life-turned t τ q m c (turn (o .rule) (tickAt t τ) q)))
+        refl (turn-present t (o .rule) τ q m c turning))
+
+    -- the tests of a slot start, a later moment and a new count, as facts
+    later-out : (t : Title) → Open (lifeOf es i) (latestOf es i) t τ → lastTime es ≤ τ → eqb τ (t .last) ≡ false → t .last < τ
+    later-out t o late h =
+        ⊎-elim (λ x. ltb-true (t .last) τ x)
+        (λ x. absurd (eqb-false τ (t .last) h (le-antisymm (ltb-false (t .last) τ x) (omega (arith, o .latest, w .newest i)))))
+        (decide (ltb (t .last) τ))
+
+    tick-out : (t : Title) (k : ℕ) → not (atSlotStart t k τ) ≡ false → ((τ - t .opened) % tickOf (t .length) (t .floor) (t .cap) ≡ 0) × (isSlotStart (t .cap) k (tickAt t τ) ≡ true)
+    unfolding atTickStart
+    tick-out t k h =
+        let all : atSlotStart t k τ ≡ true = not-false (atSlotStart t k τ) h in (
+          eqb-true ((τ - t .opened) % tickOf (t .length) (t .floor) (t .cap)) 0 (both-l (atTickStart t τ) (isSlotStart (t .cap) k (tickAt t τ)) all),
+          both-r (atTickStart t τ) (isSlotStart (t .cap) k (tickAt t τ)) all,
+        )
+
+    change-next : (k : ℕ) (o : Open (lifeOf es i) (latestOf es i) (titleAt s i) τ) → i ≤ idMax → τ ≤ eventTimeMax → lastTime es ≤ τ → either (not (within (titleAt s i .floor) (titleAt s i .cap) k)) (eqb k (titleAt s i .count)) ≡ false → eqb τ (titleAt s i .last) ≡ false → not (atSlotStart (titleAt s i) (min (titleAt s i .count) k) τ) ≡ false → Tells lanes (event i τ (changes k) ∷ es) (changeNext s i τ k)
+    unfolding changedTitle tickIn tickAt
+    change-next k o id limit late t6 t7 t8 =
+        let t : Title = titleAt s i in
+        let inside : within (t .floor) (t .cap) k ≡ true = not-false (within (t .floor) (t .cap) k) (either-false-l (not (within (t .floor) (t .cap) k)) (eqb k (t .count)) t6) in
+        let low : t .floor ≤ k = within-low (t .floor) (t .cap) k inside in
+        let other : k ≡ t .count → ⊥ = eqb-false k (t .count) (either-false-r (not (within (t .floor) (t .cap) k)) (eqb k (t .count)) t6) in
+        let z = o .here .sized in
+        turn-next t k 1 k (changes k) refl o id limit late
+        (record {
+          here = o .here;
+          is-open = o .mode;
+          later = later-out t o late t7;
+          limit = limit;
+          on-tick = tick-out t (min (t .count) k) t8 .0;
+          new = λ e. other (sym e);
+          low = λ p. low;
+          high = within-high (t .floor) (t .cap) k inside;
+          at-slot = rw (change-slot (t .floor) (t .count) k (z .count-low) low) (tick-out t (min (t .count) k) t8 .1);
+          mode = inl refl;
+          count-low = low;
+          count-high = within-high (t .floor) (t .cap) k inside;
+          rules = refl;
+        })
+        refl
+
+    close-next : (o : Open (lifeOf es i) (latestOf es i) (titleAt s i) τ) → i ≤ idMax → τ ≤ eventTimeMax → lastTime es ≤ τ → eqb τ (titleAt s i .last) ≡ false → not (atSlotStart (titleAt s i) (titleAt s i .floor) τ) ≡ false → Tells lanes (event i τ closes ∷ es) (closeNext s i τ)
+    unfolding closedTitle tickIn tickAt
+    close-next o id limit late t7 t8 =
+        let t : Title = titleAt s i in
+        let z = o .here .sized in
+        turn-next t 0 2 (t .count) closes refl o id limit late
+        (record {
+          here = o .here;
+          is-open = o .mode;
+          later = later-out t o late t7;
+          limit = limit;
+          on-tick = tick-out t (t .floor) t8 .0;
+          new = λ e. omega (arith, z .floor-low, z .count-low);
+          low = λ p. absurd (omega arith);
+          high = omega arith;
+          at-slot = rw (close-slot (t .floor) (t .count)) (tick-out t (t .floor) t8 .1);
+          mode = inr refl;
+          count-low = z .count-low;
+          count-high = z .count-high;
+          rules = refl;
+        })
+        refl
+
+    -- the tests that a change and a close share: there, and not closing
+    opened-told : i ≤ idMax → lastTime es ≤ τ → not (isThere (titleAt s i) τ) ≡ false → eqb (titleAt s i .mode) 2 ≡ false → Open (lifeOf es i) (latestOf es i) (titleAt s i) τ
+    opened-told id late t3 t5 =
+        open-title (lifeOf es i) (latestOf es i) (titleAt s i) τ (w .title i (omega arith)) (seen late)
+        (not-false (isThere (titleAt s i) τ) t3) t5
+
+    change-told : (k : ℕ) → changeAnswer s i τ k ≡ answerTo lanes es (event i τ (changes k)) (lifeOf es i) (changes k)
+    unfolding changeAnswer answerTo
+    change-told k =
+        hit-same outsideLimits _ _ _ _ (limits-told (within countMin countMax k))
+        (λ t1.
+        let n = limits-out (within countMin countMax k) t1 in
+        hit-same tooEarly _ _ _ _ (ap (λ x. ltb τ x) (w .last))
+        (λ t2.
+        let late : lastTime es ≤ τ = late-out t2 in
+        let told = w .title i (omega (arith, n .0)) in
+        hit-same notThere _ _ _ _ (ap not (sym (there-told (lifeOf es i) (latestOf es i) (titleAt s i) τ told (seen late))))
+        (λ t3.
+        hit-same isClosing _ _ _ _ (closing-told (lifeOf es i) (latestOf es i) (titleAt s i) τ told (seen late) (not-false (isThere (titleAt s i) τ) t3))
+        (λ t5.
+        let o = opened-told (n .0) late t3 t5 in
+        hit-same wrongCount _ _ _ _
+        (rw (o .count, ap (λ (L : Life). L .floor) (o .life), ap (λ (L : Life). L .cap) (o .life)) refl)
+        (λ t6.
+        hit-same secondEvent _ _ _ _ (ap (λ x. eqb τ x) (sym (o .latest)))
+        (λ t7.
+        hit-same notAtSlot _ _ _ _
+        (rw (o .count) (ap not (slot-told (lifeOf es i) (latestOf es i) (titleAt s i) τ (min (titleAt s i .count) k) o)))
+        (λ t8.
+        hit-same noLanes _ _ _ _
+        (full-told (event i τ (changes k)) (changeNext s i τ k) (change-next k o (n .0) (n .1) late t6 t7 t8))
+        (λ t9. refl))))))))
+
+    close-told : closeAnswer s i τ ≡ answerTo lanes es (event i τ closes) (lifeOf es i) closes
+    unfolding closeAnswer answerTo
+    close-told =
+        hit-same outsideLimits _ _ _ _ (rw ok refl)
+        (λ t1.
+        let n = event-out (not-false (eventOk s i τ) t1) in
+        hit-same tooEarly _ _ _ _ (ap (λ x. ltb τ x) (w .last))
+        (λ t2.
+        let late : lastTime es ≤ τ = late-out t2 in
+        let told = w .title i (omega (arith, n .0)) in
+        hit-same notThere _ _ _ _ (ap not (sym (there-told (lifeOf es i) (latestOf es i) (titleAt s i) τ told (seen late))))
+        (λ t3.
+        hit-same isClosing _ _ _ _ (closing-told (lifeOf es i) (latestOf es i) (titleAt s i) τ told (seen late) (not-false (isThere (titleAt s i) τ) t3))
+        (λ t5.
+        let o = opened-told (n .0) late t3 t5 in
+        hit-same secondEvent _ _ _ _ (ap (λ x. eqb τ x) (sym (o .latest)))
+        (λ t7.
+        hit-same notAtSlot _ _ _ _
+        (ap not (slot-told (lifeOf es i) (latestOf es i) (titleAt s i) τ (titleAt s i .floor) o) ∙ rw (ap (λ (L : Life). L .floor) (o .life)) refl)
+        (λ t8. refl))))))
+
+  module _ (ok : stateOk s ≡ true) where
+    -- every event is answered as the sequence says
+    pub answer-told : (i τ : ℕ) (a : Act) → callAnswer s i τ a ≡ answerTo lanes es (event i τ a) (lifeOf es i) a
+    answer-told i τ (opens D A K k) = open-told ok i τ D A K k
+    answer-told i τ (changes k) = change-told ok i τ k
+    answer-told i τ closes = close-told ok i τ
+
+    -- and an accepted one leaves a state that tells the longer sequence
+    pub next-told : (i τ : ℕ) (a : Act) → callAnswer s i τ a ≡ 0 → Tells lanes (event i τ a ∷ es) (callNext s i τ a)
+    unfolding openAnswer changeAnswer closeAnswer
+    next-told i τ (opens D A K k) h =
+        let p1 = passed outsideLimits _ _ (lit< tt) h in
+        let p2 = passed tooEarly _ _ (lit< tt) (p1 .1) in
+        let p4 = passed idTaken _ _ (lit< tt) (p2 .1) in
+        let p6 = passed wrongCount _ _ (lit< tt) (p4 .1) in
+        let n = limits-out ok i τ (openOk D A K k) (p1 .0) in
+        open-next ok i τ D A K k (n .0) (n .1) (n .2) (late-out ok i τ (p2 .0)) (p6 .0)
+    next-told i τ (changes k) h =
+        let p1 = passed outsideLimits _ _ (lit< tt) h in
+        let p2 = passed tooEarly _ _ (lit< tt) (p1 .1) in
+        let p3 = passed notThere _ _ (lit< tt) (p2 .1) in
+        let p5 = passed isClosing _ _ (lit< tt) (p3 .1) in
+        let p6 = passed wrongCount _ _ (lit< tt) (p5 .1) in
+        let p7 = passed secondEvent _ _ (lit< tt) (p6 .1) in
+        let p8 = passed notAtSlot _ _ (lit< tt) (p7 .1) in
+        let n = limits-out ok i τ (within countMin countMax k) (p1 .0) in
+        let late = late-out ok i τ (p2 .0) in
+        change-next ok i τ k (opened-told ok i τ (n .0) late (p3 .0) (p5 .0)) (n .0) (n .1) late (p6 .0) (p7 .0) (p8 .0)
+    next-told i τ closes h =
+        let p1 = passed outsideLimits _ _ (lit< tt) h in
+        let p2 = passed tooEarly _ _ (lit< tt) (p1 .1) in
+        let p3 = passed notThere _ _ (lit< tt) (p2 .1) in
+        let p5 = passed isClosing _ _ (lit< tt) (p3 .1) in
+        let p7 = passed secondEvent _ _ (lit< tt) (p5 .1) in
+        let p8 = passed notAtSlot _ _ (lit< tt) (p7 .1) in
+        let n = event-out ok i τ (not-false (eventOk s i τ) (p1 .0)) in
+        let late = late-out ok i τ (p2 .0) in
+        close-next ok i τ (opened-told ok i τ (n .0) late (p3 .0) (p5 .0)) (n .0) (n .1) late (p7 .0) (p8 .0)

@@ -1,0 +1,48 @@
+-- Laws of the clock: ticks begun by a moment, and the moments at which ticks begin.
+-- Rest on division with remainder and on the rounding up of the tick.
+use mathlib.Core.Path.{_≡_}
+use mathlib.Core.Logic.{⊎-elim}
+use Prim.Native.Nat.{ℕ, _+_, _-_, _*_, _/_, _%_, _^_, _≤_, _<_}
+use native.Mathlib.Omega.{arith}
+use native.Mathlib.Nat.{div-add-mod', div-mul-le-self, le-div-iff-mul-le, mul-div-cancel, mul-le-mul-right}
+use Rattle.grid.specs.Ticks.{tickOf}
+use Rattle.grid.proofs.Ticks.{rounded-low, held-pos}
+
+-- a film of some length has a tick of some length
+pub tick-pos : (D A K : ℕ) → 0 < D → 0 < A → A ≤ K → 0 < tickOf D A K
+unfolding tickOf
+tick-pos D A K film floor high =
+    rounded-low D (2 ^ K - 2 ^ (K - A)) film (omega (arith, held-pos A K floor high))
+
+module _ (B p : ℕ) (pos : 0 < p) where
+  pub tick-mono : (x y : ℕ) → x ≤ y → (x - B) / p ≤ (y - B) / p
+  tick-mono x y le =
+      le-div-iff-mul-le pos .1 (let a : (x - B) / p * p ≤ x - B = div-mul-le-self (x - B) p in omega arith)
+
+  -- a tick that has begun began by then
+  pub begun : (x n : ℕ) → B ≤ x → n ≤ (x - B) / p → B + n * p ≤ x
+  begun x n le h =
+      let a : (x - B) / p * p ≤ x - B = div-mul-le-self (x - B) p in
+      let b : n * p ≤ (x - B) / p * p = mul-le-mul-right p h in
+      omega arith
+
+  pub begins : (x n : ℕ) → B + n * p ≤ x → n ≤ (x - B) / p
+  begins x n le = le-div-iff-mul-le pos .1 (omega arith)
+
+  pub tick-of-moment : (n : ℕ) → (B + n * p - B) / p ≡ n
+  tick-of-moment n = let e : B + n * p - B ≡ n * p = omega arith in rw e (mul-div-cancel n pos)
+
+  -- a moment that is the start of a tick is the start of its own tick
+  pub on-its-tick : (x : ℕ) → B ≤ x → (x - B) % p ≡ 0 → x ≡ B + (x - B) / p * p
+  on-its-tick x le z = omega (arith, div-add-mod' (x - B) p)
+
+  -- a later moment at the start of a tick is in a later tick
+  pub later-tick : (x y : ℕ) → B ≤ x → x < y → (y - B) % p ≡ 0 → (x - B) / p < (y - B) / p
+  later-tick x y lo lt z =
+      let ex : (x - B) / p * p ≤ x - B = div-mul-le-self (x - B) p in
+      let ey : y ≡ B + (y - B) / p * p = on-its-tick y (omega arith) z in
+      ⊎-elim (λ t. borrow.Author.Tests.ltb-true ((x - B) / p) ((y - B) / p) t)
+      (λ t.
+      let m : (y - B) / p * p ≤ (x - B) / p * p = mul-le-mul-right p (borrow.Author.Tests.ltb-false ((x - B) / p) ((y - B) / p) t) in
+      absurd (omega arith))
+      (Rattle.rules.proofs.Tests.decide (lib.Dec.ltb ((x - B) / p) ((y - B) / p)))

@@ -1,0 +1,173 @@
+-- What is read off a stored title is what its life says: at every tick from its latest event on, which lanes are held and
+-- what each shows. Rests on `kept-owed`, and on what the events keep true of a title (`Present`).
+use mathlib.Core.Path.{_≡_, refl, sym, _∙_}
+use mathlib.Core.Bool.{true, false, false≢true}
+use mathlib.Core.Logic.{_⊎_, ⊎-elim}
+use Prim.Native.Nat.{ℕ, _+_, _-_, _%_, _≤_, _<_}
+use native.Mathlib.Omega.{arith}
+use lib.Dec.{ltb, eqb}
+use lib.ListN.{getD, length}
+use borrow.Author.Tests.{ltb-true, ltb-false, lt-ltb, le-ltb, ne-eqb}
+use Rattle.rules.specs.Limits.{either, askedMax, eventTimeMax, lengthMin, lengthMax, floorMin, floorMax, countMax}
+use Rattle.rules.specs.Refusals.{pick}
+use Rattle.rules.specs.Search.{first}
+use Rattle.rules.proofs.Tests.{decide, same}
+use Rattle.rules.proofs.Search
+use Rattle.grid.specs.Ticks.{tickOf}
+use Rattle.grid.specs.Lanes.{laneCell}
+use Rattle.story.specs.declared.Title.{Title}
+use Rattle.story.specs.Life.{isActive, droppedAt, isOwed, reach, owedWithin, owes, isNth, nthOwed, cell, sends, onAir, isHeld, Ruled, Legal, isRuling, lastEnd}
+use Rattle.story.specs.Kept.{tickAt, ruling, keptOwed, keptWithin, keptHeld, titleHeld, keptNth, sendingTick, shows}
+use Rattle.story.specs.Story.{Life, tickIn, heldIn}
+use Rattle.story.proofs.Clock.{tick-pos, tick-mono}
+use Rattle.story.proofs.Owed.{air-sends, air-active}
+use Rattle.story.proofs.Held.{dropped-le, held-active, held-sending}
+use Rattle.story.proofs.Stored.{kept-owed, EndsAt}
+
+-- the life that a stored title tells, under a rule
+abbrev pub lifeIn : Title → (ℕ → ℕ) → Life
+lifeIn t r = record { opened = t .opened; length = t .length; floor = t .floor; cap = t .cap; rule = r }
+
+-- the numbers that an accepted opening gives, and the rows' lengths
+pub record Sized (t : Title) : Type 0 where
+  pub opened-high : t .opened ≤ eventTimeMax
+  pub length-low : lengthMin ≤ t .length
+  pub length-high : t .length ≤ lengthMax
+  pub floor-low : floorMin ≤ t .floor
+  pub floor-high : t .floor ≤ floorMax
+  pub cap-high : t .cap ≤ countMax
+  pub count-low : t .floor ≤ t .count
+  pub count-high : t .count ≤ t .cap
+  pub last-high : t .last ≤ eventTimeMax
+  pub ends-long : length (t .ends) ≡ 11
+  pub dropped-long : length (t .dropped) ≡ 10
+  pub owed-long : length (t .owed) ≡ 10
+  pub ends-high : (j : ℕ) → getD (t .ends) j 0 ≤ askedMax
+  pub dropped-high : (j : ℕ) → getD (t .dropped) j 0 ≤ askedMax
+  pub owed-high : (j : ℕ) → getD (t .owed) j 0 ≤ askedMax
+
+-- a title, open or closing, whose stored numbers tell the rule r up to its latest event, and that r is steady since
+pub record Present (t : Title) (r : ℕ → ℕ) : Type 0 where
+  pub mode : (t .mode ≡ 1) ⊎ (t .mode ≡ 2)
+  pub sized : Sized t
+  pub since : t .opened ≤ t .last
+  pub on-tick : (t .last - t .opened) % tickOf (t .length) (t .floor) (t .cap) ≡ 0
+  pub steady : (u : ℕ) → tickAt t (t .last) ≤ u → r u ≡ ruling t
+  pub ruled : Ruled (t .floor) (t .cap) r
+  pub legal : Legal (t .floor) (t .cap) r
+  pub ends : (c : ℕ) → t .floor ≤ c → c ≤ t .cap → (ruling t ≡ c → ⊥) → getD (t .ends) c 0 ≡ lastEnd r c (tickAt t (t .last))
+  pub drops : (l : ℕ) → l < t .cap → ruling t ≤ l → getD (t .dropped) l 0 ≡ droppedAt r l (tickAt t (t .last))
+  pub owing : (l : ℕ) → l < t .cap → ruling t ≤ l → getD (t .owed) l 0 ≡ owes (t .floor) (t .cap) r l (getD (t .dropped) l 0)
+
+-- what a held lane that is not active shows
+air-held : (A K : ℕ) (r : ℕ → ℕ) (l n : ℕ) → isActive r l n ≡ false → isHeld A K r l n ≡ true → onAir A K r l n ≡ cell (laneCell A K l (droppedAt r l n + nthOwed A K r l (droppedAt r l n) (n - droppedAt r l n)))
+unfolding isHeld sends
+air-held A K r l n off held =
+    let air : onAir A K r l n ≡ sends A K r l (droppedAt r l n) (n - droppedAt r l n) = air-sends A K r l n off in
+    let i : ℕ = nthOwed A K r l (droppedAt r l n) (n - droppedAt r l n) in
+    ⊎-elim (λ x. air ∙ rw x refl) (λ x. absurd (false≢true (rw x at (rw air at held)))) (decide (ltb i (reach K)))
+
+module _ (t : Title) (r : ℕ → ℕ) (here : Present t r) where
+  pub active-kept : (l n : ℕ) → tickAt t (t .last) ≤ n → isActive r l n ≡ ltb l (ruling t)
+  unfolding isActive
+  active-kept l n le = rw (here .steady n le) refl
+
+  -- a lane that is not active was dropped at the stored tick
+  pub dropped-kept : (l n : ℕ) → l < t .cap → ruling t ≤ l → tickAt t (t .last) ≤ n → droppedAt r l n ≡ getD (t .dropped) l 0
+  unfolding droppedAt
+  dropped-kept l n lane off le =
+      Search.after-flat (isActive r l) (tickAt t (t .last)) n le
+      (λ i lo hi. active-kept l i lo ∙ le-ltb l (ruling t) off)
+      ∙ sym (here .drops l lane off)
+
+  -- the lane was not active from its drop on
+  pub off-since : (l v : ℕ) → l < t .cap → ruling t ≤ l → getD (t .dropped) l 0 ≤ v → r v ≤ l
+  unfolding droppedAt isActive
+  off-since l v lane off le =
+      ⊎-elim
+      (λ x. ltb-false l (r v) (Search.after-none (isActive r l) (tickAt t (t .last)) v (rw (here .drops l lane off) at le) (ltb-true v (tickAt t (t .last)) x)))
+      (λ x. rw (here .steady v (ltb-false v (tickAt t (t .last)) x)) off)
+      (decide (ltb v (tickAt t (t .last))))
+
+  -- the stored ends are those before the lane's drop: no count that has the lane has ruled since
+  pub ends-kept : (l : ℕ) → l < t .cap → ruling t ≤ l → EndsAt t r l (getD (t .dropped) l 0)
+  unfolding lastEnd
+  ends-kept l lane off c had low high =
+      here .ends c low high (λ e. omega arith)
+      ∙ Search.after-flat (isRuling r c) (getD (t .dropped) l 0) (tickAt t (t .last))
+      (rw (here .drops l lane off) (dropped-le r l (tickAt t (t .last))))
+      (λ i lo hi. ne-eqb (r i) c (λ e. omega (arith, off-since l i lane off lo)))
+
+  -- the stored ends say which of its ticks are owed
+  pub owed-kept : (l u : ℕ) → l < t .cap → ruling t ≤ l → getD (t .dropped) l 0 ≤ u → isOwed (t .floor) (t .cap) r l (getD (t .dropped) l 0) u ≡ keptOwed t l u
+  owed-kept l u lane off le =
+      kept-owed t r l (getD (t .dropped) l 0) u (here .ruled) (here .legal) lane
+      (off-since l (getD (t .dropped) l 0) lane off (omega arith)) le (ends-kept l lane off)
+
+  pub within-kept : (l n : ℕ) → l < t .cap → ruling t ≤ l → owedWithin (t .floor) (t .cap) r l (getD (t .dropped) l 0) n ≡ keptWithin t l (getD (t .dropped) l 0) n
+  unfolding owedWithin keptWithin
+  within-kept l n lane off =
+      Search.howMany-ext (λ o. isOwed (t .floor) (t .cap) r l (getD (t .dropped) l 0) (getD (t .dropped) l 0 + o))
+      (λ o. keptOwed t l (getD (t .dropped) l 0 + o)) n (λ o b. owed-kept l (getD (t .dropped) l 0 + o) lane off (omega arith))
+
+  -- a lane is held, at any tick from the latest event on, as the stored numbers say
+  pub held-kept : (l n : ℕ) → l < t .cap → tickAt t (t .last) ≤ n → isHeld (t .floor) (t .cap) r l n ≡ keptHeld t l n
+  unfolding keptHeld
+  held-kept l n lane le = ⊎-elim on off (decide (ltb l (ruling t)))
+    where
+      on : ltb l (ruling t) ≡ true → isHeld (t .floor) (t .cap) r l n ≡ either (ltb l (ruling t)) (ltb n (getD (t .dropped) l 0 + getD (t .owed) l 0))
+      on x = held-active (t .floor) (t .cap) r l n (active-kept l n le ∙ x) ∙ rw x refl
+
+      off : ltb l (ruling t) ≡ false → isHeld (t .floor) (t .cap) r l n ≡ either (ltb l (ruling t)) (ltb n (getD (t .dropped) l 0 + getD (t .owed) l 0))
+      off x =
+          let quiet : ruling t ≤ l = ltb-false l (ruling t) x in
+          let d : droppedAt r l n ≡ getD (t .dropped) l 0 = dropped-kept l n lane quiet le in
+          let past : getD (t .dropped) l 0 ≤ n = rw d at (dropped-le r l n) in
+          held-sending (t .floor) (t .cap) r l n (active-kept l n le ∙ x)
+          ∙ rw (d, x, ← here .owing l lane quiet)
+          (same (ltb (n - getD (t .dropped) l 0) (getD (t .owed) l 0)) (ltb n (getD (t .dropped) l 0 + getD (t .owed) l 0))
+          (λ h. lt-ltb n (getD (t .dropped) l 0 + getD (t .owed) l 0) (omega (arith, ltb-true (n - getD (t .dropped) l 0) (getD (t .owed) l 0) h)))
+          (λ h. lt-ltb (n - getD (t .dropped) l 0) (getD (t .owed) l 0) (omega (arith, ltb-true n (getD (t .dropped) l 0 + getD (t .owed) l 0) h))))
+
+  -- the tick whose cell goes out is found from the stored ends
+  pub nth-kept : (l i : ℕ) → l < t .cap → ruling t ≤ l → nthOwed (t .floor) (t .cap) r l (getD (t .dropped) l 0) i ≡ first (keptNth t l (getD (t .dropped) l 0) i) (reach (t .cap))
+  unfolding nthOwed isNth keptNth
+  nth-kept l i lane off =
+      Search.first-ext (isNth (t .floor) (t .cap) r l (getD (t .dropped) l 0) i) (keptNth t l (getD (t .dropped) l 0) i) (reach (t .cap))
+      (λ o b. rw (owed-kept l (getD (t .dropped) l 0 + o) lane off (omega arith), within-kept l o lane off) refl)
+
+  -- a held lane shows the cell that the stored numbers give
+  pub shows-kept : (l n : ℕ) → l < t .cap → tickAt t (t .last) ≤ n → isHeld (t .floor) (t .cap) r l n ≡ true → onAir (t .floor) (t .cap) r l n ≡ cell (shows t l n)
+  unfolding shows sendingTick
+  shows-kept l n lane le held = ⊎-elim on off (decide (ltb l (ruling t)))
+    where
+      on : ltb l (ruling t) ≡ true → onAir (t .floor) (t .cap) r l n ≡ cell (laneCell (t .floor) (t .cap) l (pick (ltb l (ruling t)) n (sendingTick t l n)))
+      on x = air-active (t .floor) (t .cap) r l n (active-kept l n le ∙ x) ∙ rw x refl
+
+      off : ltb l (ruling t) ≡ false → onAir (t .floor) (t .cap) r l n ≡ cell (laneCell (t .floor) (t .cap) l (pick (ltb l (ruling t)) n (sendingTick t l n)))
+      off x =
+          let quiet : ruling t ≤ l = ltb-false l (ruling t) x in
+          let still : isActive r l n ≡ false = active-kept l n le ∙ x in
+          let d : droppedAt r l n ≡ getD (t .dropped) l 0 = dropped-kept l n lane quiet le in
+          air-held (t .floor) (t .cap) r l n still held ∙ rw (d, nth-kept l (n - getD (t .dropped) l 0) lane quiet, x) refl
+
+  -- a stored title's tick is of some length
+  pub tick-some : 0 < tickOf (t .length) (t .floor) (t .cap)
+  tick-some =
+      let z = here .sized in
+      tick-pos (t .length) (t .floor) (t .cap) (omega (arith, z .length-low)) (omega (arith, z .floor-low)) (omega (arith, z .count-low, z .count-high))
+
+  pub later : (τ : ℕ) → t .last ≤ τ → tickAt t (t .last) ≤ tickAt t τ
+  unfolding tickAt
+  later τ le = tick-mono (t .opened) (tickOf (t .length) (t .floor) (t .cap)) tick-some (t .last) τ le
+
+  pub mode-some : eqb (t .mode) 0 ≡ false
+  mode-some = ⊎-elim (λ e. rw e refl) (λ e. rw e refl) (here .mode)
+
+  -- how many lanes the title holds, at any moment from its latest event on
+  pub title-held-kept : (τ : ℕ) → t .last ≤ τ → heldIn (lifeIn t r) τ ≡ titleHeld t τ
+  unfolding heldIn titleHeld tickIn tickAt
+  title-held-kept τ le =
+      Search.howMany-ext (λ l. isHeld (t .floor) (t .cap) r l (tickAt t τ)) (λ l. keptHeld t l (tickAt t τ)) (t .cap)
+      (λ l b. held-kept l (tickAt t τ) b (later τ le))
+      ∙ rw mode-some refl

@@ -1,0 +1,99 @@
+-- No reached state gets 1 for itself: what the events keep true of a title keeps its numbers within their limits.
+-- Rests on `Present` and `Tells`.
+use mathlib.Core.Path.{_≡_, refl, ap}
+use mathlib.Core.Bool.{Bool, true}
+use mathlib.Core.Logic.{_⊎_, ⊎-elim}
+use mathlib.Core.List.{List, []}
+use Prim.Native.Nat.{ℕ, _≤_, _<_}
+use native.Mathlib.Omega.{arith}
+use lib.Dec.{leb, eqb}
+use lib.ListN.{getD}
+use borrow.Author.Tests.{le-leb}
+use Rattle.rules.specs.Limits.{both, either, poolMin, poolMax, askedMax, lengthMin, lengthMax, floorMin, floorMax, countMax, titlesMax}
+use Rattle.rules.specs.Search.{every}
+use Rattle.rules.proofs.Tests.{both-in, either-l, either-r}
+use Rattle.rules.proofs.Search
+use Rattle.story.specs.declared.Title.{Title}
+use Rattle.story.specs.declared.State.{State}
+use Rattle.story.specs.Kept.{titleAt, rowOk, numbersOk, orderOk, titleOk, stateOk}
+use Rattle.story.specs.Story.{Life, Event, lifeOf, latestOf}
+use Rattle.story.proofs.Kept.{Present}
+use Rattle.story.proofs.Tells.{TellsTitle, absent, present, Tells}
+
+row-ok : (row : List ℕ) (n : ℕ) → ((j : ℕ) → getD row j 0 ≤ askedMax) → rowOk row n ≡ true
+row-ok row n f = Search.every-in (λ j. leb (getD row j 0) askedMax) n (λ j b. le-leb (getD row j 0) askedMax (f j))
+
+numbers-ok : (t : Title) (r : ℕ → ℕ) → Present t r → numbersOk t ≡ true
+unfolding numbersOk
+numbers-ok t r p =
+    let z = p .sized in
+    let m : t .mode ≤ 2 = ⊎-elim (λ e. omega arith) (λ e. omega arith) (p .mode) in
+    rw (
+      le-leb (t .mode) 2 m,
+      le-leb (t .opened) askedMax (omega (arith, z .opened-high)),
+      le-leb (t .length) lengthMax (z .length-high),
+      le-leb (t .floor) floorMax (z .floor-high),
+      le-leb (t .cap) countMax (z .cap-high),
+      le-leb (t .count) countMax (omega (arith, z .count-high, z .cap-high)),
+      le-leb (t .last) askedMax (omega (arith, z .last-high)),
+      row-ok (t .ends) 11 (z .ends-high),
+      row-ok (t .dropped) 10 (z .dropped-high),
+      row-ok (t .owed) 10 (z .owed-high),
+    )
+    refl
+
+order-ok : (t : Title) (r : ℕ → ℕ) → Present t r → orderOk t ≡ true
+unfolding orderOk
+order-ok t r p =
+    let z = p .sized in
+    rw (
+      le-leb lengthMin (t .length) (z .length-low),
+      le-leb floorMin (t .floor) (z .floor-low),
+      le-leb (t .floor) (t .cap) (omega (arith, z .count-low, z .count-high)),
+      le-leb (t .floor) (t .count) (z .count-low),
+      le-leb (t .count) (t .cap) (z .count-high),
+    )
+    refl
+
+title-ok : (L : Life) (m : ℕ) (t : Title) → TellsTitle L m t → titleOk t ≡ true
+unfolding titleOk numbersOk every
+title-ok L m t (absent e f g) = rw g refl
+title-ok L m t (present r e f p) =
+    both-in (numbersOk t) (either (eqb (t .mode) 0) (orderOk t)) (numbers-ok t r p)
+    (either-r (eqb (t .mode) 0) (orderOk t) (order-ok t r p))
+
+-- where nothing happened there is no title
+untold : (es : List Event) (i : ℕ) → es ≡ [] → lifeOf es i .floor ≡ 0
+unfolding lifeOf
+untold es i e = ap (λ x. lifeOf x i .floor) e
+
+nobody : (L : Life) (m : ℕ) (t : Title) → TellsTitle L m t → L .floor ≡ 0 → eqb (t .mode) 0 ≡ true
+nobody L m t (absent e f g) z = rw g refl
+nobody L m t (present r e f p) z =
+    let q : L .floor ≡ t .floor = ap (λ (x : Life). x .floor) e in
+    absurd (omega (arith, p .sized .floor-low))
+
+-- a pool of no lanes has accepted nothing
+abbrev pub Funded : ℕ → List Event → Type 0
+Funded lanes es = (0 < lanes) ⊎ (es ≡ [])
+
+-- a slot is within its limits, and empty where the pool has no lanes
+slot-ok : (lanes : ℕ) (es : List Event) (s : State) → Tells lanes es s → Funded lanes es → (i : ℕ) → i < titlesMax → both (titleOk (titleAt s i)) (either (leb poolMin (s .pool)) (eqb (titleAt s i .mode) 0)) ≡ true
+slot-ok lanes es s w funded i b =
+    let some-lane : Bool = leb poolMin (s .pool) in
+    let empty : Bool = eqb (titleAt s i .mode) 0 in
+    both-in (titleOk (titleAt s i)) (either some-lane empty)
+    (title-ok (lifeOf es i) (latestOf es i) (titleAt s i) (w .title i b))
+    (⊎-elim (λ p. either-l some-lane empty (le-leb poolMin (s .pool) (omega (arith, w .pool))))
+    (λ e. either-r some-lane empty (nobody (lifeOf es i) (latestOf es i) (titleAt s i) (w .title i b) (untold es i e)))
+    funded)
+
+pub state-ok : (lanes : ℕ) (es : List Event) (s : State) → Tells lanes es s → lanes ≤ poolMax → Funded lanes es → stateOk s ≡ true
+unfolding stateOk
+state-ok lanes es s w high funded =
+    let slots : ℕ → Bool = λ i. both (titleOk (titleAt s i)) (either (leb poolMin (s .pool)) (eqb (titleAt s i .mode) 0)) in
+    both-in (leb (s .pool) poolMax) (both (leb (s .last) askedMax) (every slots titlesMax))
+    (le-leb (s .pool) poolMax (omega (arith, w .pool)))
+    (both-in (leb (s .last) askedMax) (every slots titlesMax)
+    (le-leb (s .last) askedMax (omega (arith, w .last, w .limit)))
+    (Search.every-in slots titlesMax (slot-ok lanes es s w funded)))

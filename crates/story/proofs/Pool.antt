@@ -1,0 +1,110 @@
+-- The pool is never exceeded: at every moment, not only at events, the lanes held as counted from the sequence are at most
+-- the pool. An opening or a change is accepted only so; a close holds no lane more; between events lanes are only released.
+-- Rests on the laws of held lanes and on what accepted sequences keep true of a life.
+use mathlib.Core.Path.{_≡_, refl, sym, ap, _∙_}
+use mathlib.Core.Bool.{true, false}
+use mathlib.Core.Logic.{⊎-elim}
+use mathlib.Core.List.{List, [], _∷_}
+use Prim.Native.Nat.{ℕ, _≤_, _<_}
+use native.Mathlib.Omega.{arith}
+use lib.Dec.{ltb, leb, eqb}
+use borrow.Author.Tests.{le-ltb, leb-true, le-leb}
+use Rattle.rules.specs.Limits.{poolMax, titlesMax}
+use Rattle.rules.specs.Refusals.{pick}
+use Rattle.rules.specs.Search.{howMany, total}
+use Rattle.rules.proofs.Tests.{decide}
+use Rattle.rules.proofs.Search
+use Rattle.story.specs.Life.{isActive, droppedAt, isHeld}
+use Rattle.story.specs.Story.{Act, opens, changes, closes, Event, Life, unopened, tickLength, tickIn, turn, lifeAfter, lifeOf, latestOf, lastTime, upTo, isHeldIn, heldIn, heldOver, answerTo, Accepted, none, more}
+use Rattle.story.proofs.Clock.{tick-mono}
+use Rattle.story.proofs.Held.{dropped-le, held-active, held-sending, held-falls, owes-local, dropped-local}
+use Rattle.story.proofs.Turn.{turn-before, turn-from}
+use Rattle.story.proofs.Passed.{event, opening, changing, in-order}
+use Rattle.story.proofs.Lively.{Lively, lively, newest}
+
+-- from its latest event on a title only releases lanes
+falls : (L : Life) (m τ υ : ℕ) → Lively L m → m ≤ τ → τ ≤ υ → heldIn L υ ≤ heldIn L τ
+unfolding heldIn tickIn isActive
+falls L m τ υ w from le =
+    let n : ℕ = tickIn L τ in
+    let now : tickIn L m ≤ n = tick-mono (L .opened) (tickLength L) (w .tick-some) m τ from in
+    let on : n ≤ tickIn L υ = tick-mono (L .opened) (tickLength L) (w .tick-some) τ υ le in
+    Search.howMany-wider (λ l. isHeldIn L l υ) (λ l. isHeldIn L l τ) (L .cap)
+    (λ l b held.
+    ⊎-elim (λ x. held-active (L .floor) (L .cap) (L .rule) l n x)
+    (λ x.
+    held-falls (L .floor) (L .cap) (L .rule) l n (tickIn L υ) on
+    (λ v lo hi. ap (λ k. ltb l k) (w .steady v n (omega arith) now) ∙ x) held)
+    (decide (isActive (L .rule) l n)))
+
+none-held : (τ υ : ℕ) → heldIn unopened υ ≤ heldIn unopened τ
+unfolding heldIn howMany
+none-held τ υ = omega arith
+
+-- no event, no lane
+empty-none : (τ : ℕ) → heldOver [] τ ≡ 0
+unfolding heldOver lifeOf heldIn howMany total
+empty-none τ = refl
+
+pub over-falls : (lanes : ℕ) (es : List Event) → lanes ≤ poolMax → Accepted lanes es → (τ υ : ℕ) → lastTime es ≤ τ → τ ≤ υ → heldOver es υ ≤ heldOver es τ
+unfolding heldOver
+over-falls lanes es high acc τ υ from le =
+    Search.total-le (λ i. heldIn (lifeOf es i) υ) (λ i. heldIn (lifeOf es i) τ) titlesMax
+    (λ i b.
+    ⊎-elim (λ e. rw e (none-held τ υ))
+    (λ w. falls (lifeOf es i) (latestOf es i) τ υ w (omega (arith, newest lanes es high acc i)) le)
+    (lively lanes es high acc i b))
+
+-- a lane that a close leaves held was held before
+close-lane : (A K : ℕ) (r : ℕ → ℕ) (l n : ℕ) → isHeld A K (turn r n 0) l n ≡ true → isHeld A K r l n ≡ true
+unfolding isActive
+close-lane A K r l n held =
+    ⊎-elim (λ x. held-active A K r l n x)
+    (λ x.
+    let below : (a : ℕ) → a < n → r a ≡ turn r n 0 a = λ a b. sym (turn-before r n 0 a b) in
+    let d : droppedAt r l n ≡ droppedAt (turn r n 0) l n = dropped-local A K r (turn r n 0) l n below in
+    let quiet : isActive (turn r n 0) l n ≡ false = ap (λ k. ltb l k) (turn-from r n 0 n (omega arith)) ∙ le-ltb l 0 (omega arith) in
+    held-sending A K r l n x
+    ∙ rw (d, owes-local A K r (turn r n 0) l (droppedAt (turn r n 0) l n) (λ a b. below a (omega (arith, dropped-le (turn r n 0) l n))))
+    (sym (held-sending A K (turn r n 0) l n quiet) ∙ held))
+    (decide (isActive r l n))
+
+-- a close holds no lane more
+close-lowers : (es : List Event) (i τ : ℕ) → heldOver (event i τ closes ∷ es) τ ≤ heldOver es τ
+unfolding heldOver lifeOf heldIn tickIn
+close-lowers es i τ =
+    Search.total-le (λ j. heldIn (lifeOf (event i τ closes ∷ es) j) τ) (λ j. heldIn (lifeOf es j) τ) titlesMax
+    (λ j b.
+    elim (eqb i j) as (λ x. heldIn (pick x (lifeAfter (lifeOf es j) τ closes) (lifeOf es j)) τ ≤ heldIn (lifeOf es j) τ) [
+      | true ↦
+          Search.howMany-wider (λ l. isHeldIn (lifeAfter (lifeOf es j) τ closes) l τ) (λ l. isHeldIn (lifeOf es j) l τ) (lifeOf es j .cap)
+          (λ l c held. close-lane (lifeOf es j .floor) (lifeOf es j .cap) (lifeOf es j .rule) l (tickIn (lifeOf es j) τ) held)
+      | false ↦ omega arith
+    ])
+
+-- all events are up to the moment of the last one
+pub upTo-all : (τ : ℕ) (es : List Event) → lastTime es ≤ τ → upTo τ es ≡ es
+unfolding upTo
+upTo-all τ [] le = refl
+upTo-all τ (e ∷ es) le = rw (le-leb (e .time) τ le) refl
+
+-- at the moment of an accepted event the pool is large enough, if it was before
+at-event : (lanes : ℕ) (es : List Event) (i τ : ℕ) (a : Act) → answerTo lanes es (event i τ a) (lifeOf es i) a ≡ 0 → heldOver es τ ≤ lanes → heldOver (event i τ a ∷ es) τ ≤ lanes
+at-event lanes es i τ (opens D A K k) h before = opening lanes es i τ D A K k h .room
+at-event lanes es i τ (changes k) h before = changing lanes es i τ k h .1
+at-event lanes es i τ closes h before = omega (arith, close-lowers es i τ)
+
+-- demand 3: at every moment the lanes held, counted from the sequence, are at most the pool
+pub never-exceeded : (lanes : ℕ) (es : List Event) → lanes ≤ poolMax → Accepted lanes es → (τ : ℕ) → heldOver (upTo τ es) τ ≤ lanes
+unfolding upTo
+never-exceeded lanes es high none τ = rw (empty-none τ) (omega arith)
+never-exceeded lanes es high (more {e = e} {es = es′} acc h) τ =
+    let late : lastTime es′ ≤ e .time = in-order lanes es′ (e .title) (e .time) (e .act) h .late in
+    ⊎-elim
+    (λ x.
+    let before : heldOver es′ (e .time) ≤ lanes = rw (upTo-all (e .time) es′ late) at (never-exceeded lanes es′ high acc (e .time)) in
+    let then : heldOver (e ∷ es′) (e .time) ≤ lanes = at-event lanes es′ (e .title) (e .time) (e .act) h before in
+    let since : heldOver (e ∷ es′) τ ≤ heldOver (e ∷ es′) (e .time) = over-falls lanes (e ∷ es′) high (more acc h) (e .time) τ (omega arith) (leb-true (e .time) τ x) in
+    rw x (omega arith))
+    (λ x. rw x (never-exceeded lanes es′ high acc τ))
+    (decide (leb (e .time) τ))

@@ -1,0 +1,111 @@
+-- Lane questions and status are answered from the state as the sequence says, for every time that the call takes.
+-- Rests on `Told` and on what is read off a title.
+use mathlib.Core.Path.{_≡_, refl, sym, ap, _∙_}
+use mathlib.Core.Bool.{Bool, true, false, not, false≢true}
+use mathlib.Core.Logic.{⊎-elim}
+use mathlib.Core.List.{List}
+use Prim.Native.Nat.{ℕ, _-_, _≤_, _<_}
+use native.Mathlib.Omega.{arith}
+use lib.Dec.{ltb, leb, lit<}
+use borrow.Author.Tests.{ltb-true, ltb-false, le-ltb, leb-true, eq-eqb, not-false}
+use Rattle.rules.specs.Limits.{both, poolMax, idMax, laneMax, askedMax, titlesMax}
+use Rattle.rules.specs.Refusals.{outsideLimits, tooEarly, notThere, wrongRows}
+use Rattle.rules.specs.Search.{after}
+use Rattle.rules.proofs.Tests.{decide, both-l, both-r}
+use Rattle.rules.proofs.Search
+use Rattle.rules.proofs.Refusals.{hit-same, passed}
+use Rattle.story.specs.declared.Title.{Title}
+use Rattle.story.specs.declared.State.{State}
+use Rattle.story.specs.Life.{isActive, droppedAt, reach, owes, cell, isHeld}
+use Rattle.story.specs.Kept.{titleAt, stateOk, tickAt, shows}
+use Rattle.story.specs.Calls.{laneHeld, laneAnswer, laneShows, statusAnswer, statusCount, statusHeld}
+use Rattle.story.specs.Story.{Event, Life, unopened, lifeOf, latestOf, lastTime, tickIn, countIn, airIn, isHeldIn, heldIn, laneAnswerTo, statusAnswerTo}
+use Rattle.story.proofs.Held.{held-sending}
+use Rattle.story.proofs.Kept.{later, held-kept, shows-kept, mode-some}
+use Rattle.story.proofs.Tells.{TellsTitle, absent, present, owes-none, count-told, held-told}
+use Rattle.story.proofs.Runs.{Told, sound-state}
+
+-- a lane that no count has is never held
+pub no-lane : (A K : ℕ) (r : ℕ → ℕ) (l n : ℕ) → ((u : ℕ) → r u ≤ l) → isHeld A K r l n ≡ false
+unfolding droppedAt isActive owes after
+no-lane A K r l n off =
+    let quiet : (u : ℕ) → isActive r l u ≡ false = λ u. le-ltb l (r u) (off u) in
+    let d : droppedAt r l n ≡ 0 = Search.after-flat (isActive r l) 0 n (omega arith) (λ u lo hi. quiet u) in
+    held-sending A K r l n (quiet n) ∙ rw (d, owes-none A K r l (reach K)) (le-ltb (n - 0) 0 (omega arith))
+
+-- the latest event of a title
+pub last-told : (L : Life) (m : ℕ) (t : Title) → TellsTitle L m t → t .last ≡ m
+last-told L m t (absent e f g) = ap (λ (x : Title). x .last) g ∙ sym f
+last-told L m t (present r e f p) = sym f
+
+-- whether a lane is held
+pub lane-held-told : (L : Life) (m : ℕ) (t : Title) (l τ : ℕ) → TellsTitle L m t → m ≤ τ → laneHeld t l τ ≡ isHeldIn L l τ
+unfolding tickIn tickAt
+lane-held-told L m t l τ (absent e f g) le =
+    rw g (sym (rw e (no-lane 0 0 (λ u. 0) l (tickIn unopened τ) (λ u. omega arith))))
+lane-held-told L m t l τ (present r e f p) le =
+    rw (mode-some t r p, e)
+    (⊎-elim
+    (λ x. rw x (sym (held-kept t r p l (tickAt t τ) (ltb-true l (t .cap) x) (later t r p τ (omega arith)))))
+    (λ x. rw x (sym (no-lane (t .floor) (t .cap) r l (tickAt t τ) (λ u. omega (arith, ltb-false l (t .cap) x, p .ruled .high u)))))
+    (decide (ltb l (t .cap))))
+
+-- what it shows
+pub lane-shows-told : (L : Life) (m : ℕ) (t : Title) (l τ : ℕ) → TellsTitle L m t → m ≤ τ → isHeldIn L l τ ≡ true → airIn L l τ ≡ cell (shows t l (tickAt t τ))
+unfolding tickIn tickAt
+lane-shows-told L m t l τ (absent e f g) le h =
+    absurd (false≢true (sym (no-lane 0 0 (λ u. 0) l (tickIn unopened τ) (λ u. omega arith)) ∙ rw e at h))
+lane-shows-told L m t l τ (present r e f p) le h =
+    let held : isHeld (t .floor) (t .cap) r l (tickAt t τ) ≡ true = rw e at h in
+    rw e
+    (shows-kept t r p l (tickAt t τ)
+    (⊎-elim (λ x. ltb-true l (t .cap) x)
+    (λ x. absurd (false≢true (sym (no-lane (t .floor) (t .cap) r l (tickAt t τ) (λ u. omega (arith, ltb-false l (t .cap) x, p .ruled .high u))) ∙ held)))
+    (decide (ltb l (t .cap))))
+    (later t r p τ (omega arith)) held)
+
+module _ (lanes : ℕ) (high : lanes ≤ poolMax) (es : List Event) (s : State) (w : Told lanes es s) where
+  pub lane-answer-told : (i l τ : ℕ) → laneAnswer s i l τ ≡ laneAnswerTo es i l τ
+  unfolding laneAnswer laneAnswerTo
+  lane-answer-told i l τ =
+      hit-same outsideLimits _ _ _ _ (rw (sound-state lanes high es s w) refl)
+      (λ t1.
+      let rest : Bool = both (leb l laneMax) (leb τ askedMax) in
+      let nums : both (leb i idMax) rest ≡ true = both-r (stateOk s) (both (leb i idMax) rest) (not-false (both (stateOk s) (both (leb i idMax) rest)) t1) in
+      let told = w .tells .title i (omega (arith, leb-true i idMax (both-l (leb i idMax) rest nums))) in
+      let last : titleAt s i .last ≡ latestOf es i = last-told (lifeOf es i) (latestOf es i) (titleAt s i) told in
+      hit-same tooEarly _ _ _ _ (ap (λ x. ltb τ x) last)
+      (λ t2.
+      hit-same notThere _ _ _ _
+      (ap not (lane-held-told (lifeOf es i) (latestOf es i) (titleAt s i) l τ told (omega (arith, ltb-false τ (titleAt s i .last) t2))))
+      (λ t3. refl)))
+
+  -- the cell that is answered is the cell on air
+  pub lane-cell-told : (i l τ : ℕ) → laneAnswer s i l τ ≡ 0 → airIn (lifeOf es i) l τ ≡ cell (laneShows s i l τ)
+  unfolding laneAnswerTo laneShows
+  lane-cell-told i l τ h =
+      let p1 = passed outsideLimits _ _ (lit< tt) (sym (lane-answer-told i l τ) ∙ h) in
+      let p2 = passed tooEarly _ _ (lit< tt) (p1 .1) in
+      let p3 = passed notThere _ _ (lit< tt) (p2 .1) in
+      let rest : Bool = both (leb l laneMax) (leb τ askedMax) in
+      let nums : both (leb i idMax) rest ≡ true = not-false (both (leb i idMax) rest) (p1 .0) in
+      let told = w .tells .title i (omega (arith, leb-true i idMax (both-l (leb i idMax) rest nums))) in
+      lane-shows-told (lifeOf es i) (latestOf es i) (titleAt s i) l τ told (ltb-false τ (latestOf es i) (p2 .0))
+      (not-false (isHeldIn (lifeOf es i) l τ) (p3 .0))
+      ∙ ap cell (sym (rw (eq-eqb (laneAnswer s i l τ) 0 h) refl))
+
+  pub status-answer-told : (τ : ℕ) (ids : List ℕ) (m h : ℕ) → statusAnswer s τ ids m h ≡ statusAnswerTo es τ ids m h
+  unfolding statusAnswer statusAnswerTo
+  status-answer-told τ ids m h =
+      hit-same wrongRows _ _ _ _ refl
+      (λ t1.
+      hit-same outsideLimits _ _ _ _ (rw (sound-state lanes high es s w) refl)
+      (λ t2. hit-same tooEarly _ _ _ _ (ap (λ x. ltb τ x) (w .tells .last)) (λ t3. refl)))
+
+  pub status-count-told : (i τ : ℕ) → i < titlesMax → lastTime es ≤ τ → statusCount s i ≡ countIn (lifeOf es i) τ
+  status-count-told i τ id late =
+      sym (count-told (lifeOf es i) (latestOf es i) (titleAt s i) τ (w .tells .title i id) (omega (arith, w .tells .newest i)))
+
+  pub status-held-told : (i τ : ℕ) → i < titlesMax → lastTime es ≤ τ → statusHeld s i τ ≡ heldIn (lifeOf es i) τ
+  status-held-told i τ id late =
+      sym (held-told (lifeOf es i) (latestOf es i) (titleAt s i) τ (w .tells .title i id) (omega (arith, w .tells .newest i)))

@@ -1,0 +1,283 @@
+-- No box runs dry, over any accepted sequence: later changes, closings and re-openings included. What a life says of a
+-- tick is what was on air then, since later events turn later ticks; and an id opens again only when no lane of the
+-- earlier opening is held, so every cell that its boxes still awaited has gone out by then.
+-- Rests on `film-in-time` for one life, and on what accepted sequences keep true of lives.
+use mathlib.Core.Path.{_≡_, refl, sym, ap, _∙_}
+use mathlib.Core.Bool.{true, false, false≢true}
+use mathlib.Core.Logic.{⊎-elim}
+use mathlib.Core.List.{List, _∷_}
+use Prim.Native.Nat.{ℕ, suc, _+_, _-_, _*_, _/_, _%_, _≤_, _<_}
+use native.Mathlib.Omega.{arith}
+use native.Mathlib.Nat.{mul-le-mul-right}
+use lib.Dec.{ltb, leb, eqb}
+use borrow.Author.Tests.{ltb-true, ltb-false, le-ltb, leb-false, lt-leb, eqb-true, eq-eqb}
+use Rattle.rules.specs.Limits.{poolMax, titlesMax}
+use Rattle.rules.proofs.Tests.{decide, both-l, either-false-l, either-false-r}
+use Rattle.rules.proofs.Search
+use Rattle.grid.specs.Ticks.{holdsFilm, isSlotStart}
+use Rattle.story.specs.Life.{isAdmission, isActive, cell, onAir, isHeld}
+use Rattle.story.specs.Story.{Act, opens, changes, closes, Event, Life, tickLength, tickIn, momentOf, turn, underRule, lifeAfter, lifeOf, latestOf, lastTime, upTo, countIn, isHeldIn, heldIn, isThereIn, answerTo, answer, Accepted, none, more, lifeAt, airAt, Found, Begins}
+use Rattle.story.proofs.Clock.{tick-mono, tick-of-moment, begun, on-its-tick}
+use Rattle.story.proofs.InTime.{film-in-time}
+use Rattle.story.proofs.Held.{air-local, held-falls}
+use Rattle.story.proofs.Turn.{turn-before}
+use Rattle.story.proofs.Passed.{event, Turned, opening, changing, closing, in-order}
+use Rattle.story.proofs.Lively.{Lively, lively, newest}
+
+-- the life as it stood at an earlier moment is the same opening, and its rule the same up to that moment
+pub record Stood (L M : Life) (τ : ℕ) : Type 0 where
+  pub rule : ℕ → ℕ
+  pub life : M ≡ underRule L rule
+  pub agree : (u : ℕ) → momentOf L u ≤ τ → rule u ≡ L .rule u
+
+-- an event of a title turns no tick that began before it
+earlier-tick : (L : Life) (τ υ u : ℕ) → 0 < tickLength L → L .opened ≤ υ → (υ - L .opened) % tickLength L ≡ 0 → τ < υ → momentOf L u ≤ τ → u < tickIn L υ
+unfolding tickIn
+earlier-tick L τ υ u pos since on lt le =
+    let p : ℕ = tickLength L in
+    let e : υ ≡ L .opened + (υ - L .opened) / p * p = on-its-tick (L .opened) p pos υ since on in
+    ⊎-elim (λ x. ltb-true u ((υ - L .opened) / p) x)
+    (λ x. let m : (υ - L .opened) / p * p ≤ u * p = mul-le-mul-right p (ltb-false u ((υ - L .opened) / p) x) in absurd (omega arith))
+    (decide (ltb u ((υ - L .opened) / p)))
+
+-- a title that an accepted change or close names is lively
+turned-lively : (lanes : ℕ) (es : List Event) → lanes ≤ poolMax → Accepted lanes es → (i τ : ℕ) → Turned es i τ → Lively (lifeOf es i) (latestOf es i)
+turned-lively lanes es high acc i τ w =
+    ⊎-elim
+    (λ e. let z : countIn (lifeOf es i) τ ≡ 0 = ap (λ L. countIn L τ) e in absurd (omega (arith, w .some)))
+    (λ l. l)
+    (lively lanes es high acc i (omega (arith, w .timely .id)))
+
+-- a turn after a moment leaves what stood at it
+turn-stood : (L M : Life) (τ υ k : ℕ) → 0 < tickLength L → L .opened ≤ υ → (υ - L .opened) % tickLength L ≡ 0 → τ < υ → Stood L M τ → Stood (underRule L (turn (L .rule) (tickIn L υ) k)) M τ
+turn-stood L M τ υ k pos since on lt w =
+    record {
+      rule = w .rule;
+      life = w .life;
+      agree = λ u le. w .agree u le ∙ sym (turn-before (L .rule) (tickIn L υ) k u (earlier-tick L τ υ u pos since on lt le));
+    }
+
+-- one event of the title itself
+event-stood : (lanes : ℕ) (es : List Event) → lanes ≤ poolMax → Accepted lanes es → (i υ : ℕ) (a : Act) → answerTo lanes es (event i υ a) (lifeOf es i) a ≡ 0 → (M : Life) (τ : ℕ) → τ < υ → lifeAfter (lifeOf es i) υ a .opened ≤ τ → (lifeOf es i .opened ≤ τ → Stood (lifeOf es i) M τ) → Stood (lifeAfter (lifeOf es i) υ a) M τ
+event-stood lanes es high acc i υ (opens D A K k) h M τ lt since w = absurd (omega arith)
+event-stood lanes es high acc i υ (changes k) h M τ lt since w =
+    let t = changing lanes es i υ k h .0 in
+    let l = turned-lively lanes es high acc i υ t in
+    turn-stood (lifeOf es i) M τ υ k (l .tick-some) (omega arith) (t .on-tick) lt (w since)
+event-stood lanes es high acc i υ closes h M τ lt since w =
+    let t = closing lanes es i υ h in
+    let l = turned-lively lanes es high acc i υ t in
+    turn-stood (lifeOf es i) M τ υ 0 (l .tick-some) (omega arith) (t .on-tick) lt (w since)
+
+-- one more event of any title
+stood-more : (lanes : ℕ) (e : Event) (es : List Event) → lanes ≤ poolMax → Accepted lanes es → answer lanes es e ≡ 0 → (i τ : ℕ) → lifeOf (e ∷ es) i .opened ≤ τ → ((j : ℕ) → lifeOf es j .opened ≤ τ → Stood (lifeOf es j) (lifeAt es j τ) τ) → Stood (lifeOf (e ∷ es) i) (lifeAt (e ∷ es) i τ) τ
+unfolding upTo lifeOf
+stood-more lanes e es high acc h i τ since was =
+    ⊎-elim
+    (λ x. rw x (record { rule = lifeOf (e ∷ es) i .rule; life = refl; agree = λ u le. refl }))
+    (λ x.
+    let lt : τ < e .time = leb-false (e .time) τ x in
+    rw x
+    (⊎-elim
+    (λ y.
+    let q : e .title ≡ i = eqb-true (e .title) i y in
+    let own : lifeAfter (lifeOf es (e .title)) (e .time) (e .act) .opened ≤ τ = rw q (rw y at since) in
+    rw (y, ← q)
+    (event-stood lanes es high acc (e .title) (e .time) (e .act) h (lifeAt es (e .title) τ) τ lt own (was (e .title))))
+    (λ y. rw y (was i (rw y at since)))
+    (decide (eqb (e .title) i))))
+    (decide (leb (e .time) τ))
+
+-- what a life says of the ticks up to a moment is what stood then
+pub stood : (lanes : ℕ) (es : List Event) → lanes ≤ poolMax → Accepted lanes es → (i τ : ℕ) → lifeOf es i .opened ≤ τ → Stood (lifeOf es i) (lifeAt es i τ) τ
+unfolding upTo lifeOf
+stood lanes es high none i τ since = record { rule = λ u. 0; life = refl; agree = λ u le. refl }
+stood lanes es high (more {e = e} {es = es′} acc h) i τ since =
+    stood-more lanes e es′ high acc h i τ since (λ j was. stood lanes es′ high acc j τ was)
+
+-- what a life says of a tick is what was on air when the tick began
+pub air-stood : (lanes : ℕ) (es : List Event) → lanes ≤ poolMax → Accepted lanes es → (i l t : ℕ) → 0 < tickLength (lifeOf es i) → airAt es i l (momentOf (lifeOf es i) t) ≡ onAir (lifeOf es i .floor) (lifeOf es i .cap) (lifeOf es i .rule) l t
+unfolding tickIn
+air-stood lanes es high acc i l t pos =
+    let L : Life = lifeOf es i in
+    let w = stood lanes es high acc i (momentOf L t) (omega arith) in
+    rw (w .life, tick-of-moment (L .opened) (tickLength L) pos t)
+    (air-local (L .floor) (L .cap) (w .rule) (L .rule) l t
+    (λ u le. w .agree u (let m : u * tickLength L ≤ t * tickLength L = mul-le-mul-right (tickLength L) le in omega arith)))
+
+-- a box of the life L, begun at tick a, seen after more events: the opening is still the id's latest, or it is over and
+-- every cell of the film has been found before the last event
+data Follows (es : List Event) (i : ℕ) (L : Life) (a : ℕ) : Type 0 where
+  current : (r : ℕ → ℕ) → lifeOf es i ≡ underRule L r → ((u : ℕ) → u ≤ a → r u ≡ L .rule u) → Follows es i L a
+  over : ((c : ℕ) → holdsFilm (L .length) (L .floor) (L .cap) c ≡ true → (f : Found es i L a c) × (momentOf L (f .tick) < lastTime es)) → Follows es i L a
+
+-- events after a moment don't count at it
+upTo-skip : (τ : ℕ) (e : Event) (es : List Event) → τ < e .time → upTo τ (e ∷ es) ≡ upTo τ es
+unfolding upTo
+upTo-skip τ e es lt = rw (lt-leb (e .time) τ lt) refl
+
+found-skip : (e : Event) (es : List Event) (i : ℕ) (L : Life) (a c : ℕ) (f : Found es i L a c) → momentOf L (f .tick) < e .time → Found (e ∷ es) i L a c
+found-skip e es i L a c f lt =
+    let q = upTo-skip (momentOf L (f .tick)) e es lt in
+    record {
+      lane = f .lane;
+      tick = f .tick;
+      lane-low = f .lane-low;
+      from-start = f .from-start;
+      by-turn = f .by-turn;
+      same-opening = rw q (f .same-opening);
+      carries = rw q (f .carries);
+    }
+
+-- where a cell is found under the rule that a life has come to
+record Sight (L : Life) (r : ℕ → ℕ) (a c : ℕ) : Type 0 where
+  lane : ℕ
+  tick : ℕ
+  lane-low : lane < L .cap
+  from-start : a ≤ tick
+  by-turn : tick ≤ a + c
+  carries : onAir (L .floor) (L .cap) r lane tick ≡ cell c
+
+nobody : (K : ℕ) (r : ℕ → ℕ) (a : ℕ) → r a ≡ 0 → isAdmission K r a ≡ true → ⊥
+unfolding isAdmission
+nobody K r a e h = false≢true (sym (rw e refl) ∙ both-l (ltb 0 (r a)) (isSlotStart K (r a) a) h)
+
+module _ (lanes : ℕ) (es : List Event) (high : lanes ≤ poolMax) (acc : Accepted lanes es) (i : ℕ) (id : i < titlesMax) (L : Life) (a : ℕ) (adm : isAdmission (L .cap) (L .rule) a ≡ true) (r : ℕ → ℕ) (life : lifeOf es i ≡ underRule L r) (agree : (u : ℕ) → u ≤ a → r u ≡ L .rule u) where
+  still-admitted : isAdmission (L .cap) r a ≡ true
+  unfolding isAdmission
+  still-admitted = rw (agree a (omega arith)) adm
+
+  -- an id never opened admits nobody
+  alive : Lively (underRule L r) (latestOf es i)
+  alive =
+      ⊎-elim
+      (λ e. absurd (nobody (L .cap) r a (ap (λ (X : Life). X .rule a) (sym life ∙ e)) still-admitted))
+      (λ w. rw life at w)
+      (lively lanes es high acc i id)
+
+  sight : (c : ℕ) → holdsFilm (L .length) (L .floor) (L .cap) c ≡ true → Sight L r a c
+  sight c film =
+      let f = film-in-time (L .floor) (L .cap) r (alive .ruled) (L .length) a c (alive .floor-some) still-admitted film in
+      record { lane = f .0; tick = f .2; lane-low = f .1; from-start = f .3; by-turn = f .4; carries = f .5 }
+
+  -- what is seen in the life was on air then
+  sight-found : (c : ℕ) → Sight L r a c → Found es i L a c
+  sight-found c g =
+      let m : momentOf (lifeOf es i) (g .tick) ≡ momentOf L (g .tick) = ap (λ X. momentOf X (g .tick)) life in
+      let pos : 0 < tickLength (lifeOf es i) = rw life (alive .tick-some) in
+      let w = stood lanes es high acc i (momentOf L (g .tick)) (rw life (omega arith)) in
+      record {
+        lane = g .lane;
+        tick = g .tick;
+        lane-low = g .lane-low;
+        from-start = g .from-start;
+        by-turn = g .by-turn;
+        same-opening = ap (λ (X : Life). X .opened) (w .life ∙ ap (λ X. underRule X (w .rule)) life);
+        carries = rw m at (air-stood lanes es high acc i (g .lane) (g .tick) pos) ∙ rw life (g .carries);
+      }
+
+  -- where the id may open again, the cell was seen before
+  seen-before : (c τ : ℕ) → lastTime es ≤ τ → isThereIn (lifeOf es i) τ ≡ false → (g : Sight L r a c) → momentOf L (g .tick) < τ
+  unfolding isHeld isActive tickIn heldIn
+  seen-before c τ late away g =
+      let X : Life = underRule L r in
+      let p : ℕ = tickLength L in
+      let n : ℕ = tickIn X τ in
+      let gone : isThereIn X τ ≡ false = rw life at away in
+      let none-rules : r n ≤ 0 = ltb-false 0 (r n) (either-false-l (ltb 0 (r n)) (ltb 0 (heldIn X τ)) gone) in
+      let none-held : heldIn X τ ≤ 0 = ltb-false 0 (heldIn X τ) (either-false-r (ltb 0 (r n)) (ltb 0 (heldIn X τ)) gone) in
+      let from : latestOf es i ≤ τ = omega (arith, newest lanes es high acc i) in
+      let now : tickIn X (latestOf es i) ≤ n = tick-mono (L .opened) p (alive .tick-some) (latestOf es i) τ from in
+      let start : L .opened + n * p ≤ τ = begun (L .opened) p (alive .tick-some) τ n (omega (arith, alive .since)) (omega arith) in
+      let pos : 0 < p = alive .tick-some in
+      let then : isHeld (L .floor) (L .cap) r (g .lane) (g .tick) ≡ true = rw (g .carries) refl in
+      ⊎-elim
+      (λ x. let m : suc (g .tick) * p ≤ n * p = mul-le-mul-right p (ltb-true (g .tick) n x) in omega arith)
+      (λ x.
+      let held : isHeldIn X (g .lane) τ ≡ true =
+      held-falls (L .floor) (L .cap) r (g .lane) n (g .tick) (ltb-false (g .tick) n x)
+      (λ v lo hi. le-ltb (g .lane) (r v) (omega (arith, alive .steady v n (omega arith) now))) then in
+      absurd (omega (arith, Search.howMany-some (λ l. isHeldIn X l τ) (L .cap) (g .lane) (g .lane-low) held)))
+      (decide (ltb (g .tick) n))
+
+-- a change or a close after the box's start turns only later ticks
+own-turn : (lanes : ℕ) (es : List Event) → lanes ≤ poolMax → Accepted lanes es → (i τ k : ℕ) → Turned es i τ → (L : Life) (a : ℕ) → momentOf L a < τ → (r : ℕ → ℕ) → lifeOf es i ≡ underRule L r → ((u : ℕ) → u ≤ a → r u ≡ L .rule u) → (b : Act) → ((X : Life) → lifeAfter X τ b ≡ underRule X (turn (X .rule) (tickIn X τ) k)) → Follows (event i τ b ∷ es) i L a
+unfolding lifeOf
+own-turn lanes es high acc i τ k w L a lt r life agree b turns =
+    let X : Life = underRule L r in
+    let l = turned-lively lanes es high acc i τ w in
+    let pos : 0 < tickLength X = rw life at (l .tick-some) in
+    let since : L .opened ≤ τ = omega arith in
+    let on : (τ - L .opened) % tickLength X ≡ 0 = rw life at (w .on-tick) in
+    current (turn r (tickIn X τ) k)
+    (rw (eq-eqb i i refl) (turns (lifeOf es i) ∙ ap (λ Y. underRule Y (turn (Y .rule) (tickIn Y τ) k)) life))
+    (λ u le.
+    turn-before r (tickIn X τ) k u
+    (earlier-tick X (momentOf L a) τ u pos since on lt (let m : u * tickLength L ≤ a * tickLength L = mul-le-mul-right (tickLength L) le in omega arith))
+    ∙ agree u le)
+
+-- one more event of the box's own title
+own-event : (lanes : ℕ) (es : List Event) → lanes ≤ poolMax → Accepted lanes es → (i τ : ℕ) (b : Act) → answerTo lanes es (event i τ b) (lifeOf es i) b ≡ 0 → (L : Life) (a : ℕ) → isAdmission (L .cap) (L .rule) a ≡ true → momentOf L a < τ → (r : ℕ → ℕ) → lifeOf es i ≡ underRule L r → ((u : ℕ) → u ≤ a → r u ≡ L .rule u) → Follows (event i τ b ∷ es) i L a
+unfolding lifeOf sight-found found-skip
+own-event lanes es high acc i τ (opens D A K k) h L a adm lt r life agree =
+    let o = opening lanes es i τ D A K k h in
+    let id : i < titlesMax = omega (arith, o .timely .id) in
+    over
+    (λ c film.
+    let g = sight lanes es high acc i id L a adm r life agree c film in
+    let before : momentOf L (g .tick) < τ = seen-before lanes es high acc i id L a adm r life agree c τ (o .timely .late) (o .away) g in
+    (found-skip (event i τ (opens D A K k)) es i L a c (sight-found lanes es high acc i id L a adm r life agree c g) before, before))
+own-event lanes es high acc i τ (changes k) h L a adm lt r life agree =
+    own-turn lanes es high acc i τ k (changing lanes es i τ k h .0) L a lt r life agree (changes k) (λ X. refl)
+own-event lanes es high acc i τ closes h L a adm lt r life agree =
+    own-turn lanes es high acc i τ 0 (closing lanes es i τ h) L a lt r life agree closes (λ X. refl)
+
+-- one more event of any title, after the box's start
+follow-more : (lanes : ℕ) (e : Event) (es : List Event) → lanes ≤ poolMax → Accepted lanes es → answer lanes es e ≡ 0 → (i : ℕ) (L : Life) (a : ℕ) → isAdmission (L .cap) (L .rule) a ≡ true → momentOf L a < e .time → Follows es i L a → Follows (e ∷ es) i L a
+unfolding lifeOf found-skip
+follow-more lanes e es high acc h i L a adm lt (over f) =
+    let late : lastTime es ≤ e .time = in-order lanes es (e .title) (e .time) (e .act) h .late in
+    over
+    (λ c film.
+    let g = f c film in
+    (found-skip e es i L a c (g .0) (omega (arith, g .1)), omega (arith, g .1)))
+follow-more lanes e es high acc h i L a adm lt (current r life agree) =
+    ⊎-elim
+    (λ y.
+    let q : e .title ≡ i = eqb-true (e .title) i y in
+    rw (← q) (own-event lanes es high acc (e .title) (e .time) (e .act) h L a adm lt r (rw q life) agree))
+    (λ y. current r (rw y life) agree)
+    (decide (eqb (e .title) i))
+
+begun-or-more : (lanes : ℕ) (e : Event) (es : List Event) → lanes ≤ poolMax → Accepted lanes es → answer lanes es e ≡ 0 → (i τ a : ℕ) → Begins (e ∷ es) i τ a → (Begins es i τ a → Follows es i (lifeAt es i τ) a) → Follows (e ∷ es) i (lifeAt (e ∷ es) i τ) a
+unfolding upTo
+begun-or-more lanes e es high acc h i τ a b was =
+    ⊎-elim
+    (λ x. rw x (current (lifeOf (e ∷ es) i .rule) refl (λ u le. refl)))
+    (λ x.
+    let lt : τ < e .time = leb-false (e .time) τ x in
+    let q : upTo τ (e ∷ es) ≡ upTo τ es = upTo-skip τ e es lt in
+    let b′ : Begins es i τ a = record { at-start = rw q at (b .at-start); admission = rw q at (b .admission) } in
+    let start : momentOf (lifeAt es i τ) a < e .time = rw (← b′ .at-start) lt in
+    rw x (follow-more lanes e es high acc h i (lifeAt es i τ) a (b′ .admission) start (was b′)))
+    (decide (leb (e .time) τ))
+
+-- from the box's start on, the sequence follows its life
+follows : (lanes : ℕ) (es : List Event) → lanes ≤ poolMax → Accepted lanes es → (i τ a : ℕ) → Begins es i τ a → Follows es i (lifeAt es i τ) a
+unfolding upTo lifeOf
+follows lanes es high none i τ a b = current (λ u. 0) refl (λ u le. refl)
+follows lanes es high (more {e = e} {es = es′} acc h) i τ a b = begun-or-more lanes e es′ high acc h i τ a b (follows lanes es′ high acc i τ a)
+
+-- demand 3: whatever accepted events follow, a box that begins at an admission finds every cell that holds film on a lane
+-- of its title, at or after its start and no later than the cell's turn
+pub no-box-runs-dry : (lanes : ℕ) (es : List Event) → lanes ≤ poolMax → Accepted lanes es → (i τ a c : ℕ) → i < titlesMax → Begins es i τ a → holdsFilm (lifeAt es i τ .length) (lifeAt es i τ .floor) (lifeAt es i τ .cap) c ≡ true → Found es i (lifeAt es i τ) a c
+no-box-runs-dry lanes es high acc i τ a c id b film =
+    go (follows lanes es high acc i τ a b)
+  where
+    L : Life
+    L = lifeAt es i τ
+
+    go : Follows es i L a → Found es i L a c
+    go (current r life agree) =
+        sight-found lanes es high acc i id L a (b .admission) r life agree c (sight lanes es high acc i id L a (b .admission) r life agree c film)
+    go (over f) = f c film .0

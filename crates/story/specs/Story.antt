@@ -1,0 +1,214 @@
+-- The story of events: what a sequence of accepted events means, for every title and every moment (01, "Events" and
+-- "Numbers that calls give back"). Events stand newest first, with times in ms. Nothing here reads what is stored.
+use Prim.Native.Nat.{ℕ, _+_, _-_, _*_, _/_, _%_, _≤_, _<_, min}
+use mathlib.Core.Path.{_≡_}
+use mathlib.Core.Bool.{Bool, true, not}
+use mathlib.Core.List.{List, [], _∷_}
+use lib.Dec.{leb, ltb, eqb}
+use lib.ListN.{getD, length}
+use Rattle.rules.specs.Limits.{both, either, within, idMax, floorMin, floorMax, countMin, countMax, lengthMin, lengthMax, eventTimeMax, askedMax, laneMax, titlesMax}
+use Rattle.rules.specs.Refusals.{pick, refuse, firstHit, outsideLimits, tooEarly, notThere, idTaken, isClosing, wrongCount, secondEvent, notAtSlot, noLanes, wrongRows}
+use Rattle.rules.specs.Search.{every, howMany, total}
+use Rattle.grid.specs.Ticks.{tickOf, isSlotStart}
+use Rattle.story.specs.Life.{Air, cell, isAdmission, onAir, isHeld}
+
+-- 01, "Events": what an event does: open with length, floor, cap and count; change to a count; close
+pub data Act : Type 0 where
+  opens : ℕ → ℕ → ℕ → ℕ → Act
+  changes : ℕ → Act
+  closes : Act
+
+-- an event: its time, the title's id, what it does
+pub record Event : Type 0 where
+  pub time : ℕ
+  pub title : ℕ
+  pub act : Act
+
+-- a title since its latest opening
+pub record Life : Type 0 where
+  pub opened : ℕ
+  pub length : ℕ
+  pub floor : ℕ
+  pub cap : ℕ
+  pub rule : ℕ → ℕ
+
+-- an id that was never opened: no cells, no lanes
+abbrev pub unopened : Life
+unopened = record { opened = 0; length = 0; floor = 0; cap = 0; rule = λ t. 0 }
+
+-- the title's tick in ms
+abbrev pub tickLength : Life → ℕ
+tickLength L = tickOf (L .length) (L .floor) (L .cap)
+
+-- the tick that holds a moment: tick t begins at the opening plus t ticks
+unfoldable pub tickIn : Life → ℕ → ℕ
+tickIn L τ = (τ - L .opened) / tickLength L
+
+-- the moment at which tick t begins
+abbrev pub momentOf : Life → ℕ → ℕ
+momentOf L t = L .opened + t * tickLength L
+
+-- from tick n on count k rules; an event's own tick belongs to the new count
+abbrev pub turn : (ℕ → ℕ) → ℕ → ℕ → ℕ → ℕ
+turn r n k t = pick (leb n t) k (r t)
+
+-- the same title under another rule
+abbrev pub underRule : Life → (ℕ → ℕ) → Life
+underRule L r = record { opened = L .opened; length = L .length; floor = L .floor; cap = L .cap; rule = r }
+
+-- the title after an event of its own
+abbrev pub lifeAfter : Life → ℕ → Act → Life
+lifeAfter L τ (opens D A K k) = record { opened = τ; length = D; floor = A; cap = K; rule = λ t. k }
+lifeAfter L τ (changes k) = underRule L (turn (L .rule) (tickIn L τ) k)
+lifeAfter L τ closes = underRule L (turn (L .rule) (tickIn L τ) 0)
+
+-- the life of an id after a sequence of events
+unfoldable pub lifeOf : List Event → ℕ → Life
+lifeOf [] i = unopened
+lifeOf (e ∷ es) i = pick (eqb (e .title) i) (lifeAfter (lifeOf es i) (e .time) (e .act)) (lifeOf es i)
+
+-- the time of the latest event of an id, 0 where there is none
+unfoldable pub latestOf : List Event → ℕ → ℕ
+latestOf [] i = 0
+latestOf (e ∷ es) i = pick (eqb (e .title) i) (e .time) (latestOf es i)
+
+-- the time of the last event of any title
+abbrev pub lastTime : List Event → ℕ
+lastTime [] = 0
+lastTime (e ∷ es) = e .time
+
+-- the events up to a moment, those of that very moment counted
+unfoldable pub upTo : ℕ → List Event → List Event
+upTo τ [] = []
+upTo τ (e ∷ es) = pick (leb (e .time) τ) (e ∷ es) (upTo τ es)
+
+-- the ruling count of a title at a moment, 0 once it is closing
+abbrev pub countIn : Life → ℕ → ℕ
+countIn L τ = L .rule (tickIn L τ)
+
+-- what is on air on lane l of a title at a moment
+abbrev pub airIn : Life → ℕ → ℕ → Air
+airIn L l τ = onAir (L .floor) (L .cap) (L .rule) l (tickIn L τ)
+
+-- lane l of a title is held at a moment
+abbrev pub isHeldIn : Life → ℕ → ℕ → Bool
+isHeldIn L l τ = isHeld (L .floor) (L .cap) (L .rule) l (tickIn L τ)
+
+-- 01, "Events": the lanes of a title held at a moment, active ones and those still sending
+unfoldable pub heldIn : Life → ℕ → ℕ
+heldIn L τ = howMany (λ l. isHeldIn L l τ) (L .cap)
+
+-- the lanes held over all titles
+unfoldable pub heldOver : List Event → ℕ → ℕ
+heldOver es τ = total (λ i. heldIn (lifeOf es i) τ) titlesMax
+
+-- 01, "Events": open, or closing with a lane not yet released
+abbrev pub isThereIn : Life → ℕ → Bool
+isThereIn L τ = either (ltb 0 (countIn L τ)) (ltb 0 (heldIn L τ))
+
+-- a moment that is a slot start of count k
+abbrev pub isSlotIn : Life → ℕ → ℕ → Bool
+isSlotIn L k τ = both (eqb ((τ - L .opened) % tickLength L) 0) (isSlotStart (L .cap) k (tickIn L τ))
+
+-- the numbers of any event, of an opening and of a change, within their limits
+abbrev pub withinLimits : Event → Bool
+withinLimits e = both (leb (e .title) idMax) (leb (e .time) eventTimeMax)
+
+abbrev pub openLimits : ℕ → ℕ → ℕ → ℕ → Bool
+openLimits D A K k =
+    both (within lengthMin lengthMax D)
+    (both (within floorMin floorMax A) (both (within countMin countMax K) (within countMin countMax k)))
+
+-- more than the pool is held after a sequence, at a moment
+abbrev pub overfull : ℕ → List Event → ℕ → Bool
+overfull pool es τ = ltb pool (heldOver es τ)
+
+-- what an event is answered after the accepted events es, by 01's order and from es alone
+unfoldable pub answerTo : ℕ → List Event → Event → Life → Act → ℕ
+answerTo pool es e L (opens D A K k) =
+    firstHit
+    (refuse outsideLimits (not (both (withinLimits e) (openLimits D A K k)))
+    ∷ refuse tooEarly (ltb (e .time) (lastTime es))
+    ∷ refuse idTaken (isThereIn L (e .time))
+    ∷ refuse wrongCount (either (ltb K A) (not (within A K k)))
+    ∷ refuse noLanes (overfull pool (e ∷ es) (e .time))
+    ∷ [])
+answerTo pool es e L (changes k) =
+    firstHit
+    (refuse outsideLimits (not (both (withinLimits e) (within countMin countMax k)))
+    ∷ refuse tooEarly (ltb (e .time) (lastTime es))
+    ∷ refuse notThere (not (isThereIn L (e .time)))
+    ∷ refuse isClosing (eqb (countIn L (e .time)) 0)
+    ∷ refuse wrongCount (either (not (within (L .floor) (L .cap) k)) (eqb k (countIn L (e .time))))
+    ∷ refuse secondEvent (eqb (e .time) (latestOf es (e .title)))
+    ∷ refuse notAtSlot (not (isSlotIn L (min (countIn L (e .time)) k) (e .time)))
+    ∷ refuse noLanes (overfull pool (e ∷ es) (e .time))
+    ∷ [])
+answerTo pool es e L closes =
+    firstHit
+    (refuse outsideLimits (not (withinLimits e))
+    ∷ refuse tooEarly (ltb (e .time) (lastTime es))
+    ∷ refuse notThere (not (isThereIn L (e .time)))
+    ∷ refuse isClosing (eqb (countIn L (e .time)) 0)
+    ∷ refuse secondEvent (eqb (e .time) (latestOf es (e .title)))
+    ∷ refuse notAtSlot (not (isSlotIn L (L .floor) (e .time)))
+    ∷ [])
+
+abbrev pub answer : ℕ → List Event → Event → ℕ
+answer pool es e = answerTo pool es e (lifeOf es (e .title)) (e .act)
+
+-- the accepted events after one more call: a refused one changes nothing
+abbrev pub taking : ℕ → List Event → Event → List Event
+taking pool es c = pick (eqb (answer pool es c) 0) (c ∷ es) es
+
+-- of a sequence of calls, those that are accepted
+unfoldable pub accepted : ℕ → List Event → List Event
+accepted pool [] = []
+accepted pool (c ∷ cs) = taking pool (accepted pool cs) c
+
+-- every event of a sequence is answered 0 after those before it
+pub data Accepted (pool : ℕ) : List Event → Type 0 where
+  none : Accepted pool []
+  more : {e : Event} {es : List Event} → Accepted pool es → answer pool es e ≡ 0 → Accepted pool (e ∷ es)
+
+-- 01, "Numbers that calls give back": what a lane question is answered after es; the id's own latest event counts
+unfoldable pub laneAnswerTo : List Event → ℕ → ℕ → ℕ → ℕ
+laneAnswerTo es i l τ =
+    firstHit
+    (refuse outsideLimits (not (both (leb i idMax) (both (leb l laneMax) (leb τ askedMax))))
+    ∷ refuse tooEarly (ltb τ (latestOf es i))
+    ∷ refuse notThere (not (isHeldIn (lifeOf es i) l τ))
+    ∷ [])
+
+-- what status is answered after es, over a row of ids beside rows of m and h places
+unfoldable pub statusAnswerTo : List Event → ℕ → List ℕ → ℕ → ℕ → ℕ
+statusAnswerTo es τ ids m h =
+    firstHit
+    (refuse wrongRows (not (both (eqb m (length ids)) (eqb h (length ids))))
+    ∷ refuse outsideLimits (not (both (leb τ askedMax) (every (λ j. leb (getD ids j 0) idMax) (length ids))))
+    ∷ refuse tooEarly (ltb τ (lastTime es))
+    ∷ [])
+
+-- the life of an id as it stands at a moment, the events of that very moment counted
+abbrev pub lifeAt : List Event → ℕ → ℕ → Life
+lifeAt es i τ = lifeOf (upTo τ es) i
+
+-- what is really on air on lane l of an id at a moment
+abbrev pub airAt : List Event → ℕ → ℕ → ℕ → Air
+airAt es i l τ = airIn (lifeAt es i τ) l τ
+
+-- demand 3: a box that begins at tick a of the life L finds cell c on a lane of that title, in a tick from its start on
+-- and no later than the cell's turn, and still under the same opening
+pub record Found (es : List Event) (i : ℕ) (L : Life) (a c : ℕ) : Type 0 where
+  pub lane : ℕ
+  pub tick : ℕ
+  pub lane-low : lane < L .cap
+  pub from-start : a ≤ tick
+  pub by-turn : tick ≤ a + c
+  pub same-opening : lifeAt es i (momentOf L tick) .opened ≡ L .opened
+  pub carries : airAt es i lane (momentOf L tick) ≡ cell c
+
+-- a box may begin at a moment: the start of a tick that is an admission, of the life as it stands then
+pub record Begins (es : List Event) (i τ a : ℕ) : Type 0 where
+  pub at-start : τ ≡ momentOf (lifeAt es i τ) a
+  pub admission : isAdmission (lifeAt es i τ .cap) (lifeAt es i τ .rule) a ≡ true

@@ -1,0 +1,2 @@
+-- The one claim about the worked cases.
+pub mod Cases

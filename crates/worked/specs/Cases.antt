@@ -1,0 +1,106 @@
+-- 01, "Numbers worked through": the starred cases as one table, what the definitions give beside what 01 prints. All but
+-- 10 and 11 are of a film with floor 2, cap 4 and D 12, opened at 0, so that its tick is 1 ms.
+use Prim.Native.Nat.{ℕ, zero, suc}
+use mathlib.Core.Bool.{Bool, true, false}
+use mathlib.Core.List.{List, [], _∷_, _++_}
+use lib.Dec.{eqb}
+use Rattle.rules.specs.Limits.{both}
+use Rattle.rules.specs.Refusals.{pick, done, outsideLimits, wrongCount, notAtSlot, noLanes}
+use Rattle.grid.specs.Ticks.{tickOf}
+use Rattle.grid.specs.Lanes.{isInG, laneCell}
+use Rattle.grid.specs.Plan.{planAt, never}
+use Rattle.story.specs.Life.{Air, nothing, cell}
+use Rattle.story.specs.Story.{Act, opens, changes, Event, answer, airAt}
+use Rattle.sharing.specs.Verdict.{verdictOf, rowAfter}
+
+-- a case of 01 by its number: what the definitions give, and what is printed
+pub record Case : Type 0 where
+  pub number : ℕ
+  pub given : List ℕ
+  pub printed : List ℕ
+
+abbrev pub case : ℕ → List ℕ → List ℕ → Case
+case n g p = record { number = n; given = g; printed = p }
+
+-- f at the numbers below n, in order
+unfoldable pub upFrom : (ℕ → ℕ) → ℕ → List ℕ
+upFrom f zero = []
+upFrom f (suc n) = upFrom f n ++ (f n ∷ [])
+
+-- f at n, n + 1, .., so many
+unfoldable pub along : (ℕ → ℕ) → ℕ → ℕ → List ℕ
+along f n zero = []
+along f n (suc m) = f n ∷ along f (suc n) m
+
+-- the cells below 16 that are in G(k, t)
+unfoldable pub inG : ℕ → ℕ → ℕ → List ℕ
+inG k t zero = []
+inG k t (suc c) = inG k t c ++ pick (isInG 2 4 k t c) (c ∷ []) []
+
+-- what a lane shows, as a number: the cell, or what a box writes for nothing
+abbrev pub shown : Air → ℕ
+shown nothing = never
+shown (cell c) = c
+
+abbrev pub event : ℕ → Act → Event
+event τ a = record { time = τ; title = 0; act = a }
+
+-- the film of the cases, opened with a count
+abbrev pub film : ℕ → Event
+film k = event 0 (opens 12 2 4 k)
+
+-- lane l from tick t on, so many ticks, after a sequence
+abbrev pub lane : List Event → ℕ → ℕ → ℕ → List ℕ
+lane es l t n = along (λ τ. shown (airAt es 0 l τ)) t n
+
+-- two titles of D 210 with floor 2 and cap 4: the answer, then the row, which has a place more than there are titles
+abbrev pub share : ℕ → List ℕ → List ℕ
+share pool rates =
+    let lengths : List ℕ = 210 ∷ 210 ∷ [] in
+    let floors : List ℕ = 2 ∷ 2 ∷ [] in
+    let caps : List ℕ = 4 ∷ 4 ∷ [] in
+    let row : List ℕ = 0 ∷ 0 ∷ 7 ∷ [] in
+    verdictOf pool rates lengths floors caps 3 ∷ rowAfter pool rates lengths floors caps row
+
+unfoldable pub table : List Case
+table =
+    case 1 (inG 2 0 16) (0 ∷ 4 ∷ [])
+    ∷ case 1 (inG 3 0 16) (0 ∷ 4 ∷ 12 ∷ [])
+    ∷ case 1 (inG 4 0 16) (0 ∷ 2 ∷ 4 ∷ 12 ∷ [])
+    ∷ case 2 (upFrom (laneCell 2 4 3) 8) (2 ∷ 0 ∷ 14 ∷ 0 ∷ 2 ∷ 0 ∷ 6 ∷ 0 ∷ [])
+    ∷ case 3 (upFrom (laneCell 2 4 2) 8) (12 ∷ 13 ∷ 0 ∷ 1 ∷ 4 ∷ 5 ∷ 0 ∷ 1 ∷ [])
+    ∷ case 4 (upFrom (planAt 2 4 4 0) 16)
+    (0 ∷ 1 ∷ 0 ∷ 3 ∷ 0 ∷ 1 ∷ 2 ∷ 3 ∷ 4 ∷ 5 ∷ 6 ∷ 7 ∷ 0 ∷ 1 ∷ 2 ∷ never ∷ [])
+    ∷ case 5 (lane (event 4 (changes 2) ∷ film 3 ∷ []) 2 4 5) (4 ∷ 5 ∷ 12 ∷ 13 ∷ never ∷ [])
+    ∷ case 6 (lane (event 4 (changes 3) ∷ film 4 ∷ []) 3 4 4) (2 ∷ 6 ∷ 14 ∷ never ∷ [])
+    ∷ case 6 (lane (event 6 (changes 4) ∷ event 4 (changes 3) ∷ film 4 ∷ []) 3 6 1) (6 ∷ [])
+    ∷ case 6 (lane (event 6 (changes 4) ∷ event 4 (changes 3) ∷ film 4 ∷ []) 3 10 1) (14 ∷ [])
+    ∷ case 7 (lane (event 8 (changes 3) ∷ film 4 ∷ []) 3 8 3) (2 ∷ 14 ∷ never ∷ [])
+    ∷ case 8 (answer 8 (film 3 ∷ []) (event 2 (changes 2)) ∷ answer 8 (film 3 ∷ []) (event 4 (changes 2)) ∷ [])
+    (notAtSlot ∷ done ∷ [])
+    ∷ case 9
+    (answer 8 (film 4 ∷ []) (event 4 (changes 4))
+    ∷ answer 8 (film 4 ∷ []) (event 4 (changes 5))
+    ∷ answer 8 (film 4 ∷ []) (event 4 (changes 11))
+    ∷ [])
+    (wrongCount ∷ wrongCount ∷ outsideLimits ∷ [])
+    ∷ case 10 (tickOf 1 2 4 ∷ tickOf 13 2 4 ∷ []) (1 ∷ 2 ∷ [])
+    ∷ case 11 (share 4 (1 ∷ 2 ∷ [])) (done ∷ 2 ∷ 2 ∷ 7 ∷ [])
+    ∷ case 11 (share 5 (1 ∷ 2 ∷ [])) (done ∷ 2 ∷ 3 ∷ 7 ∷ [])
+    ∷ case 11 (share 6 (1 ∷ 2 ∷ [])) (done ∷ 3 ∷ 3 ∷ 7 ∷ [])
+    ∷ case 11 (share 7 (1 ∷ 2 ∷ [])) (done ∷ 3 ∷ 4 ∷ 7 ∷ [])
+    ∷ case 11 (share 3 (1 ∷ 2 ∷ [])) (noLanes ∷ 0 ∷ 0 ∷ 7 ∷ [])
+    ∷ case 11 (share 5 (1 ∷ 1 ∷ [])) (done ∷ 3 ∷ 2 ∷ 7 ∷ [])
+    ∷ []
+
+-- two rows are the same
+unfoldable pub sameRow : List ℕ → List ℕ → Bool
+sameRow [] [] = true
+sameRow [] (y ∷ ys) = false
+sameRow (x ∷ xs) [] = false
+sameRow (x ∷ xs) (y ∷ ys) = both (eqb x y) (sameRow xs ys)
+
+-- every case gives what is printed
+unfoldable pub agree : List Case → Bool
+agree [] = true
+agree (c ∷ cs) = both (sameRow (c .given) (c .printed)) (agree cs)

@@ -1,0 +1,2 @@
+-- The cases that document 01 works through.
+pub mod Cases
