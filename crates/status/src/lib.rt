@@ -17,12 +17,14 @@ ghost use Prim.Native.Nat.{ℕ};
 ghost use mathlib.Core.Path.{_≡_};
 ghost use mathlib.Core.Bool.{true};
 ghost use mathlib.Core.List.{map};
-ghost use lib.Dec.{eqb};
+ghost use lib.Dec.{leb, eqb};
 ghost use lib.ListN.{length};
+ghost use Rattle.rules.specs.Limits.{both, idMax};
 ghost use Rattle.rules.specs.Refusals.{pick};
 ghost use Rattle.story.specs.Kept.{stateOk};
 ghost use Rattle.story.specs.Calls.{statusAnswer, statusCount, statusHeld};
 ghost use Rattle.status.specs.Rows.{idsOk};
+ghost use Rattle.status.specs.Records.{recordsVerdict, recordFor};
 
 // The ids are ids.
 fn ids_ok(ids: &[u64]) -> bool
@@ -94,4 +96,49 @@ pub fn status(s: State, time: u64, ids: &[u64], counts: &mut [u64], held: &mut [
         fill_held(s, time, ids, held);
     }
     answer
+}
+
+// A title asked for by its id, with the numbers that are filled in.
+pub struct Record {
+    pub id: u64,
+    pub count: u64,
+    pub held: u64,
+}
+
+// A record's id is an id, and so were those before it.
+fn id_ok(r: Record, ok: bool) -> bool
+    ensures { λ b. ⌜ b ≡ both (leb (r .id) idMax) ok ⌝ }
+{
+    also(r.id <= ID_MAX, ok)
+}
+
+// The answer over records, whose ids are all ids or not.
+fn records_verdict(s: State, time: u64, ids: bool) -> u8
+    ensures { λ r. ⌜ r ≡ recordsVerdict s time ids ⌝ }
+{
+    if also(state_ok(s), also(time <= ASKED_MAX, ids)) {
+        if time < s.last {
+            return TOO_EARLY;
+        }
+        return DONE;
+    }
+    OUTSIDE_LIMITS
+}
+
+// A record filled in, by the flat call over rows of one place; as it was beside a refusal.
+fn row_for(s: State, time: u64, answer: u8, r: Record) -> Record
+    ensures { λ q. ⌜ q ≡ recordFor s time answer r ⌝ }
+{
+    if answer == DONE {
+        let ids = [r.id];
+        let mut counts = [r.count];
+        let mut held = [r.held];
+        status(s, time, &ids, &mut counts, &mut held);
+        return Record {
+            id: r.id,
+            count: counts[0],
+            held: held[0],
+        };
+    }
+    r
 }
