@@ -24,7 +24,7 @@ ghost use Rattle.rules.specs.Refusals.{pick};
 ghost use Rattle.story.specs.Kept.{stateOk};
 ghost use Rattle.story.specs.Calls.{statusAnswer, statusCount, statusHeld};
 ghost use Rattle.status.specs.Rows.{idsOk};
-ghost use Rattle.status.specs.Records.{recordsVerdict, recordFor};
+ghost use Rattle.status.specs.Records.{recordsVerdict, recordsAnswer, filledRecord, recordFor};
 
 // The ids are ids.
 fn ids_ok(ids: &[u64]) -> bool
@@ -141,4 +141,23 @@ fn row_for(s: State, time: u64, answer: u8, r: Record) -> Record
         };
     }
     r
+}
+
+// Fills in counts and lanes held by id, over a row of records.
+pub fn records(s: State, time: u64, rows: &mut [Record]) -> u8
+    ensures { λ r. ⌜ (r ≡ recordsAnswer s time (now (rows .entry))) × (now (rows .exit) ≡ pick (eqb r 0) (map (λ q. filledRecord s time q) (now (rows .entry))) (now (rows .entry))) ⌝ }
+{
+    let mut ids = true;
+    let mut i = 0;
+    while i < rows.len() {
+        ids = id_ok(rows[i], ids);
+        i += 1;
+    }
+    let answer = records_verdict(s, time, ids);
+    let mut j = 0;
+    while j < rows.len() {
+        rows[j] = row_for(s, time, answer, rows[j]);
+        j += 1;
+    }
+    answer
 }
