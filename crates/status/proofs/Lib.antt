@@ -2,3 +2,4 @@
 pub mod Filled
 pub mod Asked
 pub mod Unique
+pub mod Rows

@@ -7,6 +7,8 @@ use lib.ListN.{length}
 use Rattle.rules.specs.Refusals.{pick}
 use Rattle.story.specs.declared.State.{State}
 use Rattle.story.specs.Calls.{statusAnswer, statusCount, statusHeld}
+use Rattle.status.specs.declared.Record.{Record}
+use Rattle.status.specs.Records.{recordsAnswer, filledRecord}
 
 -- what the contract admits: an answer, and the rows filled or as they were
 abbrev Gives : State → ℕ → List ℕ → List ℕ → List ℕ → ℕ → List ℕ → List ℕ → Type 0
@@ -19,3 +21,7 @@ pub one-status : (s : State) (τ : ℕ) (ids counts held : List ℕ) (r q : ℕ)
 one-status s τ ids counts held r q c d h g a b =
     let e : r ≡ q = a .0 ∙ sym (b .0) in
     (e, rw e at (a .1) ∙ sym (b .1), rw e at (a .2) ∙ sym (b .2))
+
+-- and of status over records: its answer and the row
+pub one-records : (s : State) (τ : ℕ) (rows : List Record) (r q : ℕ) (a b : List Record) → (r ≡ recordsAnswer s τ rows) × (a ≡ pick (eqb r 0) (map (λ z. filledRecord s τ z) rows) rows) → (q ≡ recordsAnswer s τ rows) × (b ≡ pick (eqb q 0) (map (λ z. filledRecord s τ z) rows) rows) → (r ≡ q) × (a ≡ b)
+one-records s τ rows r q a b c d = let e : r ≡ q = c .0 ∙ sym (d .0) in (e, rw e at (c .1) ∙ sym (d .1))

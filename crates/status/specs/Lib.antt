@@ -1,2 +1,3 @@
 -- What is asked of the rows of status.
 pub mod Rows
+pub mod Records

@@ -17,12 +17,14 @@ ghost use Prim.Native.Nat.{ℕ};
 ghost use mathlib.Core.Path.{_≡_};
 ghost use mathlib.Core.Bool.{true};
 ghost use mathlib.Core.List.{map};
-ghost use lib.Dec.{eqb};
+ghost use lib.Dec.{leb, eqb};
 ghost use lib.ListN.{length};
+ghost use Rattle.rules.specs.Limits.{both, idMax};
 ghost use Rattle.rules.specs.Refusals.{pick};
 ghost use Rattle.story.specs.Kept.{stateOk};
 ghost use Rattle.story.specs.Calls.{statusAnswer, statusCount, statusHeld};
 ghost use Rattle.status.specs.Rows.{idsOk};
+ghost use Rattle.status.specs.Records.{recordsVerdict, recordsAnswer, filledRecord, recordFor};
 
 // The ids are ids.
 fn ids_ok(ids: &[u64]) -> bool
@@ -92,6 +94,70 @@ pub fn status(s: State, time: u64, ids: &[u64], counts: &mut [u64], held: &mut [
     if answer == DONE {
         fill_counts(s, ids, counts);
         fill_held(s, time, ids, held);
+    }
+    answer
+}
+
+// A title asked for by its id, with the numbers that are filled in.
+pub struct Record {
+    pub id: u64,
+    pub count: u64,
+    pub held: u64,
+}
+
+// A record's id is an id, and so were those before it.
+fn id_ok(r: Record, ok: bool) -> bool
+    ensures { λ b. ⌜ b ≡ both (leb (r .id) idMax) ok ⌝ }
+{
+    also(r.id <= ID_MAX, ok)
+}
+
+// The answer over records, whose ids are all ids or not.
+fn records_verdict(s: State, time: u64, ids: bool) -> u8
+    ensures { λ r. ⌜ r ≡ recordsVerdict s time ids ⌝ }
+{
+    if also(state_ok(s), also(time <= ASKED_MAX, ids)) {
+        if time < s.last {
+            return TOO_EARLY;
+        }
+        return DONE;
+    }
+    OUTSIDE_LIMITS
+}
+
+// A record filled in, by the flat call over rows of one place; as it was beside a refusal.
+fn row_for(s: State, time: u64, answer: u8, r: Record) -> Record
+    ensures { λ q. ⌜ q ≡ recordFor s time answer r ⌝ }
+{
+    if answer == DONE {
+        let ids = [r.id];
+        let mut counts = [r.count];
+        let mut held = [r.held];
+        status(s, time, &ids, &mut counts, &mut held);
+        return Record {
+            id: r.id,
+            count: counts[0],
+            held: held[0],
+        };
+    }
+    r
+}
+
+// Fills in counts and lanes held by id, over a row of records.
+pub fn records(s: State, time: u64, rows: &mut [Record]) -> u8
+    ensures { λ r. ⌜ (r ≡ recordsAnswer s time (now (rows .entry))) × (now (rows .exit) ≡ pick (eqb r 0) (map (λ q. filledRecord s time q) (now (rows .entry))) (now (rows .entry))) ⌝ }
+{
+    let mut ids = true;
+    let mut i = 0;
+    while i < rows.len() {
+        ids = id_ok(rows[i], ids);
+        i += 1;
+    }
+    let answer = records_verdict(s, time, ids);
+    let mut j = 0;
+    while j < rows.len() {
+        rows[j] = row_for(s, time, answer, rows[j]);
+        j += 1;
     }
     answer
 }
