@@ -2,3 +2,6 @@
 pub mod Alike
 pub mod Stepping
 pub mod Onward
+pub mod Decided
+pub mod Held
+pub mod Settled
