@@ -1,4 +1,4 @@
-// Runs 01's worked cases 5 to 9 through the calls, and one where a lane owes to the boxes of an earlier count alone. Each
+// Runs 01's worked cases 5 to 9 through the calls, one where a lane owes to the boxes of an earlier count alone, and status. Each
 // line has the case, the answers of its events, and what a lane shows at each time from one to another: a cell, or "r"
 // and the number of a refusal.
 
@@ -116,6 +116,32 @@ fn two_counts() {
     line();
 }
 
+// Count and lanes held of titles 0, 1 and 0 while a lane sends; then an id that is none, whose row stays as it was.
+fn asked() {
+    io::write_all(STDOUT, b"status");
+    let s = opened(4);
+    let t = told(scheduler::change(s, 0, 4, 3));
+    let ids = [0u64, 1, 0];
+    let mut counts = [9u64; 3];
+    let mut held = [9u64; 3];
+    let answer = status::status(t, 6, &ids, &mut counts, &mut held);
+    word(answer as u64);
+    word(counts[0]);
+    word(held[0]);
+    word(counts[1]);
+    word(held[1]);
+    word(counts[2]);
+    word(held[2]);
+    let none = [16u64];
+    let mut count = [9u64];
+    let mut lanes = [9u64];
+    let refused = status::status(t, 6, &none, &mut count, &mut lanes);
+    word(refused as u64);
+    word(count[0]);
+    word(lanes[0]);
+    line();
+}
+
 fn main() {
     case5();
     case6();
@@ -123,4 +149,5 @@ fn main() {
     case8();
     case9();
     two_counts();
+    asked();
 }
