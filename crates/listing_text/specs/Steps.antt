@@ -65,3 +65,8 @@ pub record Onward (log : List ℕ) (p : ℕ) (r : Listed) : Type 0 where
   pub ahead : r .more ≡ true → p < r .place
   pub within : r .more ≡ true → r .place ≤ length log
   pub stays : r .more ≡ false → r .place ≡ p
+
+-- a listing of what was read stops at its end, at bytes that are no notice, or at the first place that is not decided
+pub record Drained (log : List ℕ) (over : Bool) (r : Listed) : Type 0 where
+  pub within : r .place ≤ length log
+  pub undecided : r .more ≡ true → isDecided (length log) (r .place) over ≡ false

@@ -12,9 +12,9 @@ use libc::STDIN_FILENO;
 use libc::STDOUT_FILENO;
 ghost use mathlib.Core.Path.{_≡_};
 ghost use mathlib.Core.Bool.{true};
-ghost use Prim.Native.Nat.{_≤_};
+ghost use Prim.Native.Nat.{_≤_, _<_};
 ghost use lib.ListN.{length};
-ghost use Rattle.listing_text.specs.Steps.{Onward};
+ghost use Rattle.listing_text.specs.Steps.{Onward, Drained, longest};
 
 // What a read leaves: the agent, the bytes kept at the buffer's front, and whether to go on.
 struct Fed {
@@ -34,9 +34,9 @@ fn show(agent: Agent, bytes: &[u8], place: usize) -> Listed
     listed
 }
 
-// Lists from the start what is decided.
+// Lists from the start on as long as places are decided.
 fn drain(agent: Agent, bytes: &[u8], over: bool) -> Listed
-    ensures { λ r. ⌜ r .place ≤ length (now (bytes .entry)) ⌝ }
+    ensures { λ r. ⌜ Drained (now (bytes .entry)) over r ⌝ }
 {
     let mut listed = Listed {
         agent: agent,
@@ -58,8 +58,11 @@ fn read_some(room: &mut [u8]) -> usize
     io::count(got, room)
 }
 
-// One read behind what is kept, the lines of what is decided, and what is left moved to the front.
-fn turn(fed: Fed, buffer: &mut [u8]) -> Fed {
+// One read behind what is kept, the lines of what is decided, and what is left moved to the front. What is left is shorter than
+// the longest notice, so the next read has room.
+fn turn(fed: Fed, buffer: &mut [u8]) -> Fed
+    ensures { λ r. ⌜ (r .more ≡ true → r .kept < longest) ⌝ }
+{
     let kept = fed.kept;
     let agent = fed.agent;
     if buffer.len() < kept {

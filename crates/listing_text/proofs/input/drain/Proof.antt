@@ -1,8 +1,9 @@
 -- `listing_text::input::drain` is safe and ends: the place stays within what was read, and each step that goes on moves ahead.
+use mathlib.Core.Path.{sym, _∙_}
 use native.Mathlib.Omega.{arith}
 use Prim.Native.Nat.{_≤_}
 use lib.ListN.{length}
-use Rattle.listing_text.proofs.Onward.{left, falls, stays-within}
+use Rattle.listing_text.proofs.Onward.{left, falls, stays-within, true-false}
 use Rattle.listing_text.proofs.input.drain.Statement.{statement}
 use Rattle.listing_text.proofs.input.drain.Tie as tie
 
@@ -32,10 +33,11 @@ loop-again c =
     stays-within _ (l .listed .place) (c .show .result) (l .inv) (c .show .ensures)
 
 returns : tie.Need-returns Inv-loop μ-loop
-returns c = c .before .before .before .loop .inv
+returns c =
+    record { within = c .before .before .before .loop .inv; undecided = λ _. sym (c .before .decided .ensures) ∙ c .if1 .left }
 
 returns-2 : tie.Need-returns-2 Inv-loop μ-loop
-returns-2 c = c .before .loop .inv
+returns-2 c = record { within = c .before .loop .inv; undecided = λ q. true-false (sym q ∙ c .loop-test .left) }
 
 pub drain-spec : {M : Type 1} → statement M
 drain-spec =

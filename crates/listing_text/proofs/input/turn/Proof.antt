@@ -1,12 +1,14 @@
--- `listing_text::input::turn` is safe: what was read lies behind what was kept, within the buffer.
+-- `listing_text::input::turn` meets its contract: what was read lies behind what was kept, within the buffer, and what is not
+-- decided of it is kept.
 use mathlib.Core.Path.{sym}
 use lib.Seq.{length-take-le}
+use Rattle.listing_text.proofs.Onward.{true-false, kept-few}
 use borrow.Author.Needs.{needs}
 use Rattle.listing_text.proofs.input.turn.Statement.{statement}
 use Rattle.listing_text.proofs.input.turn.Tie as tie
 
 returns : tie.Need-returns
-returns c = search needs
+returns c = λ q. true-false (sym q)
 
 sub-read-some : tie.Need-sub-read-some
 sub-read-some c = search needs
@@ -39,7 +41,9 @@ same-length : tie.Need-same-length
 same-length c = search needs
 
 returns-2 : tie.Need-returns-2
-returns-2 c = search needs
+returns-2 c =
+    let listed = c .before .before .before .before .before in
+    kept-few _ _ _ _ _ _ (listed .drain .ensures) (slice-aggregate-drain (listed .before)) (c .before .before .compact .ensures .many)
 
 pub turn-spec : {M : Type 1} → statement M
 turn-spec =

@@ -1,0 +1,3 @@
+-- Laws by which the figures' functions meet their contracts.
+pub mod Found
+pub mod Sent

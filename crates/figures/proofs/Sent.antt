@@ -1,0 +1,45 @@
+-- The three ways of asking a lane after the change.
+use Prim.Native.Nat.{ℕ, _+_, _<_, _≤_}
+use mathlib.Core.Path.{_≡_, refl, sym, ap, _∙_}
+use borrow.Author.Tests.{eq-eqb, ne-eqb, lt-ltb, le-ltb}
+use lib.Dec.{eqb}
+use Rattle.rules.specs.Refusals.{pick}
+use Rattle.story.specs.declared.State.{State}
+use Rattle.story.specs.Calls.{freshNext, openAnswer, changeAnswer, laneAnswer, laneShows}
+use Rattle.story.specs.Next.{openNext, changeNext}
+use Rattle.story.specs.Story.{opens, changes}
+use Rattle.story.specs.Runs.{called}
+use Rattle.figures.specs.Transitions.{changedTo, sentOf}
+
+-- the three states in turn
+pub record Run (n : ℕ) (a b c : State) : Type 0 where
+  pub first : a ≡ freshNext 4
+  pub second : b ≡ pick (eqb (openAnswer a 0 0 12 2 4 4) 0) (openNext a 0 0 12 2 4 4) a
+  pub third : c ≡ pick (eqb (changeAnswer b 0 4 n) 0) (changeNext b 0 4 n) b
+
+run-is : (n : ℕ) (a b c : State) → Run n a b c → c ≡ changedTo n
+unfolding changedTo
+run-is n a b c r =
+    r .third
+    ∙ ap (λ (s : State). called s (record { time = 4; title = 0; act = changes n }))
+    (r .second ∙ ap (λ (s : State). called s (record { time = 0; title = 0; act = opens 12 2 4 4 })) (r .first))
+
+module _ (n l τ : ℕ) (a b c : State) (run : Run n a b c) (answer cell : ℕ)
+    (asked : (answer ≡ laneAnswer c 0 l τ) × (cell ≡ laneShows c 0 l τ)) where
+  answered : answer ≡ laneAnswer (changedTo n) 0 l τ
+  answered = asked .0 ∙ ap (λ (s : State). laneAnswer s 0 l τ) (run-is n a b c run)
+
+  shown : cell ≡ laneShows (changedTo n) 0 l τ
+  shown = asked .1 ∙ ap (λ (s : State). laneShows s 0 l τ) (run-is n a b c run)
+
+  pub sends : answer ≡ 0 → cell < 16 → cell + 1 ≡ sentOf n l τ
+  unfolding sentOf
+  sends z h = rw (← answered, ← shown, eq-eqb answer 0 z, lt-ltb cell 16 h)
+
+  pub past : answer ≡ 0 → 16 ≤ cell → 99 ≡ sentOf n l τ
+  unfolding sentOf
+  past z h = rw (← answered, ← shown, eq-eqb answer 0 z, le-ltb cell 16 h)
+
+  pub silent : (answer ≡ 0 → ⊥) → 99 ≡ sentOf n l τ
+  unfolding sentOf
+  silent z = rw (← answered, ← shown, ne-eqb answer 0 z)

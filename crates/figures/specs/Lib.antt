@@ -1,0 +1,5 @@
+-- What the runs against published figures compute.
+pub mod Rows
+pub mod Segments
+pub mod Times
+pub mod Transitions
