@@ -46,10 +46,9 @@ pub fn charge(t: Title, lane: u64, tick: u64) -> u64
     let ruled = ruling(t);
     if is_sending(t, lane, tick) {
         if lane < ruled {
-            // it resumed before its list had gone, and the list is forgotten
-            return 1;
+            return 1; // resumed before its list had gone, and the list is forgotten
         }
-        return 1;
+        return 1; // sending
     }
     if lane < ruled {
         return 1;

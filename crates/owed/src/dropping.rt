@@ -56,9 +56,9 @@ fn drop_lanes(t: Title, tick: u64, count: u64) -> Title
     q
 }
 
-// The ruling count ends at a tick.
+// The ruling count ends at a tick, which no longer belongs to it.
 fn end_count(t: Title, tick: u64) -> Title
-    requires { ⌜ t .count ≤ countMax ⌝ }
+    requires { ⌜ (t .count ≤ countMax) × (tick ≤ askedMax) ⌝ }
     ensures { λ r. ⌜ r ≡ ended t tick ⌝ }
 {
     let mut q = t;

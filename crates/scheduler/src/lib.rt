@@ -148,9 +148,10 @@ fn settle(s: State, next: State, time: u64) -> Outcome
     ensures { λ r. ⌜ (r .answer ≡ settledAnswer next time) × (r .state ≡ pick (eqb (settledAnswer next time) 0) next s) ⌝ }
 {
     if s.pool < lanes_held(next, time) {
+        let kept = s;
         return Outcome {
             answer: NO_LANES,
-            state: s,
+            state: kept,
         };
     }
     Outcome {

@@ -1,0 +1,4 @@
+-- Laws of this crate's rows.
+pub mod Filled
+pub mod Asked
+pub mod Unique

@@ -1,0 +1,2 @@
+-- What is asked of the rows of status.
+pub mod Rows

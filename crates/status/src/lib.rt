@@ -1,0 +1,97 @@
+// Status: at a given time, the count and the lanes held of each title asked for, by its id (01, "Status"). No public
+// function has a `requires`; a refusal writes nothing.
+
+use answers::verdicts::title_of;
+use held::lanes::ruling;
+use held::lanes::title_held;
+use held::limits::also;
+use held::limits::state_ok;
+use rules::ASKED_MAX;
+use rules::DONE;
+use rules::ID_MAX;
+use rules::OUTSIDE_LIMITS;
+use rules::TOO_EARLY;
+use rules::WRONG_ROWS;
+use story::State;
+ghost use Prim.Native.Nat.{ℕ};
+ghost use mathlib.Core.Path.{_≡_};
+ghost use mathlib.Core.Bool.{true};
+ghost use mathlib.Core.List.{map};
+ghost use lib.Dec.{eqb};
+ghost use lib.ListN.{length};
+ghost use Rattle.rules.specs.Refusals.{pick};
+ghost use Rattle.story.specs.Kept.{stateOk};
+ghost use Rattle.story.specs.Calls.{statusAnswer, statusCount, statusHeld};
+ghost use Rattle.status.specs.Rows.{idsOk};
+
+// The ids are ids.
+fn ids_ok(ids: &[u64]) -> bool
+    ensures { λ r. ⌜ r ≡ idsOk (now (ids .entry)) ⌝ }
+{
+    let mut ok = true;
+    let mut i = 0;
+    while i < ids.len() {
+        ok = also(ids[i] <= ID_MAX, ok);
+        i += 1;
+    }
+    ok
+}
+
+// The answer, for rows of as many counts and numbers of lanes held.
+fn status_verdict(s: State, time: u64, ids: &[u64], counts: usize, held: usize) -> u8
+    ensures { λ r. ⌜ r ≡ statusAnswer s time (now (ids .entry)) counts held ⌝ }
+{
+    let n = ids.len();
+    if counts != n {
+        return WRONG_ROWS;
+    }
+    if held != n {
+        return WRONG_ROWS;
+    }
+    if also(state_ok(s), also(time <= ASKED_MAX, ids_ok(ids))) {
+        if time < s.last {
+            return TOO_EARLY;
+        }
+        return DONE;
+    }
+    OUTSIDE_LIMITS
+}
+
+// The count of each title asked for, 0 where it isn't open.
+fn fill_counts(s: State, ids: &[u64], counts: &mut [u64])
+    requires { ⌜ (length (now counts) ≡ length (now ids)) × (idsOk (now ids) ≡ true) ⌝ }
+    ensures { λ _. ⌜ now (counts .exit) ≡ map (λ i. statusCount s i) (now (ids .entry)) ⌝ }
+{
+    let mut i = 0;
+    while i < ids.len() {
+        counts[i] = ruling(title_of(s, ids[i]));
+        i += 1;
+    }
+}
+
+// The lanes that each title asked for holds at a time.
+fn fill_held(s: State, time: u64, ids: &[u64], held: &mut [u64])
+    requires { ⌜ (length (now held) ≡ length (now ids)) × (idsOk (now ids) ≡ true) ⌝ }
+    requires { ⌜ stateOk s ≡ true ⌝ }
+    ensures { λ _. ⌜ now (held .exit) ≡ map (λ i. statusHeld s i time) (now (ids .entry)) ⌝ }
+{
+    let mut i = 0;
+    while i < ids.len() {
+        held[i] = title_held(title_of(s, ids[i]), time);
+        i += 1;
+    }
+}
+
+// Fills in counts and lanes held by id, over flat rows.
+pub fn status(s: State, time: u64, ids: &[u64], counts: &mut [u64], held: &mut [u64]) -> u8
+    ensures { λ r. ⌜ r ≡ statusAnswer s time (now (ids .entry)) (length (now (counts .entry))) (length (now (held .entry))) ⌝ }
+    ensures { λ r. ⌜ now (counts .exit) ≡ pick (eqb r 0) (map (λ i. statusCount s i) (now (ids .entry))) (now (counts .entry)) ⌝ }
+    ensures { λ r. ⌜ now (held .exit) ≡ pick (eqb r 0) (map (λ i. statusHeld s i time) (now (ids .entry))) (now (held .entry)) ⌝ }
+{
+    let answer = status_verdict(s, time, ids, counts.len(), held.len());
+    if answer == DONE {
+        fill_counts(s, ids, counts);
+        fill_held(s, time, ids, held);
+    }
+    answer
+}
