@@ -132,9 +132,7 @@ fn keep(stand: Stand, buffer: &mut [u8], to: usize, out: &mut [u8]) -> Stand {
 }
 
 // Reads what is there behind the first bytes of the buffer; gives back up to where it is filled.
-fn refill(buffer: &mut [u8], kept: usize) -> usize
-    ensures { λ r. ⌜ kept ≤ length (now (buffer .entry)) → r ≤ length (now (buffer .exit)) ⌝ }
-{
+fn refill(buffer: &mut [u8], kept: usize) -> usize {
     if buffer.len() < kept {
         return kept;
     }
