@@ -1,0 +1,3 @@
+-- Laws of what a line does to the agent.
+pub mod Spelling
+pub mod Following

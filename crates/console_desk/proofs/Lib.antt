@@ -1,0 +1,5 @@
+-- Laws of the desk: each test on a line says which case of the definitions it is.
+pub mod Written
+pub mod Asking
+pub mod Lines
+pub mod Settled

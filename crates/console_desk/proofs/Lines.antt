@@ -1,0 +1,66 @@
+-- A line from its first test on: what is wrong with it, nothing asked, an act or a question; a newline behind each answer.
+use Prim.Native.Nat.{ℕ, _≤_, _<_}
+use mathlib.Core.Path.{_≡_, refl, sym, _∙_, ap}
+use mathlib.Core.Bool.{Bool, true, false}
+use mathlib.Core.List.{List, [], _∷_, _++_}
+use native.Mathlib.Omega.{arith}
+use borrow.Author.Tests.{eq-eqb, ne-eqb, ltb-true, ltb-false}
+use lib.ListN.{length}
+use lib.Dec.{eqb, ltb}
+use Rattle.rules.specs.Refusals.{pick}
+use Rattle.agent.specs.declared.Agent.{Agent}
+use Rattle.console_words.specs.Commands
+use Rattle.console_lines.specs.declared.lines.Line.{Line}
+use Rattle.console_lines.specs.Lines.{blank, withFault, begun, readOn, meaning, longest}
+use Rattle.console_text.specs.Output.{Page, puts}
+use Rattle.console_text.specs.Words.{faultText}
+use Rattle.console_text.proofs.Pages.{puts-append}
+use Rattle.console_acts.specs.Acts.{agentAfter}
+use Rattle.console_desk.specs.Desk.{acts, actText, askText, newline, wholeText, afterWhole, lineText, afterLine, Left}
+
+-- a line that is too long is read as such
+too-long : (s : List ℕ) → ltb longest (length s) ≡ true → (meaning s) .fault ≡ 1
+unfolding meaning readOn begun withFault
+too-long s h = rw h
+
+-- a line with nothing wrong is no longer than the longest
+pub readable : (s : List ℕ) → (meaning s) .fault ≡ 0 → length s ≤ longest
+readable s e = by-test (ltb longest (length s)) refl where
+  by-test : (t : Bool) → ltb longest (length s) ≡ t → length s ≤ longest
+  by-test true h = let z : _≡_ {A = ℕ} 1 0 = sym (too-long s h) ∙ e in omega arith
+  by-test false h = ltb-false _ _ h
+
+module _ (g : Agent) (l : Line) (s : List ℕ) (p : Page) where
+  pub asks-nothing : l .command ≡ 0 → Left (afterWhole g l s) (puts p (wholeText g l s)) g p
+  unfolding afterWhole wholeText acts puts
+  asks-nothing h = record { agent = rw h; row = rw h }
+
+  module _ (something : l .command ≡ 0 → ⊥) (t : Bool) (e : t ≡ acts (l .command)) (after : Agent) (q r : Page) where
+    pub it-acts : t ≡ true → Left (agentAfter g l s) (puts p (actText g l s)) after q → r ≡ puts q newline
+        → Left (afterWhole g l s) (puts p (wholeText g l s)) after r
+    unfolding afterWhole wholeText
+    it-acts y d f =
+        record {
+          agent = rw (sym e ∙ y) (d .agent);
+          row = rw (ne-eqb _ _ something, sym e ∙ y, puts-append, ← d .row) f;
+        }
+
+    pub it-asks : t ≡ false → q ≡ puts p (askText (g .state) l s) → r ≡ puts q newline
+        → Left (afterWhole g l s) (puts p (wholeText g l s)) g r
+    unfolding afterWhole wholeText
+    it-asks y d f =
+        record {
+          agent = rw (sym e ∙ y);
+          row = rw (ne-eqb _ _ something, sym e ∙ y, puts-append, ← d) f;
+        }
+
+module _ (g : Agent) (s : List ℕ) (l : Line) (is : l ≡ meaning s) (p : Page) where
+  pub it-is-whole : l .fault ≡ 0 → (after : Agent) (q : Page) → Left (afterWhole g l s) (puts p (wholeText g l s)) after q
+      → Left (afterLine g s) (puts p (lineText g s)) after q
+  unfolding afterLine lineText
+  it-is-whole h after q d = rw (← is, eq-eqb _ _ h) d
+
+  pub it-is-faulty : (l .fault ≡ 0 → ⊥) → (q r : Page) → q ≡ puts p (faultText (l .fault) (l .place)) → r ≡ puts q newline
+      → Left (afterLine g s) (puts p (lineText g s)) g r
+  unfolding afterLine lineText
+  it-is-faulty h q r d f = record { agent = rw (← is, ne-eqb _ _ h); row = rw (← is, ne-eqb _ _ h, puts-append, ← d) f }

@@ -1,0 +1,61 @@
+-- A line's notice and its bytes, which the room that is lent for them holds.
+use Prim.Native.Nat.{ℕ, _≤_}
+use mathlib.Core.Path.{_≡_, refl, sym, _∙_, ap}
+use mathlib.Core.Bool.{false}
+use mathlib.Core.List.{List, _++_}
+use native.Mathlib.Omega.{arith}
+use borrow.Author.Tests.{eq-eqb, ne-eqb, le-ltb}
+use lib.ListN.{length, take, drop, length-append}
+use lib.Seq.{take-at}
+use Rattle.rules.specs.Refusals.{pick}
+use Rattle.notice.specs.declared.Notice.{Notice}
+use Rattle.notice.specs.declared.Kind.{Kind}
+use Rattle.notice.specs.declared.Kind.the-variants.{Open, Change, Close}
+use Rattle.notice.specs.Fields.{lengthOf}
+use Rattle.notice.specs.Encode.{kindOf, bytesOf, Writes}
+use Rattle.notice.proofs.Bytes.{length-notice}
+use Rattle.notice.proofs.Worked.{open-length, change-length, close-length}
+use Rattle.console_words.specs.Commands
+use Rattle.console_lines.specs.declared.lines.Line.{Line}
+use Rattle.console_acts.specs.Acts.{numberIn}
+use Rattle.console_desk.specs.Writing.{byteIn, fourBytesIn, kindIn, noticeIn}
+
+module _ (l : Line) where
+  pub kind-open : (a b c d : ℕ) → l .command ≡ 13 → a ≡ fourBytesIn l 3 → b ≡ byteIn l 4 → c ≡ byteIn l 5 → d ≡ byteIn l 6 → Open a b c d ≡ kindIn l
+  unfolding kindIn
+  kind-open a b c d h e f g k = rw (eq-eqb _ _ h) (cc)
+
+  pub kind-change : (d : ℕ) → (l .command ≡ 13 → ⊥) → l .command ≡ 14 → d ≡ byteIn l 3 → Change d ≡ kindIn l
+  unfolding kindIn
+  kind-change d o h e = rw (ne-eqb _ _ o, eq-eqb _ _ h) (cc)
+
+  pub kind-close : (l .command ≡ 13 → ⊥) → (l .command ≡ 14 → ⊥) → Close ≡ kindIn l
+  unfolding kindIn
+  kind-close o h = rw (ne-eqb _ _ o, ne-eqb _ _ h)
+
+  pub notice-made : (a b : ℕ) (k : Kind) → a ≡ fourBytesIn l 0 → b ≡ byteIn l 1 → k ≡ kindIn l
+      → record { sequence = a; title = b; time = numberIn l 2; kind = k } ≡ noticeIn l
+  unfolding noticeIn
+  notice-made a b k e f g = rw (e, f, g)
+
+-- a notice has at most 45 bytes
+short-kind : (k : Kind) → lengthOf (kindOf k) ≤ 45
+short-kind (Open d a k n) = omega (arith, open-length)
+short-kind (Change n) = omega (arith, change-length)
+short-kind Close = omega (arith, close-length)
+
+pub short : (n : Notice) → length (bytesOf n) ≤ 45
+short n = rw length-notice (short-kind (n .kind))
+
+module _ (n : Notice) (room room' : List ℕ) (a size : ℕ) (e : Writes n room a room') (big : length room ≡ 64) (f : size ≡ length (bytesOf n)) where
+  row : room' ≡ bytesOf n ++ drop (length (bytesOf n)) room
+  row =
+      let few : length (bytesOf n) ≤ length room = omega (arith, short n) in
+      rw (le-ltb _ _ few) at (e .leaves)
+
+  -- its bytes stand first
+  pub first : take size room' ≡ bytesOf n
+  first = rw (row, f) (take-at (bytesOf n) (drop (length (bytesOf n)) room) (length (bytesOf n)) refl)
+
+  pub counted : size ≡ length (take size room')
+  counted = rw first f

@@ -1,0 +1,49 @@
+-- `console_desk::act` meets its contract: a fresh agent answers alone, an event or a notice with the lanes held.
+use Rattle.console_text.specs.Output.{page}
+use Rattle.console_desk.proofs.Asking.{acts-fresh, acts-other}
+use borrow.Author.Needs.{needs}
+use Rattle.console_desk.proofs.act.Statement.{statement}
+use Rattle.console_desk.proofs.act.Tie as tie
+
+follow-requires : tie.Need-follow-requires
+follow-requires c κs = search needs
+
+put-done-requires : tie.Need-put-done-requires
+put-done-requires c κs = search needs
+
+same-length : tie.Need-same-length
+same-length c = search needs
+
+returns : tie.Need-returns
+returns c = let x = c .before .before .before .before .before .before .before .before .before .args in
+    let f = c .before .before .before .before .before .before .follow .ensures in
+    record {
+      agent = f .1;
+      row = acts-fresh (x .line) (x .s .now) (page (x .out .now) (x .at)) _ (x .agent) _ (c .before .before .before .before .if1 .taken) (f .0) (c .before .before .put-done .ensures);
+    }
+
+put-followed-requires : tie.Need-put-followed-requires
+put-followed-requires c κs = search needs
+
+same-length-2 : tie.Need-same-length-2
+same-length-2 c = search needs
+
+returns-2 : tie.Need-returns-2
+returns-2 c = let x = c .before .before .before .before .before .before .before .before .before .args in
+    let f = c .before .before .before .before .before .before .follow .ensures in
+    record {
+      agent = f .1;
+      row = acts-other (x .line) (x .s .now) (page (x .out .now) (x .at)) _ (x .agent) _ _ (c .before .before .before .before .if1 .left) (f .0) (f .1) (c .before .before .put-followed .ensures);
+    }
+
+pub act-spec : {M : Type 1} → statement M
+act-spec =
+    tie.close
+    (tie.spec
+    follow-requires
+    put-done-requires
+    same-length
+    returns
+    put-followed-requires
+    same-length-2
+    returns-2)

@@ -1,0 +1,53 @@
+-- `console_desk::answer` meets its contract: a line with nothing wrong, or what is wrong with it.
+use mathlib.Core.Path.{sym, _∙_, ap}
+use Rattle.console_lines.specs.declared.lines.Line.{Line}
+use Rattle.console_text.specs.Output.{page}
+use Rattle.console_desk.proofs.Lines.{readable, it-is-whole, it-is-faulty}
+use borrow.Author.Needs.{needs}
+use Rattle.console_desk.proofs.answer.Statement.{statement}
+use Rattle.console_desk.proofs.answer.Tie as tie
+
+parse-requires : tie.Need-parse-requires
+parse-requires c κs = search needs
+
+whole-requires : tie.Need-whole-requires
+whole-requires c κs = readable (c .before .before .before .before .before .args .s .now) (sym (ap (λ (l : Line). l .fault) (c .before .before .parse .ensures)) ∙ c .before .if1 .taken)
+
+same-length : tie.Need-same-length
+same-length c = search needs
+
+returns : tie.Need-returns
+returns c = let x = c .before .before .before .before .before .before .before .before .args in
+    let p = page (x .out .now) (x .at) in
+    it-is-whole (x .agent) (x .s .now) _ (c .before .before .before .before .before .parse .ensures) p (c .before .before .before .before .if1 .taken) _ _ (c .before .before .whole .ensures)
+
+put-fault-requires : tie.Need-put-fault-requires
+put-fault-requires c κs = search needs
+
+slice-aggregate-put : tie.Need-slice-aggregate-put
+slice-aggregate-put c = search needs
+
+put-requires : tie.Need-put-requires
+put-requires c κs = search needs
+
+same-length-2 : tie.Need-same-length-2
+same-length-2 c = search needs
+
+returns-2 : tie.Need-returns-2
+returns-2 c = let x = c .before .before .before .before .before .before .before .before .before .before .before .before .before .args in
+    let p = page (x .out .now) (x .at) in
+    it-is-faulty (x .agent) (x .s .now) _ (c .before .before .before .before .before .before .before .before .before .before .parse .ensures) p (c .before .before .before .before .before .before .before .before .before .if1 .left) _ _ (c .before .before .before .before .before .before .before .put-fault .ensures) (c .before .before .put .ensures)
+
+pub answer-spec : {M : Type 1} → statement M
+answer-spec =
+    tie.close
+    (tie.spec
+    parse-requires
+    whole-requires
+    same-length
+    returns
+    put-fault-requires
+    slice-aggregate-put
+    put-requires
+    same-length-2
+    returns-2)

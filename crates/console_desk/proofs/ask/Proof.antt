@@ -1,0 +1,113 @@
+-- `console_desk::ask` meets its contract: each question's own answer.
+use Rattle.console_text.specs.Output.{page}
+use Rattle.console_desk.proofs.Asking.{asks-lane, asks-status, asks-share, asks-plan, asks-else}
+use borrow.Author.Needs.{needs}
+use Rattle.console_desk.proofs.ask.Statement.{statement}
+use Rattle.console_desk.proofs.ask.Tie as tie
+
+array-read-put-lane : tie.Need-array-read-put-lane
+array-read-put-lane c = search needs
+
+array-read-put-lane-2 : tie.Need-array-read-put-lane-2
+array-read-put-lane-2 c = search needs
+
+array-read-put-lane-3 : tie.Need-array-read-put-lane-3
+array-read-put-lane-3 c = search needs
+
+put-lane-requires : tie.Need-put-lane-requires
+put-lane-requires c κs = search needs
+
+same-length : tie.Need-same-length
+same-length c = search needs
+
+returns : tie.Need-returns
+returns c = let x = c .before .before .before .before .before .before .before .before .args in
+    let p = page (x .out .now) (x .at) in
+    asks-lane (x .line) (x .s .now) p _ (x .state) (c .before .before .before .before .if1 .taken) (c .before .before .put-lane .ensures)
+
+put-status-requires : tie.Need-put-status-requires
+put-status-requires c κs = search needs
+
+same-length-2 : tie.Need-same-length-2
+same-length-2 c = search needs
+
+returns-2 : tie.Need-returns-2
+returns-2 c = let x = c .before .before .before .before .before .before .before .before .before .args in
+    let p = page (x .out .now) (x .at) in
+    asks-status (x .line) (x .s .now) p _ (x .state) (c .before .before .before .before .before .if1 .left) (c .before .before .before .before .if2 .taken) (c .before .before .put-status .ensures)
+
+put-share-requires : tie.Need-put-share-requires
+put-share-requires c κs = search needs
+
+same-length-3 : tie.Need-same-length-3
+same-length-3 c = search needs
+
+returns-3 : tie.Need-returns-3
+returns-3 c = let x = c .before .before .before .before .before .before .before .before .before .before .args in
+    let p = page (x .out .now) (x .at) in
+    asks-share (x .line) (x .s .now) p _ (x .state) (c .before .before .before .before .before .before .if1 .left) (c .before .before .before .before .before .if2 .left) (c .before .before .before .before .if3 .taken) (c .before .before .put-share .ensures)
+
+array-read-put-plan : tie.Need-array-read-put-plan
+array-read-put-plan c = search needs
+
+array-read-put-plan-2 : tie.Need-array-read-put-plan-2
+array-read-put-plan-2 c = search needs
+
+array-read-put-plan-3 : tie.Need-array-read-put-plan-3
+array-read-put-plan-3 c = search needs
+
+array-read-put-plan-4 : tie.Need-array-read-put-plan-4
+array-read-put-plan-4 c = search needs
+
+places-of-requires : tie.Need-places-of-requires
+places-of-requires c κs = search needs
+
+put-plan-requires : tie.Need-put-plan-requires
+put-plan-requires c κs = search needs
+
+same-length-4 : tie.Need-same-length-4
+same-length-4 c = search needs
+
+returns-4 : tie.Need-returns-4
+returns-4 c = let x = c .before .before .before .before .before .before .before .before .before .before .before .before .args in
+    let p = page (x .out .now) (x .at) in
+    asks-plan (x .line) (x .s .now) p _ (x .state) (c .before .before .before .before .before .before .before .before .if1 .left) (c .before .before .before .before .before .before .before .if2 .left) (c .before .before .before .before .before .before .if3 .left) _ (c .before .before .before .before .before .if4 .taken) (c .before .before .before .places-of .ensures) (c .before .before .put-plan .ensures)
+
+tell-requires : tie.Need-tell-requires
+tell-requires c κs = search needs
+
+same-length-5 : tie.Need-same-length-5
+same-length-5 c = search needs
+
+returns-5 : tie.Need-returns-5
+returns-5 c = let x = c .before .before .before .before .before .before .before .before .before .before .before .args in
+    let p = page (x .out .now) (x .at) in
+    asks-else (x .line) (x .s .now) p _ (x .state) (c .before .before .before .before .before .before .before .if1 .left) (c .before .before .before .before .before .before .if2 .left) (c .before .before .before .before .before .if3 .left) (c .before .before .before .before .if4 .left) (c .before .before .tell .ensures)
+
+pub ask-spec : {M : Type 1} → statement M
+ask-spec =
+    tie.close
+    (tie.spec
+    array-read-put-lane
+    array-read-put-lane-2
+    array-read-put-lane-3
+    put-lane-requires
+    same-length
+    returns
+    put-status-requires
+    same-length-2
+    returns-2
+    put-share-requires
+    same-length-3
+    returns-3
+    array-read-put-plan
+    array-read-put-plan-2
+    array-read-put-plan-3
+    array-read-put-plan-4
+    places-of-requires
+    put-plan-requires
+    same-length-4
+    returns-4
+    tell-requires
+    same-length-5
+    returns-5)

@@ -1,0 +1,62 @@
+-- `console_desk::writing::kind_of` meets its contract: the kind that the line's word says.
+use Rattle.console_desk.proofs.Written.{kind-open, kind-change, kind-close}
+use borrow.Author.Needs.{needs}
+use Rattle.console_desk.proofs.writing.kind_of.Statement.{statement}
+use Rattle.console_desk.proofs.writing.kind_of.Tie as tie
+
+array-read-as-four-bytes : tie.Need-array-read-as-four-bytes
+array-read-as-four-bytes c = search needs
+
+as-four-bytes-requires : tie.Need-as-four-bytes-requires
+as-four-bytes-requires c κs = search needs
+
+array-read-as-byte : tie.Need-array-read-as-byte
+array-read-as-byte c = search needs
+
+as-byte-requires : tie.Need-as-byte-requires
+as-byte-requires c κs = search needs
+
+array-read-as-byte-2 : tie.Need-array-read-as-byte-2
+array-read-as-byte-2 c = search needs
+
+as-byte-requires-2 : tie.Need-as-byte-requires-2
+as-byte-requires-2 c κs = search needs
+
+array-read-as-byte-3 : tie.Need-array-read-as-byte-3
+array-read-as-byte-3 c = search needs
+
+as-byte-requires-3 : tie.Need-as-byte-requires-3
+as-byte-requires-3 c κs = search needs
+
+returns : tie.Need-returns
+returns c = kind-open (c .before .before .before .before .before .before .args .line) _ _ _ _ (c .before .before .before .before .if1 .taken) (c .before .before .before .as-four-bytes .ensures) (c .before .before .as-byte .ensures) (c .before .as-byte2 .ensures) (c .as-byte3 .ensures)
+
+array-read-as-byte-4 : tie.Need-array-read-as-byte-4
+array-read-as-byte-4 c = search needs
+
+as-byte-requires-4 : tie.Need-as-byte-requires-4
+as-byte-requires-4 c κs = search needs
+
+returns-2 : tie.Need-returns-2
+returns-2 c = kind-change (c .before .before .before .before .args .line) _ (c .before .before .if1 .left) (c .before .if2 .taken) (c .as-byte4 .ensures)
+
+returns-3 : tie.Need-returns-3
+returns-3 c = kind-close (c .before .before .before .args .line) (c .before .if1 .left) (c .if2 .left)
+
+pub kind-of-spec : {M : Type 1} → statement M
+kind-of-spec =
+    tie.close
+    (tie.spec
+    array-read-as-four-bytes
+    as-four-bytes-requires
+    array-read-as-byte
+    as-byte-requires
+    array-read-as-byte-2
+    as-byte-requires-2
+    array-read-as-byte-3
+    as-byte-requires-3
+    returns
+    array-read-as-byte-4
+    as-byte-requires-4
+    returns-2
+    returns-3)

@@ -1,0 +1,44 @@
+-- `console_desk::writing::put_bytes` meets its contract: the notice's bytes stand first in the room.
+use mathlib.Core.Path.{refl, sym}
+use native.Mathlib.Omega.{arith}
+use Rattle.console_desk.proofs.Written.{short, first, counted}
+use borrow.Author.Needs.{needs}
+use Rattle.console_desk.proofs.writing.put_bytes.Statement.{statement}
+use Rattle.console_desk.proofs.writing.put_bytes.Tie as tie
+
+slice-aggregate-write : tie.Need-slice-aggregate-write
+slice-aggregate-write c = search needs
+
+write-requires : tie.Need-write-requires
+write-requires c κs = search needs
+
+size-requires : tie.Need-size-requires
+size-requires c κs = search needs
+
+array-share-prefix-room : tie.Need-array-share-prefix-room
+array-share-prefix-room c = omega (arith, short (c .before .before .before .before .before .before .args .n), c .before .size .ensures)
+
+slice-aggregate-put-hex : tie.Need-slice-aggregate-put-hex
+slice-aggregate-put-hex c = counted (c .before .before .before .before .before .before .before .args .n) _ _ _ _ (c .before .before .before .before .write .ensures) refl (c .before .before .size .ensures)
+
+put-hex-requires : tie.Need-put-hex-requires
+put-hex-requires c κs = search needs
+
+same-length : tie.Need-same-length
+same-length c = search needs
+
+returns : tie.Need-returns
+returns c = rw (first (c .before .before .before .before .before .before .before .before .before .before .args .n) _ _ _ _ (c .before .before .before .before .before .before .before .write .ensures) refl (c .before .before .before .before .before .size .ensures)) at (c .before .before .put-hex .ensures)
+
+pub put-bytes-spec : {M : Type 1} → statement M
+put-bytes-spec =
+    tie.close
+    (tie.spec
+    slice-aggregate-write
+    write-requires
+    size-requires
+    array-share-prefix-room
+    slice-aggregate-put-hex
+    put-hex-requires
+    same-length
+    returns)

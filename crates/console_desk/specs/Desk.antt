@@ -1,0 +1,86 @@
+-- What a line of the console is answered, and the agent that it leaves ("The operator's console", the table of answers).
+use Prim.Native.Nat.{ℕ, _+_}
+use mathlib.Core.Path.{_≡_}
+use mathlib.Core.Bool.{Bool}
+use mathlib.Core.List.{List, [], _∷_, _++_}
+use lib.Dec.{eqb, ltb}
+use Rattle.rules.specs.Limits.{either, within}
+use Rattle.rules.specs.Refusals.{pick}
+use Rattle.story.specs.declared.State.{State}
+use Rattle.scheduler.specs.Outcomes.{heldShown}
+use Rattle.notice.specs.Encode.{bytesOf}
+use Rattle.notice.specs.Decode.{readOf}
+use Rattle.agent.specs.declared.Agent.{Agent}
+use Rattle.console_words.specs.Commands
+use Rattle.console_lines.specs.declared.lines.Line.{Line}
+use Rattle.console_lines.specs.Lines.{meaning}
+use Rattle.console_text.specs.Output.{Page}
+use Rattle.console_text.specs.Digits.{hexText}
+use Rattle.console_text.specs.Words.{faultText, helpText}
+use Rattle.console_replies.specs.Outcomes.{doneText, valueText}
+use Rattle.console_replies.specs.Notices.{readingText}
+use Rattle.console_questions.specs.Questions.{laneText, statusText, idsIn, planText, roomOf, shareIn}
+use Rattle.console_acts.specs.Acts.{numberIn, bytesIn, answerAfter, agentAfter}
+use Rattle.console_desk.specs.Writing.{noticeIn}
+
+-- the commands that may change the agent: fresh, the events, notice
+unfoldable pub acts : ℕ → Bool
+acts c = either (eqb c Commands.doNotice) (within Commands.doFresh Commands.doClose c)
+
+-- what an event or a notice was answered, with the lanes held at its time, which is that of the last accepted event; of a
+-- notice out of turn, which sequence is expected
+unfoldable pub followedText : ℕ → Agent → List ℕ
+followedText a g = valueText a (heldShown (g .state) (g .state .last)) (g .sequence + 1)
+
+unfoldable pub actText : Agent → Line → List ℕ → List ℕ
+actText g l s =
+    pick (eqb (l .command) Commands.doFresh) (doneText (answerAfter g l s) 0)
+    (followedText (answerAfter g l s) (agentAfter g l s))
+
+-- help, and what concerns notices alone
+unfoldable pub tellText : Line → List ℕ → List ℕ
+tellText l s =
+    pick (eqb (l .command) Commands.doHelp) helpText
+    (pick (eqb (l .command) Commands.doRead) (readingText (readOf (bytesIn s l)))
+    (hexText (bytesOf (noticeIn l))))
+
+-- the places that a plan is lent, 1,024 where the line leaves them out
+unfoldable pub placesIn : Line → ℕ
+placesIn l = pick (ltb 4 (l .count)) (numberIn l 4) 1024
+
+-- a question, which changes nothing
+unfoldable pub askText : State → Line → List ℕ → List ℕ
+askText t l s =
+    pick (eqb (l .command) Commands.doLane) (laneText t (numberIn l 0) (numberIn l 1) (numberIn l 2))
+    (pick (eqb (l .command) Commands.doStatus) (statusText t (numberIn l 0) (idsIn (l .numbers) (l .count)))
+    (pick (eqb (l .command) Commands.doShare) (shareIn (l .numbers) (l .count))
+    (pick (eqb (l .command) Commands.doPlan)
+    (planText (numberIn l 0) (numberIn l 1) (numberIn l 2) (numberIn l 3) (roomOf (placesIn l)))
+    (tellText l s))))
+
+abbrev pub newline : List ℕ
+newline = 10 ∷ []
+
+-- a line with nothing wrong: no answer to one that asks nothing, else one that ends in a newline
+unfoldable pub wholeText : Agent → Line → List ℕ → List ℕ
+wholeText g l s =
+    pick (eqb (l .command) Commands.none) []
+    (pick (acts (l .command)) (actText g l s) (askText (g .state) l s) ++ newline)
+
+unfoldable pub afterWhole : Agent → Line → List ℕ → Agent
+afterWhole g l s = pick (acts (l .command)) (agentAfter g l s) g
+
+-- what the line s is answered: what is wrong with it, or what it asks for
+unfoldable pub lineText : Agent → List ℕ → List ℕ
+lineText g s =
+    pick (eqb ((meaning s) .fault) Commands.noFault) (wholeText g (meaning s) s)
+    (faultText ((meaning s) .fault) ((meaning s) .place) ++ newline)
+
+-- the agent after the line s: as it was after a line that cannot be read, and after a question
+unfoldable pub afterLine : Agent → List ℕ → Agent
+afterLine g s = pick (eqb ((meaning s) .fault) Commands.noFault) (afterWhole g (meaning s) s) g
+
+-- what a line leaves: the agent, and the row with its answer at the place
+pub record Left (g : Agent) (p : Page) (after : Agent) (q : Page) : Type 0 where
+  pub agent : after ≡ g
+  pub row : q ≡ p

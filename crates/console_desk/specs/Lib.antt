@@ -1,0 +1,3 @@
+-- What a line of the console is answered, and what it leaves.
+pub mod Writing
+pub mod Desk

@@ -1,0 +1,154 @@
+// The operator's desk: one line of the console, answered over an agent. `answer` takes the agent, the line's bytes, a lent
+// row and a place in it, and gives back the agent after the line and the place behind its answer, as specs/Desk.antt
+// defines them. It has no `requires`: any agent and any bytes have an answer, and no answer goes past the row's end.
+
+use agent::Agent;
+use console_lines::lines;
+use console_lines::lines::Line;
+use console_questions::lanes;
+use console_questions::plans;
+use console_questions::shares;
+use console_questions::titles;
+use console_replies::notices;
+use console_replies::outcomes;
+use console_text::output;
+use console_text::words;
+use console_words::commands;
+use story::State;
+ghost use mathlib.Core.Path.{_≡_};
+ghost use Prim.Native.Nat.{_≤_};
+ghost use lib.ListN.{length};
+ghost use Rattle.console_text.specs.Output.{page, puts};
+ghost use Rattle.console_lines.specs.Lines.{longest};
+ghost use Rattle.console_acts.specs.Acts.{agentAfter};
+ghost use Rattle.console_desk.specs.Desk.{acts as actsOf, followedText, actText, placesIn, askText, tellText, Left, afterWhole, wholeText, afterLine, lineText};
+
+mod writing;
+
+// What a line leaves: the agent, and the place behind what was answered.
+pub struct Turned {
+    pub agent: Agent,
+    pub at: usize,
+}
+
+// Whether a command may change the agent.
+fn acts(command: u8) -> bool
+    ensures { λ r. ⌜ r ≡ actsOf command ⌝ }
+{
+    if command == commands::NOTICE {
+        return true;
+    }
+    rules::within(1, 4, command as u64)
+}
+
+// What an event or a notice was answered, and the lanes held at the time of the last that was accepted.
+fn put_followed(out: &mut [u8], at: usize, answer: u8, agent: Agent) -> usize
+    ensures { λ r. ⌜ page (now (out .exit)) r ≡ puts (page (now (out .entry)) at) (followedText answer agent) ⌝ }
+{
+    let state = agent.state;
+    let time = state.last;
+    let held = scheduler::held(state, time);
+    outcomes::put_value(out, at, answer, held, agent.sequence as u64 + 1)
+}
+
+// A command that may change the agent.
+fn act(agent: Agent, line: Line, s: &[u8], out: &mut [u8], at: usize) -> Turned
+    requires { ⌜ length (now s) ≤ longest ⌝ }
+    ensures { λ r. ⌜ Left (agentAfter agent line (now (s .entry))) (puts (page (now (out .entry)) at) (actText agent line (now (s .entry)))) (r .agent) (page (now (out .exit)) (r .at)) ⌝ }
+{
+    let f = console_acts::follow(agent, line, s);
+    let next = f.agent;
+    let answer = f.answer;
+    let command = line.command;
+    if command == commands::FRESH {
+        let p = outcomes::put_done(out, at, answer, 0);
+        return Turned { agent: next, at: p };
+    }
+    let q = put_followed(out, at, answer, next);
+    Turned { agent: next, at: q }
+}
+
+// Help, and what concerns notices alone.
+fn tell(line: Line, s: &[u8], out: &mut [u8], at: usize) -> usize
+    requires { ⌜ length (now s) ≤ longest ⌝ }
+    ensures { λ r. ⌜ page (now (out .exit)) r ≡ puts (page (now (out .entry)) at) (tellText line (now (s .entry))) ⌝ }
+{
+    let command = line.command;
+    if command == commands::HELP {
+        return words::put_help(out, at);
+    }
+    let n = line.numbers;
+    if command == commands::READ {
+        return notices::put_reading(out, at, console_acts::hex::reading(s, n[0], n[1]));
+    }
+    writing::put_bytes(out, at, writing::notice_of(line))
+}
+
+// The places that a plan is lent, 1,024 where the line leaves them out.
+fn places_of(line: Line) -> u64
+    ensures { λ r. ⌜ r ≡ placesIn line ⌝ }
+{
+    let count = line.count;
+    let n = line.numbers;
+    if 4 < count {
+        return n[4];
+    }
+    1024
+}
+
+// A question, which changes nothing.
+fn ask(state: State, line: Line, s: &[u8], out: &mut [u8], at: usize) -> usize
+    requires { ⌜ length (now s) ≤ longest ⌝ }
+    ensures { λ r. ⌜ page (now (out .exit)) r ≡ puts (page (now (out .entry)) at) (askText state line (now (s .entry))) ⌝ }
+{
+    let command = line.command;
+    let n = line.numbers;
+    if command == commands::LANE {
+        return lanes::put_lane(out, at, state, n[0], n[1], n[2]);
+    }
+    if command == commands::STATUS {
+        return titles::put_status(out, at, state, n, line.count);
+    }
+    if command == commands::SHARE {
+        return shares::put_share(out, at, n, line.count);
+    }
+    if command == commands::PLAN {
+        return plans::put_plan(out, at, n[0], n[1], n[2], n[3], places_of(line));
+    }
+    tell(line, s, out, at)
+}
+
+// A line with nothing wrong.
+fn whole(agent: Agent, line: Line, s: &[u8], out: &mut [u8], at: usize) -> Turned
+    requires { ⌜ length (now s) ≤ longest ⌝ }
+    ensures { λ r. ⌜ Left (afterWhole agent line (now (s .entry))) (puts (page (now (out .entry)) at) (wholeText agent line (now (s .entry)))) (r .agent) (page (now (out .exit)) (r .at)) ⌝ }
+{
+    let command = line.command;
+    if command == commands::NONE {
+        return Turned { agent, at };
+    }
+    if acts(command) {
+        let t = act(agent, line, s, out, at);
+        let next = t.agent;
+        let p = output::put(out, t.at, b"\n");
+        return Turned { agent: next, at: p };
+    }
+    let state = agent.state;
+    let q = ask(state, line, s, out, at);
+    let e = output::put(out, q, b"\n");
+    Turned { agent, at: e }
+}
+
+// Answers one line, given without its newline.
+pub fn answer(agent: Agent, s: &[u8], out: &mut [u8], at: usize) -> Turned
+    ensures { λ r. ⌜ Left (afterLine agent (now (s .entry))) (puts (page (now (out .entry)) at) (lineText agent (now (s .entry)))) (r .agent) (page (now (out .exit)) (r .at)) ⌝ }
+{
+    let line = lines::parse(s);
+    let fault = line.fault;
+    if fault == commands::NO_FAULT {
+        return whole(agent, line, s, out, at);
+    }
+    let p = words::put_fault(out, at, fault, line.place);
+    let e = output::put(out, p, b"\n");
+    Turned { agent, at: e }
+}

@@ -1,0 +1,57 @@
+// The notice that a line writes.
+
+use console_lines::lines::Line;
+use console_text::digits;
+use console_words::commands;
+use console_words::numbers;
+use notice::Kind;
+use notice::Notice;
+ghost use mathlib.Core.Path.{_≡_};
+ghost use Rattle.notice.specs.Encode.{bytesOf};
+ghost use Rattle.console_text.specs.Output.{page, puts};
+ghost use Rattle.console_text.specs.Digits.{hexText};
+ghost use Rattle.console_desk.specs.Writing.{kindIn, noticeIn};
+
+fn kind_of(line: Line) -> Kind
+    ensures { λ r. ⌜ r ≡ kindIn line ⌝ }
+{
+    let command = line.command;
+    let n = line.numbers;
+    if command == commands::WRITE_OPEN {
+        return Kind::Open {
+            length: numbers::as_four_bytes(n[3]),
+            floor: numbers::as_byte(n[4]),
+            cap: numbers::as_byte(n[5]),
+            count: numbers::as_byte(n[6]),
+        };
+    }
+    if command == commands::WRITE_CHANGE {
+        return Kind::Change {
+            count: numbers::as_byte(n[3]),
+        };
+    }
+    Kind::Close
+}
+
+pub fn notice_of(line: Line) -> Notice
+    ensures { λ r. ⌜ r ≡ noticeIn line ⌝ }
+{
+    let n = line.numbers;
+    let kind = kind_of(line);
+    Notice {
+        sequence: numbers::as_four_bytes(n[0]),
+        title: numbers::as_byte(n[1]),
+        time: n[2],
+        kind: kind,
+    }
+}
+
+// A notice's bytes in hexadecimal.
+pub fn put_bytes(out: &mut [u8], at: usize, n: Notice) -> usize
+    ensures { λ r. ⌜ page (now (out .exit)) r ≡ puts (page (now (out .entry)) at) (hexText (bytesOf n)) ⌝ }
+{
+    let mut room = [0u8; 64];
+    notice::write(n, &mut room);
+    let size = notice::size(n);
+    digits::put_hex(out, at, &room[..size])
+}

@@ -1,0 +1,3 @@
+-- Laws of the console's questions: what was asked, and where its answer stands.
+pub mod Answered
+pub mod Rows

@@ -1,0 +1,13 @@
+-- `console_questions::plans::blank_row` meets its contract.
+use mathlib.Core.Path.{refl}
+use Rattle.console_questions.specs.Questions.{zeros}
+use borrow.Author.Needs.{needs}
+use Rattle.console_questions.proofs.plans.blank_row.Statement.{statement}
+use Rattle.console_questions.proofs.plans.blank_row.Tie as tie
+
+returns : tie.Need-returns
+unfolding zeros
+returns c = (refl, refl)
+
+pub blank-row-spec : {M : Type 1} → statement M
+blank-row-spec = tie.close (tie.spec returns)

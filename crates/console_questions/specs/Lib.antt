@@ -1,0 +1,2 @@
+-- What the console's questions answer.
+pub mod Questions

@@ -1,0 +1,2 @@
+-- Laws of rows that are written entry by entry.
+pub mod Rows

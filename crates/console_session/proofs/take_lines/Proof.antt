@@ -1,0 +1,75 @@
+-- `console_session::take_lines` is safe and ends: each line lies within the block, and the place moves past its newline.
+use Prim.Native.Nat.{_-_, _≤_}
+use mathlib.Core.Path.{_≡_, refl, _∙_}
+use native.Mathlib.Omega.{arith}
+use lib.ListN.{length}
+use Rattle.console_words.specs.declared.bytes.Sort.the-variants.{Line}
+use Rattle.console_words.proofs.Runs.{reach-low}
+use borrow.Author.Needs.{needs}
+use Rattle.console_session.proofs.take_lines.Statement.{statement}
+use Rattle.console_session.proofs.take_lines.Tie as tie
+
+abbrev Inv-loop : tie.InvT-loop
+Inv-loop block out₀ s₀ from₀ out s from = (from ≤ length block) × (length out ≡ length out₀)
+
+abbrev μ-loop : tie.MeasureT-loop
+μ-loop block out₀ s₀ from₀ out s from = length block - from
+
+loop-holds : tie.Need-loop-holds Inv-loop μ-loop
+loop-holds c = (omega arith, refl)
+
+reach-requires : tie.Need-reach-requires Inv-loop μ-loop
+reach-requires c κs = search needs
+
+sub-take-line : tie.Need-sub-take-line Inv-loop μ-loop
+sub-take-line c = omega (arith, reach-low Line (c .before .before .before .before .before .before .args .block .now) (c .before .before .before .loop .from), c .before .reach .ensures)
+
+part-take-line-start : tie.Need-part-take-line-start Inv-loop μ-loop
+part-take-line-start c = omega (arith, reach-low Line (c .before .before .before .before .before .before .args .block .now) (c .before .before .before .loop .from), c .before .reach .ensures)
+
+part-take-line-end : tie.Need-part-take-line-end Inv-loop μ-loop
+part-take-line-end c = omega arith
+
+take-line-requires : tie.Need-take-line-requires Inv-loop μ-loop
+take-line-requires c κs = search needs
+
+add-from : tie.Need-add-from Inv-loop μ-loop
+add-from c = omega arith
+
+loop-less : tie.Need-loop-less Inv-loop μ-loop
+loop-less c = omega (arith, reach-low Line (c .before .before .before .before .before .before .before .before .before .before .before .args .block .now) (c .before .before .before .before .before .before .before .before .loop .from), c .before .before .before .before .before .before .reach .ensures)
+
+loop-again : tie.Need-loop-again Inv-loop μ-loop
+loop-again c = (omega (arith, reach-low Line (c .before .before .before .before .before .before .before .before .before .before .before .args .block .now) (c .before .before .before .before .before .before .before .before .loop .from), c .before .before .before .before .before .before .reach .ensures), c .before .before .take-line .kept .1 .1 .0 ∙ c .before .before .before .before .before .before .before .before .loop .inv .1)
+
+same-length : tie.Need-same-length Inv-loop μ-loop
+same-length c = c .before .before .before .loop .inv .1
+
+returns : tie.Need-returns Inv-loop μ-loop
+returns c = omega arith
+
+same-length-2 : tie.Need-same-length-2 Inv-loop μ-loop
+same-length-2 c = c .before .loop .inv .1
+
+returns-2 : tie.Need-returns-2 Inv-loop μ-loop
+returns-2 c = omega arith
+
+pub take-lines-spec : {M : Type 1} → statement M
+take-lines-spec =
+    tie.close
+    (tie.spec
+    Inv-loop
+    μ-loop
+    loop-holds
+    reach-requires
+    sub-take-line
+    part-take-line-start
+    part-take-line-end
+    take-line-requires
+    add-from
+    loop-less
+    loop-again
+    same-length
+    returns
+    same-length-2
+    returns-2)
