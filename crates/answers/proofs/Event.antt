@@ -1,7 +1,7 @@
 -- What an event's numbers and its standing give of the title: that it is there, within its limits.
 -- Rests on the laws of tests, of the refusals' order and of states within their limits.
-use mathlib.Core.Path.{_≡_, refl, sym, _∙_}
-use mathlib.Core.Bool.{Bool, true, false, not, false≢true}
+use mathlib.Core.Path.{_≡_, refl}
+use mathlib.Core.Bool.{true, not, false≢true}
 use Prim.Native.Nat.{ℕ, _≤_, _<_}
 use native.Mathlib.Omega.{arith}
 use borrow.Author.Tests.{leb-true, ltb-true, ltb-false, eqb-false, not-false, not-true}

@@ -1,7 +1,7 @@
 -- What an opening and a change answer before the lanes of the next state are counted: 01's order without its last
 -- refusal, the want of lanes, and in the parts that events share (01, "Numbers that calls give back").
 use Prim.Native.Nat.{ℕ, min}
-use mathlib.Core.Bool.{Bool, not}
+use mathlib.Core.Bool.{not}
 use mathlib.Core.List.{List, [], _∷_, _++_}
 use lib.Dec.{ltb, eqb}
 use Rattle.rules.specs.Limits.{both, either, within, countMin, countMax}

@@ -1,10 +1,8 @@
 -- Each test on the command says which case of the definitions it is.
 use Prim.Native.Nat.{ℕ}
-use mathlib.Core.Path.{_≡_, refl, ap}
+use mathlib.Core.Path.{_≡_, ap}
 use mathlib.Core.List.{List}
 use borrow.Author.Tests.{eq-eqb, ne-eqb}
-use lib.Dec.{eqb}
-use Rattle.rules.specs.Refusals.{pick}
 use Rattle.story.specs.declared.State.{State}
 use Rattle.story.specs.Story.{Act, opens, changes, closes, Event}
 use Rattle.story.specs.Calls.{freshAnswer}

@@ -1,12 +1,11 @@
 -- The bytes that a line spells fit the room that is lent for them.
-use Prim.Native.Nat.{ℕ, suc, _+_, _-_, _*_, _≤_, _<_}
-use mathlib.Core.Path.{_≡_, refl, sym, _∙_, ap}
+use Prim.Native.Nat.{ℕ, _+_, _-_, _*_, _≤_, _<_}
+use mathlib.Core.Path.{_≡_, refl, _∙_, ap}
 use mathlib.Core.List.{List, [], _∷_, _++_}
 use native.Mathlib.Omega.{arith}
 use borrow.Author.Tests.{lt-ltb, le-ltb}
 use lib.ListN.{length, take, drop, length-take, length-drop, length-append}
 use lib.Seq.{take-at}
-use Rattle.rules.specs.Refusals.{pick}
 use Rattle.console_text.specs.Output.{Page, page, puts}
 use Rattle.console_text.specs.Digits.{hexBytes}
 use Rattle.console_text.proofs.Pages.{puts-fits}

@@ -1,17 +1,16 @@
 -- A line from its first test on: what is wrong with it, nothing asked, an act or a question; a newline behind each answer.
-use Prim.Native.Nat.{ℕ, _≤_, _<_}
-use mathlib.Core.Path.{_≡_, refl, sym, _∙_, ap}
+use Prim.Native.Nat.{ℕ, _≤_}
+use mathlib.Core.Path.{_≡_, refl, sym, _∙_}
 use mathlib.Core.Bool.{Bool, true, false}
-use mathlib.Core.List.{List, [], _∷_, _++_}
+use mathlib.Core.List.{List}
 use native.Mathlib.Omega.{arith}
-use borrow.Author.Tests.{eq-eqb, ne-eqb, ltb-true, ltb-false}
+use borrow.Author.Tests.{eq-eqb, ne-eqb, ltb-false}
 use lib.ListN.{length}
-use lib.Dec.{eqb, ltb}
-use Rattle.rules.specs.Refusals.{pick}
+use lib.Dec.{ltb}
 use Rattle.agent.specs.declared.Agent.{Agent}
 use Rattle.console_words.specs.Commands
 use Rattle.console_lines.specs.declared.lines.Line.{Line}
-use Rattle.console_lines.specs.Lines.{blank, withFault, begun, readOn, meaning, longest}
+use Rattle.console_lines.specs.Lines.{withFault, begun, readOn, meaning, longest}
 use Rattle.console_text.specs.Output.{Page, puts}
 use Rattle.console_text.specs.Words.{faultText}
 use Rattle.console_text.proofs.Pages.{puts-append}

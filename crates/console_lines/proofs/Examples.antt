@@ -1,5 +1,5 @@
 -- Lines with their meaning, computed: command, fault, place, and the numbers.
-use Prim.Native.Nat.{ℕ, suc, zero}
+use Prim.Native.Nat.{ℕ}
 use Prim.Native.String.{String}
 use mathlib.Core.Path.{_≡_, refl}
 use mathlib.Core.List.{List, [], _∷_}

@@ -1,19 +1,19 @@
 -- Every line is read to its end: what it means is never "not read yet". Each word that is taken leaves less room for further words.
 use Prim.Native.Nat.{ℕ, zero, suc, _+_, _-_, _%_, _<_, _≤_}
-use mathlib.Core.Path.{_≡_, refl, sym, _∙_, ap}
+use mathlib.Core.Path.{_≡_, refl}
 use mathlib.Core.Bool.{Bool, true, false}
 use mathlib.Core.List.{List}
 use native.Mathlib.Omega.{arith}
 use borrow.Author.Tests.{leb-false, leb-true, eqb-true, eqb-false, ne-eqb}
 use lib.ListN.{length, getD, drop}
 use lib.Dec.{eqb, leb, ltb}
-use Rattle.rules.specs.Limits.{both, either, within}
+use Rattle.rules.specs.Limits.{within}
 use Rattle.rules.specs.Refusals.{pick}
 use Rattle.console_words.specs.declared.bytes.Sort.the-variants.{Separator, Word, Digit, Hex}
 use Rattle.console_words.specs.Bytes.{reach}
 use Rattle.console_words.specs.Numbers.{amount, tooLarge}
 use Rattle.console_words.specs.Commands
-use Rattle.console_words.proofs.Tables.{both-l, both-r, up-to, allUpTo}
+use Rattle.console_words.proofs.Tables.{both-l, up-to, allUpTo}
 use Rattle.console_lines.specs.declared.lines.Line.{Line}
 use Rattle.console_lines.specs.Lines.{withFault, ended, goOn, withNumber, withKind, withHex, wordAt, withWord, step, begun, readOn, meaning}
 

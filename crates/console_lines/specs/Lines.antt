@@ -1,14 +1,12 @@
 -- What a line of the console means: which command with which numbers, or what is wrong with it and at which byte
 -- ("The operator's console", lines). A line is read from the left, word by word; the first thing wrong decides.
 use Prim.Native.Nat.{ℕ, zero, suc, _+_, _-_, _%_, min}
-use mathlib.Core.Bool.{Bool, true, false}
-use mathlib.Core.List.{List, []}
+use mathlib.Core.List.{List}
 use lib.ListN.{length, getD, take, drop, set, replicate}
 use lib.Dec.{eqb, leb, ltb}
 use Rattle.rules.specs.Limits.{within}
 use Rattle.rules.specs.Refusals.{pick}
 use Rattle.console_words.specs.declared.bytes.Sort.the-variants.{Separator, Word, Digit, Hex}
-use Rattle.console_words.specs.declared.numbers.Number.{Number}
 use Rattle.console_lines.specs.declared.lines.Line.{Line}
 use Rattle.console_words.specs.Bytes.{reach}
 use Rattle.console_words.specs.Numbers.{top, amount, tooLarge}

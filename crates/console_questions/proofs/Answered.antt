@@ -1,8 +1,7 @@
 -- What the calls gave, put behind a place, is what the definitions say: their rows behind a 0, or the refusal alone.
 use Prim.Native.Nat.{ℕ, _^_}
-use mathlib.Core.Path.{_≡_, refl, sym, _∙_, ap}
-use mathlib.Core.Bool.{true, false}
-use mathlib.Core.List.{List, [], map, append-nil}
+use mathlib.Core.Path.{_≡_, sym}
+use mathlib.Core.List.{List, map, append-nil}
 use borrow.Author.Tests.{eq-eqb, ne-eqb}
 use lib.Dec.{eqb}
 use lib.ListN.{length}

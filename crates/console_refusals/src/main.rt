@@ -1,5 +1,5 @@
 // The operator's console, run on a script with every refusal that a line can cause and every kind of line that cannot be
 // read.
 fn main() {
-    console_session::run();
+    console_io::run();
 }

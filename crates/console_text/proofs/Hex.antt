@@ -1,6 +1,6 @@
 -- Laws of hexadecimal: a turn of the loops that write and read it, and that what is written reads back as the bytes.
-use Prim.Native.Nat.{ℕ, suc, _+_, _-_, _*_, _/_, _%_, _<_, _≤_}
-use mathlib.Core.Path.{_≡_, refl, sym, _∙_, ap}
+use Prim.Native.Nat.{ℕ, suc, _+_, _*_, _/_, _%_, _<_, _≤_}
+use mathlib.Core.Path.{_≡_, refl}
 use mathlib.Core.Bool.{Bool, true, false}
 use mathlib.Core.List.{List, [], _∷_}
 use native.Mathlib.Omega.{arith}
@@ -10,7 +10,7 @@ use lib.ListN.{length, getD, drop, drop-of-length-le, length-drop}
 use lib.Seq.{drop-cons}
 use lib.Dec.{ltb}
 use Rattle.rules.specs.Refusals.{pick}
-use Rattle.console_text.specs.Output.{Page, page, put, puts}
+use Rattle.console_text.specs.Output.{Page, put, puts}
 use Rattle.console_text.specs.Digits.{letterOf, hexText, hexOf, hexBytes}
 
 -- writing a byte as two letters

@@ -1,7 +1,7 @@
 -- Laws of spelt numbers: growing a capped number by a digit caps the grown one, so that digits read one by one spell
 -- their amount, whatever its size.
 use Prim.Native.Nat.{ℕ, _+_, _*_, _-_, _/_, _<_, _≤_, min}
-use mathlib.Core.Path.{_≡_, refl, sym, _∙_, ap}
+use mathlib.Core.Path.{_≡_, refl}
 use mathlib.Core.Bool.{Bool, true, false}
 use mathlib.Core.List.{List, [], _∷_}
 use native.Mathlib.Omega.{arith}

@@ -1,6 +1,6 @@
 -- The two ways of a segment looked for under another count.
 use Prim.Native.Nat.{ℕ}
-use mathlib.Core.Path.{_≡_, sym, ap, _∙_}
+use mathlib.Core.Path.{_≡_}
 use mathlib.Core.Bool.{Bool, true, false}
 use Rattle.grid.specs.Channels.{channelCell}
 use Rattle.grid.specs.Lanes.{isInG}

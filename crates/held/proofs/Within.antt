@@ -1,7 +1,7 @@
 -- What a state within its limits gives of each title in it: the numbers of its film, its count, and its rows.
 -- Rests on the laws of tests and searches.
 use mathlib.Core.Path.{_≡_, sym, _∙_}
-use mathlib.Core.Bool.{Bool, true, false, false≢true}
+use mathlib.Core.Bool.{true, false≢true}
 use mathlib.Core.Logic.{⊎-elim}
 use mathlib.Core.List.{List}
 use Prim.Native.Nat.{ℕ, _≤_, _<_}
@@ -9,14 +9,13 @@ use native.Mathlib.Omega.{arith}
 use lib.Dec.{leb, eqb}
 use lib.ListN.{getD}
 use borrow.Author.Tests.{leb-true, ne-eqb}
-use Rattle.rules.specs.Limits.{both, either, within, askedMax, countMax, titlesMax, poolMin, floorMin, countPlaces, lanePlaces}
-use Rattle.rules.specs.Search.{every}
+use Rattle.rules.specs.Limits.{either, askedMax, countMax, titlesMax, poolMin, floorMin, countPlaces, lanePlaces}
 use Rattle.rules.proofs.Tests.{both-l, both-r, either-out}
 use Rattle.rules.proofs.Search.{every-out}
 use Rattle.story.specs.declared.Title.{Title}
 use Rattle.story.specs.declared.State.{State}
 use Rattle.story.specs.Kept.{titleAt, rowOk, numbersOk, orderOk, titleOk, stateOk}
-use Rattle.held.specs.Film.{slotOk, Film, Readable, AllReadable}
+use Rattle.held.specs.Film.{slotOk, Readable, AllReadable}
 
 module _ (t : Title) (ok : titleOk t ≡ true) where
   pub numbers : numbersOk t ≡ true

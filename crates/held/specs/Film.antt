@@ -1,5 +1,5 @@
 -- The numbers of a title's film, fixed at its opening, within their limits (01, "What the product holds").
-use Prim.Native.Nat.{ℕ, _≤_, _<_}
+use Prim.Native.Nat.{ℕ, _<_}
 use mathlib.Core.Path.{_≡_}
 use mathlib.Core.Bool.{Bool}
 use lib.Dec.{leb, eqb}

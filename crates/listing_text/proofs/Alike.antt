@@ -3,13 +3,13 @@
 -- Rests on the definitions of a reading and on the field table's laws.
 use mathlib.Core.Path.{_≡_, refl, sym, ap, _∙_}
 use mathlib.Core.Bool.{Bool, true, false}
-use mathlib.Core.List.{List, _++_}
+use mathlib.Core.List.{List}
 use Prim.Native.Nat.{ℕ, zero, suc, _+_, _-_, _≤_, _<_}
 use native.Mathlib.Nat.{add-assoc, zero-add}
 use native.Mathlib.Omega.{arith}
-use borrow.Author.Tests.{le-leb, lt-leb, eq-eqb, leb-true}
+use borrow.Author.Tests.{le-leb, eq-eqb, leb-true}
 use lib.Dec.{leb}
-use lib.ListN.{length, getD, take, drop, length-append, length-drop, List·getD-append}
+use lib.ListN.{length, getD, take, drop, length-drop}
 use lib.Seq.{getD-take, getD-drop, length-take-le}
 use Rattle.rules.specs.Limits.{both}
 use Rattle.rules.specs.Refusals.{pick}
@@ -17,11 +17,10 @@ use Rattle.notice.specs.declared.Notice.{Notice}
 use Rattle.notice.specs.declared.Reading.the-variants as reading
 use Rattle.notice.specs.declared.Found.{Found}
 use Rattle.notice.specs.declared.Found.the-variants as found
-use Rattle.notice.specs.Fields.{table, openKind, sequenceRow, titleRow, timeRow, sizeOf, isCarried, isKnown, spanOf, startOf, lengthOf, rows}
+use Rattle.notice.specs.Fields.{table, sizeOf, isCarried, isKnown, startOf, lengthOf, rows}
 use Rattle.notice.specs.Numbers.{numberAt}
 use Rattle.notice.specs.Decode.{headStands, rowStands, standsTo, valueAt, kindIn, noticeIn, kindAt, isWhole, readAt, readOf}
 use Rattle.notice.proofs.Table.{both-l, both-r, by-kind, value-inside}
-use Rattle.listing_text.specs.Steps.{longest}
 
 -- the m bytes from p on in bs are those from q on in cs
 abbrev pub Agree : List ℕ → ℕ → List ℕ → ℕ → ℕ → Type 0

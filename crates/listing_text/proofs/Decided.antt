@@ -1,7 +1,7 @@
 -- The listing of input that comes in pieces is the listing of the whole: at a place that is decided, what went before the
 -- buffer and what comes after it change neither the line, nor the agent, nor whether the listing goes on.
 -- Rests on bytes that agree reading alike.
-use mathlib.Core.Path.{_≡_, refl, sym, ap, _∙_}
+use mathlib.Core.Path.{_≡_, sym, ap, _∙_}
 use mathlib.Core.Bool.{true, false}
 use mathlib.Core.List.{List, _++_}
 use Prim.Native.Nat.{ℕ, _+_, _≤_, _<_}
@@ -18,8 +18,8 @@ use Rattle.notice.specs.Decode.{kindAt, readAt}
 use Rattle.notice.proofs.Each.{by-order}
 use Rattle.notice.proofs.Table.{by-kind}
 use Rattle.agent.specs.declared.Agent.{Agent}
-use Rattle.listing_text.specs.Steps.{lineAfter, agentAfter, goesOn, isDecided, longest}
-use Rattle.listing_text.proofs.Alike.{Alike, further, found-alike}
+use Rattle.listing_text.specs.Steps.{lineAfter, agentAfter, goesOn, isDecided}
+use Rattle.listing_text.proofs.Alike.{further, found-alike}
 
 longest-is : (k : ℕ) → isKnown k ≡ true → lengthOf k ≤ 45
 unfolding table startOf spanOf

@@ -1,7 +1,7 @@
 -- A step that goes on moves ahead within the log, so the listing of what was read ends; a line fits the row it is put in; and
 -- what is kept for the next read is shorter than the longest notice.
 -- Rests on what a step promises and on the laws of a notice's place.
-use mathlib.Core.Path.{_≡_, refl, sym, ap, _∙_}
+use mathlib.Core.Path.{_≡_, refl, sym, _∙_}
 use mathlib.Core.Bool.{Bool, true, false}
 use mathlib.Core.List.{List, [], _∷_}
 use Prim.Native.Nat.{ℕ, suc, _+_, _-_, _<_, _≤_}

@@ -1,6 +1,6 @@
 -- Two outcomes that a call of this crate admits are equal: a step's agent, place, line and row, and whether there is more.
 use Prim.Native.Nat.{ℕ}
-use mathlib.Core.Path.{_≡_, sym, ap, _∙_}
+use mathlib.Core.Path.{_≡_, sym, _∙_}
 use mathlib.Core.List.{List}
 use Rattle.agent.specs.declared.Agent.{Agent}
 use Rattle.console_text.proofs.Settled.{page-settled}

@@ -2,9 +2,8 @@
 -- a next state can be counted. Rests on the laws of the refusals' order.
 use mathlib.Core.Path.{_≡_, refl, sym, _∙_}
 use mathlib.Core.List.{[], _∷_}
-use Prim.Native.Nat.{ℕ, min}
+use Prim.Native.Nat.{ℕ}
 use lib.Dec.{eqb}
-use lib.ListN.{getD, set}
 use borrow.Author.Tests.{eq-eqb, ne-eqb}
 use Rattle.rules.specs.Refusals.{pick, refuse, noLanes}
 use Rattle.story.specs.declared.Title.{Title}

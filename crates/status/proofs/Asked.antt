@@ -1,7 +1,7 @@
 -- What status that is answered gives: rows of one length, and numbers within their limits.
 -- Rests on the laws of tests and of the refusals' order.
 use mathlib.Core.Path.{_≡_, refl}
-use mathlib.Core.Bool.{Bool, true}
+use mathlib.Core.Bool.{true}
 use mathlib.Core.List.{List}
 use Prim.Native.Nat.{ℕ}
 use lib.Dec.{leb, eqb}

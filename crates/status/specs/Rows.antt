@@ -4,10 +4,8 @@ use mathlib.Core.List.{List}
 use Prim.Native.Nat.{ℕ}
 use lib.Dec.{leb}
 use lib.ListN.{getD, length}
-use Rattle.rules.specs.Limits.{both, idMax, askedMax}
+use Rattle.rules.specs.Limits.{idMax}
 use Rattle.rules.specs.Search.{every}
-use Rattle.story.specs.declared.State.{State}
-use Rattle.story.specs.Kept.{stateOk}
 
 -- every number of a row is an id
 unfoldable pub idsOk : List ℕ → Bool

@@ -21,7 +21,7 @@ use Rattle.grid.specs.Ticks.{tickOf, isSlotStart}
 use Rattle.story.specs.declared.Title.{Title}
 use Rattle.story.specs.Life.{isActive, droppedAt, isOwed, reach, owedWithin, owes, Ruled, Legal, isRuling, lastEnd}
 use Rattle.story.specs.Kept.{tickAt, ruling, keptOwed, keptWithin}
-use Rattle.story.specs.Next.{ended, dropLanes, turned, turnedTitle}
+use Rattle.story.specs.Next.{ended, turned, turnedTitle}
 use Rattle.story.specs.Story.{turn}
 use Rattle.story.proofs.Clock.{later-tick}
 use Rattle.story.proofs.Held.{dropped-le, owes-local}

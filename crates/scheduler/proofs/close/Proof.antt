@@ -1,6 +1,6 @@
 -- `close` meets its contract: what the verdict refuses changes nothing.
 use mathlib.Core.Path.{refl, ap, sym, _∙_}
-use borrow.Author.Tests.{eq-eqb, ne-eqb}
+use borrow.Author.Tests.{ne-eqb}
 use Rattle.story.specs.declared.Title.{Title}
 use Rattle.story.specs.Next.{withTitle, closedTitle}
 use Rattle.answers.proofs.Event.{event-id, event-time, close-event, close-ready}

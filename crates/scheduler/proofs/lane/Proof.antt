@@ -1,7 +1,7 @@
 -- `lane` meets its contract: a question that is answered shows the lane's cell at the tick of the time.
-use mathlib.Core.Path.{refl, ap, sym, _∙_}
+use mathlib.Core.Path.{refl, sym, _∙_}
 use native.Mathlib.Omega.{arith}
-use borrow.Author.Tests.{eq-eqb, ne-eqb}
+use borrow.Author.Tests.{ne-eqb}
 use Rattle.story.specs.Calls.{laneShows}
 use Rattle.answers.proofs.Event.{lane-id, lane-time, lane-film, lane-sending, lane-capped}
 use borrow.Author.Needs.{needs}

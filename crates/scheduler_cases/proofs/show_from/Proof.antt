@@ -1,6 +1,5 @@
 -- `show_from` is safe and ends: the times left fall by one a turn.
 use Prim.Native.Nat.{_-_}
-use mathlib.Core.Path.{_≡_}
 use borrow.Author.Needs.{needs}
 use Rattle.scheduler_cases.proofs.show_from.Statement.{statement}
 use Rattle.scheduler_cases.proofs.show_from.Tie as tie

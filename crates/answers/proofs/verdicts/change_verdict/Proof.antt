@@ -1,7 +1,6 @@
 -- `change_verdict` meets its contract: the numbers, then the title's standing, then its count and turn.
 use mathlib.Core.Path.{refl, ap, sym, _∙_}
 use mathlib.Core.Bool.{not}
-use Prim.Native.Nat.{ℕ}
 use Rattle.rules.specs.Limits.{both, within, countMin, countMax}
 use Rattle.rules.specs.Refusals.{firstHit}
 use Rattle.story.specs.declared.Title.{Title}

@@ -1,7 +1,6 @@
 -- `close_verdict` meets its contract: the numbers, then the title's standing, then its turn.
 use mathlib.Core.Path.{refl, ap, sym, _∙_}
 use mathlib.Core.Bool.{not}
-use Prim.Native.Nat.{ℕ}
 use Rattle.rules.specs.Refusals.{firstHit}
 use Rattle.story.specs.declared.Title.{Title}
 use Rattle.story.specs.Kept.{titleAt}

@@ -1,5 +1,4 @@
 -- `count_verdict` meets its contract: each way out decides the tests up to it.
-use mathlib.Core.Path.{_∙_}
 use native.Mathlib.Omega.{arith}
 use borrow.Author.Tests.{eq-eqb, ne-eqb}
 use Rattle.rules.specs.Refusals.{firstHit}

@@ -1,5 +1,5 @@
 -- `console_desk::writing::put_bytes` meets its contract: the notice's bytes stand first in the room.
-use mathlib.Core.Path.{refl, sym}
+use mathlib.Core.Path.{refl}
 use native.Mathlib.Omega.{arith}
 use Rattle.console_desk.proofs.Written.{short, first, counted}
 use borrow.Author.Needs.{needs}

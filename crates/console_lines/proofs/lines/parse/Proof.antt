@@ -1,6 +1,6 @@
 -- `console_lines::lines::parse` meets its contract: reading on from each word passed gives what the whole line means.
-use Prim.Native.Nat.{ℕ, _-_, _+_}
-use mathlib.Core.Path.{_≡_, refl, sym, _∙_, ap}
+use Prim.Native.Nat.{_-_}
+use mathlib.Core.Path.{_≡_, _∙_, ap}
 use native.Mathlib.Omega.{arith}
 use borrow.Author.Needs.{needs}
 use Rattle.console_lines.specs.Lines.{readOn, meaning}

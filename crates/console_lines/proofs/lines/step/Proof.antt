@@ -1,5 +1,5 @@
 -- `console_lines::lines::step` meets its contract: the test says whether a word is left.
-use mathlib.Core.Path.{_≡_, refl, sym, _∙_, ap}
+use mathlib.Core.Path.{_∙_}
 use Rattle.console_lines.proofs.Reading.{step-word, step-end}
 use borrow.Author.Needs.{needs}
 use Rattle.console_lines.proofs.lines.step.Statement.{statement}

@@ -1,5 +1,5 @@
 -- `console_lines::lines::take_hex` meets its contract: its tests are those of the definition.
-use mathlib.Core.Path.{_≡_, refl, sym, _∙_, ap}
+use mathlib.Core.Path.{_∙_}
 use Rattle.console_lines.proofs.Reading.{hex-bad, hex-odd, hex-whole}
 use borrow.Author.Needs.{needs}
 use Rattle.console_lines.proofs.lines.take_hex.Statement.{statement}

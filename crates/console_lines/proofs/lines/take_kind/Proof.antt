@@ -1,5 +1,5 @@
 -- `console_lines::lines::take_kind` meets its contract: its tests are those of the definition.
-use mathlib.Core.Path.{_≡_, refl, sym, _∙_, ap}
+use mathlib.Core.Path.{_∙_}
 use Rattle.console_lines.proofs.Reading.{kind-low, kind-high, kind-told}
 use borrow.Author.Needs.{needs}
 use Rattle.console_lines.proofs.lines.take_kind.Statement.{statement}

@@ -1,7 +1,7 @@
 -- `console_lines::lines::take_number` meets its contract: its tests are those of the definition, and a number that is held
 -- at most at the top is above a limit when the number itself is.
 use Prim.Native.Nat.{ℕ}
-use mathlib.Core.Path.{_≡_, refl, sym, _∙_, ap}
+use mathlib.Core.Path.{_∙_, ap}
 use native.Mathlib.Omega.{arith}
 use Rattle.console_words.specs.Numbers.{above, capped}
 use Rattle.console_lines.specs.Lines.{withFault, goOn}

@@ -1,6 +1,6 @@
 -- `console_lines::lines::take_word` meets its contract: its tests are those of the definition, and a word stays within the line.
-use Prim.Native.Nat.{ℕ, _-_, _+_}
-use mathlib.Core.Path.{_≡_, refl, sym, _∙_, ap}
+use Prim.Native.Nat.{ℕ}
+use mathlib.Core.Path.{_∙_, ap}
 use native.Mathlib.Omega.{arith}
 use Rattle.console_lines.specs.Lines.{withFault}
 use Rattle.console_words.specs.declared.bytes.Sort.the-variants.{Word}

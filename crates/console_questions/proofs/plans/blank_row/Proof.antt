@@ -1,7 +1,6 @@
 -- `console_questions::plans::blank_row` meets its contract.
 use mathlib.Core.Path.{refl}
 use Rattle.console_questions.specs.Questions.{zeros}
-use borrow.Author.Needs.{needs}
 use Rattle.console_questions.proofs.plans.blank_row.Statement.{statement}
 use Rattle.console_questions.proofs.plans.blank_row.Tie as tie
 

@@ -1,7 +1,6 @@
 -- `console_questions::shares::titles_of` meets its contract: a quarter of the numbers behind the pool, 17 at most.
 use native.Mathlib.Omega.{arith}
 use Rattle.console_questions.specs.Questions.{titlesIn}
-use borrow.Author.Needs.{needs}
 use Rattle.console_questions.proofs.shares.titles_of.Statement.{statement}
 use Rattle.console_questions.proofs.shares.titles_of.Tie as tie
 

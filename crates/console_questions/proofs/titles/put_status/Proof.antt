@@ -4,7 +4,6 @@ use mathlib.Core.Path.{_≡_}
 use native.Mathlib.Omega.{arith}
 use lib.ListN.{length-take, length-drop}
 use Rattle.console_questions.specs.Questions.{idsIn}
-use Rattle.console_questions.proofs.Rows.{counted}
 use borrow.Author.Needs.{needs}
 use Rattle.console_questions.proofs.titles.put_status.Statement.{statement}
 use Rattle.console_questions.proofs.titles.put_status.Tie as tie

@@ -1,5 +1,5 @@
 -- `console_replies::entries::put_numbers` meets its contract: a row of numbers, of which the entries passed are written.
-use Prim.Native.Nat.{_+_, _-_, _≤_}
+use Prim.Native.Nat.{_-_, _≤_}
 use mathlib.Core.Path.{_≡_, refl}
 use native.Mathlib.Omega.{arith}
 use native.Mathlib.Nat.{le-antisymm}

@@ -1,11 +1,8 @@
 -- `console_text::words::put_refusal` meets its contract: its parts are written one behind the other.
-use Prim.Native.Nat.{ℕ}
-use mathlib.Core.Path.{sym, _∙_, ap}
-use mathlib.Core.List.{List, [], _++_, append-nil}
+use mathlib.Core.List.{_++_, append-nil}
 use borrow.Author.Tests.{eq-eqb, ne-eqb}
-use Rattle.rules.specs.Refusals.{pick}
 use Rattle.console_words.specs.Commands.{text}
-use Rattle.console_text.specs.Output.{Page, page, puts}
+use Rattle.console_text.specs.Output.{page}
 use Rattle.console_text.specs.Digits.{decimal}
 use Rattle.console_text.specs.Words.{refusalText, refusalWords}
 use Rattle.console_text.proofs.Pages.{puts-then}

@@ -2,9 +2,8 @@
 use Prim.Native.Nat.{_-_}
 use mathlib.Core.Path.{_≡_, sym, _∙_}
 use native.Mathlib.Omega.{arith}
-use native.Mathlib.Numerals.{add-one}
 use borrow.Author.Needs.{needs}
-use lib.ListN.{length, getD, drop, drop-of-length-le}
+use lib.ListN.{length}
 use Rattle.console_words.specs.Bytes.{reach}
 use Rattle.console_words.proofs.Runs.{reach-on, reach-stop, reach-end}
 use Rattle.console_words.proofs.bytes.reach.Statement.{statement}

@@ -1,6 +1,6 @@
 -- `console_words::commands::limit` meets its contract: an entry of the command's row, and 0 past the row's end.
 use borrow.Author.Tests.{lt-ltb, le-ltb}
-use Rattle.console_words.specs.Commands.{limitOf, limitsOf}
+use Rattle.console_words.specs.Commands.{limitOf}
 use borrow.Author.Needs.{needs}
 use Rattle.console_words.proofs.commands.limit.Statement.{statement}
 use Rattle.console_words.proofs.commands.limit.Tie as tie

@@ -3,7 +3,7 @@ use Prim.Native.Nat.{_+_, _-_}
 use mathlib.Core.Path.{_≡_, sym, _∙_, ap}
 use native.Mathlib.Omega.{arith}
 use borrow.Author.Needs.{needs}
-use lib.ListN.{length, getD, drop}
+use lib.ListN.{length, drop}
 use Rattle.console_words.specs.declared.numbers.Number.{Number}
 use Rattle.console_words.specs.Numbers.{capped, amount}
 use Rattle.console_words.proofs.Spelling.{spell, spells, spell-on, spell-stop, spell-end}

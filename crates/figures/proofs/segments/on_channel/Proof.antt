@@ -1,6 +1,5 @@
 -- `figures::segments::on_channel` meets its contract: a cell of the cap is below the cells of the largest cap.
-use mathlib.Core.Path.{_≡_, _∙_, ap}
-use native.Mathlib.Omega.{arith}
+use mathlib.Core.Path.{_∙_, ap}
 use native.Mathlib.Nat.{lt-of-lt-of-le}
 use lib.Pow.{pow-mono}
 use Rattle.figures.specs.Segments.{segmentOf}

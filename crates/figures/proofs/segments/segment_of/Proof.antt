@@ -1,5 +1,4 @@
 -- `figures::segments::segment_of` meets its contract: a quotient is no larger than what is divided.
-use mathlib.Core.Path.{_≡_}
 use native.Mathlib.Omega.{arith}
 use native.Mathlib.Nat.{div-le-self}
 use Rattle.figures.specs.Segments.{segmentOf}

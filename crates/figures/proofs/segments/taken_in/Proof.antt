@@ -1,5 +1,5 @@
 -- `figures::segments::taken_in` meets its contract: the plan is accepted, and its row holds each cell's tick.
-use mathlib.Core.Path.{_≡_, refl, ap, _∙_}
+use mathlib.Core.Path.{refl, ap, _∙_}
 use mathlib.Core.List.{List}
 use Prim.Native.Nat.{ℕ, _-_}
 use native.Mathlib.Omega.{arith}

@@ -1,5 +1,4 @@
 -- `figures::segments::unbuffered` meets its contract, by the test.
-use mathlib.Core.Path.{_≡_, sym}
 use borrow.Author.Needs.{needs}
 use Rattle.figures.proofs.segments.unbuffered.Statement.{statement}
 use Rattle.figures.proofs.segments.unbuffered.Tie as tie

@@ -1,6 +1,4 @@
 -- `figures::times::increase` meets its contract, by which slot is the longer.
-use mathlib.Core.Path.{_≡_}
-use native.Mathlib.Omega.{arith}
 use borrow.Author.Tests.{lt-ltb, le-ltb}
 use Rattle.figures.specs.Times.{increaseOf}
 use borrow.Author.Needs.{needs}

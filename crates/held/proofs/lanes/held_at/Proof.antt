@@ -5,7 +5,6 @@ use native.Mathlib.Omega.{arith}
 use native.Mathlib.Numerals.{add-one}
 use native.Mathlib.Nat.{le-antisymm}
 use Rattle.rules.specs.Search.{howMany}
-use Rattle.rules.proofs.Search.{howMany-le}
 use Rattle.story.specs.Kept.{keptHeld}
 use borrow.Author.Needs.{needs}
 use Rattle.held.proofs.lanes.held_at.Statement.{statement}

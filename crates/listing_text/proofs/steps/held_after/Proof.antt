@@ -1,5 +1,4 @@
 -- `listing_text::steps::held_after` meets its contract, by the answer.
-use mathlib.Core.Path.{_∙_, sym, ap}
 use borrow.Author.Tests.{eq-eqb, ne-eqb}
 use Rattle.listing_text.specs.Steps.{heldAfter}
 use borrow.Author.Needs.{needs}

@@ -1,5 +1,5 @@
 -- `drop_lanes` meets its contract: the loop has the title with the lanes passed dropped, whose film and ends are as before.
-use Prim.Native.Nat.{_≤_, _<_, _-_}
+use Prim.Native.Nat.{_≤_, _-_}
 use mathlib.Core.Path.{_≡_, _∙_}
 use native.Mathlib.Omega.{arith}
 use native.Mathlib.Numerals.{add-one}

@@ -7,7 +7,6 @@ use native.Mathlib.Nat.{le-antisymm}
 use lib.Dec.{ltb, leb}
 use Rattle.rules.specs.Limits.{both}
 use Rattle.rules.specs.Search.{some}
-use Rattle.grid.specs.Lanes.{laneCell}
 use Rattle.story.specs.Kept.{wants, keptOwed}
 use borrow.Author.Needs.{needs}
 use Rattle.owed.proofs.owing.is_owed.Statement.{statement}

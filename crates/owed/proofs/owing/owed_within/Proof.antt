@@ -1,11 +1,11 @@
 -- `owed_within` meets its contract: the loop's number is the count of the owed ticks passed.
-use Prim.Native.Nat.{_+_, _≤_, _-_}
+use Prim.Native.Nat.{_≤_, _-_}
 use mathlib.Core.Path.{_≡_}
 use native.Mathlib.Omega.{arith}
 use native.Mathlib.Numerals.{add-one}
 use native.Mathlib.Nat.{le-antisymm}
 use Rattle.rules.specs.Search.{howMany}
-use Rattle.story.specs.Kept.{keptOwed, keptWithin}
+use Rattle.story.specs.Kept.{keptWithin}
 use borrow.Author.Needs.{needs}
 use Rattle.owed.proofs.owing.owed_within.Statement.{statement}
 use Rattle.owed.proofs.owing.owed_within.Tie as tie

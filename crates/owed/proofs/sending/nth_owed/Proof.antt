@@ -1,13 +1,12 @@
 -- `nth_owed` meets its contract: the loop has the first such tick of those passed, and how many of them are owed.
-use Prim.Native.Nat.{_+_, _≤_, _-_}
+use Prim.Native.Nat.{_≤_, _-_}
 use mathlib.Core.Path.{_≡_}
 use native.Mathlib.Omega.{arith}
 use native.Mathlib.Numerals.{add-one}
 use native.Mathlib.Nat.{le-antisymm}
 use Rattle.rules.specs.Search.{howMany, first}
 use Rattle.rules.proofs.Search.{first-le}
-use Rattle.story.specs.Life.{reach as reachOf}
-use Rattle.story.specs.Kept.{keptOwed, keptWithin, keptNth}
+use Rattle.story.specs.Kept.{keptWithin, keptNth}
 use borrow.Author.Needs.{needs}
 use Rattle.owed.proofs.sending.nth_owed.Statement.{statement}
 use Rattle.owed.proofs.sending.nth_owed.Tie as tie

@@ -1,5 +1,4 @@
 -- `reach` meets its contract.
-use native.Mathlib.Omega.{arith}
 use Rattle.story.specs.Life.{reach as reachOf}
 use borrow.Author.Needs.{needs}
 use borrow.Author.Needs.{needs}

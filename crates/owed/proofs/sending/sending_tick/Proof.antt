@@ -1,11 +1,10 @@
 -- `sending_tick` meets its contract: the drop, and how far from it the tick lies whose turn it is.
-use Prim.Native.Nat.{_+_, _≤_}
+use Prim.Native.Nat.{_≤_}
 use native.Mathlib.Omega.{arith}
 use lib.ListN.{getD}
 use Rattle.rules.specs.Limits.{askedMax, lanePlaces}
 use Rattle.story.specs.Kept.{sendingTick}
 use Rattle.held.proofs.Within.{in-row}
-use borrow.Author.Needs.{needs}
 use Rattle.owed.proofs.sending.sending_tick.Statement.{statement}
 use Rattle.owed.proofs.sending.sending_tick.Tie as tie
 

@@ -1,4 +1,4 @@
--- `console_session::take_lines` is safe and ends: each line lies within the block, and the place moves past its newline.
+-- `console_io::take_lines` is safe and ends: each line lies within the block, and the place moves past its newline.
 use Prim.Native.Nat.{_-_, _≤_}
 use mathlib.Core.Path.{_≡_, refl, _∙_}
 use native.Mathlib.Omega.{arith}
@@ -6,8 +6,8 @@ use lib.ListN.{length}
 use Rattle.console_words.specs.declared.bytes.Sort.the-variants.{Line}
 use Rattle.console_words.proofs.Runs.{reach-low}
 use borrow.Author.Needs.{needs}
-use Rattle.console_session.proofs.take_lines.Statement.{statement}
-use Rattle.console_session.proofs.take_lines.Tie as tie
+use Rattle.console_io.proofs.take_lines.Statement.{statement}
+use Rattle.console_io.proofs.take_lines.Tie as tie
 
 abbrev Inv-loop : tie.InvT-loop
 Inv-loop block out₀ s₀ from₀ out s from = (from ≤ length block) × (length out ≡ length out₀)

@@ -1,9 +1,9 @@
--- `console_session::flush` is safe: what is written out is a part of the row.
+-- `console_io::flush` is safe: what is written out is a part of the row.
 use native.Mathlib.Omega.{arith}
 use lib.ListN.{length-take}
 use borrow.Author.Needs.{needs}
-use Rattle.console_session.proofs.flush.Statement.{statement}
-use Rattle.console_session.proofs.flush.Tie as tie
+use Rattle.console_io.proofs.flush.Statement.{statement}
+use Rattle.console_io.proofs.flush.Tie as tie
 
 slice-aggregate-write-all : tie.Need-slice-aggregate-write-all
 slice-aggregate-write-all c = rw length-take (omega arith)

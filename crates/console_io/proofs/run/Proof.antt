@@ -1,10 +1,10 @@
--- `console_session::run` is safe and ends: both rows keep their length, and the turns are counted down.
+-- `console_io::run` is safe and ends: both rows keep their length, and the turns are counted down.
 use mathlib.Core.Path.{_≡_}
 use native.Mathlib.Omega.{arith}
 use lib.ListN.{length}
 use borrow.Author.Needs.{needs}
-use Rattle.console_session.proofs.run.Statement.{statement}
-use Rattle.console_session.proofs.run.Tie as tie
+use Rattle.console_io.proofs.run.Statement.{statement}
+use Rattle.console_io.proofs.run.Tie as tie
 
 abbrev Inv-loop : tie.InvT-loop
 Inv-loop buffer₀ out₀ session₀ kept₀ turns₀ buffer out session kept turns = (length buffer ≡ 65536) × (length out ≡ 65536)

@@ -1,9 +1,9 @@
--- `console_session::finish` is safe: the last line is a part of the row.
+-- `console_io::finish` is safe: the last line is a part of the row.
 use native.Mathlib.Omega.{arith}
 use lib.ListN.{length-take}
 use borrow.Author.Needs.{needs}
-use Rattle.console_session.proofs.finish.Statement.{statement}
-use Rattle.console_session.proofs.finish.Tie as tie
+use Rattle.console_io.proofs.finish.Statement.{statement}
+use Rattle.console_io.proofs.finish.Tie as tie
 
 flush-requires : tie.Need-flush-requires
 flush-requires c κs = search needs

@@ -1,9 +1,9 @@
--- `console_session::turn` is safe: what was read is a part of the row.
+-- `console_io::turn` is safe: what was read is a part of the row.
 use native.Mathlib.Omega.{arith}
 use lib.ListN.{length-take}
 use borrow.Author.Needs.{needs}
-use Rattle.console_session.proofs.turn.Statement.{statement}
-use Rattle.console_session.proofs.turn.Tie as tie
+use Rattle.console_io.proofs.turn.Statement.{statement}
+use Rattle.console_io.proofs.turn.Tie as tie
 
 slice-reshare-prefix-take-lines : tie.Need-slice-reshare-prefix-take-lines
 slice-reshare-prefix-take-lines c = search needs
