@@ -1,2 +1,3 @@
 -- Laws of rows that are written entry by entry.
 pub mod Rows
+pub mod Settled
