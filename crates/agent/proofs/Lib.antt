@@ -3,3 +3,4 @@ pub mod Turns
 pub mod Order
 pub mod OneLog
 pub mod Overtaken
+pub mod Alike

@@ -3,15 +3,20 @@
 use mathlib.Core.Path.{_≡_, sym, ap, _∙_}
 use mathlib.Core.List.{List}
 use Prim.Native.Nat.{ℕ}
+use lib.ListN.{length}
 use Rattle.notice.specs.declared.Notice.{Notice}
 use Rattle.notice.specs.declared.Reading.{Reading}
 use Rattle.notice.specs.declared.Found.{Found}
-use Rattle.notice.specs.Encode.{Writes}
+use Rattle.notice.specs.Encode.{Writes, bytesOf}
 use Rattle.notice.specs.Decode.{placeAfter, Reads, Finds, Steps}
 
 -- `write`: the answer, and every byte of the room
 pub writes-once : (n : Notice) (room : List ℕ) {a b : ℕ} {x y : List ℕ} → Writes n room a x → Writes n room b y → (a ≡ b) × (x ≡ y)
 writes-once n room p q = (p .answers ∙ sym (q .answers), p .leaves ∙ sym (q .leaves))
+
+-- `size`
+pub sizes-once : (n : Notice) {r s : ℕ} → r ≡ length (bytesOf n) → s ≡ length (bytesOf n) → r ≡ s
+sizes-once n p q = p ∙ sym q
 
 -- `read`
 pub reads-once : (bs : List ℕ) {r s : Reading} → Reads bs r → Reads bs s → r ≡ s
