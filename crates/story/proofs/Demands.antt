@@ -1,24 +1,24 @@
 -- Demand 3 and what the state says of it: the page to read first. `cs` is any sequence of calls on a fresh pool, newest
 -- first; `es` are the accepted ones among them, decided from the sequence alone; `s` is the state that the calls leave.
 -- Each theorem cites its proof: Runs, Questions, World, Pool and Held, each over every pool, sequence, id and moment.
-use mathlib.Core.Path.{_≡_, refl, _∙_}
+use mathlib.Core.Path.{_≡_, refl, sym, ap, _∙_}
 use mathlib.Core.Bool.{true, false}
 use mathlib.Core.Logic.{⊎-elim}
 use mathlib.Core.List.{List, [], _∷_, _++_}
 use Prim.Native.Nat.{ℕ, suc, _+_, _≤_, _<_}
 use native.Mathlib.Omega.{arith}
 use lib.Dec.{leb, eqb, lit<}
-use borrow.Author.Tests.{ltb-true, leb-true, eqb-true}
+use borrow.Author.Tests.{ltb-true, ltb-false, leb-true, leb-false, eqb-true}
 use Rattle.rules.specs.Limits.{titlesMax}
 use Rattle.rules.specs.Refusals.{pick, outsideLimits, tooEarly, notThere, idTaken, isClosing, wrongCount, secondEvent, notAtSlot, noLanes}
 use Rattle.rules.specs.Search.{howMany}
 use Rattle.rules.proofs.Tests.{decide}
-use Rattle.rules.proofs.Refusals.{past, last-hit}
+use Rattle.rules.proofs.Refusals.{passed, past, last-hit}
 use Rattle.grid.specs.Ticks.{holdsFilm}
 use Rattle.story.specs.Life.{isActive, isHeld, owes, cell}
 use Rattle.story.specs.Kept.{stateOk, lanesHeld}
 use Rattle.story.specs.Calls.{laneAnswer, laneShows, statusAnswer, statusCount, statusHeld}
-use Rattle.story.specs.Story.{opens, changes, Event, Life, lifeOf, lastTime, upTo, countIn, airIn, heldIn, heldOver, answerTo, answer, taking, accepted, Accepted, none, more, laneAnswerTo, statusAnswerTo, lifeAt, Found, Begins}
+use Rattle.story.specs.Story.{opens, changes, Event, Life, lifeOf, latestOf, lastTime, upTo, countIn, airIn, airAt, heldIn, heldOver, answerTo, answer, taking, accepted, Accepted, none, more, laneAnswerTo, statusAnswerTo, lifeAt, Found, Begins}
 use Rattle.story.specs.Runs.{answered, stateAfter}
 use Rattle.story.proofs.Held.{held-exactly, held-throughout}
 use Rattle.story.proofs.Tells.{lanes-told}
@@ -33,6 +33,19 @@ taking-is lanes e es acc = go (answer lanes es e) refl
   where
     go : (n : ℕ) → answer lanes es e ≡ n → Accepted lanes (pick (eqb n 0) (e ∷ es) es)
     go n h = ⊎-elim (λ x. rw x (more acc (h ∙ eqb-true n 0 x))) (λ x. rw x acc) (decide (eqb n 0))
+
+-- from the latest event of an id on its life stands as the whole sequence tells it: later events are of other ids
+pub as-it-stands : (es : List Event) (i τ : ℕ) → latestOf es i ≤ τ → lifeAt es i τ ≡ lifeOf es i
+unfolding upTo lifeOf latestOf
+as-it-stands [] i τ le = refl
+as-it-stands (e ∷ es) i τ le =
+    let before : latestOf es i ≤ τ → lifeAt es i τ ≡ lifeOf es i = as-it-stands es i τ in
+    ⊎-elim (λ x. rw x refl)
+    (λ x.
+    let later : τ < e .time = leb-false (e .time) τ x in
+    rw x
+    (⊎-elim (λ y. absurd (omega (arith, rw y at le))) (λ y. rw y (before (rw y at le))) (decide (eqb (e .title) i))))
+    (decide (leb (e .time) τ))
 
 -- what is accepted of a sequence of calls is an accepted sequence
 pub accepted-is : (lanes : ℕ) (cs : List Event) → Accepted lanes (accepted lanes cs)
@@ -55,6 +68,14 @@ module _ (pool : ℕ) (cs : List Event) where
 
   pub every-cell : (i l τ : ℕ) → laneAnswer (stateAfter pool cs) i l τ ≡ 0 → airIn (lifeOf (accepted (lanesOf pool) cs) i) l τ ≡ cell (laneShows (stateAfter pool cs) i l τ)
   every-cell = lane-cell-told (lanesOf pool) (lanes-limit pool) (accepted (lanesOf pool) cs) (stateAfter pool cs) (told pool cs)
+
+  pub on-air : (i l τ : ℕ) → laneAnswer (stateAfter pool cs) i l τ ≡ 0 → airAt (accepted (lanesOf pool) cs) i l τ ≡ cell (laneShows (stateAfter pool cs) i l τ)
+  unfolding laneAnswerTo
+  on-air i l τ h =
+      let p1 = passed outsideLimits _ _ (lit< tt) (sym (every-lane i l τ) ∙ h) in
+      let p2 = passed tooEarly _ _ (lit< tt) (p1 .1) in
+      let es : List Event = accepted (lanesOf pool) cs in
+      ap (λ L. airIn L l τ) (as-it-stands es i τ (ltb-false τ (latestOf es i) (p2 .0))) ∙ every-cell i l τ h
 
   -- and status, with every count and number of lanes held, for any time from the last event on
   pub every-status : (τ : ℕ) (ids : List ℕ) (m h : ℕ) → statusAnswer (stateAfter pool cs) τ ids m h ≡ statusAnswerTo (accepted (lanesOf pool) cs) τ ids m h
