@@ -44,7 +44,7 @@ loop-less c = omega arith
 
 loop-again : tie.Need-loop-again Inv-loop μ-loop
 unfolding numberAt
-loop-again c = (omega arith, (rw add-one (cc), rw (add-one, pow-suc) (omega arith)))
+loop-again c = (omega arith, (rw add-one (omega arith), rw (add-one, pow-suc) (omega arith)))
 
 returns : tie.Need-returns Inv-loop μ-loop
 returns c =
