@@ -7,23 +7,22 @@ use mathlib.Core.List.{List, _∷_}
 use Prim.Native.Nat.{ℕ, _-_, _%_, _≤_, _<_, min, max}
 use native.Mathlib.Omega.{arith}
 use native.Mathlib.Nat.{le-antisymm}
-use lib.Dec.{ltb, leb, eqb, lit<}
+use lib.Dec.{ltb, leb, eqb}
 use borrow.Author.Tests.{ltb-true, ltb-false, leb-true, eqb-true, eqb-false, not-false}
 use Rattle.rules.specs.Limits.{both, either, within, idMax, eventTimeMax, lengthMin, lengthMax, floorMin, floorMax, countMin, countMax}
-use Rattle.rules.specs.Refusals.{outsideLimits, tooEarly, notThere, idTaken, isClosing, wrongCount, secondEvent, notAtSlot, noLanes}
+use Rattle.rules.specs.Refusals.{Rule, refuse, firstHit, outsideLimits, tooEarly, notThere, idTaken, isClosing, wrongCount, secondEvent, notAtSlot, noLanes}
 use Rattle.rules.proofs.Tests.{decide, both-l, both-r, either-false-l, either-false-r}
-use Rattle.rules.proofs.Refusals.{hit-same, passed}
+use Rattle.rules.proofs.Refusals.{hitsOf, numbered, cleared, hit-same}
 use Rattle.grid.specs.Ticks.{tickOf, isSlotStart}
 use Rattle.story.specs.declared.Title.{Title}
 use Rattle.story.specs.declared.State.{State}
-use Rattle.story.specs.Kept.{titleAt, stateOk, tickAt, atTickStart, lanesHeld, isThere}
-use Rattle.story.specs.Next.{openedTitle, withTitle, openNext, changedTitle, changeNext, closedTitle, closeNext, turnedTitle}
-use Rattle.story.specs.Calls.{eventOk, openOk, tooMany, openAnswer, atSlotStart, changeAnswer, closeAnswer}
-use Rattle.story.specs.Story.{Act, opens, changes, closes, Event, Life, lifeAfter, lifeOf, latestOf, lastTime, tickIn, countIn, isSlotIn, overfull, answerTo, turn}
-use Rattle.story.specs.Runs.{callAnswer, callNext}
+use Rattle.story.specs.Kept.{openMode, closingMode, titleAt, stateOk, tickAt, atTickStart, lanesHeld, isThere}
+use Rattle.story.specs.Next.{openedTitle, withTitle, openNext, changedTitle, changeNext, closedTitle, closeNext, turnedTitle, callNext}
+use Rattle.story.specs.Calls.{eventOk, tooMany, atSlotStart, testsIn, callAnswer}
+use Rattle.story.specs.Story.{Act, opens, changes, closes, Event, event, Life, lifeAfter, lifeOf, latestOf, lastTime, tickIn, countIn, isSlotIn, isThereIn, withinLimits, openLimits, overfull, orderOf, answerTo, turn}
 use Rattle.story.proofs.Kept.{lifeIn, Present}
 use Rattle.story.proofs.Turn.{Turning, turned-laid, turn-present, open-ruling}
-use Rattle.story.proofs.Passed.{event, within-low, within-high}
+use Rattle.story.proofs.Passed.{within-low, within-high}
 use Rattle.story.proofs.Tells.{TellsTitle, absent, present, Tells, opened-present, count-told, there-told, closing-told, lanes-told, told-with, blank-away}
 
 -- a title that is open: the rule of its life, its count and its latest event
@@ -32,14 +31,14 @@ record Open (L : Life) (m : ℕ) (t : Title) (τ : ℕ) : Type 0 where
   life : L ≡ lifeIn t rule
   latest : m ≡ t .last
   here : Present t rule
-  mode : t .mode ≡ 1
+  mode : t .mode ≡ openMode
   count : countIn L τ ≡ t .count
 
-open-title : (L : Life) (m : ℕ) (t : Title) (τ : ℕ) → TellsTitle L m t → m ≤ τ → isThere t τ ≡ true → eqb (t .mode) 2 ≡ false → Open L m t τ
+open-title : (L : Life) (m : ℕ) (t : Title) (τ : ℕ) → TellsTitle L m t → m ≤ τ → isThere t τ ≡ true → eqb (t .mode) closingMode ≡ false → Open L m t τ
 open-title L m t τ (absent e f g) le there off =
     absurd (false≢true (sym (blank-away τ) ∙ ap (λ x. isThere x τ) (sym g) ∙ there))
 open-title L m t τ (present r e f p) le there off =
-    let o : t .mode ≡ 1 = ⊎-elim (λ x. x) (λ x. absurd (eqb-false (t .mode) 2 off x)) (p .mode) in
+    let o : t .mode ≡ openMode = ⊎-elim (λ x. x) (λ x. absurd (eqb-false (t .mode) closingMode off x)) (p .mode) in
     record
     { rule = r; life = e; latest = f; here = p; mode = o; count = count-told L m t τ (present r e f p) le ∙ open-ruling t o }
 
@@ -92,7 +91,7 @@ module _ (lanes : ℕ) (es : List Event) (s : State) (w : Tells lanes es s) wher
     seen le = omega (arith, w .newest i)
 
     -- an opening within its limits, not too early, with a count from floor to cap
-    open-next : (D A K k : ℕ) → i ≤ idMax → τ ≤ eventTimeMax → openOk D A K k ≡ true → lastTime es ≤ τ → either (ltb K A) (not (within A K k)) ≡ false → Tells lanes (event i τ (opens D A K k) ∷ es) (openNext s i τ D A K k)
+    open-next : (D A K k : ℕ) → i ≤ idMax → τ ≤ eventTimeMax → openLimits D A K k ≡ true → lastTime es ≤ τ → either (ltb K A) (not (within A K k)) ≡ false → Tells lanes (event i τ (opens D A K k) ∷ es) (openNext s i τ D A K k)
     open-next D A K k id limit nums late order =
         let k-ok : Bool = within countMin countMax k in
         let K-ok : Bool = within countMin countMax K in
@@ -107,12 +106,12 @@ module _ (lanes : ℕ) (es : List Event) (s : State) (w : Tells lanes es s) wher
         (present (λ t. k) refl refl
         (opened-present τ D A K k limit (within-low lengthMin lengthMax D d) (within-high lengthMin lengthMax D d) (within-low floorMin floorMax A a) (within-high floorMin floorMax A a) (within-high countMin countMax K c) (within-low A K k count) (within-high A K k count)))
 
-    open-told : (D A K k : ℕ) → openAnswer s i τ D A K k ≡ answerTo lanes es (event i τ (opens D A K k)) (lifeOf es i) (opens D A K k)
-    unfolding openAnswer answerTo
+    open-told : (D A K k : ℕ) → callAnswer s i τ (opens D A K k) ≡ answerTo lanes es (event i τ (opens D A K k)) (lifeOf es i) (opens D A K k)
+    unfolding callAnswer answerTo
     open-told D A K k =
-        hit-same outsideLimits _ _ _ _ (limits-told (openOk D A K k))
+        hit-same outsideLimits _ _ _ _ (limits-told (openLimits D A K k))
         (λ t1.
-        let n = limits-out (openOk D A K k) t1 in
+        let n = limits-out (openLimits D A K k) t1 in
         hit-same tooEarly _ _ _ _ (ap (λ x. ltb τ x) (w .last))
         (λ t2.
         hit-same idTaken _ _ _ _ (sym (there-told (lifeOf es i) (latestOf es i) (titleAt s i) τ (w .title i (omega (arith, n .0))) (seen (late-out t2))))
@@ -154,7 +153,7 @@ module _ (lanes : ℕ) (es : List Event) (s : State) (w : Tells lanes es s) wher
         let low : t .floor ≤ k = within-low (t .floor) (t .cap) k inside in
         let other : k ≡ t .count → ⊥ = eqb-false k (t .count) (either-false-r (not (within (t .floor) (t .cap) k)) (eqb k (t .count)) t6) in
         let z = o .here .sized in
-        turn-next t k 1 k (changes k) refl o id limit late
+        turn-next t k openMode k (changes k) refl o id limit late
         (record {
           here = o .here;
           is-open = o .mode;
@@ -177,7 +176,7 @@ module _ (lanes : ℕ) (es : List Event) (s : State) (w : Tells lanes es s) wher
     close-next o id limit late t7 t8 =
         let t : Title = titleAt s i in
         let z = o .here .sized in
-        turn-next t 0 2 (t .count) closes refl o id limit late
+        turn-next t 0 closingMode (t .count) closes refl o id limit late
         (record {
           here = o .here;
           is-open = o .mode;
@@ -196,17 +195,17 @@ module _ (lanes : ℕ) (es : List Event) (s : State) (w : Tells lanes es s) wher
         refl
 
     -- the tests that a change and a close share: there, and not closing
-    opened-told : i ≤ idMax → lastTime es ≤ τ → not (isThere (titleAt s i) τ) ≡ false → eqb (titleAt s i .mode) 2 ≡ false → Open (lifeOf es i) (latestOf es i) (titleAt s i) τ
+    opened-told : i ≤ idMax → lastTime es ≤ τ → not (isThere (titleAt s i) τ) ≡ false → eqb (titleAt s i .mode) closingMode ≡ false → Open (lifeOf es i) (latestOf es i) (titleAt s i) τ
     opened-told id late t3 t5 =
         open-title (lifeOf es i) (latestOf es i) (titleAt s i) τ (w .title i (omega arith)) (seen late)
         (not-false (isThere (titleAt s i) τ) t3) t5
 
-    change-told : (k : ℕ) → changeAnswer s i τ k ≡ answerTo lanes es (event i τ (changes k)) (lifeOf es i) (changes k)
-    unfolding changeAnswer answerTo
-    change-told k =
-        hit-same outsideLimits _ _ _ _ (limits-told (within countMin countMax k))
+    -- the rungs that a change and a close climb alike: in order, there, and not closing; behind them the title is open
+    standing-told : (x y : Bool) (rs qs : List Rule) → x ≡ y → (x ≡ true → (i ≤ idMax) × (τ ≤ eventTimeMax)) → (i ≤ idMax → τ ≤ eventTimeMax → lastTime es ≤ τ → Open (lifeOf es i) (latestOf es i) (titleAt s i) τ → firstHit rs ≡ firstHit qs) → firstHit (refuse outsideLimits (not x) ∷ refuse tooEarly (ltb τ (s .last)) ∷ refuse notThere (not (isThere (titleAt s i) τ)) ∷ refuse isClosing (eqb (titleAt s i .mode) closingMode) ∷ rs) ≡ firstHit (refuse outsideLimits (not y) ∷ refuse tooEarly (ltb τ (lastTime es)) ∷ refuse notThere (not (isThereIn (lifeOf es i) τ)) ∷ refuse isClosing (eqb (countIn (lifeOf es i) τ) 0) ∷ qs)
+    standing-told x y rs qs same nums rest =
+        hit-same outsideLimits _ _ _ _ (ap not same)
         (λ t1.
-        let n = limits-out (within countMin countMax k) t1 in
+        let n = nums (not-false x t1) in
         hit-same tooEarly _ _ _ _ (ap (λ x. ltb τ x) (w .last))
         (λ t2.
         let late : lastTime es ≤ τ = late-out t2 in
@@ -214,8 +213,14 @@ module _ (lanes : ℕ) (es : List Event) (s : State) (w : Tells lanes es s) wher
         hit-same notThere _ _ _ _ (ap not (sym (there-told (lifeOf es i) (latestOf es i) (titleAt s i) τ told (seen late))))
         (λ t3.
         hit-same isClosing _ _ _ _ (closing-told (lifeOf es i) (latestOf es i) (titleAt s i) τ told (seen late) (not-false (isThere (titleAt s i) τ) t3))
-        (λ t5.
-        let o = opened-told (n .0) late t3 t5 in
+        (λ t5. rest (n .0) (n .1) late (opened-told (n .0) late t3 t5)))))
+
+    change-told : (k : ℕ) → callAnswer s i τ (changes k) ≡ answerTo lanes es (event i τ (changes k)) (lifeOf es i) (changes k)
+    unfolding callAnswer answerTo
+    change-told k =
+        standing-told (both (eventOk s i τ) (within countMin countMax k)) (both (withinLimits (event i τ (changes k))) (within countMin countMax k)) _ _ (rw ok refl)
+        (λ x. event-out (both-l (eventOk s i τ) (within countMin countMax k) x))
+        (λ id limit late o.
         hit-same wrongCount _ _ _ _
         (rw (o .count, ap (λ (L : Life). L .floor) (o .life), ap (λ (L : Life). L .cap) (o .life)) refl)
         (λ t6.
@@ -225,29 +230,19 @@ module _ (lanes : ℕ) (es : List Event) (s : State) (w : Tells lanes es s) wher
         (rw (o .count) (ap not (slot-told (lifeOf es i) (latestOf es i) (titleAt s i) τ (min (titleAt s i .count) k) o)))
         (λ t8.
         hit-same noLanes _ _ _ _
-        (full-told (event i τ (changes k)) (changeNext s i τ k) (change-next k o (n .0) (n .1) late t6 t7 t8))
-        (λ t9. refl))))))))
+        (full-told (event i τ (changes k)) (changeNext s i τ k) (change-next k o id limit late t6 t7 t8))
+        (λ t9. refl)))))
 
-    close-told : closeAnswer s i τ ≡ answerTo lanes es (event i τ closes) (lifeOf es i) closes
-    unfolding closeAnswer answerTo
+    close-told : callAnswer s i τ closes ≡ answerTo lanes es (event i τ closes) (lifeOf es i) closes
+    unfolding callAnswer answerTo
     close-told =
-        hit-same outsideLimits _ _ _ _ (rw ok refl)
-        (λ t1.
-        let n = event-out (not-false (eventOk s i τ) t1) in
-        hit-same tooEarly _ _ _ _ (ap (λ x. ltb τ x) (w .last))
-        (λ t2.
-        let late : lastTime es ≤ τ = late-out t2 in
-        let told = w .title i (omega (arith, n .0)) in
-        hit-same notThere _ _ _ _ (ap not (sym (there-told (lifeOf es i) (latestOf es i) (titleAt s i) τ told (seen late))))
-        (λ t3.
-        hit-same isClosing _ _ _ _ (closing-told (lifeOf es i) (latestOf es i) (titleAt s i) τ told (seen late) (not-false (isThere (titleAt s i) τ) t3))
-        (λ t5.
-        let o = opened-told (n .0) late t3 t5 in
+        standing-told (eventOk s i τ) (withinLimits (event i τ closes)) _ _ (rw ok refl) event-out
+        (λ id limit late o.
         hit-same secondEvent _ _ _ _ (ap (λ x. eqb τ x) (sym (o .latest)))
         (λ t7.
         hit-same notAtSlot _ _ _ _
         (ap not (slot-told (lifeOf es i) (latestOf es i) (titleAt s i) τ (titleAt s i .floor) o) ∙ rw (ap (λ (L : Life). L .floor) (o .life)) refl)
-        (λ t8. refl))))))
+        (λ t8. refl)))
 
   module _ (ok : stateOk s ≡ true) where
     -- every event is answered as the sequence says
@@ -256,34 +251,26 @@ module _ (lanes : ℕ) (es : List Event) (s : State) (w : Tells lanes es s) wher
     answer-told i τ (changes k) = change-told ok i τ k
     answer-told i τ closes = close-told ok i τ
 
-    -- and an accepted one leaves a state that tells the longer sequence
+    -- and an accepted one, which clears every refusal, leaves a state that tells the longer sequence
+    clears : (i τ : ℕ) (a : Act) → callAnswer s i τ a ≡ 0 → (n : ℕ) → hitsOf n (orderOf a (testsIn s i τ a)) ≡ false
+    unfolding callAnswer numbered
+    clears i τ (opens D A K k) h = cleared (orderOf (opens D A K k) (testsIn s i τ (opens D A K k))) refl h
+    clears i τ (changes k) h = cleared (orderOf (changes k) (testsIn s i τ (changes k))) refl h
+    clears i τ closes h = cleared (orderOf closes (testsIn s i τ closes)) refl h
+
     pub next-told : (i τ : ℕ) (a : Act) → callAnswer s i τ a ≡ 0 → Tells lanes (event i τ a ∷ es) (callNext s i τ a)
-    unfolding openAnswer changeAnswer closeAnswer
+    unfolding hitsOf
     next-told i τ (opens D A K k) h =
-        let p1 = passed outsideLimits _ _ (lit< tt) h in
-        let p2 = passed tooEarly _ _ (lit< tt) (p1 .1) in
-        let p4 = passed idTaken _ _ (lit< tt) (p2 .1) in
-        let p6 = passed wrongCount _ _ (lit< tt) (p4 .1) in
-        let n = limits-out ok i τ (openOk D A K k) (p1 .0) in
-        open-next ok i τ D A K k (n .0) (n .1) (n .2) (late-out ok i τ (p2 .0)) (p6 .0)
+        let clear = clears i τ (opens D A K k) h in
+        let n = limits-out ok i τ (openLimits D A K k) (clear outsideLimits) in
+        open-next ok i τ D A K k (n .0) (n .1) (n .2) (late-out ok i τ (clear tooEarly)) (clear wrongCount)
     next-told i τ (changes k) h =
-        let p1 = passed outsideLimits _ _ (lit< tt) h in
-        let p2 = passed tooEarly _ _ (lit< tt) (p1 .1) in
-        let p3 = passed notThere _ _ (lit< tt) (p2 .1) in
-        let p5 = passed isClosing _ _ (lit< tt) (p3 .1) in
-        let p6 = passed wrongCount _ _ (lit< tt) (p5 .1) in
-        let p7 = passed secondEvent _ _ (lit< tt) (p6 .1) in
-        let p8 = passed notAtSlot _ _ (lit< tt) (p7 .1) in
-        let n = limits-out ok i τ (within countMin countMax k) (p1 .0) in
-        let late = late-out ok i τ (p2 .0) in
-        change-next ok i τ k (opened-told ok i τ (n .0) late (p3 .0) (p5 .0)) (n .0) (n .1) late (p6 .0) (p7 .0) (p8 .0)
+        let clear = clears i τ (changes k) h in
+        let n = limits-out ok i τ (within countMin countMax k) (clear outsideLimits) in
+        let late = late-out ok i τ (clear tooEarly) in
+        change-next ok i τ k (opened-told ok i τ (n .0) late (clear notThere) (clear isClosing)) (n .0) (n .1) late (clear wrongCount) (clear secondEvent) (clear notAtSlot)
     next-told i τ closes h =
-        let p1 = passed outsideLimits _ _ (lit< tt) h in
-        let p2 = passed tooEarly _ _ (lit< tt) (p1 .1) in
-        let p3 = passed notThere _ _ (lit< tt) (p2 .1) in
-        let p5 = passed isClosing _ _ (lit< tt) (p3 .1) in
-        let p7 = passed secondEvent _ _ (lit< tt) (p5 .1) in
-        let p8 = passed notAtSlot _ _ (lit< tt) (p7 .1) in
-        let n = event-out ok i τ (not-false (eventOk s i τ) (p1 .0)) in
-        let late = late-out ok i τ (p2 .0) in
-        close-next ok i τ (opened-told ok i τ (n .0) late (p3 .0) (p5 .0)) (n .0) (n .1) late (p7 .0) (p8 .0)
+        let clear = clears i τ closes h in
+        let n = event-out ok i τ (not-false (eventOk s i τ) (clear outsideLimits)) in
+        let late = late-out ok i τ (clear tooEarly) in
+        close-next ok i τ (opened-told ok i τ (n .0) late (clear notThere) (clear isClosing)) (n .0) (n .1) late (clear secondEvent) (clear notAtSlot)

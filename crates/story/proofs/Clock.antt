@@ -2,9 +2,9 @@
 -- Rest on division with remainder and on the rounding up of the tick.
 use mathlib.Core.Path.{_≡_}
 use mathlib.Core.Logic.{⊎-elim}
-use Prim.Native.Nat.{ℕ, _+_, _-_, _*_, _/_, _%_, _^_, _≤_, _<_}
+use Prim.Native.Nat.{ℕ, suc, _+_, _-_, _*_, _/_, _%_, _^_, _≤_, _<_}
 use native.Mathlib.Omega.{arith}
-use native.Mathlib.Nat.{div-add-mod', div-mul-le-self, le-div-iff-mul-le, mul-div-cancel, mul-le-mul-right}
+use native.Mathlib.Nat.{le-antisymm, div-lt-iff-lt-mul, div-add-mod', div-mul-le-self, le-div-iff-mul-le, mul-div-cancel, mul-le-mul-right}
 use Rattle.grid.specs.Ticks.{tickOf}
 use Rattle.grid.proofs.Ticks.{rounded-low, held-pos}
 
@@ -31,6 +31,11 @@ module _ (B p : ℕ) (pos : 0 < p) where
 
   pub tick-of-moment : (n : ℕ) → (B + n * p - B) / p ≡ n
   tick-of-moment n = let e : B + n * p - B ≡ n * p = omega arith in rw e (mul-div-cancel n pos)
+
+  -- every moment from a tick's start up to the next is in that tick
+  pub in-tick : (x n : ℕ) → B + n * p ≤ x → x < B + suc n * p → (x - B) / p ≡ n
+  in-tick x n from until =
+      le-antisymm (omega (arith, div-lt-iff-lt-mul {x = x - B} {y = suc n} pos .1 (omega arith))) (begins x n from)
 
   -- a moment that is the start of a tick is the start of its own tick
   pub on-its-tick : (x : ℕ) → B ≤ x → (x - B) % p ≡ 0 → x ≡ B + (x - B) / p * p

@@ -1,17 +1,22 @@
 -- A sequence that meets the theorems' hypotheses, computed from the definitions: a film opens, gains a lane, loses it,
--- closes, and its id opens again with other numbers; one call of it is refused. Its boxes and lanes at chosen moments.
-use mathlib.Core.Path.{_≡_, refl}
+-- closes, and its id opens again with other numbers; one call of it is refused. Its boxes and lanes at chosen moments, a
+-- lane that is dropped and not raised, one that is raised while it sends, and events that leave an answer true.
+use mathlib.Core.Path.{_≡_, refl, _∙_}
+use mathlib.Core.Bool.{Bool, true, not}
 use mathlib.Core.List.{List, [], _∷_}
-use Prim.Native.Nat.{ℕ}
+use Prim.Native.Nat.{ℕ, _+_, _≤_}
+use native.Mathlib.Omega.{arith}
+use borrow.Author.Tests.{not-true}
 use Rattle.rules.specs.Refusals.{firstHit}
-use Rattle.rules.specs.Search.{some, first, howMany, after, total}
+use Rattle.rules.specs.Search.{some, every, first, howMany, after, total}
+use Rattle.rules.proofs.Search.{every-out}
 use Rattle.grid.specs.Ticks.{tickOf, roundedUp, slot, isSlotStart, cellOf}
 use Rattle.grid.specs.Channels.{floorRem, shift, segment, channelCell}
 use Rattle.grid.specs.Lanes.{isInG, isAdded, addedChannel, laneCell}
 use Rattle.grid.specs.Plan.{takenFrom, inPlan}
-use Rattle.story.specs.Life.{isAdmission, isActive, droppedAt, isAwaited, isOwed, reach, owedWithin, isNth, nthOwed, Air, nothing, cell, sends, onAir, isHeld}
-use Rattle.story.specs.Story.{opens, changes, closes, Event, tickIn, lifeOf, latestOf, upTo, heldIn, heldOver, answerTo, accepted, airAt, Begins}
-use Rattle.story.proofs.Passed.{event}
+use Rattle.story.specs.Life.{isAdmission, isActive, droppedAt, isAwaited, isOwed, reach, owedWithin, owes, isNth, nthOwed, Air, nothing, cell, sends, onAir, isHeld}
+use Rattle.story.specs.Story.{opens, changes, closes, Event, event, Life, tickIn, lifeOf, latestOf, upTo, heldIn, heldOver, answerTo, accepted, lifeAt, airAt, isActiveAt, isHeldAt, owesAt, Begins, Dropped, Quiet, nothing-new, elsewhere}
+use Rattle.story.proofs.Demands.{exactly, throughout}
 
 -- newest first; the change to 4 at 2 is not at a slot start of count 3
 abbrev calls : List Event
@@ -61,3 +66,51 @@ lane-three-is = refl
 box : Begins taken 0 4 4
 unfolding upTo lifeOf heldOver heldIn tickIn total howMany isHeld onAir isActive droppedAt after sends nthOwed isNth owedWithin isOwed isAwaited isAdmission reach some first inPlan takenFrom laneCell addedChannel isAdded isInG channelCell segment shift floorRem cellOf slot isSlotStart tickOf roundedUp
 box = record { at-start = refl; admission = refl }
+
+-- lane 3 is dropped at 8 and not raised up to 12: it is held in two of those four ticks, as many as it owes cells
+abbrev first-life : Life
+first-life = lifeAt taken 0 12
+
+dropped : Dropped first-life 3 7 4
+unfolding owes every upTo lifeOf heldOver heldIn tickIn total howMany isHeld onAir isActive droppedAt after sends nthOwed isNth owedWithin isOwed isAwaited isAdmission reach some first inPlan takenFrom laneCell addedChannel isAdded isInG channelCell segment shift floorRem cellOf slot isSlotStart tickOf roundedUp
+dropped =
+    record {
+      active-before = refl;
+      not-raised = λ j b. not-true (isActiveAt first-life 3 (8 + j)) (every-out (λ j. not (isActiveAt first-life 3 (8 + j))) 4 j refl b);
+    }
+
+owes-two : owesAt first-life 3 8 ≡ 2
+unfolding owes every upTo lifeOf heldOver heldIn tickIn total howMany isHeld onAir isActive droppedAt after sends nthOwed isNth owedWithin isOwed isAwaited isAdmission reach some first inPlan takenFrom laneCell addedChannel isAdded isInG channelCell segment shift floorRem cellOf slot isSlotStart tickOf roundedUp
+owes-two = refl
+
+held-twice : howMany (λ j. isHeldAt first-life 3 (8 + j)) 4 ≡ 2
+held-twice = exactly first-life 3 7 4 dropped (omega (arith, owes-two)) ∙ owes-two
+
+-- opened with 4 lanes, dropped to 3 at 4 and raised again at 6, while lane 3 still owes a cell: held throughout
+abbrev raised-life : Life
+raised-life = lifeOf (event 0 6 (changes 4) ∷ event 0 4 (changes 3) ∷ event 0 0 (opens 12 2 4 4) ∷ []) 0
+
+dropped-then-raised : Dropped raised-life 3 3 2
+unfolding owes every upTo lifeOf heldOver heldIn tickIn total howMany isHeld onAir isActive droppedAt after sends nthOwed isNth owedWithin isOwed isAwaited isAdmission reach some first inPlan takenFrom laneCell addedChannel isAdded isInG channelCell segment shift floorRem cellOf slot isSlotStart tickOf roundedUp
+dropped-then-raised =
+    record {
+      active-before = refl;
+      not-raised = λ j b. not-true (isActiveAt raised-life 3 (4 + j)) (every-out (λ j. not (isActiveAt raised-life 3 (4 + j))) 2 j refl b);
+    }
+
+again : isActiveAt raised-life 3 6 ≡ true
+unfolding owes every upTo lifeOf heldOver heldIn tickIn total howMany isHeld onAir isActive droppedAt after sends nthOwed isNth owedWithin isOwed isAwaited isAdmission reach some first inPlan takenFrom laneCell addedChannel isAdded isInG channelCell segment shift floorRem cellOf slot isSlotStart tickOf roundedUp
+again = refl
+
+owes-three : owesAt raised-life 3 4 ≡ 3
+unfolding owes every upTo lifeOf heldOver heldIn tickIn total howMany isHeld onAir isActive droppedAt after sends nthOwed isNth owedWithin isOwed isAwaited isAdmission reach some first inPlan takenFrom laneCell addedChannel isAdded isInG channelCell segment shift floorRem cellOf slot isSlotStart tickOf roundedUp
+owes-three = refl
+
+held-on : (j : ℕ) → j ≤ 2 → isHeldAt raised-life 3 (4 + j) ≡ true
+held-on j = throughout raised-life 3 3 2 j dropped-then-raised again (omega (arith, owes-three))
+
+-- until the close at 12 the events at 4 and 8 leave what the opening alone says of the ticks before 4
+quiet : Quiet 0 3 (event 0 8 (changes 3) ∷ event 0 4 (changes 4) ∷ [])
+quiet =
+    elsewhere {e = event 0 8 (changes 3)} (λ e. omega arith)
+    (elsewhere {e = event 0 4 (changes 4)} (λ e. omega arith) nothing-new)

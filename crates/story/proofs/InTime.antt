@@ -10,16 +10,17 @@ use native.Mathlib.Nat.{le-antisymm}
 use lib.Dec.{ltb}
 use borrow.Author.Tests.{ltb-true, ltb-false, lt-ltb}
 use Rattle.rules.specs.Search.{after}
-use Rattle.rules.proofs.Tests.{decide, both-l, both-r}
+use Rattle.rules.proofs.Tests.{decide}
 use Rattle.rules.proofs.Search
-use Rattle.grid.specs.Ticks.{isSlotStart, holdsFilm}
+use Rattle.grid.specs.Ticks.{holdsFilm}
 use Rattle.grid.specs.Channels.{InG}
 use Rattle.grid.specs.Plan.{inPlan}
 use Rattle.grid.specs.Lanes.{laneCell}
-use Rattle.story.specs.Life.{isAdmission, isActive, droppedAt, isOwed, reach, owedWithin, cell, onAir, Ruled}
+use Rattle.story.specs.Life.{isAdmission, isActive, droppedAt, isOwed, reach, owedWithin, cell, onAir}
+use Rattle.story.proofs.Ruled.{Ruled, admitted}
 use Rattle.grid.proofs.Lanes.{lane-of-cell}
-use Rattle.grid.proofs.Plan.{window-end, in-time, film-taken, taken-out}
-use Rattle.story.proofs.Owed.{after-between, owed-in, sends-owed, rank-le, air-sends, air-active}
+use Rattle.grid.proofs.Plan.{in-time, film-taken, taken-out}
+use Rattle.story.proofs.Owed.{after-between, owed-in, owed-reach, sends-owed, rank-le, air-sends, air-active}
 
 -- a cell in a plan at tick t is on a channel then, and t is no earlier than the start
 pub plan-on-channel : (A K k a c t : ℕ) → inPlan A K k a c t ≡ true → (a ≤ t) × InG A K k t c
@@ -43,19 +44,7 @@ pub active-below : (r : ℕ → ℕ) (l t : ℕ) → l < r t → isActive r l t 
 unfolding isActive
 active-below r l t b = lt-ltb l (r t) b
 
--- how far from the drop a planned tick can be
-within-reach : (A K k a c u T o : ℕ) → k ≤ K → 0 < k → inPlan A K k a c u ≡ true → a < T → T + o ≡ u → o < reach K
-unfolding reach
-within-reach A K k a c u T o hi on pl late e = omega (arith, window-end A K k a c u hi on pl)
-
 module _ (A K : ℕ) (r : ℕ → ℕ) (ruled : Ruled A K r) where
-  -- the ruling count at an admission, and that it is a slot start
-  pub admitted : (a : ℕ) → isAdmission K r a ≡ true → (0 < r a) × (A ≤ r a) × (isSlotStart K (r a) a ≡ true)
-  unfolding isAdmission
-  admitted a h =
-      let on : 0 < r a = ltb-true 0 (r a) (both-l (ltb 0 (r a)) (isSlotStart K (r a) a) h) in
-      (on, ruled .low a on, both-r (ltb 0 (r a)) (isSlotStart K (r a) a) h)
-
   -- a tick of a plan whose lane has been dropped meanwhile is owed, and its cell goes out by then
   pub dropped-in-time : (a l u : ℕ) → isAdmission K r a ≡ true → l < r a → inPlan A K (r a) a (laneCell A K l u) u ≡ true → isActive r l u ≡ false → (t : ℕ) × (a ≤ t) × (t ≤ u) × (onAir A K r l t ≡ cell (laneCell A K l u))
   unfolding droppedAt
@@ -68,8 +57,8 @@ module _ (A K : ℕ) (r : ℕ → ℕ) (ruled : Ruled A K r) where
       let late : a < T = Search.after-above p u a (earlier p a u start then off) then in
       let o : ℕ = u - T in
       let eo : T + o ≡ u = omega arith in
-      let near : o < reach K = within-reach A K (r a) a (laneCell A K l u) u T o (ruled .high a) (admitted a ad .0) pl late eo in
       let owed : isOwed A K r l T (T + o) ≡ true = rw eo (owed-in A K r l T a u late ad pl) in
+      let near : o < reach K = omega (arith, owed-reach A K r l T ruled (T + o) owed) in
       let i : ℕ = owedWithin A K r l T o in
       let no-later : i ≤ o = rank-le A K r l T o in
       let t : ℕ = T + i in
@@ -87,7 +76,7 @@ module _ (A K : ℕ) (r : ℕ → ℕ) (ruled : Ruled A K r) where
   planned-in-time a c u ad pl =
       let s = plan-on-channel A K (r a) a c u pl in
       let k : r a ≤ K = ruled .high a in
-      let lane = lane-of-cell A K (r a) u c (admitted a ad .1) k (s .1) in
+      let lane = lane-of-cell A K (r a) u c (admitted A K r ruled a ad .1) k (s .1) in
       let l : ℕ = lane .0 in
       let e : laneCell A K l u ≡ c = lane .2 in
       let pl′ : inPlan A K (r a) a (laneCell A K l u) u ≡ true = rw e pl in
@@ -101,7 +90,7 @@ module _ (A K : ℕ) (r : ℕ → ℕ) (ruled : Ruled A K r) where
   -- and a cell that holds film no later than its turn to play
   pub film-in-time : (D a c : ℕ) → 0 < A → isAdmission K r a ≡ true → holdsFilm D A K c ≡ true → (l : ℕ) × (l < K) × (t : ℕ) × (a ≤ t) × (t ≤ a + c) × (onAir A K r l t ≡ cell c)
   film-in-time D a c pos ad film =
-      let k = admitted a ad in
+      let k = admitted A K r ruled a ad in
       let plan = in-time A K (r a) a c (k .1) (ruled .high a) (k .2) (film-taken D A K (r a) c pos (k .1) (ruled .high a) film) in
       let on = planned-in-time a c (plan .0) ad (plan .2) in
       (on .0, on .1, on .2, on .3, omega (arith, on .4, plan .1), on .5)

@@ -16,7 +16,8 @@ use Rattle.rules.proofs.Search
 use Rattle.grid.specs.Ticks.{tickOf}
 use Rattle.grid.specs.Lanes.{laneCell}
 use Rattle.story.specs.declared.Title.{Title}
-use Rattle.story.specs.Life.{isActive, droppedAt, isOwed, reach, owedWithin, owes, isNth, nthOwed, cell, sends, onAir, isHeld, Ruled, Legal, isRuling, lastEnd}
+use Rattle.story.specs.Life.{isActive, droppedAt, isOwed, reach, owedWithin, owes, isNth, nthOwed, cell, sends, onAir, isHeld}
+use Rattle.story.proofs.Ruled.{Ruled, Legal, isRuling, lastEnd}
 use Rattle.story.specs.Kept.{tickAt, ruling, keptOwed, keptWithin, keptHeld, titleHeld, keptNth, sendingTick, shows}
 use Rattle.story.specs.Story.{Life, tickIn, heldIn}
 use Rattle.story.proofs.Clock.{tick-pos, tick-mono}

@@ -1,4 +1,5 @@
 -- Laws and theorems of the story.
+pub mod Ruled
 pub mod Owed
 pub mod InTime
 pub mod Held
@@ -16,5 +17,6 @@ pub mod Questions
 pub mod Lively
 pub mod Pool
 pub mod World
+pub mod Reached
 pub mod Demands
 pub mod Example

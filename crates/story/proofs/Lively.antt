@@ -5,13 +5,13 @@ use mathlib.Core.Logic.{_⊎_, inl, inr}
 use mathlib.Core.List.{List}
 use Prim.Native.Nat.{ℕ, _≤_, _<_}
 use native.Mathlib.Omega.{arith}
-use Rattle.rules.specs.Limits.{poolMax, titlesMax}
+use Rattle.rules.specs.Limits.{poolMax, titlesMax, countMax}
 use Rattle.story.specs.declared.Title.{Title}
 use Rattle.story.specs.declared.State.{State}
-use Rattle.story.specs.Life.{Ruled}
+use Rattle.story.proofs.Ruled.{Ruled}
 use Rattle.story.specs.Kept.{titleAt, tickAt}
 use Rattle.story.specs.Calls.{emptyPool}
-use Rattle.story.specs.Runs.{callNext}
+use Rattle.story.specs.Next.{callNext}
 use Rattle.story.specs.Story.{Event, Life, unopened, tickLength, tickIn, lifeOf, latestOf, lastTime, Accepted, none, more}
 use Rattle.story.proofs.Kept.{lifeIn, Present, tick-some}
 use Rattle.story.proofs.Tells.{TellsTitle, absent, present}
@@ -21,6 +21,7 @@ use Rattle.story.proofs.Runs.{Told, told-more, fresh-tells}
 pub record Lively (L : Life) (m : ℕ) : Type 0 where
   pub ruled : Ruled (L .floor) (L .cap) (L .rule)
   pub floor-some : 0 < L .floor
+  pub cap-high : L .cap ≤ countMax
   pub tick-some : 0 < tickLength L
   pub since : L .opened ≤ m
   pub steady : (u v : ℕ) → tickIn L m ≤ u → tickIn L m ≤ v → L .rule u ≡ L .rule v
@@ -31,6 +32,7 @@ stored t r p =
     record {
       ruled = p .ruled;
       floor-some = omega (arith, p .sized .floor-low);
+      cap-high = p .sized .cap-high;
       tick-some = tick-some t r p;
       since = p .since;
       steady = λ u v lu lv. p .steady u lu ∙ sym (p .steady v lv);

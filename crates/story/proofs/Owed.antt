@@ -1,6 +1,6 @@
 -- Laws of a lane's owed ticks: none beyond its reach, each goes out in its turn, and the lane is held for just as many
 -- ticks as it owes cells. Rest on the laws of the grid and of bounded counts, and on what `isOwed` says only through
--- `owed-in` and `owed-reach`.
+-- `owed-in` and `owed-out`.
 use mathlib.Core.Path.{_≡_, refl}
 use mathlib.Core.Bool.{Bool, true, false, false≢true}
 use mathlib.Core.Logic.{⊎-elim}
@@ -11,10 +11,12 @@ use lib.Dec.{ltb, eqb}
 use borrow.Author.Tests.{ltb-true, ltb-false, lt-ltb, eqb-true, eq-eqb}
 use Rattle.rules.specs.Limits.{both}
 use Rattle.rules.specs.Search.{first, howMany, after}
-use Rattle.rules.proofs.Tests.{decide, both-l, both-r, both-in}
+use Rattle.rules.proofs.Tests.{decide, both-l, both-r, both-in, fails}
 use Rattle.rules.proofs.Search
 use Rattle.grid.specs.Plan.{inPlan}
 use Rattle.grid.specs.Lanes.{laneCell}
+use Rattle.grid.proofs.Plan.{window-end}
+use Rattle.story.proofs.Ruled.{Ruled, admitted}
 use Rattle.story.specs.Life.{isAdmission, isActive, droppedAt, isAwaited, isOwed, reach, owedWithin, owes, isNth, nthOwed, cell, sends, onAir, isCell}
 
 -- the tick after the last one that passes is the same, seen from any tick between the two
@@ -48,6 +50,23 @@ module _ (A K : ℕ) (r : ℕ → ℕ) (l T : ℕ) where
         both-l (isAdmission K r a) (inPlan A K (r a) a (laneCell A K l t) t) (s .2),
         both-r (isAdmission K r a) (inPlan A K (r a) a (laneCell A K l t) t) (s .2),
       )
+
+  -- no tick is owed as far from the drop as 2^(K-1) ticks: no channel is taken for longer
+  pub owed-reach : Ruled A K r → (t : ℕ) → isOwed A K r l T t ≡ true → t < T + reach K
+  unfolding reach
+  owed-reach ruled t h =
+      let s = owed-out t h in
+      let a : ℕ = s .0 in
+      omega (arith, s .1, window-end A K (r a) a (laneCell A K l t) t (ruled .high a) (admitted A K r ruled a (s .2) .0) (s .3))
+
+  -- so however many ticks are looked at, no more are owed than within that reach
+  pub owes-all : Ruled A K r → (n : ℕ) → reach K ≤ n → owedWithin A K r l T n ≡ owes A K r l T
+  unfolding owes owedWithin
+  owes-all ruled n far =
+      let e : n ≡ reach K + (n - reach K) = omega arith in
+      rw e
+      (Search.howMany-flat (λ o. isOwed A K r l T (T + o)) (reach K) (n - reach K)
+      (λ o lo. fails (isOwed A K r l T (T + o)) (λ h. omega (arith, owed-reach ruled (T + o) h))))
 
   -- an owed tick has its rank, and no other has it
   pub nth-is : (o : ℕ) → o < reach K → isOwed A K r l T (T + o) ≡ true → nthOwed A K r l T (owedWithin A K r l T o) ≡ o

@@ -1,21 +1,18 @@
 -- What an accepted event has passed, as facts about the sequence before it. Rests on the laws of listed refusals.
-use mathlib.Core.Path.{_≡_}
+use mathlib.Core.Path.{_≡_, refl}
 use mathlib.Core.Bool.{Bool, true, false, not}
 use mathlib.Core.List.{List, _∷_}
 use Prim.Native.Nat.{ℕ, _-_, _%_, _≤_, _<_, min}
 use native.Mathlib.Omega.{arith}
-use lib.Dec.{ltb, leb, eqb, lit<}
+use lib.Dec.{ltb, leb, eqb}
 use borrow.Author.Tests.{ltb-false, leb-true, eqb-true, eqb-false, not-false}
 use Rattle.rules.specs.Limits.{both, within, idMax, eventTimeMax, lengthMin, lengthMax, floorMin, floorMax, countMin, countMax}
 use Rattle.rules.specs.Refusals.{outsideLimits, tooEarly, notThere, idTaken, isClosing, wrongCount, secondEvent, notAtSlot, noLanes}
 use Rattle.rules.proofs.Tests.{both-l, both-r, either-false-r}
-use Rattle.rules.proofs.Refusals.{passed}
+use Rattle.rules.proofs.Refusals.{hitsOf, numbered, cleared}
 use Rattle.grid.proofs.Numbers.{ne-zero-pos}
 use Rattle.grid.specs.Ticks.{isSlotStart}
-use Rattle.story.specs.Story.{Act, opens, changes, closes, Event, Life, tickLength, tickIn, lifeOf, latestOf, lastTime, countIn, heldOver, isThereIn, isSlotIn, withinLimits, openLimits, answerTo}
-
-abbrev pub event : ℕ → ℕ → Act → Event
-event i τ a = record { time = τ; title = i; act = a }
+use Rattle.story.specs.Story.{Act, opens, changes, closes, Event, event, Life, tickLength, tickIn, lifeOf, latestOf, lastTime, countIn, heldOver, isThereIn, isSlotIn, withinLimits, openLimits, testsTo, orderOf, answerTo}
 
 -- a number within two limits
 pub within-low : (lo hi x : ℕ) → within lo hi x ≡ true → lo ≤ x
@@ -62,72 +59,61 @@ on-its-tick L k τ h =
     (both-l (eqb ((τ - L .opened) % tickLength L) 0) (isSlotStart (L .cap) k (tickIn L τ)) (not-false (isSlotIn L k τ) h))
 
 module _ (lanes : ℕ) (es : List Event) (i τ : ℕ) where
+  -- an accepted event clears every refusal of its order
+  clears : (a : Act) → answerTo lanes es (event i τ a) (lifeOf es i) a ≡ 0 → (n : ℕ) → hitsOf n (orderOf a (testsTo lanes es (event i τ a) (lifeOf es i) a)) ≡ false
+  unfolding answerTo numbered
+  clears (opens D A K k) h = cleared (orderOf (opens D A K k) (testsTo lanes es (event i τ (opens D A K k)) (lifeOf es i) (opens D A K k))) refl h
+  clears (changes k) h = cleared (orderOf (changes k) (testsTo lanes es (event i τ (changes k)) (lifeOf es i) (changes k))) refl h
+  clears closes h = cleared (orderOf closes (testsTo lanes es (event i τ closes) (lifeOf es i) closes)) refl h
+
   pub opening : (D A K k : ℕ) → answerTo lanes es (event i τ (opens D A K k)) (lifeOf es i) (opens D A K k) ≡ 0 → Opening lanes es i τ D A K k
-  unfolding answerTo
+  unfolding hitsOf
   opening D A K k h =
       let e : Event = event i τ (opens D A K k) in
-      let p1 = passed outsideLimits _ _ (lit< tt) h in
-      let p2 = passed tooEarly _ _ (lit< tt) (p1 .1) in
-      let p4 = passed idTaken _ _ (lit< tt) (p2 .1) in
-      let p6 = passed wrongCount _ _ (lit< tt) (p4 .1) in
-      let p9 = passed noLanes _ _ (lit< tt) (p6 .1) in
-      let all = not-false (both (withinLimits e) (openLimits D A K k)) (p1 .0) in
+      let clear = clears (opens D A K k) h in
+      let all = not-false (both (withinLimits e) (openLimits D A K k)) (clear outsideLimits) in
       let nums : openLimits D A K k ≡ true = both-r (withinLimits e) (openLimits D A K k) all in
       let k-ok : Bool = within countMin countMax k in
       let K-ok : Bool = within countMin countMax K in
       let A-ok : Bool = within floorMin floorMax A in
       let D-ok : Bool = within lengthMin lengthMax D in
       let count : k-ok ≡ true = both-r K-ok k-ok (both-r A-ok (both K-ok k-ok) (both-r D-ok (both A-ok (both K-ok k-ok)) nums)) in
-      let order : within A K k ≡ true = not-false (within A K k) (either-false-r (ltb K A) (not (within A K k)) (p6 .0)) in
+      let order : within A K k ≡ true = not-false (within A K k) (either-false-r (ltb K A) (not (within A K k)) (clear wrongCount)) in
       record {
-        timely = timely es i τ (opens D A K k) (both-l (withinLimits e) (openLimits D A K k) all) (p2 .0);
-        away = p4 .0;
+        timely = timely es i τ (opens D A K k) (both-l (withinLimits e) (openLimits D A K k) all) (clear tooEarly);
+        away = clear idTaken;
         some = omega (arith, within-low countMin countMax k count);
         low = within-low A K k order;
         high = within-high A K k order;
-        room = ltb-false lanes (heldOver (e ∷ es) τ) (p9 .0);
+        room = ltb-false lanes (heldOver (e ∷ es) τ) (clear noLanes);
+      }
+
+  -- what a change and a close have passed alike: there, open, later than the latest event, at a slot start
+  turned : (a : Act) (k : ℕ) → withinLimits (event i τ a) ≡ true → ltb τ (lastTime es) ≡ false → not (isThereIn (lifeOf es i) τ) ≡ false → eqb (countIn (lifeOf es i) τ) 0 ≡ false → eqb τ (latestOf es i) ≡ false → not (isSlotIn (lifeOf es i) k τ) ≡ false → Turned es i τ
+  turned a k limits late there some second off =
+      record {
+        timely = timely es i τ a limits late;
+        there = not-false (isThereIn (lifeOf es i) τ) there;
+        some = ne-zero-pos (countIn (lifeOf es i) τ) (eqb-false (countIn (lifeOf es i) τ) 0 some);
+        fresh = eqb-false τ (latestOf es i) second;
+        on-tick = on-its-tick (lifeOf es i) k τ off;
       }
 
   pub changing : (k : ℕ) → answerTo lanes es (event i τ (changes k)) (lifeOf es i) (changes k) ≡ 0 → Turned es i τ × (heldOver (event i τ (changes k) ∷ es) τ ≤ lanes)
-  unfolding answerTo
+  unfolding hitsOf
   changing k h =
       let e : Event = event i τ (changes k) in
-      let p1 = passed outsideLimits _ _ (lit< tt) h in
-      let p2 = passed tooEarly _ _ (lit< tt) (p1 .1) in
-      let p3 = passed notThere _ _ (lit< tt) (p2 .1) in
-      let p5 = passed isClosing _ _ (lit< tt) (p3 .1) in
-      let p6 = passed wrongCount _ _ (lit< tt) (p5 .1) in
-      let p7 = passed secondEvent _ _ (lit< tt) (p6 .1) in
-      let p8 = passed notAtSlot _ _ (lit< tt) (p7 .1) in
-      let p9 = passed noLanes _ _ (lit< tt) (p8 .1) in
-      let all = not-false (both (withinLimits e) (within countMin countMax k)) (p1 .0) in (
-        record {
-          timely = timely es i τ (changes k) (both-l (withinLimits e) (within countMin countMax k) all) (p2 .0);
-          there = not-false (isThereIn (lifeOf es i) τ) (p3 .0);
-          some = ne-zero-pos (countIn (lifeOf es i) τ) (eqb-false (countIn (lifeOf es i) τ) 0 (p5 .0));
-          fresh = eqb-false τ (latestOf es i) (p7 .0);
-          on-tick = on-its-tick (lifeOf es i) (min (countIn (lifeOf es i) τ) k) τ (p8 .0);
-        },
-        ltb-false lanes (heldOver (e ∷ es) τ) (p9 .0),
+      let clear = clears (changes k) h in
+      let all = not-false (both (withinLimits e) (within countMin countMax k)) (clear outsideLimits) in (
+        turned (changes k) (min (countIn (lifeOf es i) τ) k) (both-l (withinLimits e) (within countMin countMax k) all) (clear tooEarly) (clear notThere) (clear isClosing) (clear secondEvent) (clear notAtSlot),
+        ltb-false lanes (heldOver (e ∷ es) τ) (clear noLanes),
       )
 
   pub closing : answerTo lanes es (event i τ closes) (lifeOf es i) closes ≡ 0 → Turned es i τ
-  unfolding answerTo
+  unfolding hitsOf
   closing h =
-      let e : Event = event i τ closes in
-      let p1 = passed outsideLimits _ _ (lit< tt) h in
-      let p2 = passed tooEarly _ _ (lit< tt) (p1 .1) in
-      let p3 = passed notThere _ _ (lit< tt) (p2 .1) in
-      let p5 = passed isClosing _ _ (lit< tt) (p3 .1) in
-      let p7 = passed secondEvent _ _ (lit< tt) (p5 .1) in
-      let p8 = passed notAtSlot _ _ (lit< tt) (p7 .1) in
-      record {
-        timely = timely es i τ closes (not-false (withinLimits e) (p1 .0)) (p2 .0);
-        there = not-false (isThereIn (lifeOf es i) τ) (p3 .0);
-        some = ne-zero-pos (countIn (lifeOf es i) τ) (eqb-false (countIn (lifeOf es i) τ) 0 (p5 .0));
-        fresh = eqb-false τ (latestOf es i) (p7 .0);
-        on-tick = on-its-tick (lifeOf es i) (lifeOf es i .floor) τ (p8 .0);
-      }
+      let clear = clears closes h in
+      turned closes (lifeOf es i .floor) (not-false (withinLimits (event i τ closes)) (clear outsideLimits)) (clear tooEarly) (clear notThere) (clear isClosing) (clear secondEvent) (clear notAtSlot)
 
   -- whatever it does
   pub in-order : (a : Act) → answerTo lanes es (event i τ a) (lifeOf es i) a ≡ 0 → Timely es i τ

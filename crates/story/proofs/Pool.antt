@@ -15,11 +15,11 @@ use Rattle.rules.specs.Search.{howMany, total}
 use Rattle.rules.proofs.Tests.{decide}
 use Rattle.rules.proofs.Search
 use Rattle.story.specs.Life.{isActive, droppedAt, isHeld}
-use Rattle.story.specs.Story.{Act, opens, changes, closes, Event, Life, unopened, tickLength, tickIn, turn, lifeAfter, lifeOf, latestOf, lastTime, upTo, isHeldIn, heldIn, heldOver, answerTo, Accepted, none, more}
+use Rattle.story.specs.Story.{Act, opens, changes, closes, Event, event, Life, unopened, tickLength, tickIn, turn, lifeAfter, lifeOf, latestOf, lastTime, upTo, isHeldIn, heldIn, heldOver, answerTo, Accepted, none, more}
 use Rattle.story.proofs.Clock.{tick-mono}
 use Rattle.story.proofs.Held.{dropped-le, held-active, held-sending, held-falls, owes-local, dropped-local}
 use Rattle.story.proofs.Turn.{turn-before, turn-from}
-use Rattle.story.proofs.Passed.{event, opening, changing, in-order}
+use Rattle.story.proofs.Passed.{opening, changing, in-order}
 use Rattle.story.proofs.Lively.{Lively, lively, newest}
 
 -- from its latest event on a title only releases lanes

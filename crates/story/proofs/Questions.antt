@@ -6,20 +6,20 @@ use mathlib.Core.Logic.{⊎-elim}
 use mathlib.Core.List.{List}
 use Prim.Native.Nat.{ℕ, _-_, _≤_, _<_}
 use native.Mathlib.Omega.{arith}
-use lib.Dec.{ltb, leb, lit<}
+use lib.Dec.{ltb, leb}
 use borrow.Author.Tests.{ltb-true, ltb-false, le-ltb, leb-true, eq-eqb, not-false}
 use Rattle.rules.specs.Limits.{both, poolMax, idMax, laneMax, askedMax, titlesMax}
 use Rattle.rules.specs.Refusals.{outsideLimits, tooEarly, notThere, wrongRows}
 use Rattle.rules.specs.Search.{after}
 use Rattle.rules.proofs.Tests.{decide, both-l, both-r}
 use Rattle.rules.proofs.Search
-use Rattle.rules.proofs.Refusals.{hit-same, passed}
+use Rattle.rules.proofs.Refusals.{hitsOf, numbered, cleared, hit-same}
 use Rattle.story.specs.declared.Title.{Title}
 use Rattle.story.specs.declared.State.{State}
 use Rattle.story.specs.Life.{isActive, droppedAt, reach, owes, cell, isHeld}
 use Rattle.story.specs.Kept.{titleAt, stateOk, tickAt, shows}
 use Rattle.story.specs.Calls.{laneHeld, laneAnswer, laneShows, statusAnswer, statusCount, statusHeld}
-use Rattle.story.specs.Story.{Event, Life, unopened, lifeOf, latestOf, lastTime, tickIn, countIn, airIn, isHeldIn, heldIn, laneAnswerTo, statusAnswerTo}
+use Rattle.story.specs.Story.{Event, Life, unopened, lifeOf, latestOf, lastTime, tickIn, countIn, airIn, isHeldIn, heldIn, laneOrder, laneAnswerTo, statusAnswerTo}
 use Rattle.story.proofs.Held.{held-sending}
 use Rattle.story.proofs.Kept.{later, held-kept, shows-kept, mode-some}
 use Rattle.story.proofs.Tells.{TellsTitle, absent, present, owes-none, count-told, held-told}
@@ -80,18 +80,26 @@ module _ (lanes : ℕ) (high : lanes ≤ poolMax) (es : List Event) (s : State) 
       (ap not (lane-held-told (lifeOf es i) (latestOf es i) (titleAt s i) l τ told (omega (arith, ltb-false τ (titleAt s i .last) t2))))
       (λ t3. refl)))
 
-  -- the cell that is answered is the cell on air
+  -- a question that is answered clears every refusal
+  lane-clears : (i l τ : ℕ) → laneAnswer s i l τ ≡ 0 → (n : ℕ) → hitsOf n (laneOrder es i l τ) ≡ false
+  unfolding laneAnswerTo numbered
+  lane-clears i l τ h = cleared (laneOrder es i l τ) refl (sym (lane-answer-told i l τ) ∙ h)
+
+  -- it was not too early for its id
+  pub lane-late : (i l τ : ℕ) → laneAnswer s i l τ ≡ 0 → latestOf es i ≤ τ
+  unfolding hitsOf
+  lane-late i l τ h = ltb-false τ (latestOf es i) (lane-clears i l τ h tooEarly)
+
+  -- and the cell that is answered is the cell on air
   pub lane-cell-told : (i l τ : ℕ) → laneAnswer s i l τ ≡ 0 → airIn (lifeOf es i) l τ ≡ cell (laneShows s i l τ)
-  unfolding laneAnswerTo laneShows
+  unfolding hitsOf laneShows
   lane-cell-told i l τ h =
-      let p1 = passed outsideLimits _ _ (lit< tt) (sym (lane-answer-told i l τ) ∙ h) in
-      let p2 = passed tooEarly _ _ (lit< tt) (p1 .1) in
-      let p3 = passed notThere _ _ (lit< tt) (p2 .1) in
+      let clear = lane-clears i l τ h in
       let rest : Bool = both (leb l laneMax) (leb τ askedMax) in
-      let nums : both (leb i idMax) rest ≡ true = not-false (both (leb i idMax) rest) (p1 .0) in
+      let nums : both (leb i idMax) rest ≡ true = not-false (both (leb i idMax) rest) (clear outsideLimits) in
       let told = w .tells .title i (omega (arith, leb-true i idMax (both-l (leb i idMax) rest nums))) in
-      lane-shows-told (lifeOf es i) (latestOf es i) (titleAt s i) l τ told (ltb-false τ (latestOf es i) (p2 .0))
-      (not-false (isHeldIn (lifeOf es i) l τ) (p3 .0))
+      lane-shows-told (lifeOf es i) (latestOf es i) (titleAt s i) l τ told (lane-late i l τ h)
+      (not-false (isHeldIn (lifeOf es i) l τ) (clear notThere))
       ∙ ap cell (sym (rw (eq-eqb (laneAnswer s i l τ) 0 h) refl))
 
   pub status-answer-told : (τ : ℕ) (ids : List ℕ) (m h : ℕ) → statusAnswer s τ ids m h ≡ statusAnswerTo es τ ids m h

@@ -18,17 +18,14 @@ use Rattle.story.specs.declared.State.{State}
 use Rattle.story.specs.Life.{isActive}
 use Rattle.story.specs.Kept.{noTitle, stateOk}
 use Rattle.story.specs.Calls.{blankTitle, emptyPool}
-use Rattle.story.specs.Story.{Act, opens, changes, closes, Event, Life, unopened, lifeOf, latestOf, isHeldIn, heldIn, heldOver, isThereIn, answerTo, answer, taking, accepted}
-use Rattle.story.specs.Runs.{callNext, answered, called, stateAfter}
+use Rattle.story.specs.Story.{Act, opens, changes, closes, Event, event, Life, unopened, lifeOf, latestOf, isHeldIn, heldIn, heldOver, isThereIn, answerTo, answer, taking, accepted}
+use Rattle.story.specs.Next.{callNext}
+use Rattle.story.specs.Runs.{answered, called, stateAfter, lanesOf}
 use Rattle.story.proofs.Held.{held-active}
 use Rattle.story.proofs.Tells.{absent, Tells}
 use Rattle.story.proofs.Limits.{Funded, state-ok}
 use Rattle.story.proofs.Answers.{answer-told, next-told}
-use Rattle.story.proofs.Passed.{event, opening, changing, closing}
-
--- the lanes of the pool that a fresh call gives
-abbrev pub lanesOf : ℕ → ℕ
-lanesOf pool = pick (within poolMin poolMax pool) pool 0
+use Rattle.story.proofs.Passed.{opening, changing, closing}
 
 pub lanes-limit : (pool : ℕ) → lanesOf pool ≤ poolMax
 lanes-limit pool =

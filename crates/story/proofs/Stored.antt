@@ -23,10 +23,10 @@ use Rattle.grid.proofs.Ticks.{slot-pos}
 use Rattle.grid.proofs.Lanes.{lane-not-in}
 use Rattle.grid.proofs.Plan.{taken-in, taken-out}
 use Rattle.story.specs.declared.Title.{Title}
-use Rattle.story.specs.Life.{isAdmission, isOwed, isRuling, lastEnd, Ruled, Legal}
+use Rattle.story.specs.Life.{isAdmission, isOwed}
+use Rattle.story.proofs.Ruled.{isRuling, lastEnd, Ruled, Legal, admitted}
 use Rattle.story.specs.Kept.{wantsFrom, wants, keptOwed}
 use Rattle.story.proofs.Owed.{owed-in, owed-out}
-use Rattle.story.proofs.InTime.{admitted}
 
 -- the remainder by a slot is 0 at a slot start
 pub slot-start-zero : (K k t : ℕ) → isSlotStart K k t ≡ true → t % slot K k ≡ 0

@@ -19,7 +19,8 @@ use Rattle.rules.proofs.Search
 use Rattle.grid.specs.Ticks.{tickOf}
 use Rattle.story.specs.declared.Title.{Title}
 use Rattle.story.specs.declared.State.{State}
-use Rattle.story.specs.Life.{droppedAt, isOwed, isAwaited, reach, owedWithin, owes, lastEnd}
+use Rattle.story.specs.Life.{droppedAt, isOwed, isAwaited, reach, owedWithin, owes}
+use Rattle.story.proofs.Ruled.{lastEnd}
 use Rattle.story.specs.Kept.{titleAt, tickAt, ruling, titleHeld, lanesHeld, isThere}
 use Rattle.story.specs.Next.{openedTitle, withTitle}
 use Rattle.story.specs.Calls.{blankTitle}

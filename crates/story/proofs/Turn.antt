@@ -19,7 +19,8 @@ use Rattle.rules.proofs.Tests.{decide, both-in, pick-true, pick-false}
 use Rattle.rules.proofs.Search
 use Rattle.grid.specs.Ticks.{tickOf, isSlotStart}
 use Rattle.story.specs.declared.Title.{Title}
-use Rattle.story.specs.Life.{isActive, droppedAt, isOwed, reach, owedWithin, owes, Ruled, Legal, isRuling, lastEnd}
+use Rattle.story.specs.Life.{isActive, droppedAt, isOwed, reach, owedWithin, owes}
+use Rattle.story.proofs.Ruled.{Ruled, Legal, isRuling, lastEnd}
 use Rattle.story.specs.Kept.{tickAt, ruling, keptOwed, keptWithin}
 use Rattle.story.specs.Next.{ended, turned, turnedTitle}
 use Rattle.story.specs.Story.{turn}

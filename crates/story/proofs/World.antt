@@ -14,14 +14,14 @@ use borrow.Author.Tests.{ltb-true, ltb-false, le-ltb, leb-false, lt-leb, eqb-tru
 use Rattle.rules.specs.Limits.{poolMax, titlesMax}
 use Rattle.rules.proofs.Tests.{decide, both-l, either-false-l, either-false-r}
 use Rattle.rules.proofs.Search
-use Rattle.grid.specs.Ticks.{holdsFilm, isSlotStart}
+use Rattle.grid.specs.Ticks.{isSlotStart}
 use Rattle.story.specs.Life.{isAdmission, isActive, cell, onAir, isHeld}
-use Rattle.story.specs.Story.{Act, opens, changes, closes, Event, Life, tickLength, tickIn, momentOf, turn, underRule, lifeAfter, lifeOf, latestOf, lastTime, upTo, countIn, isHeldIn, heldIn, isThereIn, answerTo, answer, Accepted, none, more, lifeAt, airAt, Found, Begins}
-use Rattle.story.proofs.Clock.{tick-mono, tick-of-moment, begun, on-its-tick}
+use Rattle.story.specs.Story.{Act, opens, changes, closes, Event, event, Life, tickLength, tickIn, momentOf, turn, underRule, lifeAfter, lifeOf, latestOf, lastTime, upTo, countIn, isHeldIn, heldIn, isThereIn, answerTo, answer, Accepted, none, more, lifeAt, filmAt, admitsAt, airOn, airAt, InTick, Received, Begins}
+use Rattle.story.proofs.Clock.{tick-mono, in-tick, begun, on-its-tick}
 use Rattle.story.proofs.InTime.{film-in-time}
 use Rattle.story.proofs.Held.{air-local, held-falls}
 use Rattle.story.proofs.Turn.{turn-before}
-use Rattle.story.proofs.Passed.{event, Turned, opening, changing, closing, in-order}
+use Rattle.story.proofs.Passed.{Turned, opening, changing, closing, in-order}
 use Rattle.story.proofs.Lively.{Lively, lively, newest}
 
 -- the life as it stood at an earlier moment is the same opening, and its rule the same up to that moment
@@ -95,38 +95,37 @@ stood lanes es high none i τ since = record { rule = λ u. 0; life = refl; agre
 stood lanes es high (more {e = e} {es = es′} acc h) i τ since =
     stood-more lanes e es′ high acc h i τ since (λ j was. stood lanes es′ high acc j τ was)
 
--- what a life says of a tick is what was on air when the tick began
-pub air-stood : (lanes : ℕ) (es : List Event) → lanes ≤ poolMax → Accepted lanes es → (i l t : ℕ) → 0 < tickLength (lifeOf es i) → airAt es i l (momentOf (lifeOf es i) t) ≡ onAir (lifeOf es i .floor) (lifeOf es i .cap) (lifeOf es i .rule) l t
+-- what a life says of a tick is what was on air at every moment of the tick
+pub air-stood : (lanes : ℕ) (es : List Event) → lanes ≤ poolMax → Accepted lanes es → (i l t τ : ℕ) → 0 < tickLength (lifeOf es i) → InTick (lifeOf es i) t τ → airAt es i l τ ≡ airOn (lifeOf es i) l t
 unfolding tickIn
-air-stood lanes es high acc i l t pos =
+air-stood lanes es high acc i l t τ pos h =
     let L : Life = lifeOf es i in
-    let w = stood lanes es high acc i (momentOf L t) (omega arith) in
-    rw (w .life, tick-of-moment (L .opened) (tickLength L) pos t)
+    let w = stood lanes es high acc i τ (omega (arith, h .from)) in
+    rw (w .life, in-tick (L .opened) (tickLength L) pos τ t (h .from) (h .until))
     (air-local (L .floor) (L .cap) (w .rule) (L .rule) l t
-    (λ u le. w .agree u (let m : u * tickLength L ≤ t * tickLength L = mul-le-mul-right (tickLength L) le in omega arith)))
+    (λ u le. w .agree u (let m : u * tickLength L ≤ t * tickLength L = mul-le-mul-right (tickLength L) le in omega (arith, h .from))))
 
 -- a box of the life L, begun at tick a, seen after more events: the opening is still the id's latest, or it is over and
--- every cell of the film has been found before the last event
-data Follows (es : List Event) (i : ℕ) (L : Life) (a : ℕ) : Type 0 where
-  current : (r : ℕ → ℕ) → lifeOf es i ≡ underRule L r → ((u : ℕ) → u ≤ a → r u ≡ L .rule u) → Follows es i L a
-  over : ((c : ℕ) → holdsFilm (L .length) (L .floor) (L .cap) c ≡ true → (f : Found es i L a c) × (momentOf L (f .tick) < lastTime es)) → Follows es i L a
+-- every cell of the film has been received before the last event
+data Watched (es : List Event) (i : ℕ) (L : Life) (a : ℕ) : Type 0 where
+  current : (r : ℕ → ℕ) → lifeOf es i ≡ underRule L r → ((u : ℕ) → u ≤ a → r u ≡ L .rule u) → Watched es i L a
+  over : ((c : ℕ) → filmAt L c ≡ true → (f : Received es i L a c) × (momentOf L (suc (f .tick)) ≤ lastTime es)) → Watched es i L a
 
 -- events after a moment don't count at it
 upTo-skip : (τ : ℕ) (e : Event) (es : List Event) → τ < e .time → upTo τ (e ∷ es) ≡ upTo τ es
 unfolding upTo
 upTo-skip τ e es lt = rw (lt-leb (e .time) τ lt) refl
 
-found-skip : (e : Event) (es : List Event) (i : ℕ) (L : Life) (a c : ℕ) (f : Found es i L a c) → momentOf L (f .tick) < e .time → Found (e ∷ es) i L a c
-found-skip e es i L a c f lt =
-    let q = upTo-skip (momentOf L (f .tick)) e es lt in
+received-skip : (e : Event) (es : List Event) (i : ℕ) (L : Life) (a c : ℕ) (f : Received es i L a c) → momentOf L (suc (f .tick)) ≤ e .time → Received (e ∷ es) i L a c
+received-skip e es i L a c f le =
     record {
       lane = f .lane;
       tick = f .tick;
       lane-low = f .lane-low;
       from-start = f .from-start;
       by-turn = f .by-turn;
-      same-opening = rw q (f .same-opening);
-      carries = rw q (f .carries);
+      same-opening = λ τ h. rw (upTo-skip τ e es (omega (arith, h .until))) (f .same-opening τ h);
+      carries = λ τ h. rw (upTo-skip τ e es (omega (arith, h .until))) (f .carries τ h);
     }
 
 -- where a cell is found under the rule that a life has come to
@@ -142,7 +141,7 @@ nobody : (K : ℕ) (r : ℕ → ℕ) (a : ℕ) → r a ≡ 0 → isAdmission K r
 unfolding isAdmission
 nobody K r a e h = false≢true (sym (rw e refl) ∙ both-l (ltb 0 (r a)) (isSlotStart K (r a) a) h)
 
-module _ (lanes : ℕ) (es : List Event) (high : lanes ≤ poolMax) (acc : Accepted lanes es) (i : ℕ) (id : i < titlesMax) (L : Life) (a : ℕ) (adm : isAdmission (L .cap) (L .rule) a ≡ true) (r : ℕ → ℕ) (life : lifeOf es i ≡ underRule L r) (agree : (u : ℕ) → u ≤ a → r u ≡ L .rule u) where
+module _ (lanes : ℕ) (es : List Event) (high : lanes ≤ poolMax) (acc : Accepted lanes es) (i : ℕ) (id : i < titlesMax) (L : Life) (a : ℕ) (adm : admitsAt L a ≡ true) (r : ℕ → ℕ) (life : lifeOf es i ≡ underRule L r) (agree : (u : ℕ) → u ≤ a → r u ≡ L .rule u) where
   still-admitted : isAdmission (L .cap) r a ≡ true
   unfolding isAdmission
   still-admitted = rw (agree a (omega arith)) adm
@@ -155,29 +154,30 @@ module _ (lanes : ℕ) (es : List Event) (high : lanes ≤ poolMax) (acc : Accep
       (λ w. rw life at w)
       (lively lanes es high acc i id)
 
-  sight : (c : ℕ) → holdsFilm (L .length) (L .floor) (L .cap) c ≡ true → Sight L r a c
+  sight : (c : ℕ) → filmAt L c ≡ true → Sight L r a c
   sight c film =
       let f = film-in-time (L .floor) (L .cap) r (alive .ruled) (L .length) a c (alive .floor-some) still-admitted film in
       record { lane = f .0; tick = f .2; lane-low = f .1; from-start = f .3; by-turn = f .4; carries = f .5 }
 
   -- what is seen in the life was on air then
-  sight-found : (c : ℕ) → Sight L r a c → Found es i L a c
-  sight-found c g =
-      let m : momentOf (lifeOf es i) (g .tick) ≡ momentOf L (g .tick) = ap (λ X. momentOf X (g .tick)) life in
+  sight-received : (c : ℕ) → Sight L r a c → Received es i L a c
+  sight-received c g =
       let pos : 0 < tickLength (lifeOf es i) = rw life (alive .tick-some) in
-      let w = stood lanes es high acc i (momentOf L (g .tick)) (rw life (omega arith)) in
+      let then : (τ : ℕ) → InTick L (g .tick) τ → InTick (lifeOf es i) (g .tick) τ = λ τ h. rw life (record { from = h .from; until = h .until }) in
       record {
         lane = g .lane;
         tick = g .tick;
         lane-low = g .lane-low;
         from-start = g .from-start;
         by-turn = g .by-turn;
-        same-opening = ap (λ (X : Life). X .opened) (w .life ∙ ap (λ X. underRule X (w .rule)) life);
-        carries = rw m at (air-stood lanes es high acc i (g .lane) (g .tick) pos) ∙ rw life (g .carries);
+        same-opening = λ τ h.
+            let w = stood lanes es high acc i τ (omega (arith, then τ h .from)) in
+            ap (λ (X : Life). X .opened) (w .life ∙ ap (λ X. underRule X (w .rule)) life);
+        carries = λ τ h. air-stood lanes es high acc i (g .lane) (g .tick) τ pos (then τ h) ∙ rw life (g .carries);
       }
 
   -- where the id may open again, the cell was seen before
-  seen-before : (c τ : ℕ) → lastTime es ≤ τ → isThereIn (lifeOf es i) τ ≡ false → (g : Sight L r a c) → momentOf L (g .tick) < τ
+  seen-before : (c τ : ℕ) → lastTime es ≤ τ → isThereIn (lifeOf es i) τ ≡ false → (g : Sight L r a c) → momentOf L (suc (g .tick)) ≤ τ
   unfolding isHeld isActive tickIn heldIn
   seen-before c τ late away g =
       let X : Life = underRule L r in
@@ -201,7 +201,7 @@ module _ (lanes : ℕ) (es : List Event) (high : lanes ≤ poolMax) (acc : Accep
       (decide (ltb (g .tick) n))
 
 -- a change or a close after the box's start turns only later ticks
-own-turn : (lanes : ℕ) (es : List Event) → lanes ≤ poolMax → Accepted lanes es → (i τ k : ℕ) → Turned es i τ → (L : Life) (a : ℕ) → momentOf L a < τ → (r : ℕ → ℕ) → lifeOf es i ≡ underRule L r → ((u : ℕ) → u ≤ a → r u ≡ L .rule u) → (b : Act) → ((X : Life) → lifeAfter X τ b ≡ underRule X (turn (X .rule) (tickIn X τ) k)) → Follows (event i τ b ∷ es) i L a
+own-turn : (lanes : ℕ) (es : List Event) → lanes ≤ poolMax → Accepted lanes es → (i τ k : ℕ) → Turned es i τ → (L : Life) (a : ℕ) → momentOf L a < τ → (r : ℕ → ℕ) → lifeOf es i ≡ underRule L r → ((u : ℕ) → u ≤ a → r u ≡ L .rule u) → (b : Act) → ((X : Life) → lifeAfter X τ b ≡ underRule X (turn (X .rule) (tickIn X τ) k)) → Watched (event i τ b ∷ es) i L a
 unfolding lifeOf
 own-turn lanes es high acc i τ k w L a lt r life agree b turns =
     let X : Life = underRule L r in
@@ -217,30 +217,30 @@ own-turn lanes es high acc i τ k w L a lt r life agree b turns =
     ∙ agree u le)
 
 -- one more event of the box's own title
-own-event : (lanes : ℕ) (es : List Event) → lanes ≤ poolMax → Accepted lanes es → (i τ : ℕ) (b : Act) → answerTo lanes es (event i τ b) (lifeOf es i) b ≡ 0 → (L : Life) (a : ℕ) → isAdmission (L .cap) (L .rule) a ≡ true → momentOf L a < τ → (r : ℕ → ℕ) → lifeOf es i ≡ underRule L r → ((u : ℕ) → u ≤ a → r u ≡ L .rule u) → Follows (event i τ b ∷ es) i L a
-unfolding lifeOf sight-found found-skip
+own-event : (lanes : ℕ) (es : List Event) → lanes ≤ poolMax → Accepted lanes es → (i τ : ℕ) (b : Act) → answerTo lanes es (event i τ b) (lifeOf es i) b ≡ 0 → (L : Life) (a : ℕ) → admitsAt L a ≡ true → momentOf L a < τ → (r : ℕ → ℕ) → lifeOf es i ≡ underRule L r → ((u : ℕ) → u ≤ a → r u ≡ L .rule u) → Watched (event i τ b ∷ es) i L a
+unfolding lifeOf sight-received received-skip
 own-event lanes es high acc i τ (opens D A K k) h L a adm lt r life agree =
     let o = opening lanes es i τ D A K k h in
     let id : i < titlesMax = omega (arith, o .timely .id) in
     over
     (λ c film.
     let g = sight lanes es high acc i id L a adm r life agree c film in
-    let before : momentOf L (g .tick) < τ = seen-before lanes es high acc i id L a adm r life agree c τ (o .timely .late) (o .away) g in
-    (found-skip (event i τ (opens D A K k)) es i L a c (sight-found lanes es high acc i id L a adm r life agree c g) before, before))
+    let before : momentOf L (suc (g .tick)) ≤ τ = seen-before lanes es high acc i id L a adm r life agree c τ (o .timely .late) (o .away) g in
+    (received-skip (event i τ (opens D A K k)) es i L a c (sight-received lanes es high acc i id L a adm r life agree c g) before, before))
 own-event lanes es high acc i τ (changes k) h L a adm lt r life agree =
     own-turn lanes es high acc i τ k (changing lanes es i τ k h .0) L a lt r life agree (changes k) (λ X. refl)
 own-event lanes es high acc i τ closes h L a adm lt r life agree =
     own-turn lanes es high acc i τ 0 (closing lanes es i τ h) L a lt r life agree closes (λ X. refl)
 
 -- one more event of any title, after the box's start
-follow-more : (lanes : ℕ) (e : Event) (es : List Event) → lanes ≤ poolMax → Accepted lanes es → answer lanes es e ≡ 0 → (i : ℕ) (L : Life) (a : ℕ) → isAdmission (L .cap) (L .rule) a ≡ true → momentOf L a < e .time → Follows es i L a → Follows (e ∷ es) i L a
-unfolding lifeOf found-skip
+follow-more : (lanes : ℕ) (e : Event) (es : List Event) → lanes ≤ poolMax → Accepted lanes es → answer lanes es e ≡ 0 → (i : ℕ) (L : Life) (a : ℕ) → admitsAt L a ≡ true → momentOf L a < e .time → Watched es i L a → Watched (e ∷ es) i L a
+unfolding lifeOf received-skip
 follow-more lanes e es high acc h i L a adm lt (over f) =
     let late : lastTime es ≤ e .time = in-order lanes es (e .title) (e .time) (e .act) h .late in
     over
     (λ c film.
     let g = f c film in
-    (found-skip e es i L a c (g .0) (omega (arith, g .1)), omega (arith, g .1)))
+    (received-skip e es i L a c (g .0) (omega (arith, g .1)), omega (arith, g .1)))
 follow-more lanes e es high acc h i L a adm lt (current r life agree) =
     ⊎-elim
     (λ y.
@@ -249,7 +249,7 @@ follow-more lanes e es high acc h i L a adm lt (current r life agree) =
     (λ y. current r (rw y life) agree)
     (decide (eqb (e .title) i))
 
-begun-or-more : (lanes : ℕ) (e : Event) (es : List Event) → lanes ≤ poolMax → Accepted lanes es → answer lanes es e ≡ 0 → (i τ a : ℕ) → Begins (e ∷ es) i τ a → (Begins es i τ a → Follows es i (lifeAt es i τ) a) → Follows (e ∷ es) i (lifeAt (e ∷ es) i τ) a
+begun-or-more : (lanes : ℕ) (e : Event) (es : List Event) → lanes ≤ poolMax → Accepted lanes es → answer lanes es e ≡ 0 → (i τ a : ℕ) → Begins (e ∷ es) i τ a → (Begins es i τ a → Watched es i (lifeAt es i τ) a) → Watched (e ∷ es) i (lifeAt (e ∷ es) i τ) a
 unfolding upTo
 begun-or-more lanes e es high acc h i τ a b was =
     ⊎-elim
@@ -263,21 +263,21 @@ begun-or-more lanes e es high acc h i τ a b was =
     (decide (leb (e .time) τ))
 
 -- from the box's start on, the sequence follows its life
-follows : (lanes : ℕ) (es : List Event) → lanes ≤ poolMax → Accepted lanes es → (i τ a : ℕ) → Begins es i τ a → Follows es i (lifeAt es i τ) a
+follows : (lanes : ℕ) (es : List Event) → lanes ≤ poolMax → Accepted lanes es → (i τ a : ℕ) → Begins es i τ a → Watched es i (lifeAt es i τ) a
 unfolding upTo lifeOf
 follows lanes es high none i τ a b = current (λ u. 0) refl (λ u le. refl)
 follows lanes es high (more {e = e} {es = es′} acc h) i τ a b = begun-or-more lanes e es′ high acc h i τ a b (follows lanes es′ high acc i τ a)
 
 -- demand 3: whatever accepted events follow, a box that begins at an admission finds every cell that holds film on a lane
 -- of its title, at or after its start and no later than the cell's turn
-pub no-box-runs-dry : (lanes : ℕ) (es : List Event) → lanes ≤ poolMax → Accepted lanes es → (i τ a c : ℕ) → i < titlesMax → Begins es i τ a → holdsFilm (lifeAt es i τ .length) (lifeAt es i τ .floor) (lifeAt es i τ .cap) c ≡ true → Found es i (lifeAt es i τ) a c
+pub no-box-runs-dry : (lanes : ℕ) (es : List Event) → lanes ≤ poolMax → Accepted lanes es → (i τ a c : ℕ) → i < titlesMax → Begins es i τ a → filmAt (lifeAt es i τ) c ≡ true → Received es i (lifeAt es i τ) a c
 no-box-runs-dry lanes es high acc i τ a c id b film =
     go (follows lanes es high acc i τ a b)
   where
     L : Life
     L = lifeAt es i τ
 
-    go : Follows es i L a → Found es i L a c
+    go : Watched es i L a → Received es i L a c
     go (current r life agree) =
-        sight-found lanes es high acc i id L a (b .admission) r life agree c (sight lanes es high acc i id L a (b .admission) r life agree c film)
+        sight-received lanes es high acc i id L a (b .admission) r life agree c (sight lanes es high acc i id L a (b .admission) r life agree c film)
     go (over f) = f c film .0

@@ -1,23 +1,25 @@
 -- What each call answers, in 01's order of refusals, read off the state as it stands (01, "Numbers that calls give back").
-use Prim.Native.Nat.{ℕ, min}
+use Prim.Native.Nat.{ℕ}
 use mathlib.Core.Bool.{Bool, not}
 use mathlib.Core.List.{List, [], _∷_}
 use lib.Dec.{leb, ltb, eqb}
 use lib.ListN.{getD, length, replicate}
-use Rattle.rules.specs.Limits.{both, either, within, poolMin, poolMax, idMax, floorMin, floorMax, countMin, countMax, lengthMin, lengthMax, eventTimeMax, askedMax, laneMax, countPlaces, lanePlaces, titlesMax}
-use Rattle.rules.specs.Refusals.{pick, refuse, firstHit, outsideLimits, tooEarly, notThere, idTaken, isClosing, wrongCount, secondEvent, notAtSlot, noLanes, wrongRows}
+use Rattle.rules.specs.Limits.{both, within, poolMin, poolMax, idMax, eventTimeMax, askedMax, laneMax, countPlaces, lanePlaces, titlesMax}
+use Rattle.rules.specs.Refusals.{pick, refuse, firstHit, outsideLimits, tooEarly, notThere, wrongRows}
 use Rattle.rules.specs.Search.{every}
 use Rattle.grid.specs.Ticks.{isSlotStart}
 use Rattle.story.specs.declared.Title.{Title}
 use Rattle.story.specs.declared.State.{State}
-use Rattle.story.specs.Kept.{titleAt, stateOk, tickAt, atTickStart, ruling, keptHeld, titleHeld, lanesHeld, isThere, shows}
-use Rattle.story.specs.Next.{openNext, changeNext}
+use Rattle.story.specs.Orders.{Tests}
+use Rattle.story.specs.Story.{Act, opens, changes, closes, actLimits, countWrong, permitted, orderOf}
+use Rattle.story.specs.Kept.{absentMode, closingMode, titleAt, stateOk, tickAt, atTickStart, ruling, keptHeld, titleHeld, lanesHeld, isThere, shows}
+use Rattle.story.specs.Next.{callNext}
 
 -- the slot of an id that no event has named
 abbrev pub blankTitle : Title
 blankTitle =
     record
-    { mode = 0; opened = 0; length = 0; floor = 0; cap = 0; count = 0; last = 0; ends = replicate countPlaces 0; dropped = replicate lanePlaces 0; owed = replicate lanePlaces 0 }
+    { mode = absentMode; opened = 0; length = 0; floor = 0; cap = 0; count = 0; last = 0; ends = replicate countPlaces 0; dropped = replicate lanePlaces 0; owed = replicate lanePlaces 0 }
 
 -- a pool without titles
 abbrev pub emptyPool : ℕ → State
@@ -34,56 +36,44 @@ freshNext n = emptyPool (pick (within poolMin poolMax n) n 0)
 abbrev pub eventOk : State → ℕ → ℕ → Bool
 eventOk s i τ = both (stateOk s) (both (leb i idMax) (leb τ eventTimeMax))
 
-abbrev pub openOk : ℕ → ℕ → ℕ → ℕ → Bool
-openOk D A K k =
-    both (within lengthMin lengthMax D)
-    (both (within floorMin floorMax A) (both (within countMin countMax K) (within countMin countMax k)))
-
 -- more lanes than the pool has would be held in a state at a time
 abbrev pub tooMany : State → ℕ → Bool
 tooMany s τ = ltb (s .pool) (lanesHeld s τ)
-
-unfoldable pub openAnswer : State → ℕ → ℕ → ℕ → ℕ → ℕ → ℕ → ℕ
-openAnswer s i τ D A K k =
-    firstHit
-    (refuse outsideLimits (not (both (eventOk s i τ) (openOk D A K k)))
-    ∷ refuse tooEarly (ltb τ (s .last))
-    ∷ refuse idTaken (isThere (titleAt s i) τ)
-    ∷ refuse wrongCount (either (ltb K A) (not (within A K k)))
-    ∷ refuse noLanes (tooMany (openNext s i τ D A K k) τ)
-    ∷ [])
 
 -- a time that is a slot start of count k of a title
 abbrev pub atSlotStart : Title → ℕ → ℕ → Bool
 atSlotStart t k τ = both (atTickStart t τ) (isSlotStart (t .cap) k (tickAt t τ))
 
-unfoldable pub changeAnswer : State → ℕ → ℕ → ℕ → ℕ
-changeAnswer s i τ k =
-    firstHit
-    (refuse outsideLimits (not (both (eventOk s i τ) (within countMin countMax k)))
-    ∷ refuse tooEarly (ltb τ (s .last))
-    ∷ refuse notThere (not (isThere (titleAt s i) τ))
-    ∷ refuse isClosing (eqb (titleAt s i .mode) 2)
-    ∷ refuse wrongCount (either (not (within (titleAt s i .floor) (titleAt s i .cap) k)) (eqb k (titleAt s i .count)))
-    ∷ refuse secondEvent (eqb τ (titleAt s i .last))
-    ∷ refuse notAtSlot (not (atSlotStart (titleAt s i) (min (titleAt s i .count) k) τ))
-    ∷ refuse noLanes (tooMany (changeNext s i τ k) τ)
-    ∷ [])
+-- what the refusals ask of an event of title i at τ, read off the state as it stands
+abbrev pub testsIn : State → ℕ → ℕ → Act → Tests
+testsIn s i τ a =
+    record {
+      outside = not (actLimits a (eventOk s i τ));
+      early = ltb τ (s .last);
+      there = isThere (titleAt s i) τ;
+      closing = eqb (titleAt s i .mode) closingMode;
+      wrong = countWrong a (titleAt s i .floor) (titleAt s i .cap) (titleAt s i .count);
+      second = eqb τ (titleAt s i .last);
+      off = not (atSlotStart (titleAt s i) (permitted a (titleAt s i .floor) (titleAt s i .count)) τ);
+      full = tooMany (callNext s i τ a) τ;
+    }
 
-unfoldable pub closeAnswer : State → ℕ → ℕ → ℕ
-closeAnswer s i τ =
-    firstHit
-    (refuse outsideLimits (not (eventOk s i τ))
-    ∷ refuse tooEarly (ltb τ (s .last))
-    ∷ refuse notThere (not (isThere (titleAt s i) τ))
-    ∷ refuse isClosing (eqb (titleAt s i .mode) 2)
-    ∷ refuse secondEvent (eqb τ (titleAt s i .last))
-    ∷ refuse notAtSlot (not (atSlotStart (titleAt s i) (titleAt s i .floor) τ))
-    ∷ [])
+-- the number that a call of the scheduler answers to an event
+unfoldable pub callAnswer : State → ℕ → ℕ → Act → ℕ
+callAnswer s i τ a = firstHit (orderOf a (testsIn s i τ a))
+
+abbrev pub openAnswer : State → ℕ → ℕ → ℕ → ℕ → ℕ → ℕ → ℕ
+openAnswer s i τ D A K k = callAnswer s i τ (opens D A K k)
+
+abbrev pub changeAnswer : State → ℕ → ℕ → ℕ → ℕ
+changeAnswer s i τ k = callAnswer s i τ (changes k)
+
+abbrev pub closeAnswer : State → ℕ → ℕ → ℕ
+closeAnswer s i τ = callAnswer s i τ closes
 
 -- lane l of a title is held at a time
 abbrev pub laneHeld : Title → ℕ → ℕ → Bool
-laneHeld t l τ = both (not (eqb (t .mode) 0)) (both (ltb l (t .cap)) (keptHeld t l (tickAt t τ)))
+laneHeld t l τ = both (not (eqb (t .mode) absentMode)) (both (ltb l (t .cap)) (keptHeld t l (tickAt t τ)))
 
 unfoldable pub laneAnswer : State → ℕ → ℕ → ℕ → ℕ
 laneAnswer s i l τ =

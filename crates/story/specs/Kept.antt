@@ -15,10 +15,20 @@ use Rattle.story.specs.declared.Title.{Title}
 use Rattle.story.specs.declared.State.{State}
 use Rattle.story.specs.Life.{reach}
 
+-- whether a slot has a title: none, one that is open, one that is closing
+abbrev pub absentMode : ℕ
+absentMode = 0
+
+abbrev pub openMode : ℕ
+openMode = 1
+
+abbrev pub closingMode : ℕ
+closingMode = 2
+
 abbrev pub noTitle : Title
 noTitle =
     record
-    { mode = 0; opened = 0; length = 0; floor = 0; cap = 0; count = 0; last = 0; ends = []; dropped = []; owed = [] }
+    { mode = absentMode; opened = 0; length = 0; floor = 0; cap = 0; count = 0; last = 0; ends = []; dropped = []; owed = [] }
 
 -- the slot of an id
 abbrev pub titleAt : State → ℕ → Title
@@ -31,7 +41,7 @@ rowOk row n = every (λ j. leb (getD row j 0) askedMax) n
 -- upper limits hold for every slot
 unfoldable pub numbersOk : Title → Bool
 numbersOk t =
-    both (leb (t .mode) 2)
+    both (leb (t .mode) closingMode)
     (both (leb (t .opened) askedMax)
     (both (leb (t .length) lengthMax)
     (both (leb (t .floor) floorMax)
@@ -47,14 +57,14 @@ orderOk t =
     (both (leb floorMin (t .floor)) (both (leb (t .floor) (t .cap)) (within (t .floor) (t .cap) (t .count))))
 
 unfoldable pub titleOk : Title → Bool
-titleOk t = both (numbersOk t) (either (eqb (t .mode) 0) (orderOk t))
+titleOk t = both (numbersOk t) (either (eqb (t .mode) absentMode) (orderOk t))
 
 -- the state of a refused fresh call apart, a pool has at least a lane: a pool of 0 has no titles
 unfoldable pub stateOk : State → Bool
 stateOk s =
     both (leb (s .pool) poolMax)
     (both (leb (s .last) askedMax)
-    (every (λ i. both (titleOk (titleAt s i)) (either (leb poolMin (s .pool)) (eqb (titleAt s i .mode) 0))) titlesMax))
+    (every (λ i. both (titleOk (titleAt s i)) (either (leb poolMin (s .pool)) (eqb (titleAt s i .mode) absentMode))) titlesMax))
 
 -- the ticks begun since the opening at a time in ms: B + t ticks is the start of tick t
 unfoldable pub tickAt : Title → ℕ → ℕ
@@ -66,7 +76,7 @@ atTickStart t τ = eqb ((τ - t .opened) % tickOf (t .length) (t .floor) (t .cap
 
 -- the ruling count, 0 where the title isn't open
 unfoldable pub ruling : Title → ℕ
-ruling t = pick (eqb (t .mode) 1) (t .count) 0
+ruling t = pick (eqb (t .mode) openMode) (t .count) 0
 
 -- channel d of count c, whose last boxes began a slot before the stored end, is taken at tick u with cell x on it
 unfoldable pub wantsFrom : Title → ℕ → ℕ → ℕ → ℕ → Bool
@@ -93,7 +103,7 @@ keptHeld t l n = either (ltb l (ruling t)) (ltb n (getD (t .dropped) l 0 + getD 
 
 -- how many lanes a title holds at a time
 unfoldable pub titleHeld : Title → ℕ → ℕ
-titleHeld t τ = pick (eqb (t .mode) 0) 0 (howMany (λ l. keptHeld t l (tickAt t τ)) (t .cap))
+titleHeld t τ = pick (eqb (t .mode) absentMode) 0 (howMany (λ l. keptHeld t l (tickAt t τ)) (t .cap))
 
 -- how many lanes are held over all titles at a time
 unfoldable pub lanesHeld : State → ℕ → ℕ
@@ -101,7 +111,7 @@ lanesHeld s τ = total (λ i. titleHeld (titleAt s i) τ) titlesMax
 
 -- the title is open, or closing with a lane still held
 unfoldable pub isThere : Title → ℕ → Bool
-isThere t τ = either (eqb (t .mode) 1) (ltb 0 (titleHeld t τ))
+isThere t τ = either (eqb (t .mode) openMode) (ltb 0 (titleHeld t τ))
 
 -- tick T + o is owed, with just i owed ticks before it
 unfoldable pub keptNth : Title → ℕ → ℕ → ℕ → ℕ → Bool

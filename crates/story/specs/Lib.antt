@@ -1,7 +1,8 @@
 -- What the events mean, told from their sequence alone, and what the scheduler keeps of them.
 pub mod Life
+pub mod Orders
+pub mod Story
 pub mod Kept
 pub mod Next
 pub mod Calls
-pub mod Story
 pub mod Runs

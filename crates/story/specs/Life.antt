@@ -1,8 +1,7 @@
 -- One title's life: the count that rules at each tick, and what follows from it alone: admissions, drops, owed ticks,
 -- what is on air on a lane, and whether the lane is held (01, "Events"). A rule r gives the ruling count at a tick, 0
 -- once the title is closing: a close is a change to no lanes. Nothing here reads what the scheduler stores.
-use Prim.Native.Nat.{ℕ, suc, _+_, _-_, _^_, _≤_, _<_, min, max}
-use mathlib.Core.Path.{_≡_}
+use Prim.Native.Nat.{ℕ, _+_, _-_, _^_}
 use mathlib.Core.Bool.{Bool, true, false}
 use lib.Dec.{ltb, eqb}
 use Rattle.rules.specs.Limits.{both}
@@ -74,20 +73,3 @@ isCell (cell c) = true
 -- 01, "Events": active or still sending
 unfoldable pub isHeld : ℕ → ℕ → (ℕ → ℕ) → ℕ → ℕ → Bool
 isHeld A K r l t = isCell (onAir A K r l t)
-
--- a rule that keeps to floor and cap, closing apart
-pub record Ruled (A K : ℕ) (r : ℕ → ℕ) : Type 0 where
-  pub low : (t : ℕ) → 0 < r t → A ≤ r t
-  pub high : (t : ℕ) → r t ≤ K
-
--- 01, "Events": the count changes only at slot starts of the smaller count, of count A where the title closes
-pub record Legal (A K : ℕ) (r : ℕ → ℕ) : Type 0 where
-  pub turns : (t : ℕ) → (r t ≡ r (suc t) → ⊥) → isSlotStart K (max A (min (r t) (r (suc t)))) (suc t) ≡ true
-
--- count c rules at tick t
-abbrev pub isRuling : (ℕ → ℕ) → ℕ → ℕ → Bool
-isRuling r c t = eqb (r t) c
-
--- the tick at which count c last stopped ruling, seen from tick T; 0 where it never ruled before
-unfoldable pub lastEnd : (ℕ → ℕ) → ℕ → ℕ → ℕ
-lastEnd r c T = after (isRuling r c) T

@@ -7,13 +7,14 @@ use Rattle.rules.specs.Refusals.{pick}
 use Rattle.story.specs.declared.Title.{Title}
 use Rattle.story.specs.declared.State.{State}
 use Rattle.story.specs.Life.{reach}
-use Rattle.story.specs.Kept.{titleAt, tickAt, keptWithin}
+use Rattle.story.specs.Story.{Act, opens, changes, closes}
+use Rattle.story.specs.Kept.{openMode, closingMode, titleAt, tickAt, keptWithin}
 
 -- a title opened at τ: no count has ended and no lane was dropped
 abbrev pub openedTitle : ℕ → ℕ → ℕ → ℕ → ℕ → Title
 openedTitle τ D A K k =
     record
-    { mode = 1; opened = τ; length = D; floor = A; cap = K; count = k; last = τ; ends = replicate countPlaces 0; dropped = replicate lanePlaces 0; owed = replicate lanePlaces 0 }
+    { mode = openMode; opened = τ; length = D; floor = A; cap = K; count = k; last = τ; ends = replicate countPlaces 0; dropped = replicate lanePlaces 0; owed = replicate lanePlaces 0 }
 
 -- the ruling count ends at tick n: the slot of its latest admission does
 abbrev pub ended : Title → ℕ → Title
@@ -45,11 +46,11 @@ turnedTitle t τ q m c = turned (dropLanes (ended t (tickAt t τ)) (tickAt t τ)
 
 -- a title whose count changes to k at τ
 unfoldable pub changedTitle : Title → ℕ → ℕ → Title
-changedTitle t τ k = turnedTitle t τ k 1 k
+changedTitle t τ k = turnedTitle t τ k openMode k
 
 -- a title that closes at τ is a turn to no lanes; the count is kept as it was
 unfoldable pub closedTitle : Title → ℕ → Title
-closedTitle t τ = turnedTitle t τ 0 2 (t .count)
+closedTitle t τ = turnedTitle t τ 0 closingMode (t .count)
 
 -- the state with another title at an id, after an event at τ
 abbrev pub withTitle : State → ℕ → Title → ℕ → State
@@ -63,3 +64,9 @@ changeNext s i τ k = withTitle s i (changedTitle (titleAt s i) τ k) τ
 
 abbrev pub closeNext : State → ℕ → ℕ → State
 closeNext s i τ = withTitle s i (closedTitle (titleAt s i) τ) τ
+
+-- the state that an accepted event gives
+abbrev pub callNext : State → ℕ → ℕ → Act → State
+callNext s i τ (opens D A K k) = openNext s i τ D A K k
+callNext s i τ (changes k) = changeNext s i τ k
+callNext s i τ closes = closeNext s i τ

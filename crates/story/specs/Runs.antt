@@ -1,25 +1,15 @@
 -- A run of calls on a fresh pool: what the state answers to an event, and the state that the calls leave (01, "Numbers
 -- that calls give back": a refused call gives back the state as it came in).
 use Prim.Native.Nat.{ℕ}
+use mathlib.Core.Path.{_≡_}
 use mathlib.Core.List.{List, [], _∷_}
 use lib.Dec.{eqb}
+use Rattle.rules.specs.Limits.{within, poolMin, poolMax}
 use Rattle.rules.specs.Refusals.{pick}
 use Rattle.story.specs.declared.State.{State}
-use Rattle.story.specs.Next.{openNext, changeNext, closeNext}
-use Rattle.story.specs.Calls.{openAnswer, changeAnswer, closeAnswer, freshNext}
-use Rattle.story.specs.Story.{Act, opens, changes, closes, Event}
-
--- the number that a call of the scheduler answers to an event
-abbrev pub callAnswer : State → ℕ → ℕ → Act → ℕ
-callAnswer s i τ (opens D A K k) = openAnswer s i τ D A K k
-callAnswer s i τ (changes k) = changeAnswer s i τ k
-callAnswer s i τ closes = closeAnswer s i τ
-
--- the state that an accepted one gives
-abbrev pub callNext : State → ℕ → ℕ → Act → State
-callNext s i τ (opens D A K k) = openNext s i τ D A K k
-callNext s i τ (changes k) = changeNext s i τ k
-callNext s i τ closes = closeNext s i τ
+use Rattle.story.specs.Next.{callNext}
+use Rattle.story.specs.Calls.{callAnswer, freshNext}
+use Rattle.story.specs.Story.{Event, accepted}
 
 abbrev pub answered : State → Event → ℕ
 answered s e = callAnswer s (e .title) (e .time) (e .act)
@@ -32,3 +22,13 @@ called s e = pick (eqb (answered s e) 0) (callNext s (e .title) (e .time) (e .ac
 unfoldable pub stateAfter : ℕ → List Event → State
 stateAfter pool [] = freshNext pool
 stateAfter pool (c ∷ cs) = called (stateAfter pool cs) c
+
+-- the lanes of the pool that a fresh call gives: none where it is refused
+abbrev pub lanesOf : ℕ → ℕ
+lanesOf pool = pick (within poolMin poolMax pool) pool 0
+
+-- some calls on a fresh pool leave the state s, with es the accepted ones among them
+pub record Reached (pool : ℕ) (es : List Event) (s : State) : Type 0 where
+  pub calls : List Event
+  pub events : es ≡ accepted (lanesOf pool) calls
+  pub state : s ≡ stateAfter pool calls

@@ -1,16 +1,17 @@
 -- The story of events: what a sequence of accepted events means, for every title and every moment (01, "Events" and
 -- "Numbers that calls give back"). Events stand newest first, with times in ms. Nothing here reads what is stored.
-use Prim.Native.Nat.{ℕ, _+_, _-_, _*_, _/_, _%_, _≤_, _<_, min}
+use Prim.Native.Nat.{ℕ, suc, _+_, _-_, _*_, _/_, _%_, _≤_, _<_, min}
 use mathlib.Core.Path.{_≡_}
-use mathlib.Core.Bool.{Bool, true, not}
+use mathlib.Core.Bool.{Bool, true, false, not}
 use mathlib.Core.List.{List, [], _∷_}
 use lib.Dec.{leb, ltb, eqb}
 use lib.ListN.{getD, length}
 use Rattle.rules.specs.Limits.{both, either, within, idMax, floorMin, floorMax, countMin, countMax, lengthMin, lengthMax, eventTimeMax, askedMax, laneMax, titlesMax}
-use Rattle.rules.specs.Refusals.{pick, refuse, firstHit, outsideLimits, tooEarly, notThere, idTaken, isClosing, wrongCount, secondEvent, notAtSlot, noLanes, wrongRows}
+use Rattle.rules.specs.Refusals.{pick, Rule, refuse, firstHit, outsideLimits, tooEarly, notThere, wrongRows}
 use Rattle.rules.specs.Search.{every, howMany, total}
-use Rattle.grid.specs.Ticks.{tickOf, isSlotStart}
-use Rattle.story.specs.Life.{Air, cell, isAdmission, onAir, isHeld}
+use Rattle.grid.specs.Ticks.{tickOf, holdsFilm, isSlotStart}
+use Rattle.story.specs.Life.{Air, cell, isAdmission, isActive, isOwed, owedWithin, owes, onAir, isHeld}
+use Rattle.story.specs.Orders.{Tests, openOrder, changeOrder, closeOrder}
 
 -- 01, "Events": what an event does: open with length, floor, cap and count; change to a count; close
 pub data Act : Type 0 where
@@ -23,6 +24,9 @@ pub record Event : Type 0 where
   pub time : ℕ
   pub title : ℕ
   pub act : Act
+
+abbrev pub event : ℕ → ℕ → Act → Event
+event i τ a = record { time = τ; title = i; act = a }
 
 -- a title since its latest opening
 pub record Life : Type 0 where
@@ -86,13 +90,40 @@ upTo τ (e ∷ es) = pick (leb (e .time) τ) (e ∷ es) (upTo τ es)
 abbrev pub countIn : Life → ℕ → ℕ
 countIn L τ = L .rule (tickIn L τ)
 
+-- a title's cells and lanes, tick by tick: cell c holds film, tick a is an admission,
+abbrev pub filmAt : Life → ℕ → Bool
+filmAt L c = holdsFilm (L .length) (L .floor) (L .cap) c
+
+abbrev pub admitsAt : Life → ℕ → Bool
+admitsAt L a = isAdmission (L .cap) (L .rule) a
+
+-- lane l is active at tick t, what it has on air then, and whether it is held,
+abbrev pub isActiveAt : Life → ℕ → ℕ → Bool
+isActiveAt L l t = isActive (L .rule) l t
+
+abbrev pub airOn : Life → ℕ → ℕ → Air
+airOn L l t = onAir (L .floor) (L .cap) (L .rule) l t
+
+abbrev pub isHeldAt : Life → ℕ → ℕ → Bool
+isHeldAt L l t = isHeld (L .floor) (L .cap) (L .rule) l t
+
+-- and where it is dropped at tick T: tick t is owed, how many are among the n ticks from T on, and how many in all
+abbrev pub isOwedAt : Life → ℕ → ℕ → ℕ → Bool
+isOwedAt L l T t = isOwed (L .floor) (L .cap) (L .rule) l T t
+
+abbrev pub owedAmong : Life → ℕ → ℕ → ℕ → ℕ
+owedAmong L l T n = owedWithin (L .floor) (L .cap) (L .rule) l T n
+
+abbrev pub owesAt : Life → ℕ → ℕ → ℕ
+owesAt L l T = owes (L .floor) (L .cap) (L .rule) l T
+
 -- what is on air on lane l of a title at a moment
 abbrev pub airIn : Life → ℕ → ℕ → Air
-airIn L l τ = onAir (L .floor) (L .cap) (L .rule) l (tickIn L τ)
+airIn L l τ = airOn L l (tickIn L τ)
 
 -- lane l of a title is held at a moment
 abbrev pub isHeldIn : Life → ℕ → ℕ → Bool
-isHeldIn L l τ = isHeld (L .floor) (L .cap) (L .rule) l (tickIn L τ)
+isHeldIn L l τ = isHeldAt L l (tickIn L τ)
 
 -- 01, "Events": the lanes of a title held at a moment, active ones and those still sending
 unfoldable pub heldIn : Life → ℕ → ℕ
@@ -110,7 +141,7 @@ isThereIn L τ = either (ltb 0 (countIn L τ)) (ltb 0 (heldIn L τ))
 abbrev pub isSlotIn : Life → ℕ → ℕ → Bool
 isSlotIn L k τ = both (eqb ((τ - L .opened) % tickLength L) 0) (isSlotStart (L .cap) k (tickIn L τ))
 
--- the numbers of any event, of an opening and of a change, within their limits
+-- the numbers of any event within their limits, and those of an opening besides
 abbrev pub withinLimits : Event → Bool
 withinLimits e = both (leb (e .title) idMax) (leb (e .time) eventTimeMax)
 
@@ -119,40 +150,52 @@ openLimits D A K k =
     both (within lengthMin lengthMax D)
     (both (within floorMin floorMax A) (both (within countMin countMax K) (within countMin countMax k)))
 
+-- all numbers of an event within their limits, where the test b says so of those that every event has
+abbrev pub actLimits : Act → Bool → Bool
+actLimits (opens D A K k) b = both b (openLimits D A K k)
+actLimits (changes k) b = both b (within countMin countMax k)
+actLimits closes b = b
+
+-- what is wrong with the count that an event brings, for a title with floor A, cap K and count k
+abbrev pub countWrong : Act → ℕ → ℕ → ℕ → Bool
+countWrong (opens D A K k) _ _ _ = either (ltb K A) (not (within A K k))
+countWrong (changes n) A K k = either (not (within A K n)) (eqb n k)
+countWrong closes A K k = false
+
+-- the count at whose slot starts an event is permitted, for a title with floor A and count k: the smaller count of a
+-- change, the floor of a close; an opening may come at any time
+abbrev pub permitted : Act → ℕ → ℕ → ℕ
+permitted (opens D A K n) _ k = n
+permitted (changes n) A k = min k n
+permitted closes A k = A
+
 -- more than the pool is held after a sequence, at a moment
 abbrev pub overfull : ℕ → List Event → ℕ → Bool
 overfull pool es τ = ltb pool (heldOver es τ)
 
--- what an event is answered after the accepted events es, by 01's order and from es alone
+-- what the refusals ask of an event after the accepted events es, told from es alone; L is the life of its title
+abbrev pub testsTo : ℕ → List Event → Event → Life → Act → Tests
+testsTo pool es e L a =
+    record {
+      outside = not (actLimits a (withinLimits e));
+      early = ltb (e .time) (lastTime es);
+      there = isThereIn L (e .time);
+      closing = eqb (countIn L (e .time)) 0;
+      wrong = countWrong a (L .floor) (L .cap) (countIn L (e .time));
+      second = eqb (e .time) (latestOf es (e .title));
+      off = not (isSlotIn L (permitted a (L .floor) (countIn L (e .time))) (e .time));
+      full = overfull pool (e ∷ es) (e .time);
+    }
+
+-- the order of refusals by what the event does
+abbrev pub orderOf : Act → Tests → List Rule
+orderOf (opens D A K k) = openOrder
+orderOf (changes k) = changeOrder
+orderOf closes = closeOrder
+
+-- what an event is answered after the accepted events es
 unfoldable pub answerTo : ℕ → List Event → Event → Life → Act → ℕ
-answerTo pool es e L (opens D A K k) =
-    firstHit
-    (refuse outsideLimits (not (both (withinLimits e) (openLimits D A K k)))
-    ∷ refuse tooEarly (ltb (e .time) (lastTime es))
-    ∷ refuse idTaken (isThereIn L (e .time))
-    ∷ refuse wrongCount (either (ltb K A) (not (within A K k)))
-    ∷ refuse noLanes (overfull pool (e ∷ es) (e .time))
-    ∷ [])
-answerTo pool es e L (changes k) =
-    firstHit
-    (refuse outsideLimits (not (both (withinLimits e) (within countMin countMax k)))
-    ∷ refuse tooEarly (ltb (e .time) (lastTime es))
-    ∷ refuse notThere (not (isThereIn L (e .time)))
-    ∷ refuse isClosing (eqb (countIn L (e .time)) 0)
-    ∷ refuse wrongCount (either (not (within (L .floor) (L .cap) k)) (eqb k (countIn L (e .time))))
-    ∷ refuse secondEvent (eqb (e .time) (latestOf es (e .title)))
-    ∷ refuse notAtSlot (not (isSlotIn L (min (countIn L (e .time)) k) (e .time)))
-    ∷ refuse noLanes (overfull pool (e ∷ es) (e .time))
-    ∷ [])
-answerTo pool es e L closes =
-    firstHit
-    (refuse outsideLimits (not (withinLimits e))
-    ∷ refuse tooEarly (ltb (e .time) (lastTime es))
-    ∷ refuse notThere (not (isThereIn L (e .time)))
-    ∷ refuse isClosing (eqb (countIn L (e .time)) 0)
-    ∷ refuse secondEvent (eqb (e .time) (latestOf es (e .title)))
-    ∷ refuse notAtSlot (not (isSlotIn L (L .floor) (e .time)))
-    ∷ [])
+answerTo pool es e L a = firstHit (orderOf a (testsTo pool es e L a))
 
 abbrev pub answer : ℕ → List Event → Event → ℕ
 answer pool es e = answerTo pool es e (lifeOf es (e .title)) (e .act)
@@ -172,13 +215,15 @@ pub data Accepted (pool : ℕ) : List Event → Type 0 where
   more : {e : Event} {es : List Event} → Accepted pool es → answer pool es e ≡ 0 → Accepted pool (e ∷ es)
 
 -- 01, "Numbers that calls give back": what a lane question is answered after es; the id's own latest event counts
-unfoldable pub laneAnswerTo : List Event → ℕ → ℕ → ℕ → ℕ
-laneAnswerTo es i l τ =
-    firstHit
-    (refuse outsideLimits (not (both (leb i idMax) (both (leb l laneMax) (leb τ askedMax))))
+abbrev pub laneOrder : List Event → ℕ → ℕ → ℕ → List Rule
+laneOrder es i l τ =
+    refuse outsideLimits (not (both (leb i idMax) (both (leb l laneMax) (leb τ askedMax))))
     ∷ refuse tooEarly (ltb τ (latestOf es i))
     ∷ refuse notThere (not (isHeldIn (lifeOf es i) l τ))
-    ∷ [])
+    ∷ []
+
+unfoldable pub laneAnswerTo : List Event → ℕ → ℕ → ℕ → ℕ
+laneAnswerTo es i l τ = firstHit (laneOrder es i l τ)
 
 -- what status is answered after es, over a row of ids beside rows of m and h places
 unfoldable pub statusAnswerTo : List Event → ℕ → List ℕ → ℕ → ℕ → ℕ
@@ -197,18 +242,33 @@ lifeAt es i τ = lifeOf (upTo τ es) i
 abbrev pub airAt : List Event → ℕ → ℕ → ℕ → Air
 airAt es i l τ = airIn (lifeAt es i τ) l τ
 
--- demand 3: a box that begins at tick a of the life L finds cell c on a lane of that title, in a tick from its start on
--- and no later than the cell's turn, and still under the same opening
-pub record Found (es : List Event) (i : ℕ) (L : Life) (a c : ℕ) : Type 0 where
+-- a moment lies in tick t of a life: from the tick's start up to, not including, the next
+pub record InTick (L : Life) (t τ : ℕ) : Type 0 where
+  pub from : momentOf L t ≤ τ
+  pub until : τ < momentOf L (suc t)
+
+-- demand 3: a box that begins at tick a of the life L receives cell c: a lane of that title has it on air, at every moment
+-- of a tick from the box's start on and no later than the cell's turn, and still under the same opening
+pub record Received (es : List Event) (i : ℕ) (L : Life) (a c : ℕ) : Type 0 where
   pub lane : ℕ
   pub tick : ℕ
   pub lane-low : lane < L .cap
   pub from-start : a ≤ tick
   pub by-turn : tick ≤ a + c
-  pub same-opening : lifeAt es i (momentOf L tick) .opened ≡ L .opened
-  pub carries : airAt es i lane (momentOf L tick) ≡ cell c
+  pub same-opening : (τ : ℕ) → InTick L tick τ → lifeAt es i τ .opened ≡ L .opened
+  pub carries : (τ : ℕ) → InTick L tick τ → airAt es i lane τ ≡ cell c
 
 -- a box may begin at a moment: the start of a tick that is an admission, of the life as it stands then
 pub record Begins (es : List Event) (i τ a : ℕ) : Type 0 where
   pub at-start : τ ≡ momentOf (lifeAt es i τ) a
-  pub admission : isAdmission (lifeAt es i τ .cap) (lifeAt es i τ .rule) a ≡ true
+  pub admission : admitsAt (lifeAt es i τ) a ≡ true
+
+-- lane l of a life is dropped at tick s + 1, and not raised in the n ticks from then on
+pub record Dropped (L : Life) (l s n : ℕ) : Type 0 where
+  pub active-before : isActiveAt L l s ≡ true
+  pub not-raised : (j : ℕ) → j < n → isActiveAt L l (suc s + j) ≡ false
+
+-- none of these events is of title i at or before τ
+pub data Quiet (i τ : ℕ) : List Event → Type 0 where
+  nothing-new : Quiet i τ []
+  elsewhere : {e : Event} {es : List Event} → (e .title ≡ i → τ < e .time) → Quiet i τ es → Quiet i τ (e ∷ es)

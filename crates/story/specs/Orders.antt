@@ -1,0 +1,55 @@
+-- The order of refusals of each event, once (01, "Numbers that calls give back": first match wins). What each refusal asks
+-- is handed in by name: the story reads it off the sequence of events, the calls read it off the state.
+use mathlib.Core.Bool.{Bool, not}
+use mathlib.Core.List.{List, [], _∷_}
+use Rattle.rules.specs.Refusals.{Rule, refuse, outsideLimits, tooEarly, notThere, idTaken, isClosing, wrongCount, secondEvent, notAtSlot, noLanes}
+
+-- what the refusals of an event ask
+pub record Tests : Type 0 where
+  -- 1: a number is outside its limits
+  pub outside : Bool
+  -- 2: the time is before the last accepted event
+  pub early : Bool
+  -- the id is open or not yet released: 4 where it is, 3 where it isn't
+  pub there : Bool
+  -- 5: the title is closing
+  pub closing : Bool
+  -- 6: the count is outside floor..cap or unchanged, or the floor above the cap
+  pub wrong : Bool
+  -- 7: a second event of the title at one moment
+  pub second : Bool
+  -- 8: the time is no permitted slot start
+  pub off : Bool
+  -- 9: with the event more lanes than the pool would be held
+  pub full : Bool
+
+abbrev pub openOrder : Tests → List Rule
+openOrder t =
+    refuse outsideLimits (t .outside)
+    ∷ refuse tooEarly (t .early)
+    ∷ refuse idTaken (t .there)
+    ∷ refuse wrongCount (t .wrong)
+    ∷ refuse noLanes (t .full)
+    ∷ []
+
+abbrev pub changeOrder : Tests → List Rule
+changeOrder t =
+    refuse outsideLimits (t .outside)
+    ∷ refuse tooEarly (t .early)
+    ∷ refuse notThere (not (t .there))
+    ∷ refuse isClosing (t .closing)
+    ∷ refuse wrongCount (t .wrong)
+    ∷ refuse secondEvent (t .second)
+    ∷ refuse notAtSlot (t .off)
+    ∷ refuse noLanes (t .full)
+    ∷ []
+
+abbrev pub closeOrder : Tests → List Rule
+closeOrder t =
+    refuse outsideLimits (t .outside)
+    ∷ refuse tooEarly (t .early)
+    ∷ refuse notThere (not (t .there))
+    ∷ refuse isClosing (t .closing)
+    ∷ refuse secondEvent (t .second)
+    ∷ refuse notAtSlot (t .off)
+    ∷ []
