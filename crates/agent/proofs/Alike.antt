@@ -1,49 +1,41 @@
--- A head-end and an agent that have the same accepted events answer every lane question alike, whatever calls and byte
--- strings were refused on either side. Rests on the story: both answer as the sequence of those events says.
-use mathlib.Core.Path.{_≡_, refl, sym, ap, _∙_}
-use mathlib.Core.Bool.{false}
-use mathlib.Core.Logic.{⊎-elim}
-use mathlib.Core.List.{List, map}
-use Prim.Native.Nat.{ℕ, _≤_}
-use lib.Dec.{eqb}
-use borrow.Author.Tests.{eqb-true}
-use Rattle.rules.specs.Limits.{poolMax}
-use Rattle.rules.proofs.Tests.{decide, pick-false}
+-- A head-end and an agent that have the same accepted events answer every lane question and status alike, and hold the same
+-- lanes, whatever calls and byte strings were refused on either side: their states are equal.
+-- Rests on `left-alone`: the accepted events alone leave the state.
+use mathlib.Core.Path.{_≡_, sym, ap, _∙_}
+use mathlib.Core.List.{List}
+use Prim.Native.Nat.{ℕ}
 use Rattle.story.specs.declared.State.{State}
-use Rattle.story.specs.Life.{Air, cell}
-use Rattle.story.specs.Kept.{shows, tickAt, titleAt}
-use Rattle.story.specs.Calls.{laneAnswer, laneShows}
-use Rattle.story.specs.Story.{Event, accepted, airIn, lifeOf}
-use Rattle.story.specs.Runs.{stateAfter}
-use Rattle.story.proofs.Runs.{Told, lanesOf, lanes-limit, told}
-use Rattle.story.proofs.Questions.{lane-answer-told, lane-cell-told}
-use Rattle.agent.specs.Turns.{eventOf}
-use Rattle.agent.specs.Series.{agentAfter, heard}
-use Rattle.agent.proofs.Order.{follows}
+use Rattle.story.specs.Kept.{lanesHeld}
+use Rattle.story.specs.Calls.{laneAnswer, laneShows, statusAnswer, statusCount, statusHeld}
+use Rattle.story.specs.Story.{Event, accepted}
+use Rattle.story.specs.Runs.{stateAfter, lanesOf}
+use Rattle.story.proofs.Demands.{every-run, left-alone}
+use Rattle.agent.specs.declared.Agent.{Agent}
+use Rattle.agent.specs.Series.{agentAfter, eventsHeard}
+use Rattle.agent.proofs.Order.{state-heard}
 
--- beside a refusal the cell is 0
-refused-shows : (s : State) (i l τ : ℕ) → eqb (laneAnswer s i l τ) 0 ≡ false → laneShows s i l τ ≡ 0
-unfolding laneShows
-refused-shows s i l τ h = pick-false (eqb (laneAnswer s i l τ) 0) (shows (titleAt s i) l (tickAt (titleAt s i) τ)) 0 h
+module _ (pool : ℕ) (cs : List Event) (bss : List (List ℕ)) (same : accepted (lanesOf pool) cs ≡ eventsHeard pool bss) where
+  pub alike : stateAfter pool cs ≡ agentAfter pool bss .state
+  alike =
+      left-alone pool (accepted (lanesOf pool) cs) (stateAfter pool cs) (every-run pool cs)
+      ∙ ap (stateAfter pool) same
+      ∙ sym (state-heard pool bss)
 
-same-cell : (a b : ℕ) → cell a ≡ cell b → a ≡ b
-same-cell a b e = cc
+  -- so every lane question is answered alike,
+  pub lanes-alike : (i l τ : ℕ) →
+      (laneAnswer (stateAfter pool cs) i l τ ≡ laneAnswer (agentAfter pool bss .state) i l τ)
+      × (laneShows (stateAfter pool cs) i l τ ≡ laneShows (agentAfter pool bss .state) i l τ)
+  lanes-alike i l τ = (ap (λ s. laneAnswer s i l τ) alike, ap (λ s. laneShows s i l τ) alike)
 
--- two states that tell the same events answer a lane question alike
-pub told-alike : (lanes : ℕ) → lanes ≤ poolMax → (es : List Event) (s t : State) → Told lanes es s → Told lanes es t → (i l τ : ℕ) → (laneAnswer s i l τ ≡ laneAnswer t i l τ) × (laneShows s i l τ ≡ laneShows t i l τ)
-told-alike lanes high es s t w v i l τ =
-    let same : laneAnswer s i l τ ≡ laneAnswer t i l τ = lane-answer-told lanes high es s w i l τ ∙ sym (lane-answer-told lanes high es t v i l τ) in (
-      same,
-      ⊎-elim
-          (λ x.
-          let z : laneAnswer s i l τ ≡ 0 = eqb-true (laneAnswer s i l τ) 0 x in
-          same-cell (laneShows s i l τ) (laneShows t i l τ)
-          (sym (lane-cell-told lanes high es s w i l τ z) ∙ lane-cell-told lanes high es t v i l τ (sym same ∙ z)))
-          (λ x. refused-shows s i l τ x ∙ sym (refused-shows t i l τ (ap (λ n. eqb n 0) (sym same) ∙ x)))
-          (decide (eqb (laneAnswer s i l τ) 0)),
-    )
-
-pub alike : (pool : ℕ) (cs : List Event) (bss : List (List ℕ)) → accepted (lanesOf pool) cs ≡ map eventOf (heard (lanesOf pool) bss) → (i l τ : ℕ) → (laneAnswer (stateAfter pool cs) i l τ ≡ laneAnswer (agentAfter pool bss .state) i l τ) × (laneShows (stateAfter pool cs) i l τ ≡ laneShows (agentAfter pool bss .state) i l τ)
-alike pool cs bss e i l τ =
-    told-alike (lanesOf pool) (lanes-limit pool) (map eventOf (heard (lanesOf pool) bss)) (stateAfter pool cs) (agentAfter pool bss .state)
-    (rw e at (told pool cs)) (follows pool bss .told) i l τ
+  -- and status, and lanes held
+  pub status-alike : (τ : ℕ) (ids : List ℕ) (m h i : ℕ) →
+      (statusAnswer (stateAfter pool cs) τ ids m h ≡ statusAnswer (agentAfter pool bss .state) τ ids m h)
+      × (statusCount (stateAfter pool cs) i ≡ statusCount (agentAfter pool bss .state) i)
+      × (statusHeld (stateAfter pool cs) i τ ≡ statusHeld (agentAfter pool bss .state) i τ)
+      × (lanesHeld (stateAfter pool cs) τ ≡ lanesHeld (agentAfter pool bss .state) τ)
+  status-alike τ ids m h i = (
+    ap (λ s. statusAnswer s τ ids m h) alike,
+    ap (λ s. statusCount s i) alike,
+    ap (λ s. statusHeld s i τ) alike,
+    ap (λ s. lanesHeld s τ) alike,
+  )

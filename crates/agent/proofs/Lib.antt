@@ -2,5 +2,7 @@
 pub mod Turns
 pub mod Order
 pub mod OneLog
+pub mod Boxes
 pub mod Overtaken
 pub mod Alike
+pub mod HeadEnd

@@ -14,7 +14,7 @@ use Rattle.notice.specs.declared.Reading.{Reading}
 use Rattle.notice.specs.declared.Reading.the-variants as reading
 use Rattle.notice.specs.Decode.{readOf}
 use Rattle.story.specs.Story.{answer}
-use Rattle.story.proofs.Runs.{lanesOf}
+use Rattle.story.specs.Runs.{lanesOf}
 use Rattle.agent.specs.Turns.{eventOf}
 use Rattle.agent.specs.Series.{agentAfter, hearing, heard, InTurn, next, Of, no-bytes, more-bytes, OneEach}
 use Rattle.agent.proofs.Order.{follows, same-heard}

@@ -11,8 +11,9 @@ use Rattle.notice.specs.declared.Kind.{Kind}
 use Rattle.notice.specs.declared.Reading.{Reading}
 use Rattle.notice.specs.declared.Reading.the-variants as reading
 use Rattle.story.specs.declared.State.{State}
-use Rattle.story.specs.Calls.{freshAnswer}
-use Rattle.story.specs.Runs.{answered, called, callAnswer, callNext}
+use Rattle.story.specs.Calls.{freshAnswer, callAnswer}
+use Rattle.story.specs.Next.{callNext}
+use Rattle.story.specs.Runs.{answered, called}
 use Rattle.agent.specs.declared.Agent.{Agent}
 use Rattle.agent.specs.Turns.{actOf, eventOf, freshAgent, noticeAnswer, noticed}
 

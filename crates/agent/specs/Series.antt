@@ -8,10 +8,14 @@ use lib.ListN.{length}
 use Rattle.rules.specs.Limits.{both}
 use Rattle.rules.specs.Refusals.{pick}
 use Rattle.notice.specs.declared.Notice.{Notice}
+use Rattle.notice.specs.declared.Kind.{Kind}
+use Rattle.notice.specs.declared.Kind.the-variants.{Open, Change, Close}
 use Rattle.notice.specs.declared.Reading.{Reading}
 use Rattle.notice.specs.declared.Reading.the-variants as reading
+use Rattle.notice.specs.Encode.{bytesOf}
 use Rattle.notice.specs.Decode.{readOf}
-use Rattle.story.specs.Story.{answer}
+use Rattle.story.specs.Story.{Act, opens, changes, closes, Event, answer}
+use Rattle.story.specs.Runs.{lanesOf}
 use Rattle.agent.specs.declared.Agent.{Agent}
 use Rattle.agent.specs.Turns.{eventOf, freshAgent, noticed}
 
@@ -31,10 +35,28 @@ unfoldable pub heard : ℕ → List (List ℕ) → List Notice
 heard lanes [] = []
 heard lanes (bs ∷ bss) = hearing lanes (heard lanes bss) (readOf bs)
 
+-- the notice that a head-end writes of an event that it accepted, with its sequence
+abbrev pub kindFor : Act → Kind
+kindFor (opens D A K k) = Open D A K k
+kindFor (changes k) = Change k
+kindFor closes = Close
+
+abbrev pub noticeFor : ℕ → Event → Notice
+noticeFor q e = record { sequence = q; title = e .title; time = e .time; kind = kindFor (e .act) }
+
+-- the byte strings that it sends of its accepted events, newest first, numbered from 1 on
+unfoldable pub sent : List Event → List (List ℕ)
+sent [] = []
+sent (e ∷ es) = bytesOf (noticeFor (suc (length es)) e) ∷ sent es
+
 -- sequences 1, 2, 3, .. with none left out
 pub data InTurn : List Notice → Type 0 where
   start : InTurn []
   next : {n : Notice} {ns : List Notice} → n .sequence ≡ suc (length ns) → InTurn ns → InTurn (n ∷ ns)
+
+-- the events of the notices heard of a series, newest first
+abbrev pub eventsHeard : ℕ → List (List ℕ) → List Event
+eventsHeard pool bss = map eventOf (heard (lanesOf pool) bss)
 
 -- every notice of a series stands in a log, given by which notices it has
 pub data Of (log : Notice → Type 0) : List (List ℕ) → Type 0 where

@@ -9,7 +9,8 @@ use Rattle.notice.specs.declared.Reading.{Reading}
 use Rattle.notice.specs.declared.Reading.the-variants as reading
 use Rattle.story.specs.Calls.{freshNext}
 use Rattle.story.specs.Story.{Act, opens, changes, closes, Event}
-use Rattle.story.specs.Runs.{answered, callNext}
+use Rattle.story.specs.Next.{callNext}
+use Rattle.story.specs.Runs.{answered}
 use Rattle.agent.specs.declared.Agent.{Agent}
 
 -- what a notice's kind does

@@ -1,25 +1,26 @@
 -- What an event's numbers and its standing give of the title: that it is there, within its limits.
 -- Rests on the laws of tests, of the refusals' order and of states within their limits.
 use mathlib.Core.Path.{_≡_, refl}
-use mathlib.Core.Bool.{true, not, false≢true}
+use mathlib.Core.Bool.{true, false, not, false≢true}
 use Prim.Native.Nat.{ℕ, _≤_, _<_}
 use native.Mathlib.Omega.{arith}
 use borrow.Author.Tests.{leb-true, ltb-true, ltb-false, eqb-false, not-false, not-true}
 use lib.Dec.{leb, ltb, eqb}
 use Rattle.rules.specs.Limits.{both, within, idMax, laneMax, eventTimeMax, askedMax, floorMin, countMin, countMax}
-use Rattle.rules.specs.Refusals.{firstHit}
+use Rattle.rules.specs.Refusals.{firstHit, outsideLimits, notThere, wrongCount}
 use Rattle.rules.proofs.Tests.{both-l, both-r, either-false-l}
 use Rattle.story.specs.declared.Title.{Title}
 use Rattle.story.specs.declared.State.{State}
 use Rattle.story.specs.Kept.{titleAt, stateOk, titleOk, titleHeld, isThere}
 use Rattle.story.specs.Next.{openedTitle}
-use Rattle.story.specs.Calls.{eventOk, openOk, closeAnswer, laneHeld, laneAnswer}
+use Rattle.story.specs.Story.{openLimits}
+use Rattle.story.specs.Calls.{eventOk, callAnswer, closeAnswer, laneHeld, laneRules, laneAnswer}
 use Rattle.held.specs.Film.{Film, Readable}
 use Rattle.held.proofs.Within.{title-ok, readable}
 use Rattle.owed.specs.Owing.{Sending, Changeable}
 use Rattle.owed.proofs.Fixed.{sending, changeable}
-use Rattle.answers.specs.Before.{openLater, openBefore, standingRules, turnRules, countRules, changeBefore}
-use Rattle.answers.proofs.Ladder.{numbered, none-hits, none-first}
+use Rattle.answers.specs.Before.{openRules, openBefore, standingRules, changeRules, changeBefore, closeRules}
+use Rattle.rules.proofs.Refusals.{hitsOf, numbered, cleared}
 
 -- a title that is there is in its slot
 pub in-slot : (t : Title) (τ : ℕ) → isThere t τ ≡ true → t .mode ≡ 0 → ⊥
@@ -42,35 +43,32 @@ module _ (s : State) (i τ : ℕ) (ok : eventOk s i τ ≡ true) where
   pub event-readable : Readable (titleAt s i)
   event-readable = readable (titleAt s i) event-title
 
+  pub there-changeable : not (isThere (titleAt s i) τ) ≡ false → Changeable (titleAt s i)
+  there-changeable there =
+      changeable (titleAt s i) event-title (in-slot (titleAt s i) τ (not-false (isThere (titleAt s i) τ) there))
+
   pub standing-changeable : firstHit (standingRules s i τ) ≡ 0 → Changeable (titleAt s i)
-  standing-changeable h =
-      let late = none-hits _ _ refl h in
-      let there = none-hits _ _ refl (late .1) in
-      changeable (titleAt s i) event-title (in-slot (titleAt s i) τ (not-false (isThere (titleAt s i) τ) (there .0)))
+  unfolding hitsOf numbered
+  standing-changeable h = there-changeable (cleared (standingRules s i τ) refl h notThere)
 
 -- an opening that only lanes may refuse
 module _ (s : State) (i τ D A K k : ℕ) (none : openBefore s i τ D A K k ≡ 0) where
-  open-numbers : both (eventOk s i τ) (openOk D A K k) ≡ true
-  unfolding openBefore
-  open-numbers = not-false (both (eventOk s i τ) (openOk D A K k)) (none-hits _ _ refl none .0)
+  open-numbers : both (eventOk s i τ) (openLimits D A K k) ≡ true
+  unfolding openBefore hitsOf numbered
+  open-numbers = not-false (both (eventOk s i τ) (openLimits D A K k)) (cleared (openRules s i τ D A K k) refl none outsideLimits)
 
   pub open-event : eventOk s i τ ≡ true
-  open-event = both-l (eventOk s i τ) (openOk D A K k) open-numbers
-
-  open-later : firstHit (openLater s i τ A K k) ≡ 0
-  unfolding openBefore
-  open-later = none-hits _ _ refl none .1
+  open-event = both-l (eventOk s i τ) (openLimits D A K k) open-numbers
 
   open-fit : A ≤ K
+  unfolding openBefore hitsOf numbered
   open-fit =
-      let early = none-hits _ _ refl open-later in
-      let taken = none-hits _ _ refl (early .1) in
-      let count = none-hits _ _ refl (taken .1) in
-      ltb-false K A (either-false-l (ltb K A) (not (within A K k)) (count .0))
+      ltb-false K A
+      (either-false-l (ltb K A) (not (within A K k)) (cleared (openRules s i τ D A K k) refl none wrongCount))
 
   pub open-film : Film (openedTitle τ D A K k)
   open-film =
-      let ok = both-r (eventOk s i τ) (openOk D A K k) open-numbers in
+      let ok = both-r (eventOk s i τ) (openLimits D A K k) open-numbers in
       let floored : floorMin ≤ A = search (both-l, both-r, leb-true) depth 12 in
       record {
         sized = record
@@ -82,38 +80,34 @@ module _ (s : State) (i τ D A K k : ℕ) (none : openBefore s i τ D A K k ≡ 
 -- a change that only lanes may refuse
 module _ (s : State) (i τ k : ℕ) (none : changeBefore s i τ k ≡ 0) where
   pub change-event : eventOk s i τ ≡ true
-  unfolding changeBefore
+  unfolding changeBefore hitsOf numbered
   change-event =
       both-l (eventOk s i τ) (within countMin countMax k)
-      (not-false (both (eventOk s i τ) (within countMin countMax k)) (none-hits _ _ refl none .0))
+      (not-false (both (eventOk s i τ) (within countMin countMax k)) (cleared (changeRules s i τ k) refl none outsideLimits))
 
   pub change-ready : Changeable (titleAt s i)
-  unfolding changeBefore numbered
-  change-ready =
-      standing-changeable s i τ change-event
-      (none-first (standingRules s i τ) (countRules (titleAt s i) k τ) refl (none-hits _ _ refl none .1))
+  unfolding changeBefore hitsOf numbered
+  change-ready = there-changeable s i τ change-event (cleared (changeRules s i τ k) refl none notThere)
 
 -- a close that is taken
 module _ (s : State) (i τ : ℕ) (none : closeAnswer s i τ ≡ 0) where
   pub close-event : eventOk s i τ ≡ true
-  unfolding closeAnswer
-  close-event = not-false (eventOk s i τ) (none-hits _ _ refl none .0)
+  unfolding callAnswer hitsOf numbered
+  close-event = not-false (eventOk s i τ) (cleared (closeRules s i τ) refl none outsideLimits)
 
   pub close-ready : Changeable (titleAt s i)
-  unfolding closeAnswer numbered
-  close-ready =
-      standing-changeable s i τ close-event
-      (none-first (standingRules s i τ) (turnRules (titleAt s i) (titleAt s i .floor) τ) refl (none-hits _ _ refl none .1))
+  unfolding callAnswer hitsOf numbered
+  close-ready = there-changeable s i τ close-event (cleared (closeRules s i τ) refl none notThere)
 
 -- a lane question that is answered
 module _ (s : State) (i l τ : ℕ) (none : laneAnswer s i l τ ≡ 0) where
   lane-numbers : both (stateOk s) (both (leb i idMax) (both (leb l laneMax) (leb τ askedMax))) ≡ true
-  unfolding laneAnswer
-  lane-numbers = not-false _ (none-hits _ _ refl none .0)
+  unfolding laneAnswer hitsOf numbered
+  lane-numbers = not-false _ (cleared (laneRules s i l τ) refl none outsideLimits)
 
   lane-there : laneHeld (titleAt s i) l τ ≡ true
-  unfolding laneAnswer
-  lane-there = not-false _ (none-hits _ _ refl (none-hits _ _ refl (none-hits _ _ refl none .1) .1) .0)
+  unfolding laneAnswer hitsOf numbered
+  lane-there = not-false _ (cleared (laneRules s i l τ) refl none notThere)
 
   pub lane-id : i ≤ idMax
   lane-id = let ok = lane-numbers in search (both-l, both-r, leb-true) depth 12

@@ -1,52 +1,63 @@
--- What an opening and a change answer before the lanes of the next state are counted: 01's order without its last
--- refusal, the want of lanes, and in the parts that events share (01, "Numbers that calls give back").
+-- The parts of the orders of refusals that the verdicts answer one by one: what an event answers before the lanes of the
+-- next state are counted, and what of that is asked of the state and what of the title (01, "Numbers that calls give back").
 use Prim.Native.Nat.{ℕ, min}
-use mathlib.Core.Bool.{not}
-use mathlib.Core.List.{List, [], _∷_, _++_}
-use lib.Dec.{ltb, eqb}
-use Rattle.rules.specs.Limits.{both, either, within, countMin, countMax}
-use Rattle.rules.specs.Refusals.{Rule, refuse, firstHit, outsideLimits, tooEarly, notThere, idTaken, isClosing, wrongCount, secondEvent, notAtSlot}
+use mathlib.Core.Bool.{Bool, false, not}
+use mathlib.Core.List.{List}
+use lib.Dec.{eqb}
+use Rattle.rules.specs.Refusals.{Rule, firstHit, before, behind, outsideLimits, isClosing, secondEvent, noLanes}
 use Rattle.story.specs.declared.Title.{Title}
 use Rattle.story.specs.declared.State.{State}
-use Rattle.story.specs.Kept.{titleAt, isThere}
-use Rattle.story.specs.Calls.{eventOk, openOk, atSlotStart}
+use Rattle.story.specs.Orders.{Tests, openOrder, changeOrder, closeOrder}
+use Rattle.story.specs.Story.{opens, changes, closes, countWrong}
+use Rattle.story.specs.Kept.{closingMode, isThere}
+use Rattle.story.specs.Calls.{atSlotStart, testsIn}
 
--- of an opening whose numbers are within their limits
-abbrev pub openLater : State → ℕ → ℕ → ℕ → ℕ → ℕ → List Rule
-openLater s i τ A K k =
-    refuse tooEarly (ltb τ (s .last))
-    ∷ refuse idTaken (isThere (titleAt s i) τ)
-    ∷ refuse wrongCount (either (ltb K A) (not (within A K k)))
-    ∷ []
-
+-- of an opening, before the want of lanes, and what of it is left where its numbers are within their limits
 abbrev pub openRules : State → ℕ → ℕ → ℕ → ℕ → ℕ → ℕ → List Rule
-openRules s i τ D A K k = refuse outsideLimits (not (both (eventOk s i τ) (openOk D A K k))) ∷ openLater s i τ A K k
+openRules s i τ D A K k = before noLanes (openOrder (testsIn s i τ (opens D A K k)))
+
+-- (none of which asks for the length)
+abbrev pub openLater : State → ℕ → ℕ → ℕ → ℕ → ℕ → List Rule
+openLater s i τ A K k = behind outsideLimits (openRules s i τ 0 A K k)
 
 unfoldable pub openBefore : State → ℕ → ℕ → ℕ → ℕ → ℕ → ℕ → ℕ
 openBefore s i τ D A K k = firstHit (openRules s i τ D A K k)
 
+-- of a change, before the want of lanes
+abbrev pub changeRules : State → ℕ → ℕ → ℕ → List Rule
+changeRules s i τ k = before noLanes (changeOrder (testsIn s i τ (changes k)))
+
+unfoldable pub changeBefore : State → ℕ → ℕ → ℕ → ℕ
+changeBefore s i τ k = firstHit (changeRules s i τ k)
+
+-- of a close, which wants no lanes
+abbrev pub closeRules : State → ℕ → ℕ → List Rule
+closeRules s i τ = closeOrder (testsIn s i τ closes)
+
 -- whether a title can be changed or closed at a time at all
 abbrev pub standingRules : State → ℕ → ℕ → List Rule
-standingRules s i τ =
-    refuse tooEarly (ltb τ (s .last))
-    ∷ refuse notThere (not (isThere (titleAt s i) τ))
-    ∷ refuse isClosing (eqb (titleAt s i .mode) 2)
-    ∷ []
+standingRules s i τ = behind outsideLimits (before secondEvent (closeRules s i τ))
 
--- whether an open title has a turn at a time: no second event, and a slot start of count k
+-- what the title alone decides, of a count that is wrong or not, at slot starts of count k
+abbrev pub titleTests : Title → ℕ → Bool → ℕ → Tests
+titleTests t τ wrong k =
+    record {
+      outside = false;
+      early = false;
+      there = isThere t τ;
+      closing = eqb (t .mode) closingMode;
+      wrong = wrong;
+      second = eqb τ (t .last);
+      off = not (atSlotStart t k τ);
+      full = false;
+    }
+
+-- whether an open title has a turn at a time, a slot start of count k
 abbrev pub turnRules : Title → ℕ → ℕ → List Rule
-turnRules t k τ = refuse secondEvent (eqb τ (t .last)) ∷ refuse notAtSlot (not (atSlotStart t k τ)) ∷ []
+turnRules t k τ = behind isClosing (closeOrder (titleTests t τ false k))
 
 -- whether an open title can change to count k at a time
 abbrev pub countRules : Title → ℕ → ℕ → List Rule
 countRules t k τ =
-    refuse wrongCount (either (not (within (t .floor) (t .cap) k)) (eqb k (t .count)))
-    ∷ turnRules t (min (t .count) k) τ
-
-abbrev pub changeRules : State → ℕ → ℕ → ℕ → List Rule
-changeRules s i τ k =
-    refuse outsideLimits (not (both (eventOk s i τ) (within countMin countMax k)))
-    ∷ (standingRules s i τ ++ countRules (titleAt s i) k τ)
-
-unfoldable pub changeBefore : State → ℕ → ℕ → ℕ → ℕ
-changeBefore s i τ k = firstHit (changeRules s i τ k)
+    behind isClosing
+    (before noLanes (changeOrder (titleTests t τ (countWrong (changes k) (t .floor) (t .cap) (t .count)) (min (t .count) k))))

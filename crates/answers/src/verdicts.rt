@@ -39,7 +39,8 @@ ghost use lib.Dec.{leb};
 ghost use Rattle.rules.specs.Limits.{both, idMax, laneMax, askedMax};
 ghost use Rattle.rules.specs.Refusals.{firstHit};
 ghost use Rattle.story.specs.Kept.{titleAt, stateOk};
-ghost use Rattle.story.specs.Calls.{eventOk, openOk, atSlotStart, laneHeld, closeAnswer, laneAnswer};
+ghost use Rattle.story.specs.Story.{openLimits};
+ghost use Rattle.story.specs.Calls.{eventOk, atSlotStart, laneHeld, closeAnswer, laneAnswer};
 ghost use Rattle.held.specs.Film.{Film, Readable};
 ghost use Rattle.answers.specs.Before.{
   openLater,
@@ -67,7 +68,7 @@ pub fn event_ok(s: State, id: u64, time: u64) -> bool
 
 // The numbers that an opening has besides.
 fn open_ok(length: u64, floor: u64, cap: u64, count: u64) -> bool
-    ensures { λ r. ⌜ r ≡ openOk length floor cap count ⌝ }
+    ensures { λ r. ⌜ r ≡ openLimits length floor cap count ⌝ }
 {
     let sized = within(LENGTH_MIN, LENGTH_MAX, length);
     let floored = within(FLOOR_MIN, FLOOR_MAX, floor);

@@ -10,18 +10,13 @@ use native.Mathlib.Omega.{arith}
 use lib.Dec.{ltb, eqb}
 use borrow.Author.Tests.{ltb-true, eq-eqb, ne-eqb, eqb-true, eqb-false, not-true}
 use Rattle.rules.specs.Limits.{both}
-use Rattle.rules.specs.Refusals.{pick, Rule, refuse, firstHit}
+use Rattle.rules.specs.Refusals.{pick, Rule, refuse, firstHit, before}
 use Rattle.rules.proofs.Tests.{decide, both-l, both-r}
 
 -- whether the rule of number n hits, false where the list has none
 unfoldable pub hitsOf : ℕ → List Rule → Bool
 hitsOf n [] = false
 hitsOf n (r ∷ rs) = pick (eqb (r .number) n) (r .hits) (hitsOf n rs)
-
--- the rules before the one of number n
-unfoldable pub before : ℕ → List Rule → List Rule
-before n [] = []
-before n (r ∷ rs) = pick (eqb (r .number) n) [] (r ∷ before n rs)
 
 -- no rule answers done, and no number stands twice: what the checker computes of each list
 unfoldable pub numbered : List Rule → Bool
@@ -71,7 +66,7 @@ listed (r ∷ rs) n p h =
 
 -- an answer n that is no 0 means that the rule of number n hits, and none before it
 pub first-hit : (rs : List Rule) → distinct rs ≡ true → (n : ℕ) → 0 < n → firstHit rs ≡ n → (hitsOf n rs ≡ true) × (firstHit (before n rs) ≡ 0)
-unfolding firstHit hitsOf before distinct
+unfolding firstHit hitsOf distinct
 first-hit [] d n p h = absurd (omega arith)
 first-hit (r ∷ rs) d n p h =
     let alone : not (isListed (r .number) rs) ≡ true = both-l (not (isListed (r .number) rs)) (distinct rs) d in
@@ -114,3 +109,15 @@ pub none-first : (xs ys : List Rule) → numbered xs ≡ true → firstHit (xs +
 none-first xs ys c none =
     ⊎-elim (λ t. eqb-true (firstHit xs) 0 t) (λ f. sym (rw f at (hit-append xs ys c)) ∙ none)
     (decide (eqb (firstHit xs) 0))
+
+-- one rule that does not hit, then two parts: the first part answers where it has one that hits, else the second
+module _ (n : ℕ) (h : Bool) (xs ys : List Rule) (first : ℕ) (counts : numbered xs ≡ true) (passed : h ≡ false) (is-first : first ≡ firstHit xs) where
+  pub in-two : firstHit (refuse n h ∷ (xs ++ ys)) ≡ pick (eqb first 0) (firstHit ys) first
+  unfolding firstHit
+  in-two = rw (passed, is-first) (hit-append xs ys counts)
+
+  pub then-late : (late : ℕ) → first ≡ 0 → late ≡ firstHit ys → late ≡ firstHit (refuse n h ∷ (xs ++ ys))
+  then-late late none is-late = is-late ∙ sym (rw (eq-eqb first 0 none) at in-two)
+
+  pub then-first : (first ≡ 0 → ⊥) → first ≡ firstHit (refuse n h ∷ (xs ++ ys))
+  then-first some = sym (rw (ne-eqb first 0 some) at in-two)

@@ -2,6 +2,7 @@
 use Prim.Native.Nat.{ℕ}
 use mathlib.Core.Bool.{Bool, true, false}
 use mathlib.Core.List.{List, [], _∷_}
+use lib.Dec.{eqb}
 
 abbrev pub done : ℕ
 done = 0
@@ -70,3 +71,12 @@ refuse n b = record { number = n; hits = b }
 unfoldable pub firstHit : List Rule → ℕ
 firstHit [] = done
 firstHit (r ∷ rs) = pick (r .hits) (r .number) (firstHit rs)
+
+-- the rules of an order before the one of number n, and those behind it
+abbrev pub before : ℕ → List Rule → List Rule
+before n [] = []
+before n (r ∷ rs) = pick (eqb (r .number) n) [] (r ∷ before n rs)
+
+abbrev pub behind : ℕ → List Rule → List Rule
+behind n [] = []
+behind n (r ∷ rs) = pick (eqb (r .number) n) rs (behind n rs)

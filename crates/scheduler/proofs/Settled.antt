@@ -10,11 +10,11 @@ use Rattle.story.specs.declared.Title.{Title}
 use Rattle.story.specs.declared.State.{State}
 use Rattle.story.specs.Kept.{noTitle}
 use Rattle.story.specs.Next.{withTitle, openNext, changeNext}
-use Rattle.story.specs.Calls.{tooMany, openAnswer, changeAnswer}
+use Rattle.story.specs.Calls.{tooMany, callAnswer, openAnswer, changeAnswer}
 use Rattle.held.specs.Film.{Readable, AllReadable}
 use Rattle.owed.proofs.Fixed.{stored}
 use Rattle.answers.specs.Before.{openRules, openBefore, changeRules, changeBefore}
-use Rattle.answers.proofs.Ladder.{numbered, hit-append}
+use Rattle.rules.proofs.Refusals.{numbered, hit-append}
 use Rattle.scheduler.specs.Outcomes.{settledAnswer}
 
 -- a state with another title that can be read can be read
@@ -23,12 +23,12 @@ with-readable s i τ t all r j l = stored Readable (s .titles) i j t noTitle r (
 
 -- the answer of an opening and of a change, in two parts
 pub open-in-two : (s : State) (i τ D A K k : ℕ) → openAnswer s i τ D A K k ≡ pick (eqb (openBefore s i τ D A K k) 0) (settledAnswer (openNext s i τ D A K k) τ) (openBefore s i τ D A K k)
-unfolding openAnswer openBefore settledAnswer numbered
+unfolding callAnswer openBefore settledAnswer numbered
 open-in-two s i τ D A K k =
     hit-append (openRules s i τ D A K k) (refuse noLanes (tooMany (openNext s i τ D A K k) τ) ∷ []) refl
 
 pub change-in-two : (s : State) (i τ k : ℕ) → changeAnswer s i τ k ≡ pick (eqb (changeBefore s i τ k) 0) (settledAnswer (changeNext s i τ k) τ) (changeBefore s i τ k)
-unfolding changeAnswer changeBefore settledAnswer numbered
+unfolding callAnswer changeBefore settledAnswer numbered
 change-in-two s i τ k =
     hit-append (changeRules s i τ k) (refuse noLanes (tooMany (changeNext s i τ k) τ) ∷ []) refl
 

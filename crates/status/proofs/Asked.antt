@@ -8,17 +8,18 @@ use lib.Dec.{leb, eqb}
 use lib.ListN.{length}
 use borrow.Author.Tests.{eqb-true, not-false}
 use Rattle.rules.specs.Limits.{both, askedMax}
+use Rattle.rules.specs.Refusals.{outsideLimits, wrongRows}
 use Rattle.rules.proofs.Tests.{both-l, both-r}
 use Rattle.story.specs.declared.State.{State}
 use Rattle.story.specs.Kept.{stateOk}
-use Rattle.story.specs.Calls.{statusAnswer}
-use Rattle.answers.proofs.Ladder.{none-hits}
+use Rattle.story.specs.Calls.{statusRules, statusAnswer}
+use Rattle.rules.proofs.Refusals.{hitsOf, numbered, cleared}
 use Rattle.status.specs.Rows.{idsOk}
 
 module _ (s : State) (τ : ℕ) (ids : List ℕ) (m h : ℕ) (none : statusAnswer s τ ids m h ≡ 0) where
   rows : both (eqb m (length ids)) (eqb h (length ids)) ≡ true
-  unfolding statusAnswer
-  rows = not-false _ (none-hits _ _ refl none .0)
+  unfolding statusAnswer hitsOf numbered
+  rows = not-false _ (cleared (statusRules s τ ids m h) refl none wrongRows)
 
   pub count-row : m ≡ length ids
   count-row = eqb-true m (length ids) (both-l (eqb m (length ids)) (eqb h (length ids)) rows)
@@ -27,8 +28,8 @@ module _ (s : State) (τ : ℕ) (ids : List ℕ) (m h : ℕ) (none : statusAnswe
   held-row = eqb-true h (length ids) (both-r (eqb m (length ids)) (eqb h (length ids)) rows)
 
   numbers : both (stateOk s) (both (leb τ askedMax) (idsOk ids)) ≡ true
-  unfolding statusAnswer idsOk
-  numbers = not-false _ (none-hits _ _ refl (none-hits _ _ refl none .1) .0)
+  unfolding statusAnswer idsOk hitsOf numbered
+  numbers = not-false _ (cleared (statusRules s τ ids m h) refl none outsideLimits)
 
   pub asked-state : stateOk s ≡ true
   asked-state = both-l (stateOk s) (both (leb τ askedMax) (idsOk ids)) numbers

@@ -11,16 +11,16 @@ use lib.ListN.{length, length-set, length-map, List·getD-map, getD, set}
 use lib.Seq.{getD-set-same, getD-set-other}
 use borrow.Author.Tests.{eq-eqb, eqb-true, not-false}
 use Rattle.rules.specs.Limits.{both, idMax, askedMax}
-use Rattle.rules.specs.Refusals.{pick, firstHit}
+use Rattle.rules.specs.Refusals.{pick, firstHit, outsideLimits, tooEarly}
 use Rattle.rules.specs.Search.{every}
 use Rattle.rules.proofs.Tests.{both-l, both-r, decide}
 use Rattle.rules.proofs.Search.{below-suc, every-out}
 use Rattle.story.specs.declared.State.{State}
 use Rattle.story.specs.Kept.{stateOk}
 use Rattle.story.specs.Calls.{statusAnswer, statusCount, statusHeld}
-use Rattle.answers.proofs.Ladder.{none-hits}
+use Rattle.rules.proofs.Refusals.{hitsOf, numbered, cleared}
 use Rattle.status.specs.declared.Record.{Record}
-use Rattle.status.specs.Records.{noRecord, recordsVerdict, recordIdsOk, recordsAnswer, filledRecord, recordFor}
+use Rattle.status.specs.Records.{noRecord, recordsRules, recordsVerdict, recordIdsOk, recordsAnswer, filledRecord, recordFor}
 
 pub one-row : (s : State) (τ answer : ℕ) (r : Record) (a : ℕ) (cs hs : List ℕ) → answer ≡ 0 → a ≡ statusAnswer s τ (r .id ∷ []) 1 1 → cs ≡ pick (eqb a 0) (map (λ i. statusCount s i) (r .id ∷ [])) (r .count ∷ []) → hs ≡ pick (eqb a 0) (map (λ i. statusHeld s i τ) (r .id ∷ [])) (r .held ∷ []) → _≡_ {A = Record} (record { id = r .id; count = getD cs 0 0; held = getD hs 0 0 }) (recordFor s τ answer r)
 unfolding recordFor
@@ -53,12 +53,12 @@ filling-all f (x ∷ xs) (z ∷ ls) e g =
 
 -- where the answer is done, the numbers are within their limits, and the time is no earlier than the last event
 verdict-numbers : (s : State) (τ : ℕ) (ids : Bool) → recordsVerdict s τ ids ≡ 0 → both (stateOk s) (both (leb τ askedMax) ids) ≡ true
-unfolding recordsVerdict
-verdict-numbers s τ ids none = not-false _ (none-hits _ _ refl none .0)
+unfolding recordsVerdict hitsOf numbered
+verdict-numbers s τ ids none = not-false _ (cleared (recordsRules s τ ids) refl none outsideLimits)
 
 verdict-time : (s : State) (τ : ℕ) (ids : Bool) → recordsVerdict s τ ids ≡ 0 → ltb τ (s .last) ≡ false
-unfolding recordsVerdict
-verdict-time s τ ids none = none-hits _ _ refl (none-hits _ _ refl none .1) .0
+unfolding recordsVerdict hitsOf numbered
+verdict-time s τ ids none = cleared (recordsRules s τ ids) refl none tooEarly
 
 pub all-ids : (s : State) (τ : ℕ) (ids : Bool) → recordsVerdict s τ ids ≡ 0 → ids ≡ true
 all-ids s τ ids none = both-r (leb τ askedMax) ids (both-r (stateOk s) (both (leb τ askedMax) ids) (verdict-numbers s τ ids none))

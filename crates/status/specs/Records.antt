@@ -1,14 +1,15 @@
 -- Status over a row of records (01, "Status"): as over flat rows, but that rows of unequal length cannot be.
-use mathlib.Core.Bool.{Bool, not}
+use mathlib.Core.Bool.{Bool, false, not}
 use mathlib.Core.List.{List, [], _∷_}
 use Prim.Native.Nat.{ℕ}
 use lib.Dec.{leb, ltb, eqb}
 use lib.ListN.{getD, length}
 use Rattle.rules.specs.Limits.{both, idMax, askedMax}
-use Rattle.rules.specs.Refusals.{pick, refuse, firstHit, outsideLimits, tooEarly}
+use Rattle.rules.specs.Refusals.{pick, Rule, firstHit}
 use Rattle.rules.specs.Search.{every}
 use Rattle.story.specs.declared.State.{State}
 use Rattle.story.specs.Kept.{stateOk}
+use Rattle.story.specs.Orders.{statusOrder}
 use Rattle.story.specs.Calls.{statusAnswer, statusCount, statusHeld}
 use Rattle.status.specs.declared.Record.{Record}
 
@@ -16,12 +17,11 @@ abbrev pub noRecord : Record
 noRecord = record { id = 0; count = 0; held = 0 }
 
 -- the answer, where the ids are all ids or not
+abbrev pub recordsRules : State → ℕ → Bool → List Rule
+recordsRules s τ ids = statusOrder false (not (both (stateOk s) (both (leb τ askedMax) ids))) (ltb τ (s .last))
+
 unfoldable pub recordsVerdict : State → ℕ → Bool → ℕ
-recordsVerdict s τ ids =
-    firstHit
-    (refuse outsideLimits (not (both (stateOk s) (both (leb τ askedMax) ids)))
-    ∷ refuse tooEarly (ltb τ (s .last))
-    ∷ [])
+recordsVerdict s τ ids = firstHit (recordsRules s τ ids)
 
 -- the first n records have ids
 unfoldable pub recordIdsOk : List Record → ℕ → Bool

@@ -12,7 +12,7 @@ use Rattle.rules.proofs.Tests.{both-l, both-r, either-false-r}
 use Rattle.rules.proofs.Refusals.{hitsOf, numbered, cleared}
 use Rattle.grid.proofs.Numbers.{ne-zero-pos}
 use Rattle.grid.specs.Ticks.{isSlotStart}
-use Rattle.story.specs.Story.{Act, opens, changes, closes, Event, event, Life, tickLength, tickIn, lifeOf, latestOf, lastTime, countIn, heldOver, isThereIn, isSlotIn, withinLimits, openLimits, testsTo, orderOf, answerTo}
+use Rattle.story.specs.Story.{Act, opens, changes, closes, Event, event, Life, tickLength, tickIn, lifeOf, latestOf, lastTime, countIn, heldOver, isThereIn, isSlotIn, withinLimits, openLimits, actLimits, testsTo, orderOf, answerTo}
 
 -- a number within two limits
 pub within-low : (lo hi x : ℕ) → within lo hi x ≡ true → lo ≤ x
@@ -66,12 +66,19 @@ module _ (lanes : ℕ) (es : List Event) (i τ : ℕ) where
   clears (changes k) h = cleared (orderOf (changes k) (testsTo lanes es (event i τ (changes k)) (lifeOf es i) (changes k))) refl h
   clears closes h = cleared (orderOf closes (testsTo lanes es (event i τ closes) (lifeOf es i) closes)) refl h
 
+  -- so all its numbers are within their limits
+  pub in-limits : (a : Act) → answerTo lanes es (event i τ a) (lifeOf es i) a ≡ 0 → actLimits a (withinLimits (event i τ a)) ≡ true
+  unfolding hitsOf
+  in-limits (opens D A K k) h = not-false _ (clears (opens D A K k) h outsideLimits)
+  in-limits (changes k) h = not-false _ (clears (changes k) h outsideLimits)
+  in-limits closes h = not-false _ (clears closes h outsideLimits)
+
   pub opening : (D A K k : ℕ) → answerTo lanes es (event i τ (opens D A K k)) (lifeOf es i) (opens D A K k) ≡ 0 → Opening lanes es i τ D A K k
   unfolding hitsOf
   opening D A K k h =
       let e : Event = event i τ (opens D A K k) in
       let clear = clears (opens D A K k) h in
-      let all = not-false (both (withinLimits e) (openLimits D A K k)) (clear outsideLimits) in
+      let all : both (withinLimits e) (openLimits D A K k) ≡ true = in-limits (opens D A K k) h in
       let nums : openLimits D A K k ≡ true = both-r (withinLimits e) (openLimits D A K k) all in
       let k-ok : Bool = within countMin countMax k in
       let K-ok : Bool = within countMin countMax K in
@@ -104,7 +111,7 @@ module _ (lanes : ℕ) (es : List Event) (i τ : ℕ) where
   changing k h =
       let e : Event = event i τ (changes k) in
       let clear = clears (changes k) h in
-      let all = not-false (both (withinLimits e) (within countMin countMax k)) (clear outsideLimits) in (
+      let all : both (withinLimits e) (within countMin countMax k) ≡ true = in-limits (changes k) h in (
         turned (changes k) (min (countIn (lifeOf es i) τ) k) (both-l (withinLimits e) (within countMin countMax k) all) (clear tooEarly) (clear notThere) (clear isClosing) (clear secondEvent) (clear notAtSlot),
         ltb-false lanes (heldOver (e ∷ es) τ) (clear noLanes),
       )
@@ -113,7 +120,7 @@ module _ (lanes : ℕ) (es : List Event) (i τ : ℕ) where
   unfolding hitsOf
   closing h =
       let clear = clears closes h in
-      turned closes (lifeOf es i .floor) (not-false (withinLimits (event i τ closes)) (clear outsideLimits)) (clear tooEarly) (clear notThere) (clear isClosing) (clear secondEvent) (clear notAtSlot)
+      turned closes (lifeOf es i .floor) (in-limits closes h) (clear tooEarly) (clear notThere) (clear isClosing) (clear secondEvent) (clear notAtSlot)
 
   -- whatever it does
   pub in-order : (a : Act) → answerTo lanes es (event i τ a) (lifeOf es i) a ≡ 0 → Timely es i τ

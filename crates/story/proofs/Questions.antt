@@ -19,7 +19,7 @@ use Rattle.story.specs.declared.State.{State}
 use Rattle.story.specs.Life.{isActive, droppedAt, reach, owes, cell, isHeld}
 use Rattle.story.specs.Kept.{titleAt, stateOk, tickAt, shows}
 use Rattle.story.specs.Calls.{laneHeld, laneAnswer, laneShows, statusAnswer, statusCount, statusHeld}
-use Rattle.story.specs.Story.{Event, Life, unopened, lifeOf, latestOf, lastTime, tickIn, countIn, airIn, isHeldIn, heldIn, laneOrder, laneAnswerTo, statusAnswerTo}
+use Rattle.story.specs.Story.{Event, Life, unopened, lifeOf, latestOf, lastTime, tickIn, countIn, airIn, isHeldIn, heldIn, laneRulesTo, laneAnswerTo, statusAnswerTo}
 use Rattle.story.proofs.Held.{held-sending}
 use Rattle.story.proofs.Kept.{later, held-kept, shows-kept, mode-some}
 use Rattle.story.proofs.Tells.{TellsTitle, absent, present, owes-none, count-told, held-told}
@@ -81,9 +81,9 @@ module _ (lanes : ℕ) (high : lanes ≤ poolMax) (es : List Event) (s : State) 
       (λ t3. refl)))
 
   -- a question that is answered clears every refusal
-  lane-clears : (i l τ : ℕ) → laneAnswer s i l τ ≡ 0 → (n : ℕ) → hitsOf n (laneOrder es i l τ) ≡ false
+  lane-clears : (i l τ : ℕ) → laneAnswer s i l τ ≡ 0 → (n : ℕ) → hitsOf n (laneRulesTo es i l τ) ≡ false
   unfolding laneAnswerTo numbered
-  lane-clears i l τ h = cleared (laneOrder es i l τ) refl (sym (lane-answer-told i l τ) ∙ h)
+  lane-clears i l τ h = cleared (laneRulesTo es i l τ) refl (sym (lane-answer-told i l τ) ∙ h)
 
   -- it was not too early for its id
   pub lane-late : (i l τ : ℕ) → laneAnswer s i l τ ≡ 0 → latestOf es i ≤ τ

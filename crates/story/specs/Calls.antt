@@ -5,12 +5,12 @@ use mathlib.Core.List.{List, [], _∷_}
 use lib.Dec.{leb, ltb, eqb}
 use lib.ListN.{getD, length, replicate}
 use Rattle.rules.specs.Limits.{both, within, poolMin, poolMax, idMax, eventTimeMax, askedMax, laneMax, countPlaces, lanePlaces, titlesMax}
-use Rattle.rules.specs.Refusals.{pick, refuse, firstHit, outsideLimits, tooEarly, notThere, wrongRows}
+use Rattle.rules.specs.Refusals.{pick, Rule, refuse, firstHit, outsideLimits}
 use Rattle.rules.specs.Search.{every}
 use Rattle.grid.specs.Ticks.{isSlotStart}
 use Rattle.story.specs.declared.Title.{Title}
 use Rattle.story.specs.declared.State.{State}
-use Rattle.story.specs.Orders.{Tests}
+use Rattle.story.specs.Orders.{Tests, laneOrder, statusOrder}
 use Rattle.story.specs.Story.{Act, opens, changes, closes, actLimits, countWrong, permitted, orderOf}
 use Rattle.story.specs.Kept.{absentMode, closingMode, titleAt, stateOk, tickAt, atTickStart, ruling, keptHeld, titleHeld, lanesHeld, isThere, shows}
 use Rattle.story.specs.Next.{callNext}
@@ -75,27 +75,28 @@ closeAnswer s i τ = callAnswer s i τ closes
 abbrev pub laneHeld : Title → ℕ → ℕ → Bool
 laneHeld t l τ = both (not (eqb (t .mode) absentMode)) (both (ltb l (t .cap)) (keptHeld t l (tickAt t τ)))
 
+abbrev pub laneRules : State → ℕ → ℕ → ℕ → List Rule
+laneRules s i l τ =
+    laneOrder (not (both (stateOk s) (both (leb i idMax) (both (leb l laneMax) (leb τ askedMax)))))
+    (ltb τ (titleAt s i .last))
+    (not (laneHeld (titleAt s i) l τ))
+
 unfoldable pub laneAnswer : State → ℕ → ℕ → ℕ → ℕ
-laneAnswer s i l τ =
-    firstHit
-    (refuse outsideLimits (not (both (stateOk s) (both (leb i idMax) (both (leb l laneMax) (leb τ askedMax)))))
-    ∷ refuse tooEarly (ltb τ (titleAt s i .last))
-    ∷ refuse notThere (not (laneHeld (titleAt s i) l τ))
-    ∷ [])
+laneAnswer s i l τ = firstHit (laneRules s i l τ)
 
 -- the cell that goes out; 0 beside a refusal
 unfoldable pub laneShows : State → ℕ → ℕ → ℕ → ℕ
 laneShows s i l τ = pick (eqb (laneAnswer s i l τ) 0) (shows (titleAt s i) l (tickAt (titleAt s i) τ)) 0
 
 -- status over a row of n ids, with rows of m counts and h numbers of lanes held
-unfoldable pub statusAnswer : State → ℕ → List ℕ → ℕ → ℕ → ℕ
-statusAnswer s τ ids m h =
-    firstHit
-    (refuse wrongRows (not (both (eqb m (length ids)) (eqb h (length ids))))
-    ∷ refuse outsideLimits
+abbrev pub statusRules : State → ℕ → List ℕ → ℕ → ℕ → List Rule
+statusRules s τ ids m h =
+    statusOrder (not (both (eqb m (length ids)) (eqb h (length ids))))
     (not (both (stateOk s) (both (leb τ askedMax) (every (λ j. leb (getD ids j 0) idMax) (length ids)))))
-    ∷ refuse tooEarly (ltb τ (s .last))
-    ∷ [])
+    (ltb τ (s .last))
+
+unfoldable pub statusAnswer : State → ℕ → List ℕ → ℕ → ℕ → ℕ
+statusAnswer s τ ids m h = firstHit (statusRules s τ ids m h)
 
 -- what status fills in for an id: its count, 0 where it isn't open, and the lanes it holds
 abbrev pub statusCount : State → ℕ → ℕ

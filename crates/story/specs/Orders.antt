@@ -1,8 +1,8 @@
--- The order of refusals of each event, once (01, "Numbers that calls give back": first match wins). What each refusal asks
+-- The order of refusals of each event and question, once (01, "Numbers that calls give back": first match wins). What each refusal asks
 -- is handed in by name: the story reads it off the sequence of events, the calls read it off the state.
 use mathlib.Core.Bool.{Bool, not}
 use mathlib.Core.List.{List, [], _∷_}
-use Rattle.rules.specs.Refusals.{Rule, refuse, outsideLimits, tooEarly, notThere, idTaken, isClosing, wrongCount, secondEvent, notAtSlot, noLanes}
+use Rattle.rules.specs.Refusals.{Rule, refuse, outsideLimits, tooEarly, notThere, idTaken, isClosing, wrongCount, secondEvent, notAtSlot, noLanes, wrongRows}
 
 -- what the refusals of an event ask
 pub record Tests : Type 0 where
@@ -53,3 +53,11 @@ closeOrder t =
     ∷ refuse secondEvent (t .second)
     ∷ refuse notAtSlot (t .off)
     ∷ []
+
+-- of a lane question: 3 where the lane is not held then
+abbrev pub laneOrder : (outside early away : Bool) → List Rule
+laneOrder outside early away = refuse outsideLimits outside ∷ refuse tooEarly early ∷ refuse notThere away ∷ []
+
+-- of status: 10 where its rows differ in length
+abbrev pub statusOrder : (differ outside early : Bool) → List Rule
+statusOrder differ outside early = refuse wrongRows differ ∷ refuse outsideLimits outside ∷ refuse tooEarly early ∷ []

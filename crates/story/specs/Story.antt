@@ -7,11 +7,11 @@ use mathlib.Core.List.{List, [], _∷_}
 use lib.Dec.{leb, ltb, eqb}
 use lib.ListN.{getD, length}
 use Rattle.rules.specs.Limits.{both, either, within, idMax, floorMin, floorMax, countMin, countMax, lengthMin, lengthMax, eventTimeMax, askedMax, laneMax, titlesMax}
-use Rattle.rules.specs.Refusals.{pick, Rule, refuse, firstHit, outsideLimits, tooEarly, notThere, wrongRows}
+use Rattle.rules.specs.Refusals.{pick, Rule, firstHit}
 use Rattle.rules.specs.Search.{every, howMany, total}
 use Rattle.grid.specs.Ticks.{tickOf, holdsFilm, isSlotStart}
 use Rattle.story.specs.Life.{Air, cell, isAdmission, isActive, isOwed, owedWithin, owes, onAir, isHeld}
-use Rattle.story.specs.Orders.{Tests, openOrder, changeOrder, closeOrder}
+use Rattle.story.specs.Orders.{Tests, openOrder, changeOrder, closeOrder, laneOrder, statusOrder}
 
 -- 01, "Events": what an event does: open with length, floor, cap and count; change to a count; close
 pub data Act : Type 0 where
@@ -215,24 +215,22 @@ pub data Accepted (pool : ℕ) : List Event → Type 0 where
   more : {e : Event} {es : List Event} → Accepted pool es → answer pool es e ≡ 0 → Accepted pool (e ∷ es)
 
 -- 01, "Numbers that calls give back": what a lane question is answered after es; the id's own latest event counts
-abbrev pub laneOrder : List Event → ℕ → ℕ → ℕ → List Rule
-laneOrder es i l τ =
-    refuse outsideLimits (not (both (leb i idMax) (both (leb l laneMax) (leb τ askedMax))))
-    ∷ refuse tooEarly (ltb τ (latestOf es i))
-    ∷ refuse notThere (not (isHeldIn (lifeOf es i) l τ))
-    ∷ []
+abbrev pub laneRulesTo : List Event → ℕ → ℕ → ℕ → List Rule
+laneRulesTo es i l τ =
+    laneOrder (not (both (leb i idMax) (both (leb l laneMax) (leb τ askedMax))))
+    (ltb τ (latestOf es i))
+    (not (isHeldIn (lifeOf es i) l τ))
 
 unfoldable pub laneAnswerTo : List Event → ℕ → ℕ → ℕ → ℕ
-laneAnswerTo es i l τ = firstHit (laneOrder es i l τ)
+laneAnswerTo es i l τ = firstHit (laneRulesTo es i l τ)
 
 -- what status is answered after es, over a row of ids beside rows of m and h places
 unfoldable pub statusAnswerTo : List Event → ℕ → List ℕ → ℕ → ℕ → ℕ
 statusAnswerTo es τ ids m h =
     firstHit
-    (refuse wrongRows (not (both (eqb m (length ids)) (eqb h (length ids))))
-    ∷ refuse outsideLimits (not (both (leb τ askedMax) (every (λ j. leb (getD ids j 0) idMax) (length ids))))
-    ∷ refuse tooEarly (ltb τ (lastTime es))
-    ∷ [])
+    (statusOrder (not (both (eqb m (length ids)) (eqb h (length ids))))
+    (not (both (leb τ askedMax) (every (λ j. leb (getD ids j 0) idMax) (length ids))))
+    (ltb τ (lastTime es)))
 
 -- the life of an id as it stands at a moment, the events of that very moment counted
 abbrev pub lifeAt : List Event → ℕ → ℕ → Life

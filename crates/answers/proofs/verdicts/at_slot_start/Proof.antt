@@ -1,6 +1,5 @@
 -- `at_slot_start` meets its contract: each way out decides the tests up to it.
 use borrow.Author.Needs.{needs}
-use borrow.Author.Needs.{needs}
 use Rattle.answers.proofs.verdicts.at_slot_start.Statement.{statement}
 use Rattle.answers.proofs.verdicts.at_slot_start.Tie as tie
 

@@ -7,9 +7,8 @@ use Rattle.story.specs.declared.Title.{Title}
 use Rattle.story.specs.Kept.{titleAt}
 use Rattle.story.specs.Calls.{eventOk}
 use Rattle.answers.specs.Before.{standingRules, countRules, changeBefore}
-use Rattle.answers.proofs.Ladder.{numbered, then-late, then-first}
+use Rattle.rules.proofs.Refusals.{numbered, then-late, then-first}
 use Rattle.answers.proofs.Event.{event-id, standing-changeable}
-use borrow.Author.Needs.{needs}
 use borrow.Author.Needs.{needs}
 use Rattle.answers.proofs.verdicts.change_verdict.Statement.{statement}
 use Rattle.answers.proofs.verdicts.change_verdict.Tie as tie

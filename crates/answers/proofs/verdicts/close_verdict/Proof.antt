@@ -4,11 +4,10 @@ use mathlib.Core.Bool.{not}
 use Rattle.rules.specs.Refusals.{firstHit}
 use Rattle.story.specs.declared.Title.{Title}
 use Rattle.story.specs.Kept.{titleAt}
-use Rattle.story.specs.Calls.{eventOk, closeAnswer}
+use Rattle.story.specs.Calls.{eventOk, callAnswer}
 use Rattle.answers.specs.Before.{standingRules, turnRules}
-use Rattle.answers.proofs.Ladder.{numbered, then-late, then-first}
+use Rattle.rules.proofs.Refusals.{numbered, then-late, then-first}
 use Rattle.answers.proofs.Event.{event-id, standing-changeable}
-use borrow.Author.Needs.{needs}
 use borrow.Author.Needs.{needs}
 use Rattle.answers.proofs.verdicts.close_verdict.Statement.{statement}
 use Rattle.answers.proofs.verdicts.close_verdict.Tie as tie
@@ -29,7 +28,7 @@ turn-verdict-requires c κs =
     rw (c .title-of .ensures) (ready .film, ready .film .cut .fit)
 
 returns : tie.Need-returns
-unfolding closeAnswer numbered
+unfolding callAnswer numbered
 returns c =
     let a = c .before .before .before .before .before .before .args in
     then-late 1 (not (eventOk (a .s) (a .id) (a .time))) (standingRules (a .s) (a .id) (a .time)) (turnRules (titleAt (a .s) (a .id)) (titleAt (a .s) (a .id) .floor) (a .time)) (c .before .before .before .standing .result) refl
@@ -37,14 +36,14 @@ returns c =
     (c .turn-verdict .ensures ∙ ap (λ (t : Title). firstHit (turnRules t (t .floor) (a .time))) (c .before .title-of .ensures))
 
 returns-2 : tie.Need-returns-2
-unfolding closeAnswer numbered
+unfolding callAnswer numbered
 returns-2 c =
     let a = c .before .before .before .before .args in
     then-first 1 (not (eventOk (a .s) (a .id) (a .time))) (standingRules (a .s) (a .id) (a .time)) (turnRules (titleAt (a .s) (a .id)) (titleAt (a .s) (a .id) .floor) (a .time)) (c .before .standing .result) refl
     (simp (← c .before .before .before .event-ok .ensures, c .before .before .if1 .taken)) (c .before .standing .ensures) (c .if2 .left)
 
 returns-3 : tie.Need-returns-3
-unfolding closeAnswer firstHit
+unfolding callAnswer firstHit
 returns-3 c = simp (← c .before .event-ok .ensures, c .if1 .left)
 
 pub close-verdict-spec : {M : Type 1} → statement M

@@ -3,7 +3,6 @@ use native.Mathlib.Omega.{arith}
 use borrow.Author.Tests.{eq-eqb, ne-eqb}
 use Rattle.rules.specs.Refusals.{firstHit}
 use borrow.Author.Needs.{needs}
-use borrow.Author.Needs.{needs}
 use Rattle.answers.proofs.verdicts.count_verdict.Statement.{statement}
 use Rattle.answers.proofs.verdicts.count_verdict.Tie as tie
 

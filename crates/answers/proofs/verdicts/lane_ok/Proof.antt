@@ -1,6 +1,5 @@
 -- `lane_ok` meets its contract: the tests are joined.
 use borrow.Author.Needs.{needs}
-use borrow.Author.Needs.{needs}
 use Rattle.answers.proofs.verdicts.lane_ok.Statement.{statement}
 use Rattle.answers.proofs.verdicts.lane_ok.Tie as tie
 

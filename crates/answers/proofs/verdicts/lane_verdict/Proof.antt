@@ -11,7 +11,6 @@ use Rattle.story.specs.Kept.{stateOk}
 use Rattle.story.specs.Calls.{laneAnswer}
 use Rattle.held.proofs.Within.{all-readable}
 use borrow.Author.Needs.{needs}
-use borrow.Author.Needs.{needs}
 use Rattle.answers.proofs.verdicts.lane_verdict.Statement.{statement}
 use Rattle.answers.proofs.verdicts.lane_verdict.Tie as tie
 

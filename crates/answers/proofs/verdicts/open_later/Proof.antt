@@ -3,7 +3,6 @@ use borrow.Author.Tests.{lt-ltb, le-ltb}
 use Rattle.rules.specs.Refusals.{firstHit}
 use Rattle.answers.proofs.Event.{event-id, event-readable}
 use borrow.Author.Needs.{needs}
-use borrow.Author.Needs.{needs}
 use Rattle.answers.proofs.verdicts.open_later.Statement.{statement}
 use Rattle.answers.proofs.verdicts.open_later.Tie as tie
 

@@ -1,6 +1,5 @@
 -- `open_ok` meets its contract: the tests are joined.
 use borrow.Author.Needs.{needs}
-use borrow.Author.Needs.{needs}
 use Rattle.answers.proofs.verdicts.open_ok.Statement.{statement}
 use Rattle.answers.proofs.verdicts.open_ok.Tie as tie
 

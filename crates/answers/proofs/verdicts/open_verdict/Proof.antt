@@ -3,7 +3,6 @@ use mathlib.Core.Path.{sym, _∙_}
 use Rattle.rules.specs.Refusals.{firstHit}
 use Rattle.answers.specs.Before.{openBefore}
 use borrow.Author.Needs.{needs}
-use borrow.Author.Needs.{needs}
 use Rattle.answers.proofs.verdicts.open_verdict.Statement.{statement}
 use Rattle.answers.proofs.verdicts.open_verdict.Tie as tie
 

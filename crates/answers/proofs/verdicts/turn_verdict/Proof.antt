@@ -2,7 +2,6 @@
 use borrow.Author.Tests.{eq-eqb, ne-eqb}
 use Rattle.rules.specs.Refusals.{firstHit}
 use borrow.Author.Needs.{needs}
-use borrow.Author.Needs.{needs}
 use Rattle.answers.proofs.verdicts.turn_verdict.Statement.{statement}
 use Rattle.answers.proofs.verdicts.turn_verdict.Tie as tie
 

@@ -1,0 +1,73 @@
+-- From a box's received bytes to demand 3: the page of the agent. Of any series of byte strings handed to a fresh agent, the
+-- events heard are reached with the agent's own state, so every theorem of the story's page holds of them: what the agent
+-- answers is what is on air, no box that begins by them runs dry, and the pool is never exceeded.
+-- Rests on `follows`, and cites the story's page for the rest.
+use mathlib.Core.Path.{_≡_, sym, ap, _∙_}
+use mathlib.Core.Bool.{true}
+use mathlib.Core.List.{List}
+use Prim.Native.Nat.{ℕ, _≤_, _<_}
+use Rattle.rules.specs.Limits.{titlesMax, askedMax}
+use Rattle.story.specs.Life.{cell}
+use Rattle.story.specs.Kept.{lanesHeld}
+use Rattle.story.specs.Calls.{laneAnswer, laneShows, statusAnswer, statusCount, statusHeld}
+use Rattle.story.specs.Story.{Accepted, lifeOf, lifeAt, lastTime, upTo, airAt, countIn, heldIn, heldOver, laneAnswerTo, statusAnswerTo, filmAt, InTick, Received, Begins}
+use Rattle.story.specs.Runs.{stateAfter, lanesOf, Reached}
+use Rattle.story.proofs.Demands.{in-sequence, every-lane, on-air, every-status, every-count, every-held, all-held, boxes, by-the-calls, the-pool}
+use Rattle.agent.specs.declared.Agent.{Agent}
+use Rattle.agent.specs.Series.{agentAfter, eventsHeard}
+use Rattle.agent.proofs.Order.{follows, state-heard}
+
+module _ (pool : ℕ) (bss : List (List ℕ)) where
+  -- some calls on a fresh pool have the events heard for their accepted ones and leave the agent's state
+  pub heard-reached : Reached pool (eventsHeard pool bss) (agentAfter pool bss .state)
+  heard-reached = follows pool bss .run
+
+  -- so they are accepted by the pool, each after those before it,
+  pub heard-accepted : Accepted (lanesOf pool) (eventsHeard pool bss)
+  heard-accepted = in-sequence pool (eventsHeard pool bss) (agentAfter pool bss .state) heard-reached
+
+  -- and the agent's state is the state after them
+  pub heard-state : agentAfter pool bss .state ≡ stateAfter pool (eventsHeard pool bss)
+  heard-state = state-heard pool bss
+
+  -- what the agent answers to a lane question is what is on air after them,
+  pub heard-lane : (i l τ : ℕ) → laneAnswer (agentAfter pool bss .state) i l τ ≡ laneAnswerTo (eventsHeard pool bss) i l τ
+  heard-lane = every-lane pool (eventsHeard pool bss) (agentAfter pool bss .state) heard-reached
+
+  pub heard-on-air : (i l τ : ℕ) → laneAnswer (agentAfter pool bss .state) i l τ ≡ 0 →
+      airAt (eventsHeard pool bss) i l τ ≡ cell (laneShows (agentAfter pool bss .state) i l τ)
+  heard-on-air = on-air pool (eventsHeard pool bss) (agentAfter pool bss .state) heard-reached
+
+  -- and so are its status and the lanes it holds
+  pub heard-status : (τ : ℕ) (ids : List ℕ) (m h : ℕ) →
+      statusAnswer (agentAfter pool bss .state) τ ids m h ≡ statusAnswerTo (eventsHeard pool bss) τ ids m h
+  heard-status = every-status pool (eventsHeard pool bss) (agentAfter pool bss .state) heard-reached
+
+  pub heard-count : (i τ : ℕ) → i < titlesMax → lastTime (eventsHeard pool bss) ≤ τ →
+      statusCount (agentAfter pool bss .state) i ≡ countIn (lifeOf (eventsHeard pool bss) i) τ
+  heard-count = every-count pool (eventsHeard pool bss) (agentAfter pool bss .state) heard-reached
+
+  pub heard-held : (i τ : ℕ) → i < titlesMax → lastTime (eventsHeard pool bss) ≤ τ →
+      statusHeld (agentAfter pool bss .state) i τ ≡ heldIn (lifeOf (eventsHeard pool bss) i) τ
+  heard-held = every-held pool (eventsHeard pool bss) (agentAfter pool bss .state) heard-reached
+
+  pub heard-all-held : (τ : ℕ) → lastTime (eventsHeard pool bss) ≤ τ →
+      lanesHeld (agentAfter pool bss .state) τ ≡ heldOver (eventsHeard pool bss) τ
+  heard-all-held = all-held pool (eventsHeard pool bss) (agentAfter pool bss .state) heard-reached
+
+  -- no box that begins by the events heard runs dry, by the story and by what the calls say,
+  pub heard-boxes : (i τ a c : ℕ) → i < titlesMax → Begins (eventsHeard pool bss) i τ a →
+      filmAt (lifeAt (eventsHeard pool bss) i τ) c ≡ true →
+      Received (eventsHeard pool bss) i (lifeAt (eventsHeard pool bss) i τ) a c
+  heard-boxes = boxes pool (eventsHeard pool bss) (agentAfter pool bss .state) heard-reached
+
+  pub heard-by-calls : (i τ a c : ℕ) → i < titlesMax →
+      (r : Received (eventsHeard pool bss) i (lifeAt (eventsHeard pool bss) i τ) a c) →
+      (υ : ℕ) → InTick (lifeAt (eventsHeard pool bss) i τ) (r .tick) υ → υ ≤ askedMax →
+      (laneAnswer (stateAfter pool (upTo υ (eventsHeard pool bss))) i (r .lane) υ ≡ 0)
+      × (laneShows (stateAfter pool (upTo υ (eventsHeard pool bss))) i (r .lane) υ ≡ c)
+  heard-by-calls = by-the-calls pool (eventsHeard pool bss) (agentAfter pool bss .state) heard-reached
+
+  -- and the pool is never exceeded
+  pub heard-pool : (τ : ℕ) → heldOver (upTo τ (eventsHeard pool bss)) τ ≤ lanesOf pool
+  heard-pool = the-pool pool (eventsHeard pool bss) (agentAfter pool bss .state) heard-reached
