@@ -1,2 +1,3 @@
 -- What an event answers before the pool is counted.
 pub mod Before
+pub mod Asked

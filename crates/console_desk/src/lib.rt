@@ -47,7 +47,7 @@ fn put_followed(out: &mut [u8], at: usize, answer: u8, agent: Agent) -> usize
 {
     let state = agent.state;
     let time = state.last;
-    let held = scheduler::held(state, time);
+    let held = scheduler::held(state, time).lanes;
     outcomes::put_value(out, at, answer, held, agent.sequence as u64 + 1)
 }
 

@@ -70,9 +70,6 @@ rem-above z x n m e f p =
       less = mod-lt (natAbs z) p;
     }
 
-pub rem-room : (n m : ℕ) → 0 < m → n % m ≤ m - 1
-rem-room n m p = omega (arith, mod-lt n p)
-
 -- the difference of two small numbers fits, and is read back as it was
 diff-small : (j s : ℕ) → j < 2 ^ 62 → s < 2 ^ 62 → SFits w64 (pos j -ℤ pos s)
 diff-small j zero a b = record { sfits = omega arith }

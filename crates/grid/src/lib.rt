@@ -72,6 +72,14 @@ pub fn slot_difference(j: u64, s: u64) -> i64
     j as i64 - s as i64
 }
 
+// The remainder by m that is never negative, of a number below zero: `rest` is what -1 exceeds it by, less whole m's.
+fn from_below(rest: u64, m: u64) -> u64
+    requires { ⌜ rest < m ⌝ }
+    ensures { λ r. ⌜ r ≡ m - 1 - rest ⌝ }
+{
+    m - 1 - rest
+}
+
 // The remainder of x by m that is never negative, exact below, at and above zero.
 pub fn floor_rem(x: i64, m: u64) -> u64
     requires { ⌜ 0 < m ⌝ }
@@ -80,7 +88,7 @@ pub fn floor_rem(x: i64, m: u64) -> u64
     if x < 0 {
         // x is -1 - n: unlike -x, this n fits for every x below zero
         let n = (-1 - x) as u64;
-        m - 1 - n % m
+        from_below(n % m, m)
     } else {
         x as u64 % m
     }

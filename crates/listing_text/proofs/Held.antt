@@ -3,13 +3,12 @@
 use Prim.Native.Nat.{ℕ}
 use mathlib.Core.Path.{_≡_, refl}
 use mathlib.Core.Bool.{Bool, true, false}
-use lib.Dec.{eqb, leb}
-use Rattle.rules.specs.Limits.{both, askedMax}
+use lib.Dec.{eqb}
 use Rattle.rules.specs.Refusals.{pick, done}
 use Rattle.rules.specs.Search.{total}
-use Rattle.story.specs.Kept.{stateOk, lanesHeld, titleHeld}
+use Rattle.story.specs.Kept.{lanesHeld, titleHeld}
 use Rattle.story.specs.Calls.{freshNext}
-use Rattle.scheduler.specs.Outcomes.{heldShown}
+use Rattle.scheduler.specs.Outcomes.{heldAnswer, heldShown}
 use Rattle.notice.specs.declared.Notice.{Notice}
 use Rattle.notice.specs.declared.Kind.{Kind}
 use Rattle.notice.specs.declared.Kind.the-variants.{Open, Change, Close}
@@ -34,4 +33,5 @@ nothing false = refl
 
 pub none-held : (answer time : ℕ) → heldAfter (freshAgent 8) answer time ≡ 0
 unfolding heldAfter heldShown lanesHeld total titleHeld
-none-held answer time = nothing (both (stateOk (freshNext 8)) (leb (pick (eqb answer done) time 0) askedMax))
+none-held answer time =
+    nothing (eqb (heldAnswer (freshNext 8) (pick (eqb answer done) time 0)) 0)

@@ -51,9 +51,9 @@ fn held_after(agent: Agent, answer: u8, time: u64) -> u64
 {
     let s = agent.state;
     if answer == DONE {
-        return held(s, time);
+        return held(s, time).lanes;
     }
-    held(s, s.last)
+    held(s, s.last).lanes
 }
 
 // The step of a notice that stands from a place up to an end.

@@ -2,3 +2,4 @@
 pub mod Refusals
 pub mod Parts
 pub mod Row
+pub mod Unique

@@ -90,7 +90,3 @@ module _ (A K k a : ℕ) (row : List ℕ) (r : ℕ) (after : List ℕ) (e : r �
 
   pub planned-refused : (r ≡ done → ⊥) → after ≡ row → Planned A K k a row r after
   planned-refused n w = record { answer = e; left = w ∙ sym (row-refused A K k a row (λ d. n (e ∙ d))) }
-
--- two outcomes that the contract admits are equal
-pub settled : (A K k a : ℕ) (row : List ℕ) (r s : ℕ) (after other : List ℕ) → Planned A K k a row r after → Planned A K k a row s other → (r ≡ s) × (after ≡ other)
-settled A K k a row r s after other p q = (p .answer ∙ sym (q .answer), p .left ∙ sym (q .left))

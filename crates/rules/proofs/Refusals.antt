@@ -10,7 +10,7 @@ use native.Mathlib.Omega.{arith}
 use lib.Dec.{ltb, eqb}
 use borrow.Author.Tests.{ltb-true, eq-eqb, ne-eqb, eqb-true, eqb-false, not-true}
 use Rattle.rules.specs.Limits.{both}
-use Rattle.rules.specs.Refusals.{pick, Rule, refuse, firstHit, before}
+use Rattle.rules.specs.Refusals.{pick, Rule, refuse, firstHit, before, behind}
 use Rattle.rules.proofs.Tests.{decide, both-l, both-r}
 
 -- whether the rule of number n hits, false where the list has none
@@ -52,6 +52,14 @@ cleared (r ∷ rs) c h n =
     let head = head-clear (r .number) (r .hits) (firstHit rs) (positive r rs c) h in
     let rest : hitsOf n rs ≡ false = cleared rs (numbered-rest r rs c) (head .1) n in
     ⊎-elim (λ x. rw x (head .0)) (λ x. rw x rest) (decide (eqb (r .number) n))
+
+-- and every part of the list behind a rule
+pub behind-clear : (n : ℕ) (rs : List Rule) → numbered rs ≡ true → firstHit rs ≡ 0 → firstHit (behind n rs) ≡ 0
+unfolding firstHit
+behind-clear n [] c h = refl
+behind-clear n (r ∷ rs) c h =
+    let rest : firstHit rs ≡ 0 = head-clear (r .number) (r .hits) (firstHit rs) (positive r rs c) h .1 in
+    ⊎-elim (λ x. rw x rest) (λ x. rw x (behind-clear n rs (numbered-rest r rs c) rest)) (decide (eqb (r .number) n))
 
 -- an answer that is no 0 stands in the list
 listed : (rs : List Rule) (n : ℕ) → 0 < n → firstHit rs ≡ n → isListed n rs ≡ true

@@ -1,38 +1,45 @@
 -- Each call's contract settles what it gives back: two outcomes that it admits are equal. Rests on the contracts being
 -- equations to definitions.
-use mathlib.Core.Path.{_≡_, sym, ap₂, _∙_}
 use Prim.Native.Nat.{ℕ}
-use lib.Dec.{eqb}
-use Rattle.rules.specs.Refusals.{pick}
+use mathlib.Core.Path.{_≡_, sym, ap₂, _∙_}
+use Rattle.rules.proofs.OneOutcome.{OneOutcome}
 use Rattle.story.specs.declared.State.{State}
-use Rattle.story.specs.Next.{openNext, changeNext, closeNext}
-use Rattle.story.specs.Calls.{freshAnswer, freshNext, openAnswer, changeAnswer, closeAnswer, laneAnswer, laneShows}
-use Rattle.scheduler.specs.declared.Started.{Started}
 use Rattle.scheduler.specs.declared.Outcome.{Outcome}
-use Rattle.scheduler.specs.declared.Shown.{Shown}
-use Rattle.scheduler.specs.Outcomes.{heldShown}
+use Rattle.scheduler.proofs.fresh.Kinds as fresh-kinds
+use Rattle.scheduler.proofs.fresh.Reads as fresh-call
+use Rattle.scheduler.proofs.open.Kinds as open-kinds
+use Rattle.scheduler.proofs.open.Reads as open-call
+use Rattle.scheduler.proofs.change.Kinds as change-kinds
+use Rattle.scheduler.proofs.change.Reads as change-call
+use Rattle.scheduler.proofs.close.Kinds as close-kinds
+use Rattle.scheduler.proofs.close.Reads as close-call
+use Rattle.scheduler.proofs.lane.Kinds as lane-kinds
+use Rattle.scheduler.proofs.lane.Reads as lane-call
+use Rattle.scheduler.proofs.held.Kinds as held-kinds
+use Rattle.scheduler.proofs.held.Reads as held-call
 
-pub one-fresh : (n : ℕ) (r q : Started) → (r .answer ≡ freshAnswer n) × (r .state ≡ freshNext n) → (q .answer ≡ freshAnswer n) × (q .state ≡ freshNext n) → r ≡ q
-one-fresh n r q a b = ap₂ (λ (x : ℕ) (y : State). record { answer = x; state = y }) (a .0 ∙ sym (b .0)) (a .1 ∙ sym (b .1))
+pub fresh-one-outcome : OneOutcome 0 fresh-kinds.ps fresh-kinds.r fresh-call.Learnt
+fresh-one-outcome κs a x y e f p q =
+    ap₂ (λ (n : ℕ) (s : State). record { answer = n; state = s }) (p .0 ∙ sym (q .0)) (p .1 ∙ sym (q .1))
 
--- what the contracts of an event admit: an answer, and the next state or the one that came in
-abbrev Gives : ℕ → State → State → Outcome → Type 0
-Gives answer next s r = (r .answer ≡ answer) × (r .state ≡ pick (eqb answer 0) next s)
+-- an event's answer and state, each said twice
+both-told : {n : ℕ} {s : State} (x y : Outcome) → (x .answer ≡ n) × (x .state ≡ s) → (y .answer ≡ n) × (y .state ≡ s) → x ≡ y
+both-told x y p q =
+    ap₂ (λ (n : ℕ) (s : State). record { answer = n; state = s }) (p .0 ∙ sym (q .0)) (p .1 ∙ sym (q .1))
 
-one-event : (answer : ℕ) (next s : State) (r q : Outcome) → Gives answer next s r → Gives answer next s q → r ≡ q
-one-event answer next s r q a b = ap₂ (λ (x : ℕ) (y : State). record { answer = x; state = y }) (a .0 ∙ sym (b .0)) (a .1 ∙ sym (b .1))
+pub open-one-outcome : OneOutcome 0 open-kinds.ps open-kinds.r open-call.Learnt
+open-one-outcome κs a x y e f p q = both-told x y p q
 
-pub one-open : (s : State) (i τ D A K k : ℕ) (r q : Outcome) → Gives (openAnswer s i τ D A K k) (openNext s i τ D A K k) s r → Gives (openAnswer s i τ D A K k) (openNext s i τ D A K k) s q → r ≡ q
-one-open s i τ D A K k r q a b = one-event (openAnswer s i τ D A K k) (openNext s i τ D A K k) s r q a b
+pub change-one-outcome : OneOutcome 0 change-kinds.ps change-kinds.r change-call.Learnt
+change-one-outcome κs a x y e f p q = both-told x y p q
 
-pub one-change : (s : State) (i τ k : ℕ) (r q : Outcome) → Gives (changeAnswer s i τ k) (changeNext s i τ k) s r → Gives (changeAnswer s i τ k) (changeNext s i τ k) s q → r ≡ q
-one-change s i τ k r q a b = one-event (changeAnswer s i τ k) (changeNext s i τ k) s r q a b
+pub close-one-outcome : OneOutcome 0 close-kinds.ps close-kinds.r close-call.Learnt
+close-one-outcome κs a x y e f p q = both-told x y p q
 
-pub one-close : (s : State) (i τ : ℕ) (r q : Outcome) → Gives (closeAnswer s i τ) (closeNext s i τ) s r → Gives (closeAnswer s i τ) (closeNext s i τ) s q → r ≡ q
-one-close s i τ r q a b = one-event (closeAnswer s i τ) (closeNext s i τ) s r q a b
+pub lane-one-outcome : OneOutcome 0 lane-kinds.ps lane-kinds.r lane-call.Learnt
+lane-one-outcome κs a x y e f p q =
+    ap₂ (λ (n m : ℕ). record { answer = n; cell = m }) (p .0 ∙ sym (q .0)) (p .1 ∙ sym (q .1))
 
-pub one-shown : (s : State) (i l τ : ℕ) (r q : Shown) → (r .answer ≡ laneAnswer s i l τ) × (r .cell ≡ laneShows s i l τ) → (q .answer ≡ laneAnswer s i l τ) × (q .cell ≡ laneShows s i l τ) → r ≡ q
-one-shown s i l τ r q a b = ap₂ (λ (x y : ℕ). record { answer = x; cell = y }) (a .0 ∙ sym (b .0)) (a .1 ∙ sym (b .1))
-
-pub one-held : (s : State) (τ r q : ℕ) → r ≡ heldShown s τ → q ≡ heldShown s τ → r ≡ q
-one-held s τ r q a b = a ∙ sym b
+pub held-one-outcome : OneOutcome 0 held-kinds.ps held-kinds.r held-call.Learnt
+held-one-outcome κs a x y e f p q =
+    ap₂ (λ (n m : ℕ). record { answer = n; lanes = m }) (p .0 ∙ sym (q .0)) (p .1 ∙ sym (q .1))

@@ -1,17 +1,22 @@
 -- The last refusal of an event, and the lanes held of any state.
 use Prim.Native.Nat.{ℕ}
+use mathlib.Core.Bool.{true}
 use mathlib.Core.List.{[], _∷_}
-use lib.Dec.{leb}
-use Rattle.rules.specs.Limits.{both, askedMax}
+use lib.Dec.{eqb}
 use Rattle.rules.specs.Refusals.{pick, refuse, firstHit, noLanes}
 use Rattle.story.specs.declared.State.{State}
-use Rattle.story.specs.Kept.{stateOk, lanesHeld}
+use Rattle.story.specs.Kept.{lanesHeld}
 use Rattle.story.specs.Calls.{tooMany}
+use Rattle.answers.specs.Asked.{askedAnswer}
 
 -- 01, "Events": refused for want of lanes exactly when, with the event, more than the pool would be held
 unfoldable pub settledAnswer : State → ℕ → ℕ
 settledAnswer next τ = firstHit (refuse noLanes (tooMany next τ) ∷ [])
 
--- the lanes held at a time; 0 where a stored number or the time is outside its limits
+-- lanes held at a time: a question of all titles, with no other number
+unfoldable pub heldAnswer : State → ℕ → ℕ
+heldAnswer s τ = askedAnswer s τ true
+
+-- how many; 0 beside a refusal
 unfoldable pub heldShown : State → ℕ → ℕ
-heldShown s τ = pick (both (stateOk s) (leb τ askedMax)) (lanesHeld s τ) 0
+heldShown s τ = pick (eqb (heldAnswer s τ) 0) (lanesHeld s τ) 0

@@ -1,18 +1,17 @@
 // The scheduler's calls. No public function has a `requires`: any numbers and any state may be handed in, and each contract
 // says what is answered. A refusal gives back the state as it came in, number for number, and writes nothing that is lent.
 
+use answers::questions::asked_verdict;
 use answers::verdicts::change_verdict;
 use answers::verdicts::close_verdict;
 use answers::verdicts::lane_verdict;
 use answers::verdicts::open_verdict;
 use answers::verdicts::title_of;
 use held::lanes::lanes_held;
-use held::limits::state_ok;
 use held::ticks::tick_at;
 use owed::dropping::changed_title;
 use owed::dropping::closed_title;
 use owed::sending::shows;
-use rules::ASKED_MAX;
 use rules::COUNT_PLACES;
 use rules::DONE;
 use rules::LANE_PLACES;
@@ -46,7 +45,7 @@ ghost use Rattle.story.specs.Calls.{
   laneShows,
 };
 ghost use Rattle.held.specs.Film.{AllReadable};
-ghost use Rattle.scheduler.specs.Outcomes.{settledAnswer, heldShown};
+ghost use Rattle.scheduler.specs.Outcomes.{settledAnswer, heldAnswer, heldShown};
 
 // What a fresh call gives back.
 pub struct Started {
@@ -64,6 +63,12 @@ pub struct Outcome {
 pub struct Shown {
     pub answer: u8,
     pub cell: u64,
+}
+
+// What the question of lanes held gives back: the answer, and how many, 0 beside a refusal.
+pub struct HeldLanes {
+    pub answer: u8,
+    pub lanes: u64,
 }
 
 // The slot of an id that no event has named.
@@ -232,14 +237,19 @@ pub fn lane(s: State, id: u64, lane: u64, time: u64) -> Shown
     }
 }
 
-// How many lanes are held over all titles at a time; 0 where a number is outside its limits.
-pub fn held(s: State, time: u64) -> u64
-    ensures { λ r. ⌜ r ≡ heldShown s time ⌝ }
+// How many lanes are held over all titles at a time, no earlier than the last accepted event.
+pub fn held(s: State, time: u64) -> HeldLanes
+    ensures { λ r. ⌜ (r .answer ≡ heldAnswer s time) × (r .lanes ≡ heldShown s time) ⌝ }
 {
-    if state_ok(s) {
-        if time <= ASKED_MAX {
-            return lanes_held(s, time);
-        }
+    let answer = asked_verdict(s, time, true);
+    if answer == DONE {
+        return HeldLanes {
+            answer: DONE,
+            lanes: lanes_held(s, time),
+        };
     }
-    0
+    HeldLanes {
+        answer: answer,
+        lanes: 0,
+    }
 }

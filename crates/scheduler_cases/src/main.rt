@@ -53,7 +53,7 @@ fn show_from(s: State, lane: u64, from: u64, to: u64) {
 // Lanes held at a time.
 fn show_held(s: State, time: u64) {
     io::write_all(STDOUT, b" held");
-    word(scheduler::held(s, time));
+    word(scheduler::held(s, time).lanes);
 }
 
 fn case5() {

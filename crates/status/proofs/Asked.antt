@@ -4,16 +4,18 @@ use mathlib.Core.Path.{_≡_, refl}
 use mathlib.Core.Bool.{true}
 use mathlib.Core.List.{List}
 use Prim.Native.Nat.{ℕ}
-use lib.Dec.{leb, eqb}
+use lib.Dec.{eqb}
 use lib.ListN.{length}
 use borrow.Author.Tests.{eqb-true, not-false}
-use Rattle.rules.specs.Limits.{both, askedMax}
-use Rattle.rules.specs.Refusals.{outsideLimits, wrongRows}
+use Rattle.rules.specs.Limits.{both}
 use Rattle.rules.proofs.Tests.{both-l, both-r}
 use Rattle.story.specs.declared.State.{State}
 use Rattle.story.specs.Kept.{stateOk}
 use Rattle.story.specs.Calls.{statusRules, statusAnswer}
-use Rattle.rules.proofs.Refusals.{hitsOf, numbered, cleared}
+use Rattle.answers.specs.Asked.{askedAnswer}
+use Rattle.rules.specs.Refusals.{wrongRows}
+use Rattle.rules.proofs.Refusals.{hitsOf, numbered, cleared, behind-clear}
+use Rattle.answers.proofs.Asked.{asked-state, asked-others}
 use Rattle.status.specs.Rows.{idsOk}
 
 module _ (s : State) (τ : ℕ) (ids : List ℕ) (m h : ℕ) (none : statusAnswer s τ ids m h ≡ 0) where
@@ -27,12 +29,12 @@ module _ (s : State) (τ : ℕ) (ids : List ℕ) (m h : ℕ) (none : statusAnswe
   pub held-row : h ≡ length ids
   held-row = eqb-true h (length ids) (both-r (eqb m (length ids)) (eqb h (length ids)) rows)
 
-  numbers : both (stateOk s) (both (leb τ askedMax) (idsOk ids)) ≡ true
-  unfolding statusAnswer idsOk hitsOf numbered
-  numbers = not-false _ (cleared (statusRules s τ ids m h) refl none outsideLimits)
+  rest : askedAnswer s τ (idsOk ids) ≡ 0
+  unfolding statusAnswer askedAnswer idsOk numbered
+  rest = behind-clear wrongRows (statusRules s τ ids m h) refl none
 
-  pub asked-state : stateOk s ≡ true
-  asked-state = both-l (stateOk s) (both (leb τ askedMax) (idsOk ids)) numbers
+  pub rows-state : stateOk s ≡ true
+  rows-state = asked-state s τ (idsOk ids) rest
 
-  pub asked-ids : idsOk ids ≡ true
-  asked-ids = both-r (leb τ askedMax) (idsOk ids) (both-r (stateOk s) (both (leb τ askedMax) (idsOk ids)) numbers)
+  pub rows-ids : idsOk ids ≡ true
+  rows-ids = asked-others s τ (idsOk ids) rest

@@ -25,13 +25,18 @@ filled-more f ids row i v l done e k below =
     (λ here. rw here (getD-set-same row i v 0 l ∙ e))
     (below-suc k i below)
 
+-- a row whose every place has what f makes of another's is that other row under f
+pub every-place : {A B : Type 0} (f : A → B) (x : A) (y : B) (xs : List A) (ys : List B) → length ys ≡ length xs
+    → ((k : ℕ) → k < length xs → getD ys k y ≡ f (getD xs k x)) → ys ≡ map f xs
+every-place f x y [] [] e g = refl
+every-place f x y [] (b ∷ ys) e g = absurd (omega arith)
+every-place f x y (a ∷ xs) [] e g = absurd (omega arith)
+every-place {A} {B} f x y (a ∷ xs) (b ∷ ys) e g =
+    ap₂ (λ (z : B) (zs : List B). z ∷ zs) (g zero (omega arith))
+    (every-place f x y xs ys (omega arith) (λ k l. g (suc k) (omega arith)))
+
 pub filled-all : (f : ℕ → ℕ) (ids row : List ℕ) → length row ≡ length ids → Filled f ids row (length ids) → row ≡ map f ids
-filled-all f [] [] e done = refl
-filled-all f [] (x ∷ row) e done = absurd (omega arith)
-filled-all f (y ∷ ids) [] e done = absurd (omega arith)
-filled-all f (y ∷ ids) (x ∷ row) e done =
-    ap₂ (λ (a : ℕ) (l : List ℕ). a ∷ l) (done zero (omega arith))
-    (filled-all f ids row (omega arith) (λ k l. done (suc k) (omega arith)))
+filled-all f ids row e done = every-place f 0 0 ids row e done
 
 pub id-below : (ids : List ℕ) (i : ℕ) → idsOk ids ≡ true → i < length ids → getD ids i 0 ≤ idMax
 unfolding idsOk

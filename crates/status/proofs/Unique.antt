@@ -1,27 +1,32 @@
--- The contract of status settles its answer and both rows: two outcomes that it admits are equal.
+-- The contracts of status settle answer and rows: two outcomes that they admit are equal. Rests on the contracts being
+-- equations to definitions.
 use mathlib.Core.Path.{_≡_, sym, _∙_}
 use mathlib.Core.List.{List, map}
 use Prim.Native.Nat.{ℕ}
 use lib.Dec.{eqb}
-use lib.ListN.{length}
+use denote.Ref.{now}
 use Rattle.rules.specs.Refusals.{pick}
+use Rattle.rules.proofs.OneOutcome.{OneEnd}
 use Rattle.story.specs.declared.State.{State}
-use Rattle.story.specs.Calls.{statusAnswer, statusCount, statusHeld}
 use Rattle.status.specs.declared.Record.{Record}
 use Rattle.status.specs.Records.{recordsAnswer, filledRecord}
+use Rattle.status.proofs.status.Kinds as status-kinds
+use Rattle.status.proofs.status.Reads as status-call
 
--- what the contract admits: an answer, and the rows filled or as they were
-abbrev Gives : State → ℕ → List ℕ → List ℕ → List ℕ → ℕ → List ℕ → List ℕ → Type 0
-Gives s τ ids counts held r c h =
-    (r ≡ statusAnswer s τ ids (length counts) (length held))
-    × (c ≡ pick (eqb r 0) (map (λ i. statusCount s i) ids) counts)
-    × (h ≡ pick (eqb r 0) (map (λ i. statusHeld s i τ) ids) held)
+-- the rows of counts and of lanes held, parameters 3 and 4, from 0
+pub status-one-outcome :
+    OneEnd 3 status-kinds.ps status-kinds.r
+    (λ κs e f. (now (e .1 .1 .1 .0) ≡ now (f .1 .1 .1 .0)) × (now (e .1 .1 .1 .1 .0) ≡ now (f .1 .1 .1 .1 .0)))
+    status-call.Learnt
+status-one-outcome κs a x y e f p q =
+    let same : x ≡ y = p .0 ∙ sym (q .0) in
+    (same, (rw same at (p .1 .0) ∙ sym (q .1 .0), rw same at (p .1 .1) ∙ sym (q .1 .1)))
 
-pub one-status : (s : State) (τ : ℕ) (ids counts held : List ℕ) (r q : ℕ) (c d h g : List ℕ) → Gives s τ ids counts held r c h → Gives s τ ids counts held q d g → (r ≡ q) × (c ≡ d) × (h ≡ g)
-one-status s τ ids counts held r q c d h g a b =
-    let e : r ≡ q = a .0 ∙ sym (b .0) in
-    (e, rw e at (a .1) ∙ sym (b .1), rw e at (a .2) ∙ sym (b .2))
+-- what the contract of status over records admits: it is proved by a walk, and the checker reads no plain form off it
+abbrev Gives : State → ℕ → List Record → ℕ → List Record → Type 0
+Gives s τ rows r after = (r ≡ recordsAnswer s τ rows) × (after ≡ pick (eqb r 0) (map (λ z. filledRecord s τ z) rows) rows)
 
--- and of status over records: its answer and the row
-pub one-records : (s : State) (τ : ℕ) (rows : List Record) (r q : ℕ) (a b : List Record) → (r ≡ recordsAnswer s τ rows) × (a ≡ pick (eqb r 0) (map (λ z. filledRecord s τ z) rows) rows) → (q ≡ recordsAnswer s τ rows) × (b ≡ pick (eqb q 0) (map (λ z. filledRecord s τ z) rows) rows) → (r ≡ q) × (a ≡ b)
-one-records s τ rows r q a b c d = let e : r ≡ q = c .0 ∙ sym (d .0) in (e, rw e at (c .1) ∙ sym (d .1))
+pub records-one-outcome : (s : State) (τ : ℕ) (rows : List Record) (x y : ℕ) (a b : List Record)
+    → Gives s τ rows x a → Gives s τ rows y b → (x ≡ y) × (a ≡ b)
+records-one-outcome s τ rows x y a b p q =
+    let same : x ≡ y = p .0 ∙ sym (q .0) in (same, rw same at (p .1) ∙ sym (q .1))

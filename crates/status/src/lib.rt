@@ -1,16 +1,13 @@
 // Status: at a given time, the count and the lanes held of each title asked for, by its id (01, "Status"). No public
 // function has a `requires`; a refusal writes nothing.
 
+use answers::questions::asked_verdict;
 use answers::verdicts::title_of;
 use held::lanes::ruling;
 use held::lanes::title_held;
 use held::limits::also;
-use held::limits::state_ok;
-use rules::ASKED_MAX;
 use rules::DONE;
 use rules::ID_MAX;
-use rules::OUTSIDE_LIMITS;
-use rules::TOO_EARLY;
 use rules::WRONG_ROWS;
 use story::State;
 ghost use Prim.Native.Nat.{ℕ};
@@ -24,7 +21,7 @@ ghost use Rattle.rules.specs.Refusals.{pick};
 ghost use Rattle.story.specs.Kept.{stateOk};
 ghost use Rattle.story.specs.Calls.{statusAnswer, statusCount, statusHeld};
 ghost use Rattle.status.specs.Rows.{idsOk};
-ghost use Rattle.status.specs.Records.{recordsVerdict, recordsAnswer, filledRecord, recordFor};
+ghost use Rattle.status.specs.Records.{recordsAnswer, filledRecord, recordFor};
 
 // The ids are ids.
 fn ids_ok(ids: &[u64]) -> bool
@@ -50,13 +47,7 @@ fn status_verdict(s: State, time: u64, ids: &[u64], counts: usize, held: usize) 
     if held != n {
         return WRONG_ROWS;
     }
-    if also(state_ok(s), also(time <= ASKED_MAX, ids_ok(ids))) {
-        if time < s.last {
-            return TOO_EARLY;
-        }
-        return DONE;
-    }
-    OUTSIDE_LIMITS
+    asked_verdict(s, time, ids_ok(ids))
 }
 
 // The count of each title asked for, 0 where it isn't open.
@@ -112,35 +103,19 @@ fn id_ok(r: Record, ok: bool) -> bool
     also(r.id <= ID_MAX, ok)
 }
 
-// The answer over records, whose ids are all ids or not.
-fn records_verdict(s: State, time: u64, ids: bool) -> u8
-    ensures { λ r. ⌜ r ≡ recordsVerdict s time ids ⌝ }
+// A record filled in, by the flat call over rows of one place.
+fn row_for(s: State, time: u64, r: Record) -> Record
+    ensures { λ q. ⌜ q ≡ recordFor s time r ⌝ }
 {
-    if also(state_ok(s), also(time <= ASKED_MAX, ids)) {
-        if time < s.last {
-            return TOO_EARLY;
-        }
-        return DONE;
+    let ids = [r.id];
+    let mut counts = [r.count];
+    let mut held = [r.held];
+    status(s, time, &ids, &mut counts, &mut held);
+    Record {
+        id: r.id,
+        count: counts[0],
+        held: held[0],
     }
-    OUTSIDE_LIMITS
-}
-
-// A record filled in, by the flat call over rows of one place; as it was beside a refusal.
-fn row_for(s: State, time: u64, answer: u8, r: Record) -> Record
-    ensures { λ q. ⌜ q ≡ recordFor s time answer r ⌝ }
-{
-    if answer == DONE {
-        let ids = [r.id];
-        let mut counts = [r.count];
-        let mut held = [r.held];
-        status(s, time, &ids, &mut counts, &mut held);
-        return Record {
-            id: r.id,
-            count: counts[0],
-            held: held[0],
-        };
-    }
-    r
 }
 
 // Fills in counts and lanes held by id, over a row of records.
@@ -153,11 +128,13 @@ pub fn records(s: State, time: u64, rows: &mut [Record]) -> u8
         ids = id_ok(rows[i], ids);
         i += 1;
     }
-    let answer = records_verdict(s, time, ids);
-    let mut j = 0;
-    while j < rows.len() {
-        rows[j] = row_for(s, time, answer, rows[j]);
-        j += 1;
+    let answer = asked_verdict(s, time, ids);
+    if answer == DONE {
+        let mut j = 0;
+        while j < rows.len() {
+            rows[j] = row_for(s, time, rows[j]);
+            j += 1;
+        }
     }
     answer
 }

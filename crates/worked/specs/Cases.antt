@@ -1,16 +1,16 @@
 -- 01, "Numbers worked through": the starred cases as one table, what the definitions give beside what 01 prints. All but
--- 10 and 11 are of a film with floor 2, cap 4 and D 12, opened at 0, so that its tick is 1 ms.
+-- 10 and 11 are of a film with floor 2, cap 4 and D 12, opened at 0; number 0 is what 01 says of that film beforehand.
 use Prim.Native.Nat.{ℕ, zero, suc}
-use mathlib.Core.Bool.{Bool, true, false}
+use mathlib.Core.Bool.{Bool, true, false, not}
 use mathlib.Core.List.{List, [], _∷_, _++_}
 use lib.Dec.{eqb}
 use Rattle.rules.specs.Limits.{both}
 use Rattle.rules.specs.Refusals.{pick, done, outsideLimits, wrongCount, notAtSlot, noLanes}
-use Rattle.grid.specs.Ticks.{tickOf}
+use Rattle.grid.specs.Ticks.{cells, tickOf, holdsFilm}
 use Rattle.grid.specs.Lanes.{isInG, laneCell}
 use Rattle.grid.specs.Plan.{planAt, never}
 use Rattle.story.specs.Life.{Air, nothing, cell}
-use Rattle.story.specs.Story.{Act, opens, changes, Event, answer, airAt}
+use Rattle.story.specs.Story.{Act, opens, changes, Event, answer, accepted, airAt}
 use Rattle.sharing.specs.Verdict.{verdictOf, rowAfter}
 
 -- a case of 01 by its number: what the definitions give, and what is printed
@@ -32,10 +32,27 @@ unfoldable pub along : (ℕ → ℕ) → ℕ → ℕ → List ℕ
 along f n zero = []
 along f n (suc m) = f n ∷ along f (suc n) m
 
--- the cells below 16 that are in G(k, t)
-unfoldable pub inG : ℕ → ℕ → ℕ → List ℕ
-inG k t zero = []
-inG k t (suc c) = inG k t c ++ pick (isInG 2 4 k t c) (c ∷ []) []
+-- the numbers below n that pass a test, in order
+unfoldable pub those : (ℕ → Bool) → ℕ → List ℕ
+those p zero = []
+those p (suc n) = those p n ++ pick (p n) (n ∷ []) []
+
+-- the film's floor, cap and length, and its cells
+abbrev pub floor : ℕ
+floor = 2
+
+abbrev pub cap : ℕ
+cap = 4
+
+abbrev pub length : ℕ
+length = 12
+
+abbrev pub filmCells : ℕ
+filmCells = cells cap
+
+-- its cells that are in G(k, t)
+abbrev pub inG : ℕ → ℕ → List ℕ
+inG k t = those (isInG floor cap k t) filmCells
 
 -- what a lane shows, as a number: the cell, or what a box writes for nothing
 abbrev pub shown : Air → ℕ
@@ -47,44 +64,54 @@ event τ a = record { time = τ; title = 0; act = a }
 
 -- the film of the cases, opened with a count
 abbrev pub film : ℕ → Event
-film k = event 0 (opens 12 2 4 k)
+film k = event 0 (opens length floor cap k)
 
--- lane l from tick t on, so many ticks, after a sequence
+-- any pool that has the lanes of the cases
+abbrev pub pool : ℕ
+pool = 8
+
+-- what an event is answered after calls, newest first
+abbrev pub answerAfter : List Event → Event → ℕ
+answerAfter cs e = answer pool (accepted pool cs) e
+
+-- lane l from tick t on, so many ticks, after the accepted ones of the calls
 abbrev pub lane : List Event → ℕ → ℕ → ℕ → List ℕ
-lane es l t n = along (λ τ. shown (airAt es 0 l τ)) t n
+lane cs l t n = along (λ τ. shown (airAt (accepted pool cs) 0 l τ)) t n
 
 -- two titles of D 210 with floor 2 and cap 4: the answer, then the row, which has a place more than there are titles
 abbrev pub share : ℕ → List ℕ → List ℕ
-share pool rates =
+share lanes rates =
     let lengths : List ℕ = 210 ∷ 210 ∷ [] in
-    let floors : List ℕ = 2 ∷ 2 ∷ [] in
-    let caps : List ℕ = 4 ∷ 4 ∷ [] in
+    let floors : List ℕ = floor ∷ floor ∷ [] in
+    let caps : List ℕ = cap ∷ cap ∷ [] in
     let row : List ℕ = 0 ∷ 0 ∷ 7 ∷ [] in
-    verdictOf pool rates lengths floors caps 3 ∷ rowAfter pool rates lengths floors caps row
+    verdictOf lanes rates lengths floors caps 3 ∷ rowAfter lanes rates lengths floors caps row
 
 unfoldable pub table : List Case
 table =
-    case 1 (inG 2 0 16) (0 ∷ 4 ∷ [])
-    ∷ case 1 (inG 3 0 16) (0 ∷ 4 ∷ 12 ∷ [])
-    ∷ case 1 (inG 4 0 16) (0 ∷ 2 ∷ 4 ∷ 12 ∷ [])
-    ∷ case 2 (upFrom (laneCell 2 4 3) 8) (2 ∷ 0 ∷ 14 ∷ 0 ∷ 2 ∷ 0 ∷ 6 ∷ 0 ∷ [])
-    ∷ case 3 (upFrom (laneCell 2 4 2) 8) (12 ∷ 13 ∷ 0 ∷ 1 ∷ 4 ∷ 5 ∷ 0 ∷ 1 ∷ [])
-    ∷ case 4 (upFrom (planAt 2 4 4 0) 16)
+    case 0 (tickOf length floor cap ∷ []) (1 ∷ [])
+    ∷ case 0 (those (λ c. not (holdsFilm length floor cap c)) filmCells) (12 ∷ 13 ∷ 14 ∷ 15 ∷ [])
+    ∷ case 1 (inG 2 0) (0 ∷ 4 ∷ [])
+    ∷ case 1 (inG 3 0) (0 ∷ 4 ∷ 12 ∷ [])
+    ∷ case 1 (inG 4 0) (0 ∷ 2 ∷ 4 ∷ 12 ∷ [])
+    ∷ case 2 (upFrom (laneCell floor cap 3) 8) (2 ∷ 0 ∷ 14 ∷ 0 ∷ 2 ∷ 0 ∷ 6 ∷ 0 ∷ [])
+    ∷ case 3 (upFrom (laneCell floor cap 2) 8) (12 ∷ 13 ∷ 0 ∷ 1 ∷ 4 ∷ 5 ∷ 0 ∷ 1 ∷ [])
+    ∷ case 4 (upFrom (planAt floor cap 4 0) filmCells)
     (0 ∷ 1 ∷ 0 ∷ 3 ∷ 0 ∷ 1 ∷ 2 ∷ 3 ∷ 4 ∷ 5 ∷ 6 ∷ 7 ∷ 0 ∷ 1 ∷ 2 ∷ never ∷ [])
     ∷ case 5 (lane (event 4 (changes 2) ∷ film 3 ∷ []) 2 4 5) (4 ∷ 5 ∷ 12 ∷ 13 ∷ never ∷ [])
     ∷ case 6 (lane (event 4 (changes 3) ∷ film 4 ∷ []) 3 4 4) (2 ∷ 6 ∷ 14 ∷ never ∷ [])
     ∷ case 6 (lane (event 6 (changes 4) ∷ event 4 (changes 3) ∷ film 4 ∷ []) 3 6 1) (6 ∷ [])
     ∷ case 6 (lane (event 6 (changes 4) ∷ event 4 (changes 3) ∷ film 4 ∷ []) 3 10 1) (14 ∷ [])
     ∷ case 7 (lane (event 8 (changes 3) ∷ film 4 ∷ []) 3 8 3) (2 ∷ 14 ∷ never ∷ [])
-    ∷ case 8 (answer 8 (film 3 ∷ []) (event 2 (changes 2)) ∷ answer 8 (film 3 ∷ []) (event 4 (changes 2)) ∷ [])
+    ∷ case 8 (answerAfter (film 3 ∷ []) (event 2 (changes 2)) ∷ answerAfter (film 3 ∷ []) (event 4 (changes 2)) ∷ [])
     (notAtSlot ∷ done ∷ [])
     ∷ case 9
-    (answer 8 (film 4 ∷ []) (event 4 (changes 4))
-    ∷ answer 8 (film 4 ∷ []) (event 4 (changes 5))
-    ∷ answer 8 (film 4 ∷ []) (event 4 (changes 11))
+    (answerAfter (film 4 ∷ []) (event 4 (changes 4))
+    ∷ answerAfter (film 4 ∷ []) (event 4 (changes 5))
+    ∷ answerAfter (film 4 ∷ []) (event 4 (changes 11))
     ∷ [])
     (wrongCount ∷ wrongCount ∷ outsideLimits ∷ [])
-    ∷ case 10 (tickOf 1 2 4 ∷ tickOf 13 2 4 ∷ []) (1 ∷ 2 ∷ [])
+    ∷ case 10 (tickOf 1 floor cap ∷ tickOf 13 floor cap ∷ []) (1 ∷ 2 ∷ [])
     ∷ case 11 (share 4 (1 ∷ 2 ∷ [])) (done ∷ 2 ∷ 2 ∷ 7 ∷ [])
     ∷ case 11 (share 5 (1 ∷ 2 ∷ [])) (done ∷ 2 ∷ 3 ∷ 7 ∷ [])
     ∷ case 11 (share 6 (1 ∷ 2 ∷ [])) (done ∷ 3 ∷ 3 ∷ 7 ∷ [])

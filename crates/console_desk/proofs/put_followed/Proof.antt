@@ -21,7 +21,7 @@ same-length c = search needs
 
 returns : tie.Need-returns
 unfolding followedText
-returns c = rw (← c .before .before .before .before .before .held .ensures) (c .before .before .put-value .ensures)
+returns c = rw (← c .before .before .before .before .before .held .ensures .1) (c .before .before .put-value .ensures)
 
 pub put-followed-spec : {M : Type 1} → statement M
 put-followed-spec =

@@ -1,10 +1,11 @@
 -- `grid::floor_rem` meets its contract: below zero it takes the remainder of what is missing, elsewhere the plain one.
 -- Rests on the laws of signed numbers.
 use borrow.Author.Needs.{needs}
-use Rattle.grid.proofs.Signed.{below, above, flipped-fits, flipped-read, cast-of, rem-below, rem-above, rem-room}
+use Rattle.grid.proofs.Signed.{below, above, flipped-fits, flipped-read, cast-of, rem-below, rem-above}
 use mir.ValLaws.{toZ-ofZ}
 use mir.Syntax.{w64}
 use mathlib.Core.Path.{_∙_}
+use native.Mathlib.Nat.{mod-lt}
 use Rattle.grid.proofs.floor_rem.Statement.{statement}
 use Rattle.grid.proofs.floor_rem.Tie as tie
 
@@ -20,14 +21,11 @@ cast-n c =
     let b = below x (c .before .fits .x) (c .if1 .taken) in
     cast-of _ (b .0) (flipped-read x (b .0) (c .before .fits .x) (b .1)) (b .1 .small)
 
-sub-result : tie.Need-sub-result
-sub-result c = search needs
+rem-from-below : tie.Need-rem-from-below
+rem-from-below c = search needs
 
-rem-result : tie.Need-rem-result
-rem-result c = search needs
-
-sub-result-2 : tie.Need-sub-result-2
-sub-result-2 c = rem-room _ (c .before .args .m) (c .before .pre)
+from-below-requires : tie.Need-from-below-requires
+from-below-requires c κs = mod-lt _ (c .before .pre)
 
 cast-result : tie.Need-cast-result
 cast-result c =
@@ -35,14 +33,15 @@ cast-result c =
     let b = above x (c .before .fits .x) (c .if1 .left) in
     cast-of _ (b .0) (toZ-ofZ w64 x (c .before .fits .x) ∙ b .1 .is) (b .1 .small)
 
-rem-result-2 : tie.Need-rem-result-2
-rem-result-2 c = search needs
+rem-result : tie.Need-rem-result
+rem-result c = search needs
 
 returns : tie.Need-returns
 returns c =
-    let x = c .before .args .x in
-    let b = below x (c .before .fits .x) (c .if1 .taken) in
-    rem-below _ x (b .0) (c .before .args .m) (flipped-read x (b .0) (c .before .fits .x) (b .1)) (b .1 .is) (c .before .pre)
+    let x = c .before .before .args .x in
+    let b = below x (c .before .before .fits .x) (c .before .if1 .taken) in
+    rw (c .from-below .ensures)
+    (rem-below _ x (b .0) (c .before .before .args .m) (flipped-read x (b .0) (c .before .before .fits .x) (b .1)) (b .1 .is) (c .before .before .pre))
 
 returns-2 : tie.Need-returns-2
 returns-2 c =
@@ -56,10 +55,9 @@ floor-rem-spec =
     (tie.spec
     sub-n
     cast-n
-    sub-result
-    rem-result
-    sub-result-2
+    rem-from-below
+    from-below-requires
     cast-result
-    rem-result-2
+    rem-result
     returns
     returns-2)

@@ -2,7 +2,7 @@
 use mathlib.Core.Path.{refl, sym, _∙_}
 use lib.ListN.{length}
 use borrow.Author.Tests.{eq-eqb, ne-eqb}
-use Rattle.status.proofs.Asked.{count-row, held-row, asked-state, asked-ids}
+use Rattle.status.proofs.Asked.{count-row, held-row, rows-state, rows-ids}
 use borrow.Author.Needs.{needs}
 use borrow.Author.Needs.{needs}
 use Rattle.status.proofs.status.Statement.{statement}
@@ -15,13 +15,13 @@ fill-counts-requires : tie.Need-fill-counts-requires
 fill-counts-requires c κs =
     let a = c .before .before .before .before .before .before .args in
     let none = sym (c .before .before .status-verdict .ensures) ∙ c .before .if1 .taken in
-    (count-row (a .s) (a .time) (a .ids .now) (length (a .counts .now)) (length (a .held .now)) none, asked-ids (a .s) (a .time) (a .ids .now) (length (a .counts .now)) (length (a .held .now)) none)
+    (count-row (a .s) (a .time) (a .ids .now) (length (a .counts .now)) (length (a .held .now)) none, rows-ids (a .s) (a .time) (a .ids .now) (length (a .counts .now)) (length (a .held .now)) none)
 
 fill-held-requires : tie.Need-fill-held-requires
 fill-held-requires c κs =
     let a = c .before .before .before .before .before .before .before .before .before .before .args in
     let none = sym (c .before .before .before .before .before .before .status-verdict .ensures) ∙ c .before .before .before .before .before .if1 .taken in
-    ((held-row (a .s) (a .time) (a .ids .now) (length (a .counts .now)) (length (a .held .now)) none, asked-ids (a .s) (a .time) (a .ids .now) (length (a .counts .now)) (length (a .held .now)) none), asked-state (a .s) (a .time) (a .ids .now) (length (a .counts .now)) (length (a .held .now)) none)
+    ((held-row (a .s) (a .time) (a .ids .now) (length (a .counts .now)) (length (a .held .now)) none, rows-ids (a .s) (a .time) (a .ids .now) (length (a .counts .now)) (length (a .held .now)) none), rows-state (a .s) (a .time) (a .ids .now) (length (a .counts .now)) (length (a .held .now)) none)
 
 same-length : tie.Need-same-length
 same-length c = search needs
