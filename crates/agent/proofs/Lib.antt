@@ -6,3 +6,4 @@ pub mod Boxes
 pub mod Overtaken
 pub mod Alike
 pub mod HeadEnd
+pub mod Played

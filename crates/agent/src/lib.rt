@@ -74,7 +74,7 @@ pub fn enact(s: State, n: Notice) -> Outcome
 }
 
 // A notice in its turn is its event; any other changes nothing.
-fn turn(agent: Agent, n: Notice) -> Followed
+pub fn turn(agent: Agent, n: Notice) -> Followed
     ensures { λ r. ⌜ (r .answer ≡ noticeAnswer agent (reading.Whole n)) × (r .agent ≡ noticed agent (reading.Whole n)) ⌝ }
 {
     let sequence = n.sequence;

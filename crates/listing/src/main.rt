@@ -1,5 +1,5 @@
 // Lists the notices on standard input, back to back, as a fresh agent with pool 8 hears them (01, "Numbers worked through").
 
 fn main() {
-    listing_text::input::list_input(8);
+    listing_io::input::list_input(8);
 }

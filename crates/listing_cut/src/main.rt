@@ -3,5 +3,5 @@
 // model of 01's words that keeps every event and every box.
 
 fn main() {
-    listing_text::input::list_input(8);
+    listing_io::input::list_input(8);
 }

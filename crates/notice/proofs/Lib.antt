@@ -1,3 +1,5 @@
+-- What holds of notices, their bytes and logs.
+pub mod Alike
 pub mod Answers
 pub mod Bytes
 pub mod Cases
@@ -5,10 +7,13 @@ pub mod Digits
 pub mod Each
 pub mod Has
 pub mod Held
+pub mod Part
 pub mod ReadBack
 pub mod Refused
 pub mod RoundTrip
 pub mod Settled
 pub mod Table
+pub mod There
+pub mod Through
 pub mod Typed
 pub mod Worked

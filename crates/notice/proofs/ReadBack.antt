@@ -1,9 +1,9 @@
 -- What reads as a notice writes back as the same bytes, so no two strings of bytes read as one notice.
 -- Rests on the field table's laws, on bytes at a place, and on the cases of a reading.
-use mathlib.Core.Path.{_≡_, refl, sym, subst, _∙_}
+use mathlib.Core.Path.{_≡_, refl, sym, ap, subst, _∙_}
 use mathlib.Core.Bool.{Bool, true, false}
 use mathlib.Core.List.{List, [], _∷_, _++_}
-use Prim.Native.Nat.{ℕ, zero, suc, _+_, _≤_, _<_}
+use Prim.Native.Nat.{ℕ, zero, suc, _+_, _-_, _≤_, _<_}
 use native.Mathlib.Nat.{add-zero}
 use native.Mathlib.Omega.{arith}
 use lib.Dec.{eqb, leb}
@@ -20,7 +20,10 @@ use Rattle.notice.specs.Numbers.{bigEndian, numberAt}
 use Rattle.notice.specs.Encode.{kindOf, valuesIn, fieldBytes, rowBytes, bytesTo, bytesOf}
 use Rattle.notice.specs.Decode.{headStands, rowStands, standsTo, valueAt, kindIn, noticeIn, kindAt, isWhole, readAt, readOf}
 use Rattle.notice.specs.Log.{Bytes}
-use Rattle.notice.proofs.Table.{both-l, both-r, by-kind}
+use Rattle.rules.proofs.Tests.{both-l, both-r}
+use Rattle.notice.proofs.Table.{by-kind}
+use Rattle.notice.proofs.There.{there}
+use Rattle.notice.proofs.Alike.{by-itself}
 use Rattle.notice.proofs.Each.{each, false-true}
 use Rattle.notice.proofs.Bytes.{length-big, length-bytes, length-notice}
 use Rattle.notice.proofs.Has.{Has, has-both, has-part, bytes-back}
@@ -99,22 +102,6 @@ pub record Stands (bs : List ℕ) (p : ℕ) (n : Notice) (e : ℕ) : Type 0 wher
   pub after : e ≡ p + length (bytesOf n)
   pub inside : e ≤ length bs
 
-record Found-at (bs : List ℕ) (p : ℕ) (n : Notice) (e : ℕ) : Type 0 where
-  pub all : isWhole bs p ≡ true
-  pub notice : noticeIn bs p (kindAt bs p) ≡ n
-  pub end : p + lengthOf (kindAt bs p) ≡ e
-
-found-at : (bs : List ℕ) (p : ℕ) (n : Notice) (e : ℕ) → readAt bs p ≡ found.At n e → Found-at bs p n e
-unfolding readAt
-found-at bs p n e is = go (leb (length bs) p) (isWhole bs p) refl is
-  where
-    go : (a w : Bool) → isWhole bs p ≡ w
-        → pick a found.End (pick w (found.At (noticeIn bs p (kindAt bs p)) (p + lengthOf (kindAt bs p))) found.Malformed) ≡ found.At n e
-        → Found-at bs p n e
-    go true w s t = absurd (let z : _≡_ {A = ℕ} 0 1 = cc in omega arith)
-    go false true s t = record { all = s; notice = cc; end = cc }
-    go false false s t = absurd (let z : _≡_ {A = ℕ} 0 1 = cc in omega arith)
-
 as-notice : (bs : List ℕ) (p k : ℕ) (m : Notice) → kindOf (m .kind) ≡ k → Has bs p (bytesTo k (valuesIn m) rows) → Has bs p (bytesOf m)
 unfolding bytesOf
 as-notice bs p k m same h = subst (λ (q : ℕ). Has bs p (bytesTo q (valuesIn m) rows)) (sym same) h
@@ -122,7 +109,7 @@ as-notice bs p k m same h = subst (λ (q : ℕ). Has bs p (bytesTo q (valuesIn m
 -- where a log gives a notice, that notice's bytes stand, and the place after it is where they end
 pub read-stands : (bs : List ℕ) → Bytes bs → (p : ℕ) (n : Notice) (e : ℕ) → readAt bs p ≡ found.At n e → Stands bs p n e
 read-stands bs small p n e is =
-    let f = found-at bs p n e is in
+    let f = there bs p n e is in
     let k = kindAt bs p in
     let m = noticeIn bs p k in
     let known : isKnown k ≡ true = both-l _ _ (f .all) in
@@ -141,6 +128,15 @@ pub read-writes-at : (bs : List ℕ) → Bytes bs → (p : ℕ) (n : Notice) (e 
 read-writes-at bs small p n e is =
     let s = read-stands bs small p n e is in
     has-part bs p (bytesOf n) (omega (arith, s .after, s .inside)) (s .has)
+
+-- so a notice that a log gives reads back from its own bytes
+pub read-alone : (bs : List ℕ) → Bytes bs → (p : ℕ) (n : Notice) (e : ℕ) → readAt bs p ≡ found.At n e
+    → readOf (bytesOf n) ≡ reading.Whole n
+read-alone bs small p n e is =
+    let s = read-stands bs small p n e is in
+    let size : e - p ≡ length (bytesOf n) = omega (arith, s .after) in
+    let part : take (e - p) (drop p bs) ≡ bytesOf n = rw size (read-writes-at bs small p n e is) in
+    ap readOf (sym part) ∙ by-itself bs p n e is
 
 whole-at : (len : ℕ) (n : Notice) (f : Found) → only len f ≡ reading.Whole n → f ≡ found.At n len
 unfolding only

@@ -12,17 +12,10 @@ use lib.Pow.{pow-mono}
 use borrow.Author.Tests.{leb-true, ltb-true}
 use Rattle.rules.specs.Limits.{both}
 use Rattle.rules.specs.Refusals.{pick}
+use Rattle.rules.proofs.Tests.{both-l, both-r}
 use Rattle.notice.specs.declared.fields.Field.{Field}
-use Rattle.notice.specs.Fields.{table, rows, row, fieldOf, isCarried, isKnown, spanOf, startOf, lengthOf}
+use Rattle.notice.specs.Fields.{table, rows, row, fieldOf, isCarried, isKnown, spanOf, startOf, lengthOf, longestNotice}
 use Rattle.notice.proofs.Each.{by-order, each, false-true}
-
-pub both-l : (a b : Bool) → both a b ≡ true → a ≡ true
-both-l true b e = refl
-both-l false b e = e
-
-pub both-r : (a b : Bool) → both a b ≡ true → b ≡ true
-both-r true b e = e
-both-r false b e = absurd (let z : _≡_ {A = ℕ} 0 1 = cc in omega arith)
 
 -- the test passes at every row of a list
 every : (Field → Bool) → List Field → Bool
@@ -101,3 +94,8 @@ row-inside k i h =
 pub value-inside : (k i : ℕ) → i < rows → isCarried k i ≡ true → startOf k i + (3 + fieldOf i .size) ≤ lengthOf k
 unfolding spanOf
 value-inside k i h has = rw has at (row-inside k i h)
+
+-- no kind's notices are longer than an open
+pub longest-kind : (k : ℕ) → isKnown k ≡ true → lengthOf k ≤ longestNotice
+unfolding table startOf spanOf
+longest-kind = by-kind (λ (k : ℕ). lengthOf k ≤ longestNotice) (omega arith) (omega arith) (omega arith)

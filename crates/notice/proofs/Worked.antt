@@ -2,18 +2,18 @@
 -- Rests on the table and on the round trip.
 use mathlib.Core.Path.{_≡_, refl}
 use mathlib.Core.List.{[], _∷_}
-use Prim.Native.Nat.{ℕ, _-_, _≤_, _^_}
+use Prim.Native.Nat.{_-_, _≤_, _^_}
 use native.Mathlib.Omega.{arith}
 use lib.ListN.{length}
 use Rattle.notice.specs.declared.Notice.{Notice}
 use Rattle.notice.specs.declared.Kind.the-variants.{Open, Change}
 use Rattle.notice.specs.declared.Reading.the-variants as reading
-use Rattle.notice.specs.Fields.{table, openKind, changeKind, closeKind, spanOf, startOf, lengthOf}
+use Rattle.notice.specs.Fields.{table, openKind, changeKind, closeKind, spanOf, startOf, lengthOf, longestNotice}
 use Rattle.notice.specs.Numbers.{bigEndian}
 use Rattle.notice.specs.Encode.{kindOf, fieldBytes, rowBytes, bytesTo, bytesOf}
 use Rattle.notice.specs.Decode.{readOf}
 use Rattle.notice.proofs.RoundTrip.{written-reads, kind-known}
-use Rattle.notice.proofs.Table.{by-kind}
+use Rattle.notice.proofs.Table.{longest-kind}
 use Rattle.notice.proofs.Bytes.{length-notice}
 use Rattle.notice.proofs.Typed.{typed-fits}
 
@@ -50,8 +50,5 @@ outside-survive =
     (record { sequence-fits = omega arith; title-fits = omega arith; time-fits = omega arith; kind-fits = omega arith }))
 
 -- no notice is longer than an open
-pub longest : (n : Notice) → length (bytesOf n) ≤ 45
-unfolding table startOf spanOf
-longest n =
-    rw length-notice
-    (by-kind (λ (k : ℕ). lengthOf k ≤ 45) (omega arith) (omega arith) (omega arith) (kindOf (n .kind)) (kind-known (n .kind)))
+pub none-longer : (n : Notice) → length (bytesOf n) ≤ longestNotice
+none-longer n = rw length-notice (longest-kind (kindOf (n .kind)) (kind-known (n .kind)))

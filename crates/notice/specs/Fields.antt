@@ -98,3 +98,7 @@ isKnown k = isCarried k kindRow
 
 abbrev pub lengthOf : ℕ → ℕ
 lengthOf k = startOf k rows
+
+-- no notice is longer than an open
+abbrev pub longestNotice : ℕ
+longestNotice = lengthOf openKind

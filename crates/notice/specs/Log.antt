@@ -1,16 +1,18 @@
 -- A log is notices back to back (01, "Notices"), and what it means to read one to its end.
-use Prim.Native.Nat.{ℕ, _<_, _^_}
+use Prim.Native.Nat.{ℕ, zero, suc, _<_, _^_}
 use mathlib.Core.Path.{_≡_}
-use mathlib.Core.Bool.{true}
+use mathlib.Core.Bool.{Bool, true, false}
 use mathlib.Core.List.{List, [], _∷_, _++_}
-use lib.ListN.{getD}
+use lib.Dec.{leb}
+use lib.ListN.{length, getD}
 use Rattle.notice.specs.declared.Notice.{Notice}
 use Rattle.notice.specs.declared.Kind.{Kind}
 use Rattle.notice.specs.declared.Kind.the-variants.{Open, Change, Close}
+use Rattle.notice.specs.declared.Found.{Found}
 use Rattle.notice.specs.declared.Found.the-variants as found
 use Rattle.notice.specs.Fields.{sizeOf, isCarried, rows}
 use Rattle.notice.specs.Encode.{kindOf, valuesIn, bytesOf}
-use Rattle.notice.specs.Decode.{readAt}
+use Rattle.notice.specs.Decode.{readAt, placeAfter}
 
 -- each element of a list of numbers is a byte
 abbrev pub Bytes : List ℕ → Type 0
@@ -45,3 +47,38 @@ pub data Gives (bs : List ℕ) : ℕ → List Notice → Type 0 where
 pub data AllFit : List Notice → Type 0 where
   none : AllFit []
   more : {n : Notice} {ns : List Notice} → FitsFields n → AllFit ns → AllFit (n ∷ ns)
+
+-- ---- a log read from its start, whatever its bytes
+
+-- the place after n reads
+unfoldable pub placeTo : List ℕ → ℕ → ℕ
+placeTo bs zero = 0
+placeTo bs (suc n) = placeAfter (readAt bs (placeTo bs n)) (placeTo bs n)
+
+-- an answer that is a notice, after which reading goes on
+abbrev pub isNotice : Found → Bool
+isNotice (found.At n e) = true
+isNotice found.End = false
+isNotice found.Malformed = false
+
+-- what a read adds to the notices before it, newest first
+abbrev pub withFound : Found → List Notice → List Notice
+withFound (found.At n e) ns = n ∷ ns
+withFound found.End ns = ns
+withFound found.Malformed ns = ns
+
+-- the notices that the first n reads give, newest first
+unfoldable pub noticesTo : List ℕ → ℕ → List Notice
+noticesTo bs zero = []
+noticesTo bs (suc n) = withFound (readAt bs (placeTo bs n)) (noticesTo bs n)
+
+-- all notices of a log, newest first, and where its reading stops: no notice is empty, so a read for each byte is enough
+abbrev pub noticesOf : List ℕ → List Notice
+noticesOf bs = noticesTo bs (length bs)
+
+abbrev pub stopOf : List ℕ → ℕ
+stopOf bs = placeTo bs (length bs)
+
+-- a log ends in "end" where no byte is left, otherwise in 11
+abbrev pub isWholeLog : List ℕ → Bool
+isWholeLog bs = leb (length bs) (stopOf bs)

@@ -1,9 +1,9 @@
 // From bytes to a notice: the heads of all fields that the kind carries, then their values.
 
+use super::CHANGE;
 use super::Kind;
 use super::Notice;
-use super::encode::CHANGE;
-use super::encode::OPEN;
+use super::OPEN;
 use super::fields::CAP;
 use super::fields::COUNT;
 use super::fields::FLOOR;

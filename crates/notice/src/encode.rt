@@ -1,7 +1,10 @@
 // From a notice to its bytes: the values in the table's order, then a field for each row that the kind carries.
 
+use super::CHANGE;
+use super::CLOSE;
 use super::Kind;
 use super::Notice;
+use super::OPEN;
 use super::fields::HEAD;
 use super::fields::ROWS;
 use super::fields::carried;
@@ -13,29 +16,7 @@ ghost use Prim.Native.Nat.{_+_, _<_, _≤_};
 ghost use lib.ListN.{length};
 ghost use lib.Seq.{sets};
 ghost use Rattle.notice.specs.Fields.{rows, spanOf, sizeOf, lengthOf};
-ghost use Rattle.notice.specs.Encode.{kindOf, valuesIn, fieldBytes, rowBytes, bytesTo};
-
-// The kinds by their numbers.
-pub const OPEN: u8 = 1;
-
-pub const CHANGE: u8 = 2;
-
-pub const CLOSE: u8 = 3;
-
-pub fn number(kind: Kind) -> u8
-    ensures { λ r. ⌜ r ≡ kindOf kind ⌝ }
-{
-    match kind {
-        Kind::Open {
-            length: _,
-            floor: _,
-            cap: _,
-            count: _,
-        } => OPEN,
-        Kind::Change { count: _ } => CHANGE,
-        Kind::Close => CLOSE,
-    }
-}
+ghost use Rattle.notice.specs.Encode.{valuesIn, fieldBytes, rowBytes, bytesTo};
 
 // What goes into each row of the table, 0 where the kind has no such field.
 pub fn values(n: Notice) -> [u64; ROWS]

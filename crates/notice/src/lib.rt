@@ -4,7 +4,6 @@
 
 use decode::notice_in;
 use decode::rows_stand;
-use encode::number;
 use encode::put_rows;
 use encode::values;
 use fields::HEAD;
@@ -14,7 +13,7 @@ use fields::carried;
 use fields::start;
 ghost use mathlib.Core.Path.{_≡_};
 ghost use lib.ListN.{length};
-ghost use Rattle.notice.specs.Encode.{bytesOf, Writes};
+ghost use Rattle.notice.specs.Encode.{kindOf, bytesOf, Writes};
 ghost use Rattle.notice.specs.Decode.{Reads, Finds, Steps, placeAfter};
 
 mod decode;
@@ -43,6 +42,31 @@ pub enum Kind {
     Close,
 }
 
+// The kinds by their numbers.
+pub const OPEN: u8 = 1;
+
+pub const CHANGE: u8 = 2;
+
+pub const CLOSE: u8 = 3;
+
+// The bytes of the longest notice, an open.
+pub const LONGEST: usize = 45;
+
+pub fn kind_number(kind: Kind) -> u8
+    ensures { λ r. ⌜ r ≡ kindOf kind ⌝ }
+{
+    match kind {
+        Kind::Open {
+            length: _,
+            floor: _,
+            cap: _,
+            count: _,
+        } => OPEN,
+        Kind::Change { count: _ } => CHANGE,
+        Kind::Close => CLOSE,
+    }
+}
+
 // What one notice's bytes read as.
 pub enum Reading {
     Whole(Notice),
@@ -61,7 +85,7 @@ pub fn write(n: Notice, room: &mut [u8]) -> u8
     ensures { λ r. ⌜ Writes n (now (room .entry)) r (now (room .exit)) ⌝ }
 {
     let data = n.kind;
-    let kind = number(data);
+    let kind = kind_number(data);
     if room.len() < start(kind, ROWS) {
         return rules::WRONG_ROWS;
     }
@@ -74,7 +98,7 @@ pub fn size(n: Notice) -> usize
     ensures { λ r. ⌜ r ≡ length (bytesOf n) ⌝ }
 {
     let data = n.kind;
-    start(number(data), ROWS)
+    start(kind_number(data), ROWS)
 }
 
 // Reads at a place of a log. The place may be any, also past the end.

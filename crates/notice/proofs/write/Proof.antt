@@ -4,14 +4,14 @@ use Rattle.notice.proofs.Bytes.{written-short, written-whole}
 use Rattle.notice.proofs.write.Statement.{statement}
 use Rattle.notice.proofs.write.Tie as tie
 
-number-requires : tie.Need-number-requires
-number-requires c κs = search needs
+kind-number-requires : tie.Need-kind-number-requires
+kind-number-requires c κs = search needs
 
 start-requires : tie.Need-start-requires
 start-requires c κs = search needs
 
 returns : tie.Need-returns
-returns c = written-short _ _ (rw (c .before .start .ensures, c .before .before .number .ensures) at (c .if1 .taken))
+returns c = written-short _ _ (rw (c .before .start .ensures, c .before .before .kind-number .ensures) at (c .if1 .taken))
 
 values-requires : tie.Need-values-requires
 values-requires c κs = search needs
@@ -24,14 +24,14 @@ same-length c = search needs
 
 returns-2 : tie.Need-returns-2
 returns-2 c =
-    rw (c .before .before .put-rows .ensures, c .before .before .before .values .ensures, c .before .before .before .before .before .before .before .number .ensures)
-    (written-whole _ _ (rw (c .before .before .before .before .before .before .start .ensures, c .before .before .before .before .before .before .before .number .ensures) at (c .before .before .before .before .before .if1 .left)))
+    rw (c .before .before .put-rows .ensures, c .before .before .before .values .ensures, c .before .before .before .before .before .before .before .kind-number .ensures)
+    (written-whole _ _ (rw (c .before .before .before .before .before .before .start .ensures, c .before .before .before .before .before .before .before .kind-number .ensures) at (c .before .before .before .before .before .if1 .left)))
 
 pub write-spec : {M : Type 1} → statement M
 write-spec =
     tie.close
     (tie.spec
-    number-requires
+    kind-number-requires
     start-requires
     returns
     values-requires

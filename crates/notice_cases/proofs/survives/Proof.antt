@@ -13,7 +13,7 @@ use Rattle.notice.specs.Encode.{bytesOf, Writes}
 use Rattle.notice.specs.Decode.{readOf}
 use Rattle.notice.proofs.Held.{held}
 use Rattle.notice.proofs.RoundTrip.{written-reads}
-use Rattle.notice.proofs.Worked.{longest}
+use Rattle.notice.proofs.Worked.{open-length, none-longer}
 use Rattle.notice_cases.proofs.survives.Statement.{statement}
 use Rattle.notice_cases.proofs.survives.Tie as tie
 
@@ -24,8 +24,14 @@ first n room after enough w =
     let whole : after ≡ bytesOf n ++ drop (length (bytesOf n)) room = w .leaves ∙ simp (le-ltb _ _ enough) in
     rw whole (take-append-seam (bytesOf n) (drop (length (bytesOf n)) room))
 
+-- any notice fits the room of the longest
+fits : (n : Notice) → length (bytesOf n) ≤ 45
+fits n = omega (arith, none-longer n, open-length)
+
 enough : (c : tie.After-room2) → c .before .before .before .size .result ≤ length (c .before .write .last .1 .0)
-enough c = omega (arith, c .before .before .before .size .ensures, c .before .write .kept .1 .0, longest (c .before .before .before .before .args .n))
+enough c =
+    let sized = c .before .before .before in
+    omega (arith, sized .size .ensures, c .before .write .kept .1 .0, fits (sized .before .args .n))
 
 size-requires : tie.Need-size-requires
 size-requires c κs = search needs
@@ -49,7 +55,7 @@ returns : tie.Need-returns
 returns c =
     let s = c .before .before .before .before .before .before in
     let n = s .args .n in
-    let part = first n _ (c .before .before .before .write .last .1 .0) (longest n) (c .before .before .before .write .ensures) in
+    let part = first n _ (c .before .before .before .write .last .1 .0) (fits n) (c .before .before .before .write .ensures) in
     c .read .ensures .is ∙ (ap readOf (rw (c .before .before .before .before .before .size .ensures) part) ∙ written-reads n (held n _ (s .good .0)))
 
 pub survives-spec : {M : Type 1} → statement M

@@ -1,0 +1,25 @@
+-- An agent that is told notices one after the other, and a log played into a fresh agent (01, "Notices").
+use Prim.Native.Nat.{ℕ}
+use mathlib.Core.Path.{_≡_}
+use mathlib.Core.List.{List, [], _∷_}
+use Rattle.notice.specs.declared.Notice.{Notice}
+use Rattle.notice.specs.declared.Reading.the-variants as reading
+use Rattle.notice.specs.Decode.{readOf}
+use Rattle.notice.specs.Log.{noticesOf}
+use Rattle.agent.specs.declared.Agent.{Agent}
+use Rattle.agent.specs.Turns.{freshAgent, noticed}
+
+-- the agent after notices, newest first; it stays as it is at each that it refuses
+unfoldable pub agentTold : Agent → List Notice → Agent
+agentTold g [] = g
+agentTold g (n ∷ ns) = noticed (agentTold g ns) (reading.Whole n)
+
+-- a log played into a fresh agent of a pool
+abbrev pub agentPlayed : ℕ → List ℕ → Agent
+agentPlayed pool log = agentTold (freshAgent pool) (noticesOf log)
+
+-- byte strings that read as these notices, one for one
+pub data ReadAs : List (List ℕ) → List Notice → Type 0 where
+  none-read : ReadAs [] []
+  one-read : {bs : List ℕ} {n : Notice} {bss : List (List ℕ)} {ns : List Notice}
+      → readOf bs ≡ reading.Whole n → ReadAs bss ns → ReadAs (bs ∷ bss) (n ∷ ns)

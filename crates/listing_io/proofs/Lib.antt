@@ -1,0 +1,8 @@
+-- What holds of the listing's steps.
+pub mod Stepping
+pub mod Short
+pub mod Onward
+pub mod Decided
+pub mod Whole
+pub mod Held
+pub mod Settled

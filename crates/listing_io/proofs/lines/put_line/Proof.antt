@@ -1,0 +1,58 @@
+-- `listing_io::lines::put_line` meets its contract: its parts are written one behind the other.
+use mathlib.Core.List.{_++_}
+use Rattle.console_text.specs.Output.{page}
+use Rattle.console_text.proofs.Pages.{puts-then}
+use Rattle.listing_io.specs.Lines.{ended, lineOf, space, newline}
+use borrow.Author.Needs.{needs}
+use Rattle.listing_io.proofs.lines.put_line.Statement.{statement}
+use Rattle.listing_io.proofs.lines.put_line.Tie as tie
+
+put-ended-requires : tie.Need-put-ended-requires
+put-ended-requires c κs = search needs
+
+put-ended-requires-2 : tie.Need-put-ended-requires-2
+put-ended-requires-2 c κs = search needs
+
+put-ended-requires-3 : tie.Need-put-ended-requires-3
+put-ended-requires-3 c κs = search needs
+
+put-ended-requires-4 : tie.Need-put-ended-requires-4
+put-ended-requires-4 c κs = search needs
+
+put-ended-requires-5 : tie.Need-put-ended-requires-5
+put-ended-requires-5 c κs = search needs
+
+same-length : tie.Need-same-length
+same-length c = search needs
+
+returns : tie.Need-returns
+unfolding lineOf
+returns c =
+    let four = c .before .before .before .before in
+    let three = four .before .before .before .before in
+    let two = three .before .before .before .before in
+    let one = two .before .before .before .before in
+    let x = one .before .before .before .before .before .args in
+    let room = page (x .out .now) 0 in
+    let first = ended (x .sequence) space in
+    let second = first ++ ended (x .kind) space in
+    let third = second ++ ended (x .title) space in
+    puts-then room (third ++ ended (x .answer) space) (ended (x .held) newline)
+    (puts-then room third (ended (x .answer) space)
+    (puts-then room second (ended (x .title) space)
+    (puts-then room first (ended (x .kind) space) (one .before .before .put-ended .ensures) (two .before .before .put-ended2 .ensures))
+    (three .before .before .put-ended3 .ensures))
+    (four .before .before .put-ended4 .ensures))
+    (c .before .before .put-ended5 .ensures)
+
+pub put-line-spec : {M : Type 1} → statement M
+put-line-spec =
+    tie.close
+    (tie.spec
+    put-ended-requires
+    put-ended-requires-2
+    put-ended-requires-3
+    put-ended-requires-4
+    put-ended-requires-5
+    same-length
+    returns)

@@ -1,0 +1,20 @@
+-- `listing_io::steps::decided` meets its contract, by its tests.
+use Rattle.listing_io.specs.Steps.{isDecided}
+use Rattle.listing_io.proofs.Stepping.{short-left, enough-left}
+use Rattle.listing_io.proofs.steps.decided.Statement.{statement}
+use Rattle.listing_io.proofs.steps.decided.Tie as tie
+
+returns : tie.Need-returns
+unfolding isDecided
+returns c = rw (c .if1 .taken)
+
+returns-2 : tie.Need-returns-2
+unfolding isDecided
+returns-2 c = rw (c .before .if1 .left) (short-left _ _ (c .if2 .taken))
+
+returns-3 : tie.Need-returns-3
+unfolding isDecided
+returns-3 c = rw (c .before .if1 .left) (enough-left _ _ (c .if2 .left))
+
+pub decided-spec : {M : Type 1} → statement M
+decided-spec = tie.close (tie.spec returns returns-2 returns-3)

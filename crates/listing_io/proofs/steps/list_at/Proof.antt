@@ -1,0 +1,65 @@
+-- `listing_io::steps::list_at` meets its contract, by what its reader finds at the place.
+use mathlib.Core.Path.{sym, _∙_}
+use Rattle.listing_io.proofs.Stepping.{end-step, last-step, found-step, notice-at}
+use borrow.Author.Needs.{needs}
+use Rattle.listing_io.proofs.steps.list_at.Statement.{statement}
+use Rattle.listing_io.proofs.steps.list_at.Tie as tie
+
+next-in-requires : tie.Need-next-in-requires
+next-in-requires c κs = search needs
+
+enum-known-found : tie.Need-enum-known-found
+enum-known-found c = search needs
+
+list-notice-requires : tie.Need-list-notice-requires
+list-notice-requires c κs = search needs
+
+enum-told : tie.Need-enum-told
+enum-told c = search needs
+
+enum-told-2 : tie.Need-enum-told-2
+enum-told-2 c = search needs
+
+held-after-requires : tie.Need-held-after-requires
+held-after-requires c κs = search needs
+
+put-last-requires : tie.Need-put-last-requires
+put-last-requires c κs = search needs
+
+same-length : tie.Need-same-length
+same-length c = search needs
+
+returns : tie.Need-returns
+returns c =
+    let read = c .before .before .before in
+    notice-at _ _ _ _ _ _ _ _ (sym (read .before .before .before .before .next-in .ensures .is) ∙ read .before .before .found .given .1) (c .before .before .list-notice .ensures)
+
+returns-2 : tie.Need-returns-2
+returns-2 c =
+    found-step _ _ _ _ _ _ _ (sym (c .before .before .next-in .ensures .is) ∙ c .enum-told .given .1) (end-step _ _ _)
+
+same-length-2 : tie.Need-same-length-2
+same-length-2 c = search needs
+
+returns-3 : tie.Need-returns-3
+returns-3 c =
+    let told = c .before .before .before .before .before in
+    found-step _ _ _ _ _ _ _ (sym (told .before .before .next-in .ensures .is) ∙ told .enum-told2 .given .1)
+    (last-step _ _ _ _ _ _ (c .before .before .before .held-after .ensures) (c .before .before .put-last .ensures))
+
+pub list-at-spec : {M : Type 1} → statement M
+list-at-spec =
+    tie.close
+    (tie.spec
+    next-in-requires
+    enum-known-found
+    list-notice-requires
+    enum-told
+    enum-told-2
+    held-after-requires
+    put-last-requires
+    same-length
+    returns
+    returns-2
+    same-length-2
+    returns-3)

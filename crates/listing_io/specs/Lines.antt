@@ -1,0 +1,29 @@
+-- The lines of the listing (01, "Numbers worked through": sequence, kind, title, answer, lanes held).
+use Prim.Native.Nat.{ℕ}
+use mathlib.Core.List.{List, [], _∷_, _++_}
+use Rattle.rules.specs.Refusals.{malformed}
+use Rattle.console_words.specs.Commands.{text}
+use Rattle.console_text.specs.Digits.{decimal}
+
+abbrev pub space : ℕ
+space = 32
+
+abbrev pub newline : ℕ
+newline = 10
+
+-- a number in decimal, and the byte that ends it
+unfoldable pub ended : ℕ → ℕ → List ℕ
+ended n b = decimal n ++ b ∷ []
+
+-- the line of a notice
+unfoldable pub lineOf : (sequence kind title answer held : ℕ) → List ℕ
+lineOf sequence kind title answer held =
+    (((ended sequence space ++ ended kind space) ++ ended title space) ++ ended answer space) ++ ended held newline
+
+-- a malformed or cut notice: no sequence, kind and title, 11, and the lanes held
+unfoldable pub lastLine : ℕ → List ℕ
+lastLine held = (text "- - - " ++ ended malformed space) ++ ended held newline
+
+-- five numbers of 20 digits at most, and the byte that ends each: no line is longer
+abbrev pub lineRoom : ℕ
+lineRoom = 105

@@ -1,3 +1,0 @@
--- What the listing program prints.
-pub mod Lines
-pub mod Steps

@@ -1,0 +1,77 @@
+-- Which bytes matter at a place of a log: those from the place on, and of these no more than the longest notice has. So a reading
+-- is that of the log's part from the place on, and a log that comes in pieces reads as the whole.
+-- Rests on bytes that agree reading alike.
+use mathlib.Core.Path.{_≡_, refl, sym, ap, _∙_}
+use mathlib.Core.List.{List, _++_}
+use Prim.Native.Nat.{ℕ, _+_, _≤_, _<_}
+use native.Mathlib.Nat.{add-assoc, add-zero}
+use native.Mathlib.Omega.{arith}
+use borrow.Author.Tests.{le-leb, lt-leb}
+use lib.Dec.{leb}
+use lib.ListN.{length, getD, take, drop, length-append, length-drop, take-append-drop, List·getD-append}
+use lib.Seq.{getD-append-add, length-take-le}
+use Rattle.notice.specs.declared.Found.{Found}
+use Rattle.notice.specs.declared.Found.the-variants as found
+use Rattle.notice.specs.Fields.{table, isKnown, spanOf, startOf, lengthOf, longestNotice}
+use Rattle.notice.specs.Decode.{kindAt, readAt}
+use Rattle.notice.proofs.Each.{by-order}
+use Rattle.notice.proofs.Table.{longest-kind}
+use Rattle.notice.proofs.Cases.{at-end}
+use Rattle.notice.proofs.Alike.{further, found-alike}
+
+same-order : (a b c d : ℕ) → (a ≤ b → c ≤ d) → (b < a → d < c) → leb a b ≡ leb c d
+same-order a b c d f g =
+    by-order b a (λ lt. lt-leb a b lt ∙ sym (lt-leb c d (g lt))) (λ le. le-leb a b le ∙ sym (le-leb c d (f le)))
+
+module _ (before bs : List ℕ) (p : ℕ) where
+  -- where the longest notice would be there, bytes before and after change nothing
+  pub amid : (after : List ℕ) → p + longestNotice ≤ length bs
+      → readAt (before ++ (bs ++ after)) (length before + p) ≡ further (length before) (readAt bs p)
+  unfolding table startOf spanOf
+  amid after there =
+      let cs = before ++ (bs ++ after) in
+      let long : length cs ≡ length before + (length bs + length after) =
+      length-append before (bs ++ after) ∙ ap (λ (n : ℕ). length before + n) (length-append bs after) in
+      let at : (j : ℕ) → j < longestNotice → getD bs (p + j) 0 ≡ getD cs (length before + p + j) 0 =
+      λ j lt.
+      rw (add-assoc (length before) p j)
+      (sym (getD-append-add before (bs ++ after) (p + j) 0 ∙ List·getD-append bs after 0 (p + j) (omega arith))) in
+      found-alike bs cs p (length before)
+      (record {
+        kind = at 3 (omega arith);
+        room = λ known.
+            let short = longest-kind (kindAt bs p) known in
+            same-order (p + lengthOf (kindAt bs p)) (length bs) (length before + p + lengthOf (kindAt bs p)) (length cs)
+            (λ h. omega arith) (λ h. omega arith);
+        bytes = λ known j lt. at j (omega (arith, lt, longest-kind (kindAt bs p) known));
+      })
+      (same-order (length bs) p (length cs) (length before + p) (λ h. omega arith) (λ h. omega arith))
+
+  -- with nothing after, bytes before change nothing at any place
+  pub at-last : readAt (before ++ bs) (length before + p) ≡ further (length before) (readAt bs p)
+  at-last =
+      let cs = before ++ bs in
+      let long : length cs ≡ length before + length bs = length-append before bs in
+      let at : (j : ℕ) → getD bs (p + j) 0 ≡ getD cs (length before + p + j) 0 =
+      λ j. rw (add-assoc (length before) p j) (sym (getD-append-add before bs (p + j) 0)) in
+      found-alike bs cs p (length before)
+      (record {
+        kind = at 3;
+        room = λ known.
+            same-order (p + lengthOf (kindAt bs p)) (length bs) (length before + p + lengthOf (kindAt bs p)) (length cs)
+            (λ h. omega arith) (λ h. omega arith);
+        bytes = λ known j lt. at j;
+      })
+      (same-order (length bs) p (length cs) (length before + p) (λ h. omega arith) (λ h. omega arith))
+
+-- reading a log at a place is reading its part from there on at the start, with the place after it counted in the log
+pub of-its-part : (bs : List ℕ) (p : ℕ) → readAt bs p ≡ further p (readAt (drop p bs) 0)
+of-its-part bs p =
+    by-order p (length bs)
+    (λ lt.
+    let size : length (take p bs) ≡ p = length-take-le p bs (omega arith) in
+    let read = at-last (take p bs) (drop p bs) 0 in
+    rw (take-append-drop, size, add-zero) at read)
+    (λ le.
+    let none : length (drop p bs) ≤ 0 = rw length-drop (omega arith) in
+    sym (at-end bs p le) ∙ ap (further p) (at-end (drop p bs) 0 none))

@@ -1,0 +1,49 @@
+-- What a log has where it gives a notice: a whole notice, and a place after it that lies ahead and within the log.
+-- Rests on the definition of a reading and on the field table's laws.
+use mathlib.Core.Path.{_≡_, refl}
+use mathlib.Core.Bool.{Bool, true, false}
+use mathlib.Core.List.{List}
+use Prim.Native.Nat.{ℕ, _+_, _≤_, _<_}
+use native.Mathlib.Omega.{arith}
+use borrow.Author.Tests.{leb-true}
+use lib.Dec.{leb}
+use lib.ListN.{length}
+use Rattle.rules.specs.Refusals.{pick}
+use Rattle.rules.proofs.Tests.{both-l, both-r}
+use Rattle.notice.specs.declared.Notice.{Notice}
+use Rattle.notice.specs.declared.Found.the-variants as found
+use Rattle.notice.specs.Fields.{table, isKnown, lengthOf}
+use Rattle.notice.specs.Decode.{noticeIn, kindAt, isWhole, readAt}
+use Rattle.notice.proofs.Table.{value-inside}
+
+pub record There (bs : List ℕ) (p : ℕ) (n : Notice) (e : ℕ) : Type 0 where
+  pub all : isWhole bs p ≡ true
+  pub notice : noticeIn bs p (kindAt bs p) ≡ n
+  pub end : p + lengthOf (kindAt bs p) ≡ e
+
+pub there : (bs : List ℕ) (p : ℕ) (n : Notice) (e : ℕ) → readAt bs p ≡ found.At n e → There bs p n e
+unfolding readAt
+there bs p n e is = go (leb (length bs) p) (isWhole bs p) refl is
+  where
+    go : (a w : Bool) → isWhole bs p ≡ w
+        → pick a found.End (pick w (found.At (noticeIn bs p (kindAt bs p)) (p + lengthOf (kindAt bs p))) found.Malformed)
+        ≡ found.At n e
+        → There bs p n e
+    go true w s t = absurd (let z : _≡_ {A = ℕ} 0 1 = cc in omega arith)
+    go false true s t = record { all = s; notice = cc; end = cc }
+    go false false s t = absurd (let z : _≡_ {A = ℕ} 0 1 = cc in omega arith)
+
+pub record Inside (bs : List ℕ) (p e : ℕ) : Type 0 where
+  pub ahead : p + 3 < e
+  pub within : e ≤ length bs
+
+pub inside : (bs : List ℕ) (p : ℕ) (n : Notice) (e : ℕ) → readAt bs p ≡ found.At n e → Inside bs p e
+unfolding table
+inside bs p n e is =
+    let t = there bs p n e is in
+    let k = kindAt bs p in
+    let known : isKnown k ≡ true = both-l _ _ (t .all) in
+    let rest = both-r (isKnown k) _ (t .all) in
+    let fits : p + lengthOf k ≤ length bs = leb-true _ _ (both-l _ _ rest) in
+    let long = value-inside k 0 (omega arith) known in
+    record { ahead = omega (arith, t .end); within = omega (arith, t .end) }
