@@ -10,13 +10,13 @@ use Rattle.notice.specs.Encode.{bytesOf}
 use Rattle.notice.specs.Decode.{readOf}
 use Rattle.agent.specs.declared.Agent.{Agent}
 use Rattle.console_lines.specs.declared.lines.Line.{Line}
-use Rattle.console_text.specs.Output.{Page, puts}
-use Rattle.console_text.specs.Digits.{hexText}
-use Rattle.console_text.specs.Words.{helpText}
-use Rattle.console_replies.specs.Outcomes.{doneText}
-use Rattle.console_replies.specs.Notices.{readingText}
-use Rattle.console_questions.specs.Questions.{laneText, statusText, idsIn, planText, roomOf, shareIn}
-use Rattle.console_acts.specs.Acts.{numberIn, bytesIn, answerAfter, agentAfter}
+use Rattle.text.specs.Output.{Page, puts}
+use Rattle.text.specs.Digits.{hexText}
+use Rattle.console_answers.specs.Words.{helpText}
+use Rattle.console_answers.specs.Outcomes.{doneText}
+use Rattle.console_answers.specs.Notices.{readingText}
+use Rattle.console_answers.specs.Questions.{laneText, statusText, idsIn, planText, roomOf, shareIn}
+use Rattle.console_desk.specs.Acts.{numberIn, bytesIn, answerAfter, agentAfter}
 use Rattle.console_desk.specs.Writing.{noticeIn}
 use Rattle.console_desk.specs.Desk.{followedText, actText, tellText, placesIn, askText}
 

@@ -8,14 +8,14 @@ use borrow.Author.Tests.{eq-eqb, ne-eqb, ltb-false}
 use lib.ListN.{length}
 use lib.Dec.{ltb}
 use Rattle.agent.specs.declared.Agent.{Agent}
-use Rattle.console_words.specs.Commands
+use Rattle.console_lines.specs.Commands
 use Rattle.console_lines.specs.declared.lines.Line.{Line}
 use Rattle.console_lines.specs.Lines.{withFault, begun, readOn, meaning, longest}
-use Rattle.console_text.specs.Output.{Page, puts}
-use Rattle.console_text.specs.Words.{faultText}
-use Rattle.console_text.proofs.Pages.{puts-append}
-use Rattle.console_acts.specs.Acts.{agentAfter}
-use Rattle.console_desk.specs.Desk.{acts, actText, askText, newline, wholeText, afterWhole, lineText, afterLine, Left}
+use Rattle.text.specs.Output.{Page, puts}
+use Rattle.console_answers.specs.Words.{faultText}
+use Rattle.text.proofs.Pages.{puts-append}
+use Rattle.console_desk.specs.Acts.{agentAfter}
+use Rattle.console_desk.specs.Desk.{mayChange, actText, askText, newline, wholeText, afterWhole, lineText, afterLine, Left}
 
 -- a line that is too long is read as such
 too-long : (s : List ℕ) → ltb longest (length s) ≡ true → (meaning s) .fault ≡ 1
@@ -31,10 +31,10 @@ readable s e = by-test (ltb longest (length s)) refl where
 
 module _ (g : Agent) (l : Line) (s : List ℕ) (p : Page) where
   pub asks-nothing : l .command ≡ 0 → Left (afterWhole g l s) (puts p (wholeText g l s)) g p
-  unfolding afterWhole wholeText acts puts
+  unfolding afterWhole wholeText mayChange puts
   asks-nothing h = record { agent = rw h; row = rw h }
 
-  module _ (something : l .command ≡ 0 → ⊥) (t : Bool) (e : t ≡ acts (l .command)) (after : Agent) (q r : Page) where
+  module _ (something : l .command ≡ 0 → ⊥) (t : Bool) (e : t ≡ mayChange (l .command)) (after : Agent) (q r : Page) where
     pub it-acts : t ≡ true → Left (agentAfter g l s) (puts p (actText g l s)) after q → r ≡ puts q newline
         → Left (afterWhole g l s) (puts p (wholeText g l s)) after r
     unfolding afterWhole wholeText

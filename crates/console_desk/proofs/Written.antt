@@ -13,9 +13,9 @@ use Rattle.notice.specs.Fields.{lengthOf}
 use Rattle.notice.specs.Encode.{kindOf, bytesOf, Writes}
 use Rattle.notice.proofs.Bytes.{length-notice}
 use Rattle.notice.proofs.Worked.{open-length, change-length, close-length}
-use Rattle.console_words.specs.Commands
+use Rattle.console_lines.specs.Commands
 use Rattle.console_lines.specs.declared.lines.Line.{Line}
-use Rattle.console_acts.specs.Acts.{numberIn}
+use Rattle.console_desk.specs.Acts.{numberIn}
 use Rattle.console_desk.specs.Writing.{byteIn, fourBytesIn, kindIn, noticeIn}
 
 module _ (l : Line) where

@@ -11,21 +11,21 @@ use Rattle.scheduler.specs.Outcomes.{heldShown}
 use Rattle.notice.specs.Encode.{bytesOf}
 use Rattle.notice.specs.Decode.{readOf}
 use Rattle.agent.specs.declared.Agent.{Agent}
-use Rattle.console_words.specs.Commands
+use Rattle.console_lines.specs.Commands
 use Rattle.console_lines.specs.declared.lines.Line.{Line}
 use Rattle.console_lines.specs.Lines.{meaning}
-use Rattle.console_text.specs.Output.{Page}
-use Rattle.console_text.specs.Digits.{hexText}
-use Rattle.console_text.specs.Words.{faultText, helpText}
-use Rattle.console_replies.specs.Outcomes.{doneText, valueText}
-use Rattle.console_replies.specs.Notices.{readingText}
-use Rattle.console_questions.specs.Questions.{laneText, statusText, idsIn, planText, roomOf, shareIn}
-use Rattle.console_acts.specs.Acts.{numberIn, bytesIn, answerAfter, agentAfter}
+use Rattle.text.specs.Output.{Page}
+use Rattle.text.specs.Digits.{hexText}
+use Rattle.console_answers.specs.Words.{faultText, helpText}
+use Rattle.console_answers.specs.Outcomes.{doneText, valueText}
+use Rattle.console_answers.specs.Notices.{readingText}
+use Rattle.console_answers.specs.Questions.{laneText, statusText, idsIn, planText, roomOf, shareIn}
+use Rattle.console_desk.specs.Acts.{numberIn, bytesIn, answerAfter, agentAfter}
 use Rattle.console_desk.specs.Writing.{noticeIn}
 
 -- the commands that may change the agent: fresh, the events, notice
-unfoldable pub acts : ℕ → Bool
-acts c = either (eqb c Commands.doNotice) (within Commands.doFresh Commands.doClose c)
+unfoldable pub mayChange : ℕ → Bool
+mayChange c = either (eqb c Commands.doNotice) (within Commands.doFresh Commands.doClose c)
 
 -- what an event or a notice was answered, with the lanes held at its time, which is that of the last accepted event; of a
 -- notice out of turn, which sequence is expected
@@ -65,10 +65,10 @@ newline = 10 ∷ []
 unfoldable pub wholeText : Agent → Line → List ℕ → List ℕ
 wholeText g l s =
     pick (eqb (l .command) Commands.none) []
-    (pick (acts (l .command)) (actText g l s) (askText (g .state) l s) ++ newline)
+    (pick (mayChange (l .command)) (actText g l s) (askText (g .state) l s) ++ newline)
 
 unfoldable pub afterWhole : Agent → Line → List ℕ → Agent
-afterWhole g l s = pick (acts (l .command)) (agentAfter g l s) g
+afterWhole g l s = pick (mayChange (l .command)) (agentAfter g l s) g
 
 -- what the line s is answered: what is wrong with it, or what it asks for
 unfoldable pub lineText : Agent → List ℕ → List ℕ

@@ -1,3 +1,4 @@
 -- What a line of the console is answered, and what it leaves.
+pub mod Acts
 pub mod Writing
 pub mod Desk

@@ -6,9 +6,9 @@ use Rattle.rules.specs.Refusals.{pick}
 use Rattle.notice.specs.declared.Notice.{Notice}
 use Rattle.notice.specs.declared.Kind.{Kind}
 use Rattle.notice.specs.declared.Kind.the-variants.{Open, Change, Close}
-use Rattle.console_words.specs.Commands
+use Rattle.console_lines.specs.Commands
 use Rattle.console_lines.specs.declared.lines.Line.{Line}
-use Rattle.console_acts.specs.Acts.{numberIn}
+use Rattle.console_desk.specs.Acts.{numberIn}
 
 abbrev pub byteIn : Line → ℕ → ℕ
 byteIn l i = min (numberIn l i) 255

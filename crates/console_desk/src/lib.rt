@@ -3,26 +3,28 @@
 // defines them. It has no `requires`: any agent and any bytes have an answer, and no answer goes past the row's end.
 
 use agent::Agent;
+use console_answers::lanes;
+use console_answers::notices;
+use console_answers::outcomes;
+use console_answers::plans;
+use console_answers::shares;
+use console_answers::titles;
+use console_answers::words;
+use console_lines::commands;
 use console_lines::lines;
 use console_lines::lines::Line;
-use console_questions::lanes;
-use console_questions::plans;
-use console_questions::shares;
-use console_questions::titles;
-use console_replies::notices;
-use console_replies::outcomes;
-use console_text::output;
-use console_text::words;
-use console_words::commands;
 use story::State;
+use text::output;
 ghost use mathlib.Core.Path.{_≡_};
 ghost use Prim.Native.Nat.{_≤_};
 ghost use lib.ListN.{length};
-ghost use Rattle.console_text.specs.Output.{page, puts};
+ghost use Rattle.text.specs.Output.{page, puts};
 ghost use Rattle.console_lines.specs.Lines.{longest};
-ghost use Rattle.console_acts.specs.Acts.{agentAfter};
-ghost use Rattle.console_desk.specs.Desk.{acts as actsOf, followedText, actText, placesIn, askText, tellText, Left, afterWhole, wholeText, afterLine, lineText};
+ghost use Rattle.console_desk.specs.Acts.{agentAfter};
+ghost use Rattle.console_desk.specs.Desk.{mayChange, followedText, actText, placesIn, askText, tellText, Left, afterWhole, wholeText, afterLine, lineText};
 
+mod acts;
+mod hex;
 mod writing;
 
 // What a line leaves: the agent, and the place behind what was answered.
@@ -32,8 +34,8 @@ pub struct Turned {
 }
 
 // Whether a command may change the agent.
-fn acts(command: u8) -> bool
-    ensures { λ r. ⌜ r ≡ actsOf command ⌝ }
+fn may_change(command: u8) -> bool
+    ensures { λ r. ⌜ r ≡ mayChange command ⌝ }
 {
     if command == commands::NOTICE {
         return true;
@@ -56,7 +58,7 @@ fn act(agent: Agent, line: Line, s: &[u8], out: &mut [u8], at: usize) -> Turned
     requires { ⌜ length (now s) ≤ longest ⌝ }
     ensures { λ r. ⌜ Left (agentAfter agent line (now (s .entry))) (puts (page (now (out .entry)) at) (actText agent line (now (s .entry)))) (r .agent) (page (now (out .exit)) (r .at)) ⌝ }
 {
-    let f = console_acts::follow(agent, line, s);
+    let f = acts::follow(agent, line, s);
     let next = f.agent;
     let answer = f.answer;
     let command = line.command;
@@ -79,7 +81,7 @@ fn tell(line: Line, s: &[u8], out: &mut [u8], at: usize) -> usize
     }
     let n = line.numbers;
     if command == commands::READ {
-        return notices::put_reading(out, at, console_acts::hex::reading(s, n[0], n[1]));
+        return notices::put_reading(out, at, hex::reading(s, n[0], n[1]));
     }
     writing::put_bytes(out, at, writing::notice_of(line))
 }
@@ -127,7 +129,7 @@ fn whole(agent: Agent, line: Line, s: &[u8], out: &mut [u8], at: usize) -> Turne
     if command == commands::NONE {
         return Turned { agent, at };
     }
-    if acts(command) {
+    if may_change(command) {
         let t = act(agent, line, s, out, at);
         let next = t.agent;
         let p = output::put(out, t.at, b"\n");

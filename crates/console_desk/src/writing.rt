@@ -1,15 +1,15 @@
 // The notice that a line writes.
 
+use console_lines::commands;
 use console_lines::lines::Line;
-use console_text::digits;
-use console_words::commands;
-use console_words::numbers;
 use notice::Kind;
 use notice::Notice;
+use text::digits;
+use text::numbers;
 ghost use mathlib.Core.Path.{_≡_};
 ghost use Rattle.notice.specs.Encode.{bytesOf};
-ghost use Rattle.console_text.specs.Output.{page, puts};
-ghost use Rattle.console_text.specs.Digits.{hexText};
+ghost use Rattle.text.specs.Output.{page, puts};
+ghost use Rattle.text.specs.Digits.{hexText};
 ghost use Rattle.console_desk.specs.Writing.{kindIn, noticeIn};
 
 fn kind_of(line: Line) -> Kind

@@ -1,16 +1,16 @@
 // A session of the operator's console: lines from standard input, answers to standard output. Input is read as it comes, in
 // blocks; what was answered is written out before each read, so that on a terminal an answer appears as its line is
-// entered, and a file costs few system calls.
+// entered, and a file costs few system calls. A read or a write that fails is said on standard error and ends the session.
 
 use agent::Agent;
-use console_lines::feed;
 use console_lines::lines::LONGEST;
-use console_words::bytes;
-use console_words::bytes::Sort;
-use libc::STDIN_FILENO;
-use libc::STDOUT_FILENO;
-ghost use Prim.Native.Nat.{_≤_};
+use streams::Got;
+use text::bytes;
+use text::bytes::Sort;
+use text::feed;
+ghost use Prim.Native.Nat.{_-_, _≤_};
 ghost use lib.ListN.{length};
+ghost use Rattle.streams.specs.Reads.{Fits};
 
 // The pool that a session starts with.
 const POOL: u64 = 8;
@@ -18,12 +18,13 @@ const POOL: u64 = 8;
 // More than any answer has: the longest is a plan's, of 1,024 numbers of at most four digits.
 const ANSWER_MAX: usize = 8192;
 
-// Where a session stands between two lines: its agent, how far the output row is written, and whether the rest of a line
-// that was too long is being passed over.
+// Where a session stands between two lines: its agent, how far the output row is written, whether the rest of a line that
+// was too long is being passed over, and whether it goes on. One that does not go on answers and writes nothing.
 struct Session {
     agent: Agent,
     at: usize,
     skipping: bool,
+    more: bool,
 }
 
 // A session, and a place in the input row: where the line that has no newline yet begins, or how many bytes of it are kept.
@@ -32,43 +33,54 @@ struct Stand {
     place: usize,
 }
 
-fn flush(out: &[u8], at: usize) {
+// Writes the output row up to a place; whether that went well.
+fn flush(out: &[u8], at: usize) -> bool {
     if at <= out.len() {
-        io::write_all(STDOUT_FILENO, &out[..at]);
+        return streams::write_all(&out[..at]);
     }
+    false
 }
 
-// Where the next answer goes: the row is written out and begun anew where it might not fit.
-fn room_for_answer(out: &[u8], at: usize) -> usize {
+// The session with its answers written out, over where that failed.
+fn written(session: Session, out: &[u8]) -> Session {
+    let mut s = session;
+    if session.more {
+        s.more = flush(out, session.at);
+    }
+    s.at = 0;
+    s
+}
+
+// The session with room for an answer: the output row is written out and begun anew where the longest might not fit.
+fn with_room(session: Session, out: &[u8]) -> Session {
     if ANSWER_MAX <= out.len() {
-        if at <= out.len() - ANSWER_MAX {
-            return at;
+        if session.at <= out.len() - ANSWER_MAX {
+            return session;
         }
     }
-    flush(out, at);
-    0
+    written(session, out)
 }
 
 // A line without its newline: answered, or the end of one that is passed over.
 fn take_line(session: Session, line: &[u8], out: &mut [u8]) -> Session {
-    let agent = session.agent;
-    let at = session.at;
-    let skipping = session.skipping;
-    if skipping {
+    if session.skipping {
+        let mut passed = session;
+        passed.skipping = false;
+        return passed;
+    }
+    let s = with_room(session, out);
+    if s.more {
+        let agent = s.agent;
+        let turned = console_desk::answer(agent, line, out, s.at);
+        let next = turned.agent;
         return Session {
-            agent: agent,
-            at: at,
+            agent: next,
+            at: turned.at,
             skipping: false,
+            more: true,
         };
     }
-    let place = room_for_answer(out, at);
-    let turned = console_desk::answer(agent, line, out, place);
-    let next = turned.agent;
-    Session {
-        agent: next,
-        at: turned.at,
-        skipping: false,
-    }
+    s
 }
 
 // The lines of a block that have their newline; the place is where the next begins.
@@ -131,71 +143,113 @@ fn keep(stand: Stand, buffer: &mut [u8], to: usize, out: &mut [u8]) -> Stand {
     }
 }
 
-// Reads what is there behind the first bytes of the buffer; gives back up to where it is filled.
-fn refill(buffer: &mut [u8], kept: usize) -> usize {
-    if buffer.len() < kept {
-        return kept;
-    }
-    let got = libc::read(STDIN_FILENO, &mut buffer[kept..]);
-    kept + io::count(got, &buffer[kept..])
-}
-
-// A session whose answers are written out.
-fn written(session: Session, out: &[u8]) -> Session {
-    flush(out, session.at);
-    let mut s = session;
-    s.at = 0;
-    s
-}
-
-// Writes out, reads a block and answers its lines. At the end of the input the place stays.
-fn turn(session: Session, kept: usize, buffer: &mut [u8], to: usize, out: &mut [u8]) -> Stand {
+// Answers the lines of the buffer's bytes up to `to`, and keeps what has no newline.
+fn take_block(session: Session, buffer: &mut [u8], to: usize, out: &mut [u8]) -> Stand {
     if to <= buffer.len() {
         let stand = take_lines(session, &buffer[..to], out);
         return keep(stand, buffer, to, out);
     }
     Stand {
         session: session,
-        place: kept,
+        place: 0,
     }
 }
 
-// The last line, where it has no newline.
-fn finish(session: Session, buffer: &[u8], kept: usize, out: &mut [u8]) {
+fn over(session: Session) -> Session {
+    let mut s = session;
+    s.more = false;
+    s
+}
+
+// The end of the input: the last line is answered where it has no newline, and the session is over.
+fn finish(session: Session, buffer: &[u8], kept: usize, out: &mut [u8]) -> Session {
     if kept == 0 {
-        flush(out, session.at);
-        return;
+        return over(session);
     }
     if kept <= buffer.len() {
         let last = take_line(session, &buffer[..kept], out);
-        flush(out, last.at);
+        return over(written(last, out));
+    }
+    over(session)
+}
+
+// Reads what is there behind the first bytes of the buffer.
+fn refill(buffer: &mut [u8], kept: usize) -> Got
+    ensures { λ r. ⌜ Fits (length (now (buffer .entry)) - kept) r ⌝ }
+{
+    if buffer.len() < kept {
+        return Got::End;
+    }
+    streams::read_some(&mut buffer[kept..])
+}
+
+// Reads a block behind the bytes that are kept and answers its lines. After a read that failed nothing is answered.
+fn read_block(session: Session, kept: usize, buffer: &mut [u8], out: &mut [u8]) -> Stand {
+    let got = refill(buffer, kept);
+    match got {
+        Got::Bytes(n) => take_block(session, buffer, kept + n, out),
+        Got::End => {
+            let last = finish(session, buffer, kept, out);
+            Stand {
+                session: last,
+                place: 0,
+            }
+        }
+        Got::Failed => {
+            let failed = over(session);
+            Stand {
+                session: failed,
+                place: 0,
+            }
+        }
     }
 }
 
-// Answers the lines of standard input until it ends. A proved loop has to end, and nothing says that the input does: so
-// the turns are counted down from a number that no run uses up.
+// Writes out what was answered, and where that went well reads on.
+fn turn(stand: Stand, buffer: &mut [u8], out: &mut [u8]) -> Stand {
+    let before = stand.session;
+    let kept = stand.place;
+    let session = written(before, out);
+    if session.more {
+        return read_block(session, kept, buffer, out);
+    }
+    Stand {
+        session: session,
+        place: 0,
+    }
+}
+
+// A session at its start.
+fn start() -> Stand {
+    let fresh = agent::fresh_agent(POOL);
+    let agent = fresh.agent;
+    let session = Session {
+        agent: agent,
+        at: 0,
+        skipping: false,
+        more: true,
+    };
+    Stand {
+        session: session,
+        place: 0,
+    }
+}
+
+// Whether a session goes on.
+fn goes_on(stand: Stand) -> bool {
+    let session = stand.session;
+    session.more
+}
+
+// Answers the lines of standard input until it ends, or a read or a write fails. A proved loop has to end, and nothing says
+// that the input does: so the turns are counted down from a number that no run uses up.
 pub fn run() {
     let mut buffer = io::large_buffer();
     let mut out = io::large_buffer();
-    let fresh = agent::fresh_agent(POOL);
-    let g = fresh.agent;
-    let mut session = Session {
-        agent: g,
-        at: 0,
-        skipping: false,
-    };
-    let mut kept = 0;
+    let mut stand = start();
     let mut turns = u64::MAX;
-    while turns > 0 {
-        session = written(session, &out);
-        let to = refill(&mut buffer, kept);
-        if to == kept {
-            finish(session, &buffer, kept, &mut out);
-            return;
-        }
-        let stand = turn(session, kept, &mut buffer, to, &mut out);
-        session = stand.session;
-        kept = stand.place;
+    while turns > 0 && goes_on(stand) {
+        stand = turn(stand, &mut buffer, &mut out);
         turns -= 1;
     }
 }

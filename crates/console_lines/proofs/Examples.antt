@@ -4,9 +4,10 @@ use Prim.Native.String.{String}
 use mathlib.Core.Path.{_≡_, refl}
 use mathlib.Core.List.{List, [], _∷_}
 use lib.ListN.{take}
-use Rattle.console_words.specs.Bytes.{isSort, run, reach}
-use Rattle.console_words.specs.Numbers.{amount, tooLarge}
-use Rattle.console_words.specs.Commands.{text, same, verbOf, leastOf, mostOf, enough, takesHex, takesKind, limitsOf, limitOf, crowded, oversized}
+use Rattle.text.specs.Bytes.{isSort, run, reach}
+use Rattle.text.specs.Numbers.{amount, tooLarge}
+use Rattle.text.specs.Texts.{text, same}
+use Rattle.console_lines.specs.Commands.{verbOf, leastOf, mostOf, enough, takesHex, takesKind, limitsOf, limitOf, crowded, oversized}
 use Rattle.console_lines.specs.declared.lines.Line.{Line}
 use Rattle.console_lines.specs.Lines.{blank, withFault, ended, goOn, withNumber, withKind, withHex, wordAt, withWord, step, withVerb, begun, readOn, meaning}
 

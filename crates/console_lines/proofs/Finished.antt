@@ -9,11 +9,12 @@ use lib.ListN.{length, getD, drop}
 use lib.Dec.{eqb, leb, ltb}
 use Rattle.rules.specs.Limits.{within}
 use Rattle.rules.specs.Refusals.{pick}
-use Rattle.console_words.specs.declared.bytes.Sort.the-variants.{Separator, Word, Digit, Hex}
-use Rattle.console_words.specs.Bytes.{reach}
-use Rattle.console_words.specs.Numbers.{amount, tooLarge}
-use Rattle.console_words.specs.Commands
-use Rattle.console_words.proofs.Tables.{both-l, up-to, allUpTo}
+use Rattle.text.specs.declared.bytes.Sort.the-variants.{Separator, Word, Digit, Hex}
+use Rattle.text.specs.Bytes.{reach}
+use Rattle.text.specs.Numbers.{amount, tooLarge}
+use Rattle.console_lines.specs.Commands
+use Rattle.rules.proofs.Tests.{both-l}
+use Rattle.text.proofs.Tables.{up-to, allUpTo}
 use Rattle.console_lines.specs.declared.lines.Line.{Line}
 use Rattle.console_lines.specs.Lines.{withFault, ended, goOn, withNumber, withKind, withHex, wordAt, withWord, step, begun, readOn, meaning}
 

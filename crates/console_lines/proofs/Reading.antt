@@ -8,11 +8,11 @@ use borrow.Author.Tests.{lt-ltb, le-ltb, le-leb, lt-leb, eq-eqb, ne-eqb, ltb-tru
 use lib.ListN.{length, getD, take, drop, set}
 use lib.Dec.{eqb, ltb}
 use Rattle.rules.specs.Refusals.{pick}
-use Rattle.console_words.specs.declared.bytes.Sort.the-variants.{Separator, Word, Digit, Hex}
+use Rattle.text.specs.declared.bytes.Sort.the-variants.{Separator, Word, Digit, Hex}
 use Rattle.console_lines.specs.declared.lines.Line.{Line}
-use Rattle.console_words.specs.Bytes.{reach}
-use Rattle.console_words.specs.Numbers.{top, amount, capped, above, tooLarge}
-use Rattle.console_words.specs.Commands.{verbOf, limitOf, oversized, badHex, oddHex, notNumber, unknownWord, tooLong, unread, doWrite, mostOf, crowded, takesHex, takesKind}
+use Rattle.text.specs.Bytes.{reach}
+use Rattle.text.specs.Numbers.{top, amount, capped, above, tooLarge}
+use Rattle.console_lines.specs.Commands.{verbOf, limitOf, oversized, badHex, oddHex, notNumber, unknownWord, tooLong, unread, doWrite, mostOf, crowded, takesHex, takesKind}
 use Rattle.console_lines.specs.Lines.{blank, withFault, ended, goOn, withNumber, withKind, withHex, withWord, wordAt, step, withVerb, longest, begun, readOn}
 
 -- a number as it is handed on is above a limit when the number itself is

@@ -1,3 +1,3 @@
 -- What a line of the operator's console means.
+pub mod Commands
 pub mod Lines
-pub mod Feed

@@ -6,11 +6,11 @@ use lib.ListN.{length, getD, take, drop, set, replicate}
 use lib.Dec.{eqb, leb, ltb}
 use Rattle.rules.specs.Limits.{within}
 use Rattle.rules.specs.Refusals.{pick}
-use Rattle.console_words.specs.declared.bytes.Sort.the-variants.{Separator, Word, Digit, Hex}
+use Rattle.text.specs.declared.bytes.Sort.the-variants.{Separator, Word, Digit, Hex}
 use Rattle.console_lines.specs.declared.lines.Line.{Line}
-use Rattle.console_words.specs.Bytes.{reach}
-use Rattle.console_words.specs.Numbers.{top, amount, tooLarge}
-use Rattle.console_words.specs.Commands
+use Rattle.text.specs.Bytes.{reach}
+use Rattle.text.specs.Numbers.{top, amount, tooLarge}
+use Rattle.console_lines.specs.Commands
 
 -- a line that answers nothing
 unfoldable pub blank : Line

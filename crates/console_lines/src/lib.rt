@@ -1,4 +1,4 @@
 // What a line of the operator's console means. `lines::parse` answers it for every line of bytes, as specs/Lines.antt
-// defines it; `feed` keeps the buffer that lines are cut from. No public function has a `requires`.
-pub mod feed;
+// defines it; `commands` has the words that name commands and their tables. No public function has a `requires`.
+pub mod commands;
 pub mod lines;

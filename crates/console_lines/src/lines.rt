@@ -1,9 +1,9 @@
 // A line of the console, read word by word until it is whole or something is wrong with it.
 
-use console_words::bytes;
-use console_words::bytes::Sort;
-use console_words::commands;
-use console_words::numbers;
+use crate::commands;
+use text::bytes;
+use text::bytes::Sort;
+use text::numbers;
 ghost use mathlib.Core.Path.{_≡_};
 ghost use Prim.Native.Nat.{_<_, _≤_};
 ghost use lib.ListN.{length};

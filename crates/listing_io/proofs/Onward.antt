@@ -21,7 +21,7 @@ use Rattle.notice.proofs.Through.{place-within, stopped-on}
 use Rattle.agent.specs.declared.Agent.{Agent}
 use Rattle.agent.specs.Played.{agentTold}
 use Rattle.agent.proofs.Played.{told-more}
-use Rattle.console_lines.specs.Feed.{count}
+use Rattle.text.specs.Feed.{count}
 use Rattle.listing_io.specs.declared.steps.Listed.{Listed}
 use Rattle.listing_io.specs.Steps.{Hears, isDecided}
 use Rattle.listing_io.specs.Listing.{UpTo, Drained}

@@ -8,7 +8,7 @@ use denote.Ref.{now}
 use denote.Triple.Clauses.{AtExit}
 use borrow.Fn.Kinds.{Dens, endedOf}
 use Rattle.notice.proofs.Settled.{OneAnswer}
-use Rattle.console_text.proofs.Settled.{page-settled}
+use Rattle.text.proofs.Settled.{page-settled}
 use Rattle.listing_io.specs.declared.steps.Listed.{Listed}
 use Rattle.listing_io.proofs.steps.list_at.Kinds as list-at-kinds
 use Rattle.listing_io.proofs.steps.list_at.Reads as list-at

@@ -12,10 +12,10 @@ use Rattle.rules.specs.Refusals.{pick, malformed}
 use Rattle.notice.specs.declared.Found.{Found}
 use Rattle.notice.specs.declared.Found.the-variants as found
 use Rattle.agent.specs.declared.Agent.{Agent}
-use Rattle.console_words.specs.Commands.{text}
-use Rattle.console_text.specs.Digits.{digits, decimal}
-use Rattle.console_text.specs.Output.{Page, page, puts}
-use Rattle.console_text.proofs.Pages.{puts-fits}
+use Rattle.text.specs.Texts.{text}
+use Rattle.text.specs.Digits.{digits, decimal}
+use Rattle.text.specs.Output.{Page, page, puts}
+use Rattle.text.proofs.Pages.{puts-fits}
 use Rattle.listing_io.specs.declared.steps.Listed.{Listed}
 use Rattle.listing_io.specs.Lines.{space, newline, ended, lineOf, lastLine, lineRoom}
 use Rattle.listing_io.specs.Steps.{noticeLine, cutLine, lineAfter, Lists, Shows}

@@ -2,8 +2,8 @@
 use Prim.Native.Nat.{ℕ}
 use mathlib.Core.List.{List, [], _∷_, _++_}
 use Rattle.rules.specs.Refusals.{malformed}
-use Rattle.console_words.specs.Commands.{text}
-use Rattle.console_text.specs.Digits.{decimal}
+use Rattle.text.specs.Texts.{text}
+use Rattle.text.specs.Digits.{decimal}
 
 abbrev pub space : ℕ
 space = 32

@@ -19,7 +19,7 @@ use Rattle.scheduler.specs.Outcomes.{heldShown}
 use Rattle.agent.specs.declared.Agent.{Agent}
 use Rattle.agent.specs.Turns.{noticeAnswer, noticed}
 use Rattle.agent.specs.Played.{agentTold}
-use Rattle.console_text.specs.Output.{page, puts}
+use Rattle.text.specs.Output.{page, puts}
 use Rattle.listing_io.specs.declared.steps.Listed.{Listed}
 use Rattle.listing_io.specs.declared.input.Shown.{Shown}
 use Rattle.listing_io.specs.Lines.{lineOf, lastLine}

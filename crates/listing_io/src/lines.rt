@@ -1,11 +1,11 @@
 // The lines of the listing, written at the start of a lent row. What has no room is left out.
 
-use console_text::digits::put_number;
-use console_text::output::put;
-use console_text::output::put_byte;
+use text::digits::put_number;
+use text::output::put;
+use text::output::put_byte;
 use rules::MALFORMED;
 ghost use mathlib.Core.Path.{_≡_};
-ghost use Rattle.console_text.specs.Output.{page, puts};
+ghost use Rattle.text.specs.Output.{page, puts};
 ghost use Rattle.listing_io.specs.Lines.{ended, lineOf, lastLine};
 
 // Room for any line: five numbers of 20 digits at most, and the byte that ends each.

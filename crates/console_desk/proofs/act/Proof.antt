@@ -1,5 +1,5 @@
 -- `console_desk::act` meets its contract: a fresh agent answers alone, an event or a notice with the lanes held.
-use Rattle.console_text.specs.Output.{page}
+use Rattle.text.specs.Output.{page}
 use Rattle.console_desk.proofs.Asking.{acts-fresh, acts-other}
 use borrow.Author.Needs.{needs}
 use Rattle.console_desk.proofs.act.Statement.{statement}

@@ -1,7 +1,7 @@
 -- `console_desk::answer` meets its contract: a line with nothing wrong, or what is wrong with it.
 use mathlib.Core.Path.{sym, _∙_, ap}
 use Rattle.console_lines.specs.declared.lines.Line.{Line}
-use Rattle.console_text.specs.Output.{page}
+use Rattle.text.specs.Output.{page}
 use Rattle.console_desk.proofs.Lines.{readable, it-is-whole, it-is-faulty}
 use borrow.Author.Needs.{needs}
 use Rattle.console_desk.proofs.answer.Statement.{statement}

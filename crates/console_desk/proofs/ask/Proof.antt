@@ -1,5 +1,5 @@
 -- `console_desk::ask` meets its contract: each question's own answer.
-use Rattle.console_text.specs.Output.{page}
+use Rattle.text.specs.Output.{page}
 use Rattle.console_desk.proofs.Asking.{asks-lane, asks-status, asks-share, asks-plan, asks-else}
 use borrow.Author.Needs.{needs}
 use Rattle.console_desk.proofs.ask.Statement.{statement}

@@ -1,5 +1,5 @@
 -- `console_desk::tell` meets its contract: help, a reading, or the bytes of the line's notice.
-use Rattle.console_text.specs.Output.{page}
+use Rattle.text.specs.Output.{page}
 use Rattle.console_desk.proofs.Asking.{tells-help, tells-reading, tells-bytes}
 use borrow.Author.Needs.{needs}
 use Rattle.console_desk.proofs.tell.Statement.{statement}

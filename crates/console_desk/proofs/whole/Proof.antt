@@ -1,5 +1,5 @@
 -- `console_desk::whole` meets its contract: nothing asked, an act, or a question, with a newline behind its answer.
-use Rattle.console_text.specs.Output.{page}
+use Rattle.text.specs.Output.{page}
 use Rattle.console_desk.proofs.Lines.{asks-nothing, it-acts, it-asks}
 use borrow.Author.Needs.{needs}
 use Rattle.console_desk.proofs.whole.Statement.{statement}
@@ -9,8 +9,8 @@ returns : tie.Need-returns
 returns c = let x = c .before .before .before .args in
     asks-nothing (x .agent) (x .line) (x .s .now) (page (x .out .now) (x .at)) (c .if1 .taken)
 
-acts-requires : tie.Need-acts-requires
-acts-requires c κs = search needs
+may-change-requires : tie.Need-may-change-requires
+may-change-requires c κs = search needs
 
 act-requires : tie.Need-act-requires
 act-requires c κs = search needs
@@ -27,7 +27,7 @@ same-length c = search needs
 returns-2 : tie.Need-returns-2
 returns-2 c = let x = c .before .before .before .before .before .before .before .before .before .before .before .before .before .before .before .args in
     let p = page (x .out .now) (x .at) in
-    it-acts (x .agent) (x .line) (x .s .now) p (c .before .before .before .before .before .before .before .before .before .before .before .before .if1 .left) _ (c .before .before .before .before .before .before .before .before .before .before .before .acts .ensures) _ _ _ (c .before .before .before .before .before .before .before .before .before .before .if2 .taken) (c .before .before .before .before .before .before .before .before .act .ensures) (c .before .before .put .ensures)
+    it-acts (x .agent) (x .line) (x .s .now) p (c .before .before .before .before .before .before .before .before .before .before .before .before .if1 .left) _ (c .before .before .before .before .before .before .before .before .before .before .before .may-change .ensures) _ _ _ (c .before .before .before .before .before .before .before .before .before .before .if2 .taken) (c .before .before .before .before .before .before .before .before .act .ensures) (c .before .before .put .ensures)
 
 ask-requires : tie.Need-ask-requires
 ask-requires c κs = search needs
@@ -44,14 +44,14 @@ same-length-2 c = search needs
 returns-3 : tie.Need-returns-3
 returns-3 c = let x = c .before .before .before .before .before .before .before .before .before .before .before .before .before .before .before .args in
     let p = page (x .out .now) (x .at) in
-    it-asks (x .agent) (x .line) (x .s .now) p (c .before .before .before .before .before .before .before .before .before .before .before .before .if1 .left) _ (c .before .before .before .before .before .before .before .before .before .before .before .acts .ensures) (x .agent) _ _ (c .before .before .before .before .before .before .before .before .before .before .if2 .left) (c .before .before .before .before .before .before .before .ask .ensures) (c .before .before .put2 .ensures)
+    it-asks (x .agent) (x .line) (x .s .now) p (c .before .before .before .before .before .before .before .before .before .before .before .before .if1 .left) _ (c .before .before .before .before .before .before .before .before .before .before .before .may-change .ensures) (x .agent) _ _ (c .before .before .before .before .before .before .before .before .before .before .if2 .left) (c .before .before .before .before .before .before .before .ask .ensures) (c .before .before .put2 .ensures)
 
 pub whole-spec : {M : Type 1} → statement M
 whole-spec =
     tie.close
     (tie.spec
     returns
-    acts-requires
+    may-change-requires
     act-requires
     slice-aggregate-put
     put-requires

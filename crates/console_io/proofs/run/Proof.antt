@@ -7,10 +7,10 @@ use Rattle.console_io.proofs.run.Statement.{statement}
 use Rattle.console_io.proofs.run.Tie as tie
 
 abbrev Inv-loop : tie.InvT-loop
-Inv-loop buffer₀ out₀ session₀ kept₀ turns₀ buffer out session kept turns = (length buffer ≡ 65536) × (length out ≡ 65536)
+Inv-loop buffer₀ out₀ stand₀ turns₀ buffer out stand turns = (length buffer ≡ 65536) × (length out ≡ 65536)
 
 abbrev μ-loop : tie.MeasureT-loop
-μ-loop buffer₀ out₀ session₀ kept₀ turns₀ buffer out session kept turns = turns
+μ-loop buffer₀ out₀ stand₀ turns₀ buffer out stand turns = turns
 
 large-buffer-requires : tie.Need-large-buffer-requires Inv-loop μ-loop
 large-buffer-requires c κs = search needs
@@ -18,35 +18,14 @@ large-buffer-requires c κs = search needs
 large-buffer-requires-2 : tie.Need-large-buffer-requires-2 Inv-loop μ-loop
 large-buffer-requires-2 c κs = search needs
 
-fresh-agent-requires : tie.Need-fresh-agent-requires Inv-loop μ-loop
-fresh-agent-requires c κs = search needs
+start-requires : tie.Need-start-requires Inv-loop μ-loop
+start-requires c κs = search needs
 
 loop-holds : tie.Need-loop-holds Inv-loop μ-loop
 loop-holds c = search needs
 
-slice-aggregate-written : tie.Need-slice-aggregate-written Inv-loop μ-loop
-slice-aggregate-written c = search needs
-
-written-requires : tie.Need-written-requires Inv-loop μ-loop
-written-requires c κs = search needs
-
-slice-aggregate-refill : tie.Need-slice-aggregate-refill Inv-loop μ-loop
-slice-aggregate-refill c = search needs
-
-refill-requires : tie.Need-refill-requires Inv-loop μ-loop
-refill-requires c κs = search needs
-
-slice-aggregate-finish : tie.Need-slice-aggregate-finish Inv-loop μ-loop
-slice-aggregate-finish c = search needs
-
-slice-aggregate-finish-2 : tie.Need-slice-aggregate-finish-2 Inv-loop μ-loop
-slice-aggregate-finish-2 c = search needs
-
-finish-requires : tie.Need-finish-requires Inv-loop μ-loop
-finish-requires c κs = search needs
-
-returns : tie.Need-returns Inv-loop μ-loop
-returns c = search needs
+goes-on-requires : tie.Need-goes-on-requires Inv-loop μ-loop
+goes-on-requires c κs = search needs
 
 slice-aggregate-turn : tie.Need-slice-aggregate-turn Inv-loop μ-loop
 slice-aggregate-turn c = search needs
@@ -66,6 +45,9 @@ loop-less c = omega arith
 loop-again : tie.Need-loop-again Inv-loop μ-loop
 loop-again c = search needs
 
+returns : tie.Need-returns Inv-loop μ-loop
+returns c = search needs
+
 returns-2 : tie.Need-returns-2 Inv-loop μ-loop
 returns-2 c = search needs
 
@@ -77,20 +59,14 @@ run-spec =
     μ-loop
     large-buffer-requires
     large-buffer-requires-2
-    fresh-agent-requires
+    start-requires
     loop-holds
-    slice-aggregate-written
-    written-requires
-    slice-aggregate-refill
-    refill-requires
-    slice-aggregate-finish
-    slice-aggregate-finish-2
-    finish-requires
-    returns
+    goes-on-requires
     slice-aggregate-turn
     slice-aggregate-turn-2
     turn-requires
     sub-turns
     loop-less
     loop-again
+    returns
     returns-2)

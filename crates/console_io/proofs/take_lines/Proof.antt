@@ -3,8 +3,8 @@ use Prim.Native.Nat.{_-_, _≤_}
 use mathlib.Core.Path.{_≡_, refl, _∙_}
 use native.Mathlib.Omega.{arith}
 use lib.ListN.{length}
-use Rattle.console_words.specs.declared.bytes.Sort.the-variants.{Line}
-use Rattle.console_words.proofs.Runs.{reach-low}
+use Rattle.text.specs.declared.bytes.Sort.the-variants.{Line}
+use Rattle.text.proofs.Runs.{reach-low}
 use borrow.Author.Needs.{needs}
 use Rattle.console_io.proofs.take_lines.Statement.{statement}
 use Rattle.console_io.proofs.take_lines.Tie as tie

@@ -3,10 +3,10 @@ use Prim.Native.Nat.{ℕ}
 use mathlib.Core.Path.{_∙_, ap}
 use native.Mathlib.Omega.{arith}
 use Rattle.console_lines.specs.declared.lines.Line.{Line}
-use Rattle.console_words.specs.Commands.{tooLong}
+use Rattle.console_lines.specs.Commands.{tooLong}
 use Rattle.console_lines.specs.Lines.{withFault, withVerb, longest}
-use Rattle.console_words.specs.declared.bytes.Sort.the-variants.{Word}
-use Rattle.console_words.proofs.Runs.{reach-low, reach-high}
+use Rattle.text.specs.declared.bytes.Sort.the-variants.{Word}
+use Rattle.text.proofs.Runs.{reach-low, reach-high}
 use Rattle.console_lines.proofs.Reading.{begun-long, begun-hash, begun-verb, begun-blank}
 use borrow.Author.Needs.{needs}
 use Rattle.console_lines.proofs.lines.begin.Statement.{statement}

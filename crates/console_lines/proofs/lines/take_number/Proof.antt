@@ -3,7 +3,7 @@
 use Prim.Native.Nat.{ℕ}
 use mathlib.Core.Path.{_∙_, ap}
 use native.Mathlib.Omega.{arith}
-use Rattle.console_words.specs.Numbers.{above, capped}
+use Rattle.text.specs.Numbers.{above, capped}
 use Rattle.console_lines.specs.Lines.{withFault, goOn}
 use Rattle.console_lines.proofs.Reading.{number-bad, number-large, number-whole}
 use borrow.Author.Needs.{needs}

@@ -3,8 +3,8 @@ use Prim.Native.Nat.{ℕ}
 use mathlib.Core.Path.{_∙_, ap}
 use native.Mathlib.Omega.{arith}
 use Rattle.console_lines.specs.Lines.{withFault}
-use Rattle.console_words.specs.declared.bytes.Sort.the-variants.{Word}
-use Rattle.console_words.proofs.Runs.{reach-low, reach-high}
+use Rattle.text.specs.declared.bytes.Sort.the-variants.{Word}
+use Rattle.text.proofs.Runs.{reach-low, reach-high}
 use Rattle.console_lines.proofs.Reading.{word-crowded, word-hex, word-kind, word-number}
 use borrow.Author.Needs.{needs}
 use Rattle.console_lines.proofs.lines.take_word.Statement.{statement}

@@ -1,8 +1,8 @@
 -- `listing_io::lines::put_ended` meets its contract: the digits, and one byte behind them.
 use mathlib.Core.List.{[], _∷_}
-use Rattle.console_text.specs.Output.{page, puts}
-use Rattle.console_text.specs.Digits.{decimal}
-use Rattle.console_text.proofs.Pages.{puts-then}
+use Rattle.text.specs.Output.{page, puts}
+use Rattle.text.specs.Digits.{decimal}
+use Rattle.text.proofs.Pages.{puts-then}
 use Rattle.listing_io.specs.Lines.{ended}
 use borrow.Author.Needs.{needs}
 use Rattle.listing_io.proofs.lines.put_ended.Statement.{statement}

@@ -1,9 +1,9 @@
 -- `listing_io::lines::put_last` meets its contract: its parts are written one behind the other.
 use mathlib.Core.List.{_++_}
 use Rattle.rules.specs.Refusals.{malformed}
-use Rattle.console_words.specs.Commands.{text}
-use Rattle.console_text.specs.Output.{page}
-use Rattle.console_text.proofs.Pages.{puts-then}
+use Rattle.text.specs.Texts.{text}
+use Rattle.text.specs.Output.{page}
+use Rattle.text.proofs.Pages.{puts-then}
 use Rattle.listing_io.specs.Lines.{ended, lastLine, space, newline}
 use borrow.Author.Needs.{needs}
 use Rattle.listing_io.proofs.lines.put_last.Statement.{statement}

@@ -1,7 +1,7 @@
 -- `listing_io::lines::put_line` meets its contract: its parts are written one behind the other.
 use mathlib.Core.List.{_++_}
-use Rattle.console_text.specs.Output.{page}
-use Rattle.console_text.proofs.Pages.{puts-then}
+use Rattle.text.specs.Output.{page}
+use Rattle.text.proofs.Pages.{puts-then}
 use Rattle.listing_io.specs.Lines.{ended, lineOf, space, newline}
 use borrow.Author.Needs.{needs}
 use Rattle.listing_io.proofs.lines.put_line.Statement.{statement}

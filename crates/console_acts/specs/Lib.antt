@@ -1,2 +1,0 @@
--- What a line of the console does to the agent.
-pub mod Acts

@@ -1,0 +1,105 @@
+-- `console_answers::notices::put_kind` meets its contract: each kind has its word and its own numbers.
+use Rattle.text.specs.Texts.{text}
+use borrow.Author.Needs.{needs}
+use Rattle.console_answers.proofs.notices.put_kind.Statement.{statement}
+use Rattle.console_answers.proofs.notices.put_kind.Tie as tie
+
+enum-known-kind : tie.Need-enum-known-kind
+enum-known-kind c = search needs
+
+cast-t18 : tie.Need-cast-t18
+cast-t18 c = search needs
+
+cast-t19 : tie.Need-cast-t19
+cast-t19 c = search needs
+
+cast-t20 : tie.Need-cast-t20
+cast-t20 c = search needs
+
+cast-t21 : tie.Need-cast-t21
+cast-t21 c = search needs
+
+slice-aggregate-put-event : tie.Need-slice-aggregate-put-event
+slice-aggregate-put-event c = search needs
+
+slice-aggregate-put-event-2 : tie.Need-slice-aggregate-put-event-2
+slice-aggregate-put-event-2 c = search needs
+
+put-event-requires : tie.Need-put-event-requires
+put-event-requires c κs = search needs
+
+enum-known-kind-2 : tie.Need-enum-known-kind-2
+enum-known-kind-2 c = search needs
+
+cast-t28 : tie.Need-cast-t28
+cast-t28 c = search needs
+
+slice-aggregate-put-event-3 : tie.Need-slice-aggregate-put-event-3
+slice-aggregate-put-event-3 c = search needs
+
+slice-aggregate-put-event-4 : tie.Need-slice-aggregate-put-event-4
+slice-aggregate-put-event-4 c = search needs
+
+put-event-requires-2 : tie.Need-put-event-requires-2
+put-event-requires-2 c κs = search needs
+
+enum-told : tie.Need-enum-told
+enum-told c = search needs
+
+slice-aggregate-put-event-5 : tie.Need-slice-aggregate-put-event-5
+slice-aggregate-put-event-5 c = search needs
+
+slice-aggregate-put-event-6 : tie.Need-slice-aggregate-put-event-6
+slice-aggregate-put-event-6 c = search needs
+
+put-event-requires-3 : tie.Need-put-event-requires-3
+put-event-requires-3 c κs = search needs
+
+same-length : tie.Need-same-length
+same-length c = search needs
+
+returns : tie.Need-returns
+unfolding text
+returns c = rw (c .before .before .before .before .before .before .before .kind .given .1) (c .before .before .put-event .ensures)
+
+same-length-2 : tie.Need-same-length-2
+same-length-2 c = search needs
+
+returns-2 : tie.Need-returns-2
+unfolding text
+returns-2 c = rw (c .before .before .before .before .before .before .before .kind2 .given .1) (c .before .before .put-event2 .ensures)
+
+same-length-3 : tie.Need-same-length-3
+same-length-3 c = search needs
+
+returns-3 : tie.Need-returns-3
+unfolding text
+returns-3 c = rw (c .before .before .before .before .before .before .enum-told .given .1) (c .before .before .put-event3 .ensures)
+
+pub put-kind-spec : {M : Type 1} → statement M
+put-kind-spec =
+    tie.close
+    (tie.spec
+    enum-known-kind
+    cast-t18
+    cast-t19
+    cast-t20
+    cast-t21
+    slice-aggregate-put-event
+    slice-aggregate-put-event-2
+    put-event-requires
+    enum-known-kind-2
+    cast-t28
+    slice-aggregate-put-event-3
+    slice-aggregate-put-event-4
+    put-event-requires-2
+    enum-told
+    slice-aggregate-put-event-5
+    slice-aggregate-put-event-6
+    put-event-requires-3
+    same-length
+    returns
+    same-length-2
+    returns-2
+    same-length-3
+    returns-3)

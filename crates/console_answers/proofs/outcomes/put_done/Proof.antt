@@ -1,0 +1,42 @@
+-- `console_answers::outcomes::put_done` meets its contract: 0, or the refusal.
+use borrow.Author.Tests.{eq-eqb, ne-eqb}
+use Rattle.text.specs.Texts.{text}
+use Rattle.console_answers.specs.Outcomes.{doneText}
+use borrow.Author.Needs.{needs}
+use Rattle.console_answers.proofs.outcomes.put_done.Statement.{statement}
+use Rattle.console_answers.proofs.outcomes.put_done.Tie as tie
+
+slice-aggregate-put : tie.Need-slice-aggregate-put
+slice-aggregate-put c = search needs
+
+put-requires : tie.Need-put-requires
+put-requires c κs = search needs
+
+same-length : tie.Need-same-length
+same-length c = search needs
+
+returns : tie.Need-returns
+unfolding doneText text
+returns c = rw (eq-eqb _ _ (c .before .before .before .before .before .if1 .taken)) (cc)
+
+put-refusal-requires : tie.Need-put-refusal-requires
+put-refusal-requires c κs = search needs
+
+same-length-2 : tie.Need-same-length-2
+same-length-2 c = search needs
+
+returns-2 : tie.Need-returns-2
+unfolding doneText
+returns-2 c = rw (ne-eqb _ _ (c .before .before .before .before .if1 .left)) (cc)
+
+pub put-done-spec : {M : Type 1} → statement M
+put-done-spec =
+    tie.close
+    (tie.spec
+    slice-aggregate-put
+    put-requires
+    same-length
+    returns
+    put-refusal-requires
+    same-length-2
+    returns-2)

@@ -1,0 +1,64 @@
+-- `console_answers::plans::put_row` meets its contract: the plan's cells stand behind its answer.
+use mathlib.Core.Path.{sym, _∙_}
+use native.Mathlib.Omega.{arith}
+use lib.ListN.{length}
+use Rattle.text.specs.Output.{page}
+use Rattle.plan.proofs.Refusals.{accepted-only}
+use Rattle.console_answers.proofs.Answered.{plan-told, plan-refused}
+use borrow.Author.Needs.{needs}
+use Rattle.console_answers.proofs.plans.put_row.Statement.{statement}
+use Rattle.console_answers.proofs.plans.put_row.Tie as tie
+
+plan-requires : tie.Need-plan-requires
+plan-requires c κs = search needs
+
+put-done-requires : tie.Need-put-done-requires
+put-done-requires c κs = search needs
+
+pow2-requires : tie.Need-pow2-requires
+pow2-requires c κs = let x = c .before .before .before .before .before .before .before .before .before .before .before .before .before .args in
+    let e = c .before .before .before .before .before .before .before .before .before .plan .ensures in
+    (accepted-only (x .floor) (x .cap) (x .count) (x .arrival) (length (x .row .now)) (sym (e .answer) ∙ c .before .before .if1 .taken)) .count .high
+
+put-cells-requires : tie.Need-put-cells-requires
+put-cells-requires c κs = let x = c .before .before .before .before .before .before .before .before .before .before .before .before .before .before .args in
+    let e = c .before .before .before .before .before .before .before .before .before .before .plan .ensures in
+    let t = accepted-only (x .floor) (x .cap) (x .count) (x .arrival) (length (x .row .now)) (sym (e .answer) ∙ c .before .before .before .if1 .taken) in
+    omega (arith, t .room, c .pow2 .ensures .is, c .before .before .before .before .before .before .before .before .before .before .plan .kept)
+
+same-length : tie.Need-same-length
+same-length c = search needs
+
+same-length-2 : tie.Need-same-length-2
+same-length-2 c = search needs
+
+returns : tie.Need-returns
+returns c = let x = c .before .before .before .before .before .before .before .before .before .before .before .before .before .before .before .before .before .args in
+    let p = page (x .out .now) (x .at) in
+    plan-told p _ _ (x .floor) (x .cap) (x .count) (x .arrival) _ (x .row .now) _ (c .before .before .before .before .before .before .before .before .before .before .before .before .before .plan .ensures) (c .before .before .before .before .before .before .before .before .before .put-done .ensures) (c .before .before .before .before .before .before .if1 .taken) (rw (c .before .before .before .pow2 .ensures .is) at (c .before .before .put-cells .ensures))
+
+same-length-3 : tie.Need-same-length-3
+same-length-3 c = search needs
+
+same-length-4 : tie.Need-same-length-4
+same-length-4 c = search needs
+
+returns-2 : tie.Need-returns-2
+returns-2 c = let x = c .before .before .before .before .before .before .before .before .before .before .before .args in
+    let p = page (x .out .now) (x .at) in
+    plan-refused p _ p (x .floor) (x .cap) (x .count) (x .arrival) _ (x .row .now) _ (c .before .before .before .before .before .before .before .plan .ensures) (c .before .before .before .put-done .ensures) (c .if1 .left)
+
+pub put-row-spec : {M : Type 1} → statement M
+put-row-spec =
+    tie.close
+    (tie.spec
+    plan-requires
+    put-done-requires
+    pow2-requires
+    put-cells-requires
+    same-length
+    same-length-2
+    returns
+    same-length-3
+    same-length-4
+    returns-2)

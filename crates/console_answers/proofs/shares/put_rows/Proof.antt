@@ -1,0 +1,51 @@
+-- `console_answers::shares::put_rows` meets its contract: the counts of the sharing stand behind its answer.
+use Rattle.text.specs.Output.{page}
+use Rattle.console_answers.proofs.Answered.{share-told, share-refused}
+use borrow.Author.Needs.{needs}
+use Rattle.console_answers.proofs.shares.put_rows.Statement.{statement}
+use Rattle.console_answers.proofs.shares.put_rows.Tie as tie
+
+share-requires : tie.Need-share-requires
+share-requires c κs = search needs
+
+put-done-requires : tie.Need-put-done-requires
+put-done-requires c κs = search needs
+
+put-shares-requires : tie.Need-put-shares-requires
+put-shares-requires c κs = search needs
+
+same-length : tie.Need-same-length
+same-length c = search needs
+
+same-length-2 : tie.Need-same-length-2
+same-length-2 c = search needs
+
+returns : tie.Need-returns
+returns c = let x = c .before .before .before .before .before .before .before .before .before .before .before .before .before .before .before .before .before .before .before .before .args in
+    let p = page (x .out .now) (x .at) in
+    share-told p _ _ (x .pool) _ (x .rates .now) (x .lengths .now) (x .floors .now) (x .caps .now) (x .counts .now) _ (c .before .before .before .before .before .before .before .before .before .before .before .before .share .ensures) (c .before .before .before .before .before .before .before .before .put-done .ensures) (c .before .before .before .before .before .if1 .taken) (search needs) (c .before .before .put-shares .ensures)
+
+same-length-3 : tie.Need-same-length-3
+same-length-3 c = search needs
+
+same-length-4 : tie.Need-same-length-4
+same-length-4 c = search needs
+
+returns-2 : tie.Need-returns-2
+returns-2 c = let x = c .before .before .before .before .before .before .before .before .before .before .before .before .before .before .before .args in
+    let p = page (x .out .now) (x .at) in
+    share-refused p _ p (x .pool) _ (x .rates .now) (x .lengths .now) (x .floors .now) (x .caps .now) (x .counts .now) _ (c .before .before .before .before .before .before .before .share .ensures) (c .before .before .before .put-done .ensures) (c .if1 .left)
+
+pub put-rows-spec : {M : Type 1} → statement M
+put-rows-spec =
+    tie.close
+    (tie.spec
+    share-requires
+    put-done-requires
+    put-shares-requires
+    same-length
+    same-length-2
+    returns
+    same-length-3
+    same-length-4
+    returns-2)

@@ -1,0 +1,63 @@
+-- `console_answers::titles::put_rows` meets its contract: the rows that status filled in stand behind its answer.
+use Rattle.text.specs.Output.{page}
+use Rattle.console_answers.proofs.Answered.{status-told, status-refused}
+use borrow.Author.Needs.{needs}
+use Rattle.console_answers.proofs.titles.put_rows.Statement.{statement}
+use Rattle.console_answers.proofs.titles.put_rows.Tie as tie
+
+status-requires : tie.Need-status-requires
+status-requires c κs = search needs
+
+put-done-requires : tie.Need-put-done-requires
+put-done-requires c κs = search needs
+
+put-titles-requires : tie.Need-put-titles-requires
+put-titles-requires c κs = search needs
+
+same-length : tie.Need-same-length
+same-length c = search needs
+
+same-length-2 : tie.Need-same-length-2
+same-length-2 c = search needs
+
+same-length-3 : tie.Need-same-length-3
+same-length-3 c = search needs
+
+returns : tie.Need-returns
+returns c = let x = c .before .before .before .before .before .before .before .before .before .before .before .before .before .before .before .before .before .before .before .before .before .before .args in
+    let h = c .before .before .before .before .before .before .before .before .before .before .before .before .before .before .before .before .before .before .before .before .before .before .pre in
+    let p = page (x .out .now) (x .at) in
+    let asked = c .before .before .before .before .before .before .before .before .before .before .before .before .before .before .before .status .ensures in
+    status-told p _ _ (x .s) (x .time) _ (x .ids .now) (x .counts .now) (x .held .now) (h .0) (h .1) (asked .0) (c .before .before .before .before .before .before .before .before .before .put-done .ensures) _ _ (asked .1 .0) (asked .1 .1) (c .before .before .before .before .before .before .if1 .taken) (c .before .before .put-titles .ensures)
+
+same-length-4 : tie.Need-same-length-4
+same-length-4 c = search needs
+
+same-length-5 : tie.Need-same-length-5
+same-length-5 c = search needs
+
+same-length-6 : tie.Need-same-length-6
+same-length-6 c = search needs
+
+returns-2 : tie.Need-returns-2
+returns-2 c = let x = c .before .before .before .before .before .before .before .before .before .before .before .before .before .before .before .before .args in
+    let h = c .before .before .before .before .before .before .before .before .before .before .before .before .before .before .before .before .pre in
+    let p = page (x .out .now) (x .at) in
+    let asked = c .before .before .before .before .before .before .before .before .before .status .ensures in
+    status-refused p _ p (x .s) (x .time) _ (x .ids .now) (x .counts .now) (x .held .now) (h .0) (h .1) (asked .0) (c .before .before .before .put-done .ensures) (c .if1 .left)
+
+pub put-rows-spec : {M : Type 1} → statement M
+put-rows-spec =
+    tie.close
+    (tie.spec
+    status-requires
+    put-done-requires
+    put-titles-requires
+    same-length
+    same-length-2
+    same-length-3
+    returns
+    same-length-4
+    same-length-5
+    same-length-6
+    returns-2)

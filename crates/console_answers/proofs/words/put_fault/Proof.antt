@@ -1,0 +1,60 @@
+-- `console_answers::words::put_fault` meets its contract: its parts are written one behind the other.
+use Prim.Native.Nat.{ℕ}
+use mathlib.Core.Path.{_∙_, ap}
+use mathlib.Core.List.{_++_}
+use Rattle.text.specs.Texts.{text}
+use Rattle.text.specs.Output.{page, puts}
+use Rattle.text.specs.Digits.{decimal}
+use Rattle.console_answers.specs.Words.{faultText, faultWords, fromOne}
+use Rattle.text.proofs.Pages.{puts-then}
+use borrow.Author.Needs.{needs}
+use Rattle.console_answers.proofs.words.put_fault.Statement.{statement}
+use Rattle.console_answers.proofs.words.put_fault.Tie as tie
+
+slice-aggregate-put : tie.Need-slice-aggregate-put
+slice-aggregate-put c = search needs
+
+put-requires : tie.Need-put-requires
+put-requires c κs = search needs
+
+fault-words-requires : tie.Need-fault-words-requires
+fault-words-requires c κs = search needs
+
+slice-aggregate-put-2 : tie.Need-slice-aggregate-put-2
+slice-aggregate-put-2 c = search needs
+
+put-requires-2 : tie.Need-put-requires-2
+put-requires-2 c κs = search needs
+
+from-one-requires : tie.Need-from-one-requires
+from-one-requires c κs = search needs
+
+put-number-requires : tie.Need-put-number-requires
+put-number-requires c κs = search needs
+
+same-length : tie.Need-same-length
+same-length c = search needs
+
+returns : tie.Need-returns
+unfolding faultText text
+returns c =
+    let x = c .before .before .before .before .before .before .before .before .before .before .before .before .before .before .before .before .before .before .before .before .args in
+    let o = page (x .out .now) (x .at) in
+    puts-then o ((text "? " ++ faultWords (x .fault)) ++ text " at byte ") (decimal (fromOne (x .place)))
+    (puts-then o (text "? " ++ faultWords (x .fault)) (text " at byte ")
+    (puts-then o (text "? ") (faultWords (x .fault)) (c .before .before .before .before .before .before .before .before .before .before .before .before .before .before .before .before .put .ensures) (c .before .before .before .before .before .before .before .before .before .before .before .before .fault-words .ensures)) (c .before .before .before .before .before .before .before .put2 .ensures))
+    (c .before .before .put-number .ensures ∙ ap (λ (v : ℕ). puts (page (c .before .before .before .before .before .before .before .put2 .last .0) (c .before .before .before .before .before .before .before .put2 .result)) (decimal v)) (c .before .before .before .from-one .ensures))
+
+pub put-fault-spec : {M : Type 1} → statement M
+put-fault-spec =
+    tie.close
+    (tie.spec
+    slice-aggregate-put
+    put-requires
+    fault-words-requires
+    slice-aggregate-put-2
+    put-requires-2
+    from-one-requires
+    put-number-requires
+    same-length
+    returns)

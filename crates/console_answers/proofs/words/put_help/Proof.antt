@@ -1,0 +1,23 @@
+-- `console_answers::words::put_help` meets its contract: the text is the definition's, byte by byte.
+use Rattle.text.specs.Texts.{text}
+use Rattle.console_answers.specs.Words.{helpText}
+use borrow.Author.Needs.{needs}
+use Rattle.console_answers.proofs.words.put_help.Statement.{statement}
+use Rattle.console_answers.proofs.words.put_help.Tie as tie
+
+slice-aggregate-put : tie.Need-slice-aggregate-put
+slice-aggregate-put c = search needs
+
+put-requires : tie.Need-put-requires
+put-requires c κs = search needs
+
+same-length : tie.Need-same-length
+same-length c = search needs
+
+returns : tie.Need-returns
+unfolding helpText text
+returns c =
+    c .before .before .put .ensures
+
+pub put-help-spec : {M : Type 1} → statement M
+put-help-spec = tie.close (tie.spec slice-aggregate-put put-requires same-length returns)

@@ -1,0 +1,63 @@
+-- What the console's questions answer ("The operator's console", lane, status, plan and share).
+use Prim.Native.Nat.{ℕ, zero, suc, _+_, _-_, _*_, _/_, min}
+use mathlib.Core.List.{List, map}
+use lib.ListN.{length, getD, take, drop, set, replicate}
+use Rattle.story.specs.declared.State.{State}
+use Rattle.story.specs.Calls.{laneAnswer, laneShows, statusAnswer, statusCount, statusHeld}
+use Rattle.grid.specs.Ticks.{cells}
+use Rattle.grid.specs.Plan.{planAnswer}
+use Rattle.plan.specs.Row as plan
+use Rattle.sharing.specs.Verdict as sharing
+use Rattle.console_answers.specs.Entries.{numbersText, cellsText, titlesText}
+use Rattle.console_answers.specs.Outcomes.{withText, valueText}
+
+-- the cell that goes out
+unfoldable pub laneText : State → ℕ → ℕ → ℕ → List ℕ
+laneText s i l τ = valueText (laneAnswer s i l τ) (laneShows s i l τ) 0
+
+-- for each id its count and its lanes held
+unfoldable pub statusText : State → ℕ → List ℕ → List ℕ
+statusText s τ ids =
+    withText (statusAnswer s τ ids (length ids) (length ids)) 0
+    (titlesText ids (map (λ i. statusCount s i) ids) (map (λ i. statusHeld s i τ) ids) (length ids))
+
+-- the ids of a line of so many numbers, which follow the time; no line has more than 32
+unfoldable pub idsIn : List ℕ → ℕ → List ℕ
+idsIn numbers count = take (min (count - 1) 32) (drop 1 numbers)
+
+-- the 2^K numbers of the plan that a lent row takes
+unfoldable pub planText : ℕ → ℕ → ℕ → ℕ → List ℕ → List ℕ
+planText A K k a row =
+    withText (planAnswer A K k a (length row)) 0 (cellsText (plan.rowAfter A K k a row) (cells K))
+
+unfoldable pub zeros : ℕ → List ℕ
+zeros n = replicate n 0
+
+-- the row that a line lends, of at most 1,024 places
+unfoldable pub roomOf : ℕ → List ℕ
+roomOf places = take (min places 1024) (zeros 1024)
+
+-- the counts of a sharing, over rows that are lent
+unfoldable pub shareText : ℕ → List ℕ → List ℕ → List ℕ → List ℕ → List ℕ → List ℕ
+shareText pool rates lengths floors caps row =
+    withText (sharing.verdictOf pool rates lengths floors caps (length row)) 0
+    (numbersText (sharing.rowAfter pool rates lengths floors caps row) (length row))
+
+-- of the first n titles of a line, the number at the same place of each: every fourth number from a place on, at most what
+-- a 32-bit number holds
+unfoldable pub column : List ℕ → ℕ → ℕ → List ℕ
+column numbers first zero = replicate 17 0
+column numbers first (suc n) = set (column numbers first n) n (min (getD numbers (first + 4 * n) 0) 4_294_967_295)
+
+-- the titles of a line of so many numbers, four for each behind the pool; no line has more than 17
+unfoldable pub titlesIn : ℕ → ℕ
+titlesIn count = min ((count - 1) / 4) 17
+
+abbrev pub columnIn : List ℕ → ℕ → ℕ → List ℕ
+columnIn numbers count first = take (titlesIn count) (column numbers first 17)
+
+-- rates, lengths, floors and caps stand in this order in a line
+unfoldable pub shareIn : List ℕ → ℕ → List ℕ
+shareIn numbers count =
+    shareText (getD numbers 0 0) (columnIn numbers count 1) (columnIn numbers count 2) (columnIn numbers count 3) (columnIn numbers count 4)
+    (take (titlesIn count) (replicate 17 0))

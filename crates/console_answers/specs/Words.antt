@@ -1,0 +1,66 @@
+-- The words that the console answers in ("The operator's console", refusals and faults; 01, "Numbers that calls give back").
+use Prim.Native.Nat.{ℕ, _+_, min}
+use mathlib.Core.List.{List, [], _∷_, _++_}
+use lib.ListN.{getD}
+use lib.Dec.{eqb}
+use Rattle.rules.specs.Refusals.{pick, outOfTurn}
+use Rattle.text.specs.Texts.{text}
+use Rattle.text.specs.Numbers.{top}
+use Rattle.text.specs.Digits.{decimal}
+
+-- what each refusal means, in words, by its number
+abbrev pub refusals : List (List ℕ)
+refusals =
+    text "done" ∷
+    text "number out of range" ∷
+    text "earlier than an accepted event" ∷
+    text "title not there or lane not held" ∷
+    text "id still in use" ∷
+    text "title is closing" ∷
+    text "count not possible" ∷
+    text "title has an event at this time" ∷
+    text "not at a permitted slot start" ∷
+    text "too few free lanes" ∷
+    text "rows do not match or room too short" ∷
+    text "malformed notice" ∷
+    text "notice out of turn, expected is " ∷ []
+
+unfoldable pub refusalWords : ℕ → List ℕ
+refusalWords n = getD refusals n []
+
+-- the answer to a refused call: number, words, and of a notice out of turn the sequence that is expected
+unfoldable pub refusalText : ℕ → ℕ → List ℕ
+refusalText n expected = ((decimal n ++ text " ") ++ refusalWords n) ++ pick (eqb n outOfTurn) (decimal expected) []
+
+-- what is wrong with a line, in words, by the number of its fault; 0 is none
+abbrev pub faults : List (List ℕ)
+faults =
+    text "" ∷
+    text "line longer than 4095 bytes" ∷
+    text "unknown word" ∷
+    text "too few numbers" ∷
+    text "too many numbers" ∷
+    text "not a digit" ∷
+    text "number too large" ∷
+    text "odd count of hexadecimal digits" ∷
+    text "not a hexadecimal digit" ∷
+    text "more than 32 ids" ∷
+    text "more than 17 titles" ∷
+    text "more than 1024 places" ∷ []
+
+unfoldable pub faultWords : ℕ → List ℕ
+faultWords f = getD faults f []
+
+-- a place counted from 1, of a line of any length that memory holds
+abbrev pub fromOne : ℕ → ℕ
+fromOne p = min (p + 1) top
+
+-- the answer to a line that cannot be read: what is wrong, and at which byte, counted from 1
+unfoldable pub faultText : ℕ → ℕ → List ℕ
+faultText f p = ((text "? " ++ faultWords f) ++ text " at byte ") ++ decimal (fromOne p)
+
+-- the commands, a line each
+unfoldable pub helpText : List ℕ
+helpText =
+    text
+    "fresh POOL\nopen ID TIME LENGTH FLOOR CAP COUNT\nchange ID TIME COUNT\nclose ID TIME\nlane ID LANE TIME\nstatus TIME ID ..\nplan FLOOR CAP COUNT ARRIVAL [PLACES]\nshare POOL RATE LENGTH FLOOR CAP ..\nwrite SEQ open ID TIME LENGTH FLOOR CAP COUNT\nwrite SEQ change ID TIME COUNT\nwrite SEQ close ID TIME\nread HEX\nnotice HEX\nhelp"

@@ -1,0 +1,88 @@
+// Rows of numbers, each behind a space.
+
+use text::digits;
+use text::output;
+ghost use mathlib.Core.Path.{_≡_};
+ghost use Prim.Native.Nat.{_≤_};
+ghost use lib.ListN.{length};
+ghost use Rattle.text.specs.Output.{page, puts};
+ghost use Rattle.console_answers.specs.Entries.{entry, cellEntry, numbersText, cellsText, titlesText, titleEntry};
+
+// A number.
+pub fn put_entry(out: &mut [u8], at: usize, n: u64) -> usize
+    ensures { λ r. ⌜ page (now (out .exit)) r ≡ puts (page (now (out .entry)) at) (entry n) ⌝ }
+{
+    let a = output::put(out, at, b" ");
+    digits::put_number(out, a, n)
+}
+
+pub fn put_numbers(out: &mut [u8], at: usize, row: &[u64]) -> usize
+    ensures { λ r. ⌜ page (now (out .exit)) r ≡ puts (page (now (out .entry)) at) (numbersText (now (row .entry)) (length (now (row .entry)))) ⌝ }
+{
+    let mut place = at;
+    let mut i = 0;
+    while i < row.len() {
+        place = put_entry(out, place, row[i]);
+        i += 1;
+    }
+    place
+}
+
+// The counts of a sharing.
+pub fn put_shares(out: &mut [u8], at: usize, row: &[u32]) -> usize
+    ensures { λ r. ⌜ page (now (out .exit)) r ≡ puts (page (now (out .entry)) at) (numbersText (now (row .entry)) (length (now (row .entry)))) ⌝ }
+{
+    let mut place = at;
+    let mut i = 0;
+    while i < row.len() {
+        place = put_entry(out, place, row[i] as u64);
+        i += 1;
+    }
+    place
+}
+
+// A cell of a plan: its number, or `-` where it is never taken.
+fn put_cell(out: &mut [u8], at: usize, n: u16) -> usize
+    ensures { λ r. ⌜ page (now (out .exit)) r ≡ puts (page (now (out .entry)) at) (cellEntry n) ⌝ }
+{
+    if n == 65535 {
+        return output::put(out, at, b" -");
+    }
+    put_entry(out, at, n as u64)
+}
+
+// The first n cells of a plan.
+pub fn put_cells(out: &mut [u8], at: usize, row: &[u16], n: usize) -> usize
+    requires { ⌜ n ≤ length (now row) ⌝ }
+    ensures { λ r. ⌜ page (now (out .exit)) r ≡ puts (page (now (out .entry)) at) (cellsText (now (row .entry)) n) ⌝ }
+{
+    let mut place = at;
+    let mut i = 0;
+    while i < n {
+        place = put_cell(out, place, row[i]);
+        i += 1;
+    }
+    place
+}
+
+// A title's id, count and lanes held.
+fn put_title(out: &mut [u8], at: usize, id: u64, count: u64, held: u64) -> usize
+    ensures { λ r. ⌜ page (now (out .exit)) r ≡ puts (page (now (out .entry)) at) (titleEntry id count held) ⌝ }
+{
+    let a = put_entry(out, at, id);
+    let b = put_entry(out, a, count);
+    put_entry(out, b, held)
+}
+
+pub fn put_titles(out: &mut [u8], at: usize, ids: &[u64], counts: &[u64], held: &[u64]) -> usize
+    requires { ⌜ (length (now counts) ≡ length (now ids)) × (length (now held) ≡ length (now ids)) ⌝ }
+    ensures { λ r. ⌜ page (now (out .exit)) r ≡ puts (page (now (out .entry)) at) (titlesText (now (ids .entry)) (now (counts .entry)) (now (held .entry)) (length (now (ids .entry)))) ⌝ }
+{
+    let mut place = at;
+    let mut i = 0;
+    while i < ids.len() {
+        place = put_title(out, place, ids[i], counts[i], held[i]);
+        i += 1;
+    }
+    place
+}

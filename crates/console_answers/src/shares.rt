@@ -1,0 +1,82 @@
+// The sharing of lanes.
+
+use crate::entries;
+use crate::outcomes;
+use rules::DONE;
+use text::numbers;
+ghost use mathlib.Core.Path.{_≡_};
+ghost use Prim.Native.Nat.{_≤_};
+ghost use lib.ListN.{length};
+ghost use Rattle.text.specs.Output.{page, puts};
+ghost use Rattle.console_answers.specs.Questions.{shareText, column as columnOf, titlesIn, shareIn};
+
+// Over rows that are lent.
+fn put_rows(
+    out: &mut [u8],
+    at: usize,
+    pool: u64,
+    rates: &[u32],
+    lengths: &[u32],
+    floors: &[u32],
+    caps: &[u32],
+    counts: &mut [u32],
+) -> usize
+    ensures { λ r. ⌜ page (now (out .exit)) r ≡ puts (page (now (out .entry)) at) (shareText pool (now (rates .entry)) (now (lengths .entry)) (now (floors .entry)) (now (caps .entry)) (now (counts .entry))) ⌝ }
+{
+    let answer = sharing::share(pool, rates, lengths, floors, caps, counts);
+    let a = outcomes::put_done(out, at, answer, 0);
+    if answer == DONE {
+        return entries::put_shares(out, a, counts);
+    }
+    a
+}
+
+// Every fourth number of the line, from a place on: of each title the same one, at most what 32 bits hold.
+fn column(row: &[u64; 72], first: usize) -> [u32; 17]
+    requires { ⌜ first ≤ 4 ⌝ }
+    ensures { λ r. ⌜ (r ≡ columnOf (now (row .entry)) first 17) × (length r ≡ 17) ⌝ }
+{
+    let mut c = [0u32; 17];
+    let mut i = 0;
+    while i < 17 {
+        c[i] = numbers::as_four_bytes(row[first + 4 * i]);
+        i += 1;
+    }
+    c
+}
+
+// How many titles follow the pool, 17 at most.
+fn titles_of(count: usize) -> usize
+    ensures { λ r. ⌜ (r ≡ titlesIn count) × (r ≤ 17) ⌝ }
+{
+    if count < 1 {
+        return 0;
+    }
+    let n = (count - 1) / 4;
+    if n < 17 {
+        return n;
+    }
+    17
+}
+
+// The numbers of the line: a pool, and four for each title up to its count.
+pub fn put_share(out: &mut [u8], at: usize, row: [u64; 72], count: usize) -> usize
+    ensures { λ r. ⌜ page (now (out .exit)) r ≡ puts (page (now (out .entry)) at) (shareIn row count) ⌝ }
+{
+    let n = titles_of(count);
+    let rates = column(&row, 1);
+    let lengths = column(&row, 2);
+    let floors = column(&row, 3);
+    let caps = column(&row, 4);
+    let mut counts = [0u32; 17];
+    put_rows(
+        out,
+        at,
+        row[0],
+        &rates[..n],
+        &lengths[..n],
+        &floors[..n],
+        &caps[..n],
+        &mut counts[..n],
+    )
+}

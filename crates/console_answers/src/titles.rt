@@ -1,0 +1,64 @@
+// The status of titles.
+
+use crate::entries;
+use crate::outcomes;
+use rules::DONE;
+use story::State;
+ghost use mathlib.Core.Path.{_≡_};
+ghost use Prim.Native.Nat.{_-_, _≤_, min};
+ghost use lib.ListN.{length, getD};
+ghost use Rattle.text.specs.Output.{page, puts};
+ghost use Rattle.console_answers.specs.Questions.{statusText, idsIn};
+
+// Over rows of one length.
+fn put_rows(
+    out: &mut [u8],
+    at: usize,
+    s: State,
+    time: u64,
+    ids: &[u64],
+    counts: &mut [u64],
+    held: &mut [u64],
+) -> usize
+    requires { ⌜ (length (now counts) ≡ length (now ids)) × (length (now held) ≡ length (now ids)) ⌝ }
+    ensures { λ r. ⌜ page (now (out .exit)) r ≡ puts (page (now (out .entry)) at) (statusText s time (now (ids .entry))) ⌝ }
+{
+    let answer = status::status(s, time, ids, counts, held);
+    let a = outcomes::put_done(out, at, answer, 0);
+    if answer == DONE {
+        return entries::put_titles(out, a, ids, counts, held);
+    }
+    a
+}
+
+// How many ids follow the time, 32 at most.
+fn ids_of(count: usize) -> usize
+    ensures { λ r. ⌜ (r ≡ min (count - 1) 32) × (r ≤ 32) ⌝ }
+{
+    if count < 1 {
+        return 0;
+    }
+    if 33 < count {
+        return 32;
+    }
+    count - 1
+}
+
+// The numbers of the line: a time, and ids up to its count.
+pub fn put_status(out: &mut [u8], at: usize, s: State, numbers: [u64; 72], count: usize) -> usize
+    ensures { λ r. ⌜ page (now (out .exit)) r ≡ puts (page (now (out .entry)) at) (statusText s (getD numbers 0 0) (idsIn numbers count)) ⌝ }
+{
+    let n = ids_of(count);
+    let mut counts = [0u64; 32];
+    let mut held = [0u64; 32];
+    let end = n + 1;
+    put_rows(
+        out,
+        at,
+        s,
+        numbers[0],
+        &numbers[1..end],
+        &mut counts[..n],
+        &mut held[..n],
+    )
+}

@@ -1,0 +1,132 @@
+// The words that the console answers in: of refusals, of what is wrong with a line, and of help.
+
+use text::digits;
+use text::output;
+ghost use mathlib.Core.Path.{_≡_};
+ghost use Prim.Native.Nat.{_-_, _≤_};
+ghost use lib.ListN.{length, take, drop};
+ghost use Rattle.text.specs.Output.{page, puts};
+ghost use Rattle.console_answers.specs.Words.{refusalWords, refusalText, faultWords, faultText, helpText, fromOne};
+
+// The part of a row from a place to another.
+fn put_part(out: &mut [u8], at: usize, row: &[u8], from: usize, to: usize) -> usize
+    requires { ⌜ (from ≤ to) × (to ≤ length (now row)) ⌝ }
+    ensures { λ r. ⌜ page (now (out .exit)) r ≡ puts (page (now (out .entry)) at) (take (to - from) (drop from (now (row .entry)))) ⌝ }
+{
+    output::put(out, at, &row[from..to])
+}
+
+// By number: where each refusal's words begin, and behind the last where they end.
+const REFUSALS: [usize; 14] = [
+    0,
+    4,
+    23,
+    53,
+    85,
+    100,
+    116,
+    134,
+    165,
+    194,
+    212,
+    247,
+    263,
+    295,
+];
+
+// The same for the faults of a line, of which 0 is none.
+const FAULTS: [usize; 13] = [0, 0, 27, 39, 54, 70, 81, 97, 128, 151, 167, 186, 207];
+
+// The words of a refusal.
+fn refusal_words(out: &mut [u8], at: usize, number: u8) -> usize
+    ensures { λ r. ⌜ page (now (out .exit)) r ≡ puts (page (now (out .entry)) at) (refusalWords number) ⌝ }
+{
+    let words = b"done\
+        number out of range\
+        earlier than an accepted event\
+        title not there or lane not held\
+        id still in use\
+        title is closing\
+        count not possible\
+        title has an event at this time\
+        not at a permitted slot start\
+        too few free lanes\
+        rows do not match or room too short\
+        malformed notice\
+        notice out of turn, expected is ";
+    let k = number as usize;
+    if k < 13 {
+        let a = REFUSALS[k];
+        let e = REFUSALS[k + 1];
+        return put_part(out, at, words, a, e);
+    }
+    at
+}
+
+// A refusal: its number, its words, and after OUT_OF_TURN the sequence that is expected.
+pub fn put_refusal(out: &mut [u8], at: usize, number: u8, expected: u64) -> usize
+    ensures { λ r. ⌜ page (now (out .exit)) r ≡ puts (page (now (out .entry)) at) (refusalText number expected) ⌝ }
+{
+    let a = digits::put_number(out, at, number as u64);
+    let b = output::put(out, a, b" ");
+    let c = refusal_words(out, b, number);
+    if number == rules::OUT_OF_TURN {
+        return digits::put_number(out, c, expected);
+    }
+    c
+}
+
+// What is wrong with a line.
+fn fault_words(out: &mut [u8], at: usize, fault: u8) -> usize
+    ensures { λ r. ⌜ page (now (out .exit)) r ≡ puts (page (now (out .entry)) at) (faultWords fault) ⌝ }
+{
+    let words = b"line longer than 4095 bytes\
+        unknown word\
+        too few numbers\
+        too many numbers\
+        not a digit\
+        number too large\
+        odd count of hexadecimal digits\
+        not a hexadecimal digit\
+        more than 32 ids\
+        more than 17 titles\
+        more than 1024 places";
+    let k = fault as usize;
+    if k < 12 {
+        let a = FAULTS[k];
+        let e = FAULTS[k + 1];
+        return put_part(out, at, words, a, e);
+    }
+    at
+}
+
+// A place of a line, counted from 1.
+fn from_one(place: usize) -> u64
+    ensures { λ r. ⌜ r ≡ fromOne place ⌝ }
+{
+    if place < 18_446_744_073_709_551_615 {
+        return (place + 1) as u64;
+    }
+    place as u64
+}
+
+// What is wrong with a line, and at which of its bytes.
+pub fn put_fault(out: &mut [u8], at: usize, fault: u8, place: usize) -> usize
+    ensures { λ r. ⌜ page (now (out .exit)) r ≡ puts (page (now (out .entry)) at) (faultText fault place) ⌝ }
+{
+    let a = output::put(out, at, b"? ");
+    let b = fault_words(out, a, fault);
+    let c = output::put(out, b, b" at byte ");
+    digits::put_number(out, c, from_one(place))
+}
+
+// The commands, a line each.
+pub fn put_help(out: &mut [u8], at: usize) -> usize
+    ensures { λ r. ⌜ page (now (out .exit)) r ≡ puts (page (now (out .entry)) at) helpText ⌝ }
+{
+    output::put(
+        out,
+        at,
+        b"fresh POOL\nopen ID TIME LENGTH FLOOR CAP COUNT\nchange ID TIME COUNT\nclose ID TIME\nlane ID LANE TIME\nstatus TIME ID ..\nplan FLOOR CAP COUNT ARRIVAL [PLACES]\nshare POOL RATE LENGTH FLOOR CAP ..\nwrite SEQ open ID TIME LENGTH FLOOR CAP COUNT\nwrite SEQ change ID TIME COUNT\nwrite SEQ close ID TIME\nread HEX\nnotice HEX\nhelp",
+    )
+}

@@ -1,0 +1,78 @@
+-- `console_desk::acts::happen` meets its contract: each word is the scheduler's call of its act.
+use Rattle.console_desk.proofs.Following.{happened, is-open, is-change, is-close}
+use borrow.Author.Needs.{needs}
+use Rattle.console_desk.proofs.acts.happen.Statement.{statement}
+use Rattle.console_desk.proofs.acts.happen.Tie as tie
+
+array-read-open : tie.Need-array-read-open
+array-read-open c = search needs
+
+array-read-open-2 : tie.Need-array-read-open-2
+array-read-open-2 c = search needs
+
+array-read-open-3 : tie.Need-array-read-open-3
+array-read-open-3 c = search needs
+
+array-read-open-4 : tie.Need-array-read-open-4
+array-read-open-4 c = search needs
+
+array-read-open-5 : tie.Need-array-read-open-5
+array-read-open-5 c = search needs
+
+array-read-open-6 : tie.Need-array-read-open-6
+array-read-open-6 c = search needs
+
+open-requires : tie.Need-open-requires
+open-requires c κs = search needs
+
+returns : tie.Need-returns
+returns c = happened _ (c .before .before .before .args .line) _ _ _ (is-open _ (c .before .if1 .taken)) (c .«open» .ensures .0) (c .«open» .ensures .1)
+
+array-read-change : tie.Need-array-read-change
+array-read-change c = search needs
+
+array-read-change-2 : tie.Need-array-read-change-2
+array-read-change-2 c = search needs
+
+array-read-change-3 : tie.Need-array-read-change-3
+array-read-change-3 c = search needs
+
+change-requires : tie.Need-change-requires
+change-requires c κs = search needs
+
+returns-2 : tie.Need-returns-2
+returns-2 c = happened _ (c .before .before .before .before .args .line) _ _ _ (is-change _ (c .before .before .if1 .left) (c .before .if2 .taken)) (c .change .ensures .0) (c .change .ensures .1)
+
+array-read-close : tie.Need-array-read-close
+array-read-close c = search needs
+
+array-read-close-2 : tie.Need-array-read-close-2
+array-read-close-2 c = search needs
+
+close-requires : tie.Need-close-requires
+close-requires c κs = search needs
+
+returns-3 : tie.Need-returns-3
+returns-3 c = happened _ (c .before .before .before .before .args .line) _ _ _ (is-close _ (c .before .before .if1 .left) (c .before .if2 .left)) (c .close .ensures .0) (c .close .ensures .1)
+
+pub happen-spec : {M : Type 1} → statement M
+happen-spec =
+    tie.close
+    (tie.spec
+    array-read-open
+    array-read-open-2
+    array-read-open-3
+    array-read-open-4
+    array-read-open-5
+    array-read-open-6
+    open-requires
+    returns
+    array-read-change
+    array-read-change-2
+    array-read-change-3
+    change-requires
+    returns-2
+    array-read-close
+    array-read-close-2
+    close-requires
+    returns-3)

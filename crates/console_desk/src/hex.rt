@@ -1,0 +1,57 @@
+// The bytes that a line's hexadecimal digits spell, as a notice.
+
+use agent::Agent;
+use agent::Followed;
+use notice::Reading;
+use text::digits;
+ghost use mathlib.Core.Path.{_≡_};
+ghost use Prim.Native.Nat.{_≤_};
+ghost use lib.ListN.{length, take};
+ghost use Rattle.notice.specs.Decode.{readOf};
+ghost use Rattle.agent.specs.Turns.{noticeAnswer, noticed};
+ghost use Rattle.console_lines.specs.Lines.{longest};
+ghost use Rattle.console_desk.specs.Acts.{bytesOf};
+
+// Room for the bytes of the longest line.
+fn blank_room() -> [u8; 2048]
+    ensures { λ r. ⌜ length r ≡ 2048 ⌝ }
+{
+    [0; 2048]
+}
+
+// Spells the digits of a line between two places into the start of a row, and gives back how many bytes they are.
+fn spell(s: &[u8], from: u64, to: u64, room: &mut [u8]) -> usize
+    requires { ⌜ (length (now s) ≤ longest) × (2048 ≤ length (now room)) ⌝ }
+    ensures { λ r. ⌜ (take r (now (room .exit)) ≡ bytesOf (now (s .entry)) from to) × (r ≤ length (now (room .exit))) ⌝ }
+{
+    let size = s.len() as u64;
+    if size < to {
+        return 0;
+    }
+    if to < from {
+        return 0;
+    }
+    let a = from as usize;
+    let e = to as usize;
+    digits::decode(room, &s[a..e])
+}
+
+// What the digits read as.
+pub fn reading(s: &[u8], from: u64, to: u64) -> Reading
+    requires { ⌜ length (now s) ≤ longest ⌝ }
+    ensures { λ r. ⌜ r ≡ readOf (bytesOf (now (s .entry)) from to) ⌝ }
+{
+    let mut room = blank_room();
+    let n = spell(s, from, to, &mut room);
+    notice::read(&room[..n])
+}
+
+// The agent is handed what the digits spell.
+pub fn taken(agent: Agent, s: &[u8], from: u64, to: u64) -> Followed
+    requires { ⌜ length (now s) ≤ longest ⌝ }
+    ensures { λ r. ⌜ (r .answer ≡ noticeAnswer agent (readOf (bytesOf (now (s .entry)) from to))) × (r .agent ≡ noticed agent (readOf (bytesOf (now (s .entry)) from to))) ⌝ }
+{
+    let mut room = blank_room();
+    let n = spell(s, from, to, &mut room);
+    agent::take(agent, &room[..n])
+}

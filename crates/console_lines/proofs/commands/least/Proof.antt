@@ -1,0 +1,24 @@
+-- `console_lines::commands::least` meets its contract: an entry of the table, and 0 past its end.
+use mathlib.Core.Path.{refl, sym}
+use lib.ListN.{List·getD-eq-default}
+use Rattle.console_lines.specs.Commands.{leastOf, leastTable}
+use borrow.Author.Needs.{needs}
+use Rattle.console_lines.proofs.commands.least.Statement.{statement}
+use Rattle.console_lines.proofs.commands.least.Tie as tie
+
+mul-result : tie.Need-mul-result
+mul-result c = search needs
+
+array-read-result : tie.Need-array-read-result
+array-read-result c = search needs
+
+returns : tie.Need-returns
+unfolding leastOf
+returns c = refl
+
+returns-2 : tie.Need-returns-2
+unfolding leastOf
+returns-2 c = sym (List·getD-eq-default leastTable 0 (c .if1 .left))
+
+pub least-spec : {M : Type 1} → statement M
+least-spec = tie.close (tie.spec mul-result array-read-result returns returns-2)

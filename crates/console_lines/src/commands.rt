@@ -1,0 +1,211 @@
+// The console's commands by number, the words that name them, and how many numbers each takes, of which size.
+
+ghost use mathlib.Core.Path.{_≡_};
+ghost use Prim.Native.Nat.{_≤_};
+ghost use Rattle.rules.specs.Refusals.{pick};
+ghost use Rattle.text.specs.Texts.{same};
+ghost use Rattle.console_lines.specs.Commands.{verbOf, leastOf, mostOf, limitsOf, limitOf, enough as suffices, crowded, oversized, takesHex, takesKind};
+
+// A line that asks nothing.
+pub const NONE: u8 = 0;
+
+pub const FRESH: u8 = 1;
+
+pub const OPEN: u8 = 2;
+
+pub const CHANGE: u8 = 3;
+
+pub const CLOSE: u8 = 4;
+
+pub const LANE: u8 = 5;
+
+pub const STATUS: u8 = 6;
+
+pub const PLAN: u8 = 7;
+
+pub const SHARE: u8 = 8;
+
+pub const READ: u8 = 9;
+
+pub const NOTICE: u8 = 10;
+
+// A write whose kind has not been read yet; the kind's own number is added to it.
+pub const WRITE: u8 = 11;
+
+pub const HELP: u8 = 12;
+
+pub const WRITE_OPEN: u8 = 13;
+
+pub const WRITE_CHANGE: u8 = 14;
+
+pub const WRITE_CLOSE: u8 = 15;
+
+// What can be wrong with a line.
+pub const NO_FAULT: u8 = 0;
+
+pub const TOO_LONG: u8 = 1;
+
+pub const UNKNOWN_WORD: u8 = 2;
+
+pub const TOO_FEW: u8 = 3;
+
+pub const TOO_MANY: u8 = 4;
+
+pub const NOT_NUMBER: u8 = 5;
+
+pub const TOO_LARGE: u8 = 6;
+
+pub const ODD_HEX: u8 = 7;
+
+pub const BAD_HEX: u8 = 8;
+
+pub const TOO_MANY_IDS: u8 = 9;
+
+pub const TOO_MANY_TITLES: u8 = 10;
+
+pub const TOO_MANY_PLACES: u8 = 11;
+
+// Not read to its end yet.
+pub const UNREAD: u8 = 12;
+
+// By command: the fewest words after its own, and the most. Read, notice and help have no number; HEX is a word.
+const LEAST: [usize; 16] = [0, 1, 6, 3, 2, 3, 1, 4, 1, 1, 1, 2, 0, 7, 4, 3];
+
+const MOST: [usize; 16] = [0, 1, 6, 3, 2, 3, 33, 5, 69, 1, 1, 2, 0, 7, 4, 3];
+
+// verb where the word is that name, or other.
+fn named(word: &[u8], name: &[u8], verb: u8, other: u8) -> u8
+    ensures { λ r. ⌜ r ≡ pick (same (now (word .entry)) (now (name .entry))) verb other ⌝ }
+{
+    if check::same(word, name) {
+        return verb;
+    }
+    other
+}
+
+// The command that a word names, or NONE.
+pub fn verb(word: &[u8]) -> u8
+    ensures { λ r. ⌜ r ≡ verbOf (now (word .entry)) ⌝ }
+{
+    let a = named(word, b"help", HELP, NONE);
+    let b = named(word, b"write", WRITE, a);
+    let c = named(word, b"notice", NOTICE, b);
+    let d = named(word, b"read", READ, c);
+    let e = named(word, b"share", SHARE, d);
+    let f = named(word, b"plan", PLAN, e);
+    let g = named(word, b"status", STATUS, f);
+    let h = named(word, b"lane", LANE, g);
+    let i = named(word, b"close", CLOSE, h);
+    let j = named(word, b"change", CHANGE, i);
+    let k = named(word, b"open", OPEN, j);
+    named(word, b"fresh", FRESH, k)
+}
+
+// The most words that a command takes after its own.
+pub fn most(command: u8) -> usize
+    ensures { λ r. ⌜ (r ≡ mostOf command) × (r ≤ 69) ⌝ }
+{
+    if command < 16 {
+        return MOST[command as usize];
+    }
+    0
+}
+
+// The fewest.
+pub fn least(command: u8) -> usize
+    ensures { λ r. ⌜ r ≡ leastOf command ⌝ }
+{
+    if command < 16 {
+        return LEAST[command as usize];
+    }
+    0
+}
+
+// Whether a command may end after so many words.
+pub fn enough(command: u8, count: usize) -> bool
+    ensures { λ r. ⌜ r ≡ suffices command count ⌝ }
+{
+    if command == SHARE {
+        return count % 4 == 1;
+    }
+    least(command) <= count
+}
+
+// Whether a command's word is HEX.
+pub fn takes_hex(command: u8) -> bool
+    ensures { λ r. ⌜ r ≡ takesHex command ⌝ }
+{
+    if command == READ {
+        return true;
+    }
+    command == NOTICE
+}
+
+// Whether the next word is the kind of a notice to write, which follows the sequence.
+pub fn takes_kind(command: u8, count: usize) -> bool
+    ensures { λ r. ⌜ r ≡ takesKind command count ⌝ }
+{
+    if command == WRITE {
+        return count == 1;
+    }
+    false
+}
+
+const FOUR_BYTES: u64 = 4_294_967_295;
+
+const EIGHT_BYTES: u64 = 18_446_744_073_709_551_615;
+
+// By place: the largest value of a command's numbers, 0 where any is handed on.
+fn limits(command: u8) -> [u64; 7]
+    ensures { λ r. ⌜ r ≡ limitsOf command ⌝ }
+{
+    if command == PLAN {
+        return [0, 0, 0, 0, 1024, 0, 0];
+    }
+    if command == WRITE {
+        return [FOUR_BYTES, 0, 0, 0, 0, 0, 0];
+    }
+    if command == WRITE_OPEN {
+        return [FOUR_BYTES, 255, EIGHT_BYTES, FOUR_BYTES, 255, 255, 255];
+    }
+    if command == WRITE_CHANGE {
+        return [FOUR_BYTES, 255, EIGHT_BYTES, 255, 0, 0, 0];
+    }
+    if command == WRITE_CLOSE {
+        return [FOUR_BYTES, 255, EIGHT_BYTES, 0, 0, 0, 0];
+    }
+    [0, 0, 0, 0, 0, 0, 0]
+}
+
+pub fn limit(command: u8, n: usize) -> u64
+    ensures { λ r. ⌜ r ≡ limitOf command n ⌝ }
+{
+    if n < 7 {
+        let row = limits(command);
+        return row[n];
+    }
+    0
+}
+
+// The fault of a word too many.
+pub fn crowded_fault(command: u8) -> u8
+    ensures { λ r. ⌜ r ≡ crowded command ⌝ }
+{
+    if command == STATUS {
+        return TOO_MANY_IDS;
+    }
+    if command == SHARE {
+        return TOO_MANY_TITLES;
+    }
+    TOO_MANY
+}
+
+// The fault of a number above its limit.
+pub fn oversized_fault(command: u8) -> u8
+    ensures { λ r. ⌜ r ≡ oversized command ⌝ }
+{
+    if command == PLAN {
+        return TOO_MANY_PLACES;
+    }
+    TOO_LARGE
+}

@@ -1,2 +1,0 @@
--- What the console's questions answer.
-pub mod Questions

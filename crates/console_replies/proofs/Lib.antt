@@ -1,3 +1,0 @@
--- Laws of rows that are written entry by entry.
-pub mod Rows
-pub mod Settled

@@ -1,0 +1,2 @@
+-- What a read that gave bytes says of them.
+pub mod Room

@@ -1,0 +1,77 @@
+-- Laws of a page: what is written in turn is written as one, the row keeps its length, and where there is room the bytes stand in
+-- the row one behind the other.
+use Prim.Native.Nat.{ℕ, suc, _+_, _<_, _≤_}
+use mathlib.Core.Path.{_≡_, refl, sym, _∙_, ap}
+use mathlib.Core.Bool.{Bool, true, false}
+use mathlib.Core.List.{List, [], _∷_, _++_}
+use native.Mathlib.Omega.{arith}
+use native.Mathlib.Numerals.{add-one}
+use borrow.Author.Tests.{lt-ltb, le-ltb}
+use lib.ListN.{length, getD, take, drop, set, length-set, drop-of-length-le}
+use lib.Seq.{drop-cons, sets, sets-eq}
+use lib.Dec.{ltb}
+use Rattle.rules.specs.Refusals.{pick}
+use Rattle.text.specs.Output.{Page, page, put, puts}
+
+-- the two ways out of `put_byte`
+pub put-in : (row : List ℕ) (at b : ℕ) → at < length row → page (set row at b) (at + 1) ≡ put (page row at) b
+unfolding put
+put-in row at b h = rw (lt-ltb _ _ h)
+
+pub put-out : (row : List ℕ) (at b : ℕ) → length row ≤ at → page row at ≡ put (page row at) b
+unfolding put
+put-out row at b h = rw (le-ltb _ _ h)
+
+pick-length : (t : Bool) (p q : Page) → length (p .row) ≡ length (q .row) → length ((pick t p q) .row) ≡ length (q .row)
+pick-length true p q e = e
+pick-length false p q e = refl
+
+pub put-length : (p : Page) (b : ℕ) → length ((put p b) .row) ≡ length (p .row)
+unfolding put
+put-length p b = pick-length (ltb (p .at) (length (p .row))) (page (set (p .row) (p .at) b) (p .at + 1)) p (length-set (p .row) (p .at) b)
+
+-- the row keeps its length
+pub puts-length : (s : List ℕ) (p : Page) → length ((puts p s) .row) ≡ length (p .row)
+unfolding puts
+puts-length [] p = refl
+puts-length (b ∷ s) p = puts-length s (put p b) ∙ put-length p b
+
+-- so it does where a text was written behind what kept it
+pub same-room : (q : Page) (t : List ℕ) {r : Page} {n : ℕ} → r ≡ puts q t → length (q .row) ≡ n → length (r .row) ≡ n
+same-room q t e h = ap (λ (p : Page). length (p .row)) e ∙ puts-length t q ∙ h
+
+-- what is written in turn is written as one
+pub puts-append : (s t : List ℕ) (p : Page) → puts p (s ++ t) ≡ puts (puts p s) t
+unfolding puts
+puts-append [] t p = refl
+puts-append (b ∷ s) t p = puts-append s t (put p b)
+
+pub puts-then : (p : Page) {q r : Page} (s t : List ℕ) → q ≡ puts p s → r ≡ puts q t → r ≡ puts p (s ++ t)
+puts-then p {q} {r} s t e f = f ∙ ap (λ (o : Page). puts o t) e ∙ sym (puts-append s t p)
+
+-- a turn of the writing loop, and its end
+pub puts-on : (p : Page) (s : List ℕ) (i : ℕ) → i < length s → puts (put p (getD s i 0)) (drop (i + 1) s) ≡ puts p (drop i s)
+unfolding puts
+puts-on p s i h = rw (add-one, drop-cons s i 0 h)
+
+pub puts-end : (p : Page) (s : List ℕ) (i : ℕ) → length s ≤ i → p ≡ puts p (drop i s)
+unfolding puts
+puts-end p s i h = rw (drop-of-length-le s h)
+
+-- where there is room
+puts-sets : (s : List ℕ) (row : List ℕ) (at : ℕ) → at + length s ≤ length row → puts (page row at) s ≡ page (sets row at s) (at + length s)
+unfolding puts
+puts-sets [] row at h = ap (page row) (omega arith)
+puts-sets (b ∷ s) row at h =
+    let here : at < length row = omega arith in
+    let kept : length (set row at b) ≡ length row = length-set row at b in
+    let rest : (at + 1) + length s ≤ length (set row at b) = omega arith in
+    let step : suc at + length s ≡ at + suc (length s) = omega arith in
+    ap (λ (p : Page). puts p s) (sym (put-in row at b here))
+    ∙ puts-sets s (set row at b) (at + 1) rest
+    ∙ rw (add-one, step)
+
+-- where there is room, the row is what it was with the bytes at the place, and the place is behind them
+pub puts-fits : (s : List ℕ) (row : List ℕ) (at : ℕ) → at + length s ≤ length row
+    → puts (page row at) s ≡ page (take at row ++ s ++ drop (at + length s) row) (at + length s)
+puts-fits s row at h = puts-sets s row at h ∙ ap (λ (r : List ℕ). page r (at + length s)) (sets-eq s row at h)

@@ -1,0 +1,65 @@
+-- `text::bytes::reach` meets its contract: what is left of the run, from each place passed, ends where the whole run ends.
+use Prim.Native.Nat.{_-_}
+use mathlib.Core.Path.{_≡_, sym, _∙_}
+use native.Mathlib.Omega.{arith}
+use borrow.Author.Needs.{needs}
+use lib.ListN.{length}
+use Rattle.text.specs.Bytes.{reach}
+use Rattle.text.proofs.Runs.{reach-on, reach-stop, reach-end}
+use Rattle.text.proofs.bytes.reach.Statement.{statement}
+use Rattle.text.proofs.bytes.reach.Tie as tie
+
+abbrev Inv-loop : tie.InvT-loop
+Inv-loop s from sort i₀ i = reach sort s i ≡ reach sort s from
+
+abbrev μ-loop : tie.MeasureT-loop
+μ-loop s from sort i₀ i = length s - i
+
+loop-holds : tie.Need-loop-holds Inv-loop μ-loop
+loop-holds c = search needs
+
+shared-slice-read-is-sort : tie.Need-shared-slice-read-is-sort Inv-loop μ-loop
+shared-slice-read-is-sort c = omega arith
+
+is-sort-requires : tie.Need-is-sort-requires Inv-loop μ-loop
+is-sort-requires c κs = search needs
+
+add-i : tie.Need-add-i Inv-loop μ-loop
+add-i c = omega arith
+
+loop-less : tie.Need-loop-less Inv-loop μ-loop
+loop-less c = omega arith
+
+loop-again : tie.Need-loop-again Inv-loop μ-loop
+loop-again c =
+    let a = c .before .before .before .before .before .before .args in
+    let i = c .before .before .before .before .loop .i in
+    reach-on (a .sort) (a .s .now) i (omega arith) (sym (c .before .is-sort .ensures) ∙ c .if1 .taken)
+    ∙ c .before .before .before .before .loop .inv
+
+returns : tie.Need-returns Inv-loop μ-loop
+returns c =
+    let a = c .before .before .before .before .before .before .args in
+    let i = c .before .before .before .before .loop .i in
+    reach-stop (a .sort) (a .s .now) i (omega arith) (sym (c .before .is-sort .ensures) ∙ c .if1 .left)
+    ∙ c .before .before .before .before .loop .inv
+
+returns-2 : tie.Need-returns-2 Inv-loop μ-loop
+returns-2 c =
+    let a = c .before .before .before .args in
+    reach-end (a .sort) (a .s .now) (c .before .loop .i) (omega arith) ∙ c .before .loop .inv
+
+pub reach-spec : {M : Type 1} → statement M
+reach-spec =
+    tie.close
+    (tie.spec
+    Inv-loop
+    μ-loop
+    loop-holds
+    shared-slice-read-is-sort
+    is-sort-requires
+    add-i
+    loop-less
+    loop-again
+    returns
+    returns-2)

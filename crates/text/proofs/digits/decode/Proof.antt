@@ -1,0 +1,117 @@
+-- `text::digits::decode` meets its contract: reading what is left, from each pair passed, gives what the whole gives.
+use Prim.Native.Nat.{ℕ, _+_, _-_, _*_}
+use mathlib.Core.Path.{_≡_, refl, _∙_, ap}
+use native.Mathlib.Omega.{arith}
+use borrow.Author.Needs.{needs}
+use lib.ListN.{length, getD, drop}
+use Rattle.text.specs.Output.{Page, page, put, puts}
+use Rattle.text.specs.Digits.{hexOf, hexBytes}
+use Rattle.text.proofs.Pages.{put-length}
+use Rattle.text.proofs.Hex.{decode-on, decode-end}
+use Rattle.text.proofs.digits.decode.Statement.{statement}
+use Rattle.text.proofs.digits.decode.Tie as tie
+
+abbrev Inv-loop : tie.InvT-loop
+Inv-loop out₀ hex place₀ i₀ out place i = (puts (page out place) (hexBytes (drop (2 * i) hex)) ≡ puts (page out₀ 0) (hexBytes hex)) × (length out ≡ length out₀)
+
+abbrev μ-loop : tie.MeasureT-loop
+μ-loop out₀ hex place₀ i₀ out place i = length hex - i
+
+loop-holds : tie.Need-loop-holds Inv-loop μ-loop
+loop-holds c =
+    (refl, refl)
+
+mul-hex-of : tie.Need-mul-hex-of Inv-loop μ-loop
+mul-hex-of c =
+    omega arith
+
+shared-slice-read-hex-of : tie.Need-shared-slice-read-hex-of Inv-loop μ-loop
+shared-slice-read-hex-of c =
+    omega arith
+
+hex-of-requires : tie.Need-hex-of-requires Inv-loop μ-loop
+hex-of-requires c κs =
+    search needs
+
+mul-hex-of-2 : tie.Need-mul-hex-of-2 Inv-loop μ-loop
+mul-hex-of-2 c =
+    omega arith
+
+add-hex-of : tie.Need-add-hex-of Inv-loop μ-loop
+add-hex-of c =
+    omega arith
+
+shared-slice-read-hex-of-2 : tie.Need-shared-slice-read-hex-of-2 Inv-loop μ-loop
+shared-slice-read-hex-of-2 c =
+    omega arith
+
+hex-of-requires-2 : tie.Need-hex-of-requires-2 Inv-loop μ-loop
+hex-of-requires-2 c κs =
+    search needs
+
+mul-put-byte : tie.Need-mul-put-byte Inv-loop μ-loop
+mul-put-byte c =
+    omega arith
+
+add-put-byte : tie.Need-add-put-byte Inv-loop μ-loop
+add-put-byte c =
+    omega arith
+
+put-byte-requires : tie.Need-put-byte-requires Inv-loop μ-loop
+put-byte-requires c κs =
+    search needs
+
+add-i : tie.Need-add-i Inv-loop μ-loop
+add-i c =
+    omega arith
+
+loop-less : tie.Need-loop-less Inv-loop μ-loop
+loop-less c =
+    omega arith
+
+loop-again : tie.Need-loop-again Inv-loop μ-loop
+loop-again c =
+    let s = c .before .before .before .before .before .before .before .before .before .before .before .before .args .hex .now in
+    let l = c .before .before .before .before .before .before .before .before .before .loop in
+    let p = page (l .out) (l .place) in
+    let high = hexOf (getD s (2 * l .i) 0) in
+    let low = hexOf (getD s (2 * l .i + 1) 0) in
+    let h : c .before .before .before .before .before .before .hex-of .result ≡ high = c .before .before .before .before .before .before .hex-of .ensures .0 in
+    let k : c .before .before .before .before .hex-of2 .result ≡ low = c .before .before .before .before .hex-of2 .ensures .0 in
+    let e : page (c .before .before .put-byte .last .0) (c .before .before .put-byte .result) ≡ put p (16 * high + low) =
+    c .before .before .put-byte .ensures ∙ ap (put p) (ap (λ (v : ℕ). 16 * v + c .before .before .before .before .hex-of2 .result) h ∙ ap (λ (v : ℕ). 16 * high + v) k) in (
+      ap (λ (r : Page). puts r (hexBytes (drop (2 * (l .i + 1)) s))) e ∙ decode-on p s (l .i) (omega arith) ∙ l .inv .0,
+      ap (λ (r : Page). length (r .row)) e ∙ put-length p (16 * high + low) ∙ l .inv .1,
+    )
+
+same-length : tie.Need-same-length Inv-loop μ-loop
+same-length c =
+    c .before .loop .inv .1
+
+returns : tie.Need-returns Inv-loop μ-loop
+returns c =
+    let l = c .before .loop in
+    decode-end (page (l .out) (l .place)) (c .before .before .before .before .args .hex .now) (l .i) (omega arith) ∙ l .inv .0
+
+pub decode-spec : {M : Type 1} → statement M
+decode-spec =
+    tie.close
+    (tie.spec
+    Inv-loop
+    μ-loop
+    loop-holds
+    mul-hex-of
+    shared-slice-read-hex-of
+    hex-of-requires
+    mul-hex-of-2
+    add-hex-of
+    shared-slice-read-hex-of-2
+    hex-of-requires-2
+    mul-put-byte
+    add-put-byte
+    put-byte-requires
+    add-i
+    loop-less
+    loop-again
+    same-length
+    returns)

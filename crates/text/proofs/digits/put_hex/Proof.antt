@@ -1,0 +1,93 @@
+-- `text::digits::put_hex` meets its contract: writing what is left, from each byte passed, gives what the whole gives.
+use Prim.Native.Nat.{_+_, _-_, _/_, _%_}
+use mathlib.Core.Path.{_≡_, refl, _∙_, ap}
+use native.Mathlib.Omega.{arith}
+use borrow.Author.Needs.{needs}
+use lib.ListN.{length, getD, drop}
+use Rattle.text.specs.Output.{Page, page, put, puts}
+use Rattle.text.specs.Digits.{letterOf, hexText}
+use Rattle.text.proofs.Pages.{put-length}
+use Rattle.text.proofs.Hex.{hex-on, hex-end}
+use Rattle.text.proofs.digits.put_hex.Statement.{statement}
+use Rattle.text.proofs.digits.put_hex.Tie as tie
+
+abbrev Inv-loop : tie.InvT-loop
+Inv-loop out₀ at bytes place₀ i₀ out place i = (puts (page out place) (hexText (drop i bytes)) ≡ puts (page out₀ at) (hexText bytes)) × (length out ≡ length out₀)
+
+abbrev μ-loop : tie.MeasureT-loop
+μ-loop out₀ at bytes place₀ i₀ out place i = length bytes - i
+
+loop-holds : tie.Need-loop-holds Inv-loop μ-loop
+loop-holds c =
+    (refl, refl)
+
+shared-slice-read-b : tie.Need-shared-slice-read-b Inv-loop μ-loop
+shared-slice-read-b c =
+    omega arith
+
+letter-requires : tie.Need-letter-requires Inv-loop μ-loop
+letter-requires c κs =
+    omega (arith, c .before .shared-slice-known2 .given (c .before .before .before .loop .i))
+
+put-byte-requires : tie.Need-put-byte-requires Inv-loop μ-loop
+put-byte-requires c κs =
+    search needs
+
+letter-requires-2 : tie.Need-letter-requires-2 Inv-loop μ-loop
+letter-requires-2 c κs =
+    omega (arith, c .before .before .before .before .before .before .shared-slice-known2 .given (c .before .before .before .before .before .before .before .before .loop .i))
+
+put-byte-requires-2 : tie.Need-put-byte-requires-2 Inv-loop μ-loop
+put-byte-requires-2 c κs =
+    search needs
+
+add-i : tie.Need-add-i Inv-loop μ-loop
+add-i c =
+    omega arith
+
+loop-less : tie.Need-loop-less Inv-loop μ-loop
+loop-less c =
+    omega arith
+
+loop-again : tie.Need-loop-again Inv-loop μ-loop
+loop-again c =
+    let s = c .before .before .before .before .before .before .before .before .before .before .before .before .before .before .before .args .bytes .now in
+    let l = c .before .before .before .before .before .before .before .before .before .before .before .before .loop in
+    let p = page (l .out) (l .place) in
+    let high = letterOf (getD s (l .i) 0 / 16) in
+    let low = letterOf (getD s (l .i) 0 % 16) in
+    let e : page (c .before .before .before .before .before .before .before .put-byte .last .0) (c .before .before .before .before .before .before .before .put-byte .result) ≡ put p high =
+    c .before .before .before .before .before .before .before .put-byte .ensures ∙ ap (put p) (c .before .before .before .before .before .before .before .before .letter .ensures) in
+    let q = page (c .before .before .before .before .before .before .before .put-byte .last .0) (c .before .before .before .before .before .before .before .put-byte .result) in
+    let f : page (c .before .before .put-byte2 .last .0) (c .before .before .put-byte2 .result) ≡ put (put p high) low =
+    c .before .before .put-byte2 .ensures ∙ ap (put q) (c .before .before .before .letter2 .ensures) ∙ ap (λ (r : Page). put r low) e in (
+      ap (λ (r : Page). puts r (hexText (drop (l .i + 1) s))) f ∙ hex-on p s (l .i) (omega arith) ∙ l .inv .0,
+      ap (λ (r : Page). length (r .row)) f ∙ put-length (put p high) low ∙ put-length p high ∙ l .inv .1,
+    )
+
+same-length : tie.Need-same-length Inv-loop μ-loop
+same-length c =
+    c .before .loop .inv .1
+
+returns : tie.Need-returns Inv-loop μ-loop
+returns c =
+    let l = c .before .loop in
+    hex-end (page (l .out) (l .place)) (c .before .before .before .before .args .bytes .now) (l .i) (omega arith) ∙ l .inv .0
+
+pub put-hex-spec : {M : Type 1} → statement M
+put-hex-spec =
+    tie.close
+    (tie.spec
+    Inv-loop
+    μ-loop
+    loop-holds
+    shared-slice-read-b
+    letter-requires
+    put-byte-requires
+    letter-requires-2
+    put-byte-requires-2
+    add-i
+    loop-less
+    loop-again
+    same-length
+    returns)

@@ -1,0 +1,48 @@
+-- `text::digits::put_number` meets its contract: the part of the row that is written is its digits.
+use Prim.Native.Nat.{_-_, _≤_}
+use mathlib.Core.Path.{_∙_, ap}
+use native.Mathlib.Omega.{arith}
+use lib.ListN.{length, drop, length-drop}
+use lib.Seq.{take-all}
+use Rattle.text.specs.Output.{page, puts}
+use borrow.Author.Needs.{needs}
+use Rattle.text.proofs.digits.put_number.Statement.{statement}
+use Rattle.text.proofs.digits.put_number.Tie as tie
+
+decimal-requires : tie.Need-decimal-requires
+decimal-requires c κs = search needs
+
+sub-put : tie.Need-sub-put
+sub-put c = search needs
+
+part-put-start : tie.Need-part-put-start
+part-put-start c = search needs
+
+part-put-end : tie.Need-part-put-end
+part-put-end c = rw (c .before .before .before .decimal .ensures .size) (omega arith)
+
+put-requires : tie.Need-put-requires
+put-requires c κs = search needs
+
+same-length : tie.Need-same-length
+same-length c = search needs
+
+returns : tie.Need-returns
+returns c =
+    let x = c .before .before .before .before .before .before .before .before .before .args in
+    let d = c .before .before .before .before .before .before .before .decimal .result in
+    let e = c .before .before .before .before .before .before .before .decimal .ensures in
+    let most : length (drop (d .from) (d .row)) ≤ 20 - d .from = rw (length-drop, e .size) (omega arith) in
+    c .before .before .put .ensures ∙ ap (puts (page (x .out .now) (x .at))) (take-all (20 - d .from) (drop (d .from) (d .row)) most ∙ e .text)
+
+pub put-number-spec : {M : Type 1} → statement M
+put-number-spec =
+    tie.close
+    (tie.spec
+    decimal-requires
+    sub-put
+    part-put-start
+    part-put-end
+    put-requires
+    same-length
+    returns)

@@ -1,0 +1,72 @@
+-- `text::numbers::spelt` meets its contract: what is left to spell, from each place passed, gives what the whole gives.
+use Prim.Native.Nat.{_+_, _-_}
+use mathlib.Core.Path.{_≡_, sym, _∙_, ap}
+use native.Mathlib.Omega.{arith}
+use borrow.Author.Needs.{needs}
+use lib.ListN.{length, drop}
+use Rattle.text.specs.declared.numbers.Number.{Number}
+use Rattle.text.specs.Numbers.{capped, amount}
+use Rattle.text.proofs.Spelling.{spell, spells, spell-on, spell-stop, spell-end}
+use Rattle.text.proofs.numbers.spelt.Statement.{statement}
+use Rattle.text.proofs.numbers.spelt.Tie as tie
+
+abbrev Inv-loop : tie.InvT-loop
+Inv-loop s from n₀ i₀ n i = spell n (drop i s) ≡ capped (amount 0 (drop from s))
+
+abbrev μ-loop : tie.MeasureT-loop
+μ-loop s from n₀ i₀ n i = length s - i
+
+loop-holds : tie.Need-loop-holds Inv-loop μ-loop
+unfolding capped
+loop-holds c = spells 0 _
+
+shared-slice-read-b : tie.Need-shared-slice-read-b Inv-loop μ-loop
+shared-slice-read-b c = omega arith
+
+is-digit-requires : tie.Need-is-digit-requires Inv-loop μ-loop
+is-digit-requires c κs = search needs
+
+grow-requires : tie.Need-grow-requires Inv-loop μ-loop
+grow-requires c κs = search needs
+
+add-i : tie.Need-add-i Inv-loop μ-loop
+add-i c = omega arith
+
+loop-less : tie.Need-loop-less Inv-loop μ-loop
+loop-less c = omega arith
+
+loop-again : tie.Need-loop-again Inv-loop μ-loop
+loop-again c =
+    let s = c .before .before .before .before .before .before .before .args .s .now in
+    let l = c .before .before .before .before .before .loop in
+    ap (λ (m : Number). spell m (drop (l .i + 1) s)) (c .grow .ensures)
+    ∙ spell-on (l .n) s (l .i) (omega arith) (sym (c .before .before .is-digit .ensures) ∙ c .before .if1 .taken)
+    ∙ l .inv
+
+returns : tie.Need-returns Inv-loop μ-loop
+returns c =
+    let s = c .before .before .before .before .before .before .args .s .now in
+    let l = c .before .before .before .before .loop in
+    spell-stop (l .n) s (l .i) (omega arith) (sym (c .before .is-digit .ensures) ∙ c .if1 .left) ∙ l .inv
+
+returns-2 : tie.Need-returns-2 Inv-loop μ-loop
+returns-2 c =
+    let s = c .before .before .before .args .s .now in
+    let l = c .before .loop in
+    spell-end (l .n) s (l .i) (omega arith) ∙ l .inv
+
+pub spelt-spec : {M : Type 1} → statement M
+spelt-spec =
+    tie.close
+    (tie.spec
+    Inv-loop
+    μ-loop
+    loop-holds
+    shared-slice-read-b
+    is-digit-requires
+    grow-requires
+    add-i
+    loop-less
+    loop-again
+    returns
+    returns-2)

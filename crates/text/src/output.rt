@@ -1,0 +1,27 @@
+// Bytes into a lent row.
+
+ghost use mathlib.Core.Path.{_≡_};
+ghost use Rattle.text.specs.Output.{page, put as laid, puts};
+
+// One byte, where there is room for it.
+pub fn put_byte(out: &mut [u8], at: usize, b: u8) -> usize
+    ensures { λ r. ⌜ page (now (out .exit)) r ≡ laid (page (now (out .entry)) at) b ⌝ }
+{
+    if at < out.len() {
+        out[at] = b;
+        return at + 1;
+    }
+    at
+}
+
+pub fn put(out: &mut [u8], at: usize, bytes: &[u8]) -> usize
+    ensures { λ r. ⌜ page (now (out .exit)) r ≡ puts (page (now (out .entry)) at) (now (bytes .entry)) ⌝ }
+{
+    let mut place = at;
+    let mut i = 0;
+    while i < bytes.len() {
+        place = put_byte(out, place, bytes[i]);
+        i += 1;
+    }
+    place
+}
