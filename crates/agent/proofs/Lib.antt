@@ -7,3 +7,4 @@ pub mod Overtaken
 pub mod Alike
 pub mod HeadEnd
 pub mod Played
+pub mod Unique

@@ -11,11 +11,11 @@ use Rattle.notice.specs.declared.Kind.{Kind}
 use Rattle.notice.specs.declared.Reading.{Reading}
 use Rattle.notice.specs.declared.Reading.the-variants as reading
 use Rattle.story.specs.declared.State.{State}
-use Rattle.story.specs.Calls.{freshAnswer, callAnswer}
+use Rattle.story.specs.Calls.{callAnswer}
 use Rattle.story.specs.Next.{callNext}
 use Rattle.story.specs.Runs.{answered, called}
 use Rattle.agent.specs.declared.Agent.{Agent}
-use Rattle.agent.specs.Turns.{actOf, eventOf, freshAgent, noticeAnswer, noticed}
+use Rattle.agent.specs.Turns.{actOf, eventOf, noticeAnswer, noticed}
 
 abbrev pub agentOf : ℕ → State → Agent
 agentOf n s = record { sequence = n; state = s }
@@ -74,17 +74,3 @@ reads-as g r q a h e w = rw e w
 -- a reading that is refused changes nothing
 pub refused-stays : (g : Agent) (r : Reading) → (noticeAnswer g r ≡ 0 → ⊥) → noticed g r ≡ g
 refused-stays g r h = sym (stays g r h)
-
--- an answer and a state that are given twice are the same twice
-pub given-twice : {A : Type 0} {a b x : ℕ} {h k y : A} → (a ≡ x) × (h ≡ y) → (b ≡ x) × (k ≡ y) → (a ≡ b) × (h ≡ k)
-given-twice p q = (p .0 ∙ sym (q .0), p .1 ∙ sym (q .1))
-
--- so two outcomes that the contract of each of the agent's calls admits are equal
-pub one-outcome : (g : Agent) (r : Reading) (a b : ℕ) (h k : Agent) → (a ≡ noticeAnswer g r) × (h ≡ noticed g r) → (b ≡ noticeAnswer g r) × (k ≡ noticed g r) → (a ≡ b) × (h ≡ k)
-one-outcome g r a b h k = given-twice
-
-pub one-fresh : (pool a b : ℕ) (h k : Agent) → (a ≡ freshAnswer pool) × (h ≡ freshAgent pool) → (b ≡ freshAnswer pool) × (k ≡ freshAgent pool) → (a ≡ b) × (h ≡ k)
-one-fresh pool a b h k = given-twice
-
-pub one-enact : (s : State) (n : Notice) (a b : ℕ) (t u : State) → (a ≡ answered s (eventOf n)) × (t ≡ called s (eventOf n)) → (b ≡ answered s (eventOf n)) × (u ≡ called s (eventOf n)) → (a ≡ b) × (t ≡ u)
-one-enact s n a b t u = given-twice

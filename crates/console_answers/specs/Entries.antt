@@ -1,4 +1,4 @@
--- Rows of numbers, each behind a space ("The operator's console", the table of answers).
+-- Rows of numbers, each behind a space (docs/CONSOLE.md, "Commands").
 use Prim.Native.Nat.{ℕ, zero, suc}
 use mathlib.Core.List.{List, [], _++_}
 use lib.Dec.{eqb}
@@ -6,30 +6,32 @@ use lib.ListN.{getD}
 use Rattle.rules.specs.Refusals.{pick}
 use Rattle.text.specs.Texts.{text}
 use Rattle.text.specs.Digits.{decimal}
+use Rattle.grid.specs.Plan.{never}
 
 unfoldable pub entry : ℕ → List ℕ
 entry n = text " " ++ decimal n
 
 -- a cell of a plan, `-` where it is never taken
 unfoldable pub cellEntry : ℕ → List ℕ
-cellEntry n = pick (eqb n 65535) (text " -") (entry n)
+cellEntry n = pick (eqb n never) (text " -") (entry n)
 
 -- a title's id, count and lanes held
 unfoldable pub titleEntry : ℕ → ℕ → ℕ → List ℕ
 titleEntry id count held = (entry id ++ entry count) ++ entry held
 
+-- what stands for each place of a row, for the first n
+unfoldable pub each : (ℕ → List ℕ) → ℕ → List ℕ
+each f zero = []
+each f (suc n) = each f n ++ f n
+
 -- the first n numbers of a row
-unfoldable pub numbersText : List ℕ → ℕ → List ℕ
-numbersText row zero = []
-numbersText row (suc n) = numbersText row n ++ entry (getD row n 0)
+abbrev pub numbersText : List ℕ → ℕ → List ℕ
+numbersText row n = each (λ (i : ℕ). entry (getD row i 0)) n
 
 -- the first n cells of a plan
-unfoldable pub cellsText : List ℕ → ℕ → List ℕ
-cellsText row zero = []
-cellsText row (suc n) = cellsText row n ++ cellEntry (getD row n 0)
+abbrev pub cellsText : List ℕ → ℕ → List ℕ
+cellsText row n = each (λ (i : ℕ). cellEntry (getD row i 0)) n
 
 -- the first n titles of three rows
-unfoldable pub titlesText : List ℕ → List ℕ → List ℕ → ℕ → List ℕ
-titlesText ids counts held zero = []
-titlesText ids counts held (suc n) =
-    titlesText ids counts held n ++ titleEntry (getD ids n 0) (getD counts n 0) (getD held n 0)
+abbrev pub titlesText : List ℕ → List ℕ → List ℕ → ℕ → List ℕ
+titlesText ids counts held n = each (λ (i : ℕ). titleEntry (getD ids i 0) (getD counts i 0) (getD held i 0)) n

@@ -1,4 +1,4 @@
--- A notice that was read, in the words of the line that writes it ("The operator's console", read).
+-- A notice that was read, in the words of the line that writes it (docs/CONSOLE.md, "Commands": read).
 use Prim.Native.Nat.{ℕ}
 use mathlib.Core.List.{List, [], _∷_, _++_}
 use Rattle.rules.specs.Refusals.{malformed}

@@ -1,4 +1,4 @@
--- What a call answered ("The operator's console", answers): 0, alone or with a number, or the refusal in words.
+-- What a call answered (docs/CONSOLE.md, "Answers"): 0, alone or with a number, or the refusal in words.
 use Prim.Native.Nat.{ℕ}
 use mathlib.Core.List.{List, [], _++_}
 use lib.Dec.{eqb}

@@ -1,4 +1,4 @@
--- What the console's questions answer ("The operator's console", lane, status, plan and share).
+-- What the console's questions answer (docs/CONSOLE.md, "Commands": lane, status, plan and share).
 use Prim.Native.Nat.{ℕ, zero, suc, _+_, _-_, _*_, _/_, min}
 use mathlib.Core.List.{List, map}
 use lib.ListN.{length, getD, take, drop, set, replicate}
@@ -8,6 +8,8 @@ use Rattle.grid.specs.Ticks.{cells}
 use Rattle.grid.specs.Plan.{planAnswer}
 use Rattle.plan.specs.Row as plan
 use Rattle.sharing.specs.Verdict as sharing
+use Rattle.text.specs.Numbers.{fourBytesMost}
+use Rattle.console_lines.specs.Commands.{idsMost, titlesMost, titleNumbers, placesMost}
 use Rattle.console_answers.specs.Entries.{numbersText, cellsText, titlesText}
 use Rattle.console_answers.specs.Outcomes.{withText, valueText}
 
@@ -21,9 +23,9 @@ statusText s τ ids =
     withText (statusAnswer s τ ids (length ids) (length ids)) 0
     (titlesText ids (map (λ i. statusCount s i) ids) (map (λ i. statusHeld s i τ) ids) (length ids))
 
--- the ids of a line of so many numbers, which follow the time; no line has more than 32
+-- the ids of a line of so many numbers, which follow the time
 unfoldable pub idsIn : List ℕ → ℕ → List ℕ
-idsIn numbers count = take (min (count - 1) 32) (drop 1 numbers)
+idsIn numbers count = take (min (count - 1) idsMost) (drop 1 numbers)
 
 -- the 2^K numbers of the plan that a lent row takes
 unfoldable pub planText : ℕ → ℕ → ℕ → ℕ → List ℕ → List ℕ
@@ -33,9 +35,9 @@ planText A K k a row =
 unfoldable pub zeros : ℕ → List ℕ
 zeros n = replicate n 0
 
--- the row that a line lends, of at most 1,024 places
+-- the row that a line lends
 unfoldable pub roomOf : ℕ → List ℕ
-roomOf places = take (min places 1024) (zeros 1024)
+roomOf places = take (min places placesMost) (zeros placesMost)
 
 -- the counts of a sharing, over rows that are lent
 unfoldable pub shareText : ℕ → List ℕ → List ℕ → List ℕ → List ℕ → List ℕ → List ℕ
@@ -43,21 +45,21 @@ shareText pool rates lengths floors caps row =
     withText (sharing.verdictOf pool rates lengths floors caps (length row)) 0
     (numbersText (sharing.rowAfter pool rates lengths floors caps row) (length row))
 
--- of the first n titles of a line, the number at the same place of each: every fourth number from a place on, at most what
--- a 32-bit number holds
+-- of the first n titles of a line, the number at the same place of each: every fourth number from a place on, at most the
+-- largest of four bytes
 unfoldable pub column : List ℕ → ℕ → ℕ → List ℕ
-column numbers first zero = replicate 17 0
-column numbers first (suc n) = set (column numbers first n) n (min (getD numbers (first + 4 * n) 0) 4_294_967_295)
+column numbers first zero = replicate titlesMost 0
+column numbers first (suc n) = set (column numbers first n) n (min (getD numbers (first + titleNumbers * n) 0) fourBytesMost)
 
--- the titles of a line of so many numbers, four for each behind the pool; no line has more than 17
+-- the titles of a line of so many numbers, four for each behind the pool
 unfoldable pub titlesIn : ℕ → ℕ
-titlesIn count = min ((count - 1) / 4) 17
+titlesIn count = min ((count - 1) / titleNumbers) titlesMost
 
 abbrev pub columnIn : List ℕ → ℕ → ℕ → List ℕ
-columnIn numbers count first = take (titlesIn count) (column numbers first 17)
+columnIn numbers count first = take (titlesIn count) (column numbers first titlesMost)
 
 -- rates, lengths, floors and caps stand in this order in a line
 unfoldable pub shareIn : List ℕ → ℕ → List ℕ
 shareIn numbers count =
     shareText (getD numbers 0 0) (columnIn numbers count 1) (columnIn numbers count 2) (columnIn numbers count 3) (columnIn numbers count 4)
-    (take (titlesIn count) (replicate 17 0))
+    (take (titlesIn count) (replicate titlesMost 0))

@@ -5,19 +5,19 @@ use text::output;
 ghost use mathlib.Core.Path.{_≡_};
 ghost use Prim.Native.Nat.{_≤_};
 ghost use lib.ListN.{length};
-ghost use Rattle.text.specs.Output.{page, puts};
+ghost use Rattle.text.specs.Output.{Written};
 ghost use Rattle.console_answers.specs.Entries.{entry, cellEntry, numbersText, cellsText, titlesText, titleEntry};
 
 // A number.
 pub fn put_entry(out: &mut [u8], at: usize, n: u64) -> usize
-    ensures { λ r. ⌜ page (now (out .exit)) r ≡ puts (page (now (out .entry)) at) (entry n) ⌝ }
+    ensures { λ r. ⌜ Written (now (out .entry)) at (entry n) (now (out .exit)) r ⌝ }
 {
     let a = output::put(out, at, b" ");
     digits::put_number(out, a, n)
 }
 
 pub fn put_numbers(out: &mut [u8], at: usize, row: &[u64]) -> usize
-    ensures { λ r. ⌜ page (now (out .exit)) r ≡ puts (page (now (out .entry)) at) (numbersText (now (row .entry)) (length (now (row .entry)))) ⌝ }
+    ensures { λ r. ⌜ Written (now (out .entry)) at (numbersText (now (row .entry)) (length (now (row .entry)))) (now (out .exit)) r ⌝ }
 {
     let mut place = at;
     let mut i = 0;
@@ -30,7 +30,7 @@ pub fn put_numbers(out: &mut [u8], at: usize, row: &[u64]) -> usize
 
 // The counts of a sharing.
 pub fn put_shares(out: &mut [u8], at: usize, row: &[u32]) -> usize
-    ensures { λ r. ⌜ page (now (out .exit)) r ≡ puts (page (now (out .entry)) at) (numbersText (now (row .entry)) (length (now (row .entry)))) ⌝ }
+    ensures { λ r. ⌜ Written (now (out .entry)) at (numbersText (now (row .entry)) (length (now (row .entry)))) (now (out .exit)) r ⌝ }
 {
     let mut place = at;
     let mut i = 0;
@@ -41,11 +41,14 @@ pub fn put_shares(out: &mut [u8], at: usize, row: &[u32]) -> usize
     place
 }
 
+// In a plan, a cell that is never taken.
+const NEVER: u16 = 65535;
+
 // A cell of a plan: its number, or `-` where it is never taken.
 fn put_cell(out: &mut [u8], at: usize, n: u16) -> usize
-    ensures { λ r. ⌜ page (now (out .exit)) r ≡ puts (page (now (out .entry)) at) (cellEntry n) ⌝ }
+    ensures { λ r. ⌜ Written (now (out .entry)) at (cellEntry n) (now (out .exit)) r ⌝ }
 {
-    if n == 65535 {
+    if n == NEVER {
         return output::put(out, at, b" -");
     }
     put_entry(out, at, n as u64)
@@ -54,7 +57,7 @@ fn put_cell(out: &mut [u8], at: usize, n: u16) -> usize
 // The first n cells of a plan.
 pub fn put_cells(out: &mut [u8], at: usize, row: &[u16], n: usize) -> usize
     requires { ⌜ n ≤ length (now row) ⌝ }
-    ensures { λ r. ⌜ page (now (out .exit)) r ≡ puts (page (now (out .entry)) at) (cellsText (now (row .entry)) n) ⌝ }
+    ensures { λ r. ⌜ Written (now (out .entry)) at (cellsText (now (row .entry)) n) (now (out .exit)) r ⌝ }
 {
     let mut place = at;
     let mut i = 0;
@@ -67,7 +70,7 @@ pub fn put_cells(out: &mut [u8], at: usize, row: &[u16], n: usize) -> usize
 
 // A title's id, count and lanes held.
 fn put_title(out: &mut [u8], at: usize, id: u64, count: u64, held: u64) -> usize
-    ensures { λ r. ⌜ page (now (out .exit)) r ≡ puts (page (now (out .entry)) at) (titleEntry id count held) ⌝ }
+    ensures { λ r. ⌜ Written (now (out .entry)) at (titleEntry id count held) (now (out .exit)) r ⌝ }
 {
     let a = put_entry(out, at, id);
     let b = put_entry(out, a, count);
@@ -76,7 +79,7 @@ fn put_title(out: &mut [u8], at: usize, id: u64, count: u64, held: u64) -> usize
 
 pub fn put_titles(out: &mut [u8], at: usize, ids: &[u64], counts: &[u64], held: &[u64]) -> usize
     requires { ⌜ (length (now counts) ≡ length (now ids)) × (length (now held) ≡ length (now ids)) ⌝ }
-    ensures { λ r. ⌜ page (now (out .exit)) r ≡ puts (page (now (out .entry)) at) (titlesText (now (ids .entry)) (now (counts .entry)) (now (held .entry)) (length (now (ids .entry)))) ⌝ }
+    ensures { λ r. ⌜ Written (now (out .entry)) at (titlesText (now (ids .entry)) (now (counts .entry)) (now (held .entry)) (length (now (ids .entry)))) (now (out .exit)) r ⌝ }
 {
     let mut place = at;
     let mut i = 0;

@@ -10,13 +10,13 @@ use text::output;
 ghost use mathlib.Core.Path.{_≡_};
 ghost use mathlib.Core.List.{_++_};
 ghost use lib.ListN.{length};
-ghost use Rattle.text.specs.Output.{page, puts};
+ghost use Rattle.text.specs.Output.{Written};
 ghost use Rattle.console_answers.specs.Entries.{numbersText};
 ghost use Rattle.console_answers.specs.Notices.{kindText, noticeText, readingText};
 
 // A word and a row of numbers.
 fn put_event(out: &mut [u8], at: usize, word: &[u8], row: &[u64]) -> usize
-    ensures { λ r. ⌜ page (now (out .exit)) r ≡ puts (page (now (out .entry)) at) (now (word .entry) ++ numbersText (now (row .entry)) (length (now (row .entry)))) ⌝ }
+    ensures { λ r. ⌜ Written (now (out .entry)) at (now (word .entry) ++ numbersText (now (row .entry)) (length (now (row .entry)))) (now (out .exit)) r ⌝ }
 {
     let a = output::put(out, at, word);
     entries::put_numbers(out, a, row)
@@ -24,7 +24,7 @@ fn put_event(out: &mut [u8], at: usize, word: &[u8], row: &[u64]) -> usize
 
 // The kind with the numbers of its notice.
 fn put_kind(out: &mut [u8], at: usize, id: u64, time: u64, kind: Kind) -> usize
-    ensures { λ r. ⌜ page (now (out .exit)) r ≡ puts (page (now (out .entry)) at) (kindText id time kind) ⌝ }
+    ensures { λ r. ⌜ Written (now (out .entry)) at (kindText id time kind) (now (out .exit)) r ⌝ }
 {
     match kind {
         Kind::Open {
@@ -55,7 +55,7 @@ fn put_kind(out: &mut [u8], at: usize, id: u64, time: u64, kind: Kind) -> usize
 }
 
 fn put_notice(out: &mut [u8], at: usize, n: Notice) -> usize
-    ensures { λ r. ⌜ page (now (out .exit)) r ≡ puts (page (now (out .entry)) at) (noticeText n) ⌝ }
+    ensures { λ r. ⌜ Written (now (out .entry)) at (noticeText n) (now (out .exit)) r ⌝ }
 {
     let kind = n.kind;
     let a = output::put(out, at, b"0");
@@ -65,7 +65,7 @@ fn put_notice(out: &mut [u8], at: usize, n: Notice) -> usize
 
 // What bytes read as.
 pub fn put_reading(out: &mut [u8], at: usize, reading: Reading) -> usize
-    ensures { λ r. ⌜ page (now (out .exit)) r ≡ puts (page (now (out .entry)) at) (readingText reading) ⌝ }
+    ensures { λ r. ⌜ Written (now (out .entry)) at (readingText reading) (now (out .exit)) r ⌝ }
 {
     match reading {
         Reading::Whole(n) => put_notice(out, at, n),

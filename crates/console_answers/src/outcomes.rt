@@ -5,12 +5,12 @@ use crate::words;
 use rules::DONE;
 use text::output;
 ghost use mathlib.Core.Path.{_≡_};
-ghost use Rattle.text.specs.Output.{page, puts};
+ghost use Rattle.text.specs.Output.{Written};
 ghost use Rattle.console_answers.specs.Outcomes.{doneText, valueText};
 
 // 0, or the refusal; expected is the sequence that a notice out of turn should have had.
 pub fn put_done(out: &mut [u8], at: usize, answer: u8, expected: u64) -> usize
-    ensures { λ r. ⌜ page (now (out .exit)) r ≡ puts (page (now (out .entry)) at) (doneText answer expected) ⌝ }
+    ensures { λ r. ⌜ Written (now (out .entry)) at (doneText answer expected) (now (out .exit)) r ⌝ }
 {
     if answer == DONE {
         return output::put(out, at, b"0");
@@ -20,7 +20,7 @@ pub fn put_done(out: &mut [u8], at: usize, answer: u8, expected: u64) -> usize
 
 // 0 and a number, or the refusal.
 pub fn put_value(out: &mut [u8], at: usize, answer: u8, value: u64, expected: u64) -> usize
-    ensures { λ r. ⌜ page (now (out .exit)) r ≡ puts (page (now (out .entry)) at) (valueText answer value expected) ⌝ }
+    ensures { λ r. ⌜ Written (now (out .entry)) at (valueText answer value expected) (now (out .exit)) r ⌝ }
 {
     let a = put_done(out, at, answer, expected);
     if answer == DONE {

@@ -2,12 +2,14 @@
 
 use crate::entries;
 use crate::outcomes;
+use console_lines::commands::PLACES_MOST;
 use rules::DONE;
 ghost use mathlib.Core.Path.{_≡_};
 ghost use Prim.Native.Nat.{min};
 ghost use lib.ListN.{length};
-ghost use Rattle.text.specs.Output.{page, puts};
+ghost use Rattle.text.specs.Output.{Written};
 ghost use Rattle.console_answers.specs.Questions.{planText, roomOf, zeros};
+ghost use Rattle.console_lines.specs.Commands.{placesMost};
 
 // Into a row that is lent.
 fn put_row(
@@ -19,7 +21,7 @@ fn put_row(
     arrival: u64,
     row: &mut [u16],
 ) -> usize
-    ensures { λ r. ⌜ page (now (out .exit)) r ≡ puts (page (now (out .entry)) at) (planText floor cap count arrival (now (row .entry))) ⌝ }
+    ensures { λ r. ⌜ Written (now (out .entry)) at (planText floor cap count arrival (now (row .entry))) (now (out .exit)) r ⌝ }
 {
     let answer = plan::plan(floor, cap, count, arrival, row);
     let a = outcomes::put_done(out, at, answer, 0);
@@ -29,21 +31,24 @@ fn put_row(
     a
 }
 
-// As many places as are asked for, 1,024 at most.
+// Places as they count a row's: as many as are asked for, up to the most.
+const ROOM: usize = 1024;
+
+// As many places as are asked for, up to the most.
 fn places_of(places: u64) -> usize
-    ensures { λ r. ⌜ r ≡ min places 1024 ⌝ }
+    ensures { λ r. ⌜ r ≡ min places placesMost ⌝ }
 {
-    if places < 1024 {
+    if places < PLACES_MOST {
         return places as usize;
     }
-    1024
+    ROOM
 }
 
 // The row that a line lends.
-fn blank_row() -> [u16; 1024]
-    ensures { λ r. ⌜ (r ≡ zeros 1024) × (length r ≡ 1024) ⌝ }
+fn blank_row() -> [u16; ROOM]
+    ensures { λ r. ⌜ (r ≡ zeros placesMost) × (length r ≡ placesMost) ⌝ }
 {
-    [0; 1024]
+    [0; ROOM]
 }
 
 pub fn put_plan(
@@ -55,7 +60,7 @@ pub fn put_plan(
     arrival: u64,
     places: u64,
 ) -> usize
-    ensures { λ r. ⌜ page (now (out .exit)) r ≡ puts (page (now (out .entry)) at) (planText floor cap count arrival (roomOf places)) ⌝ }
+    ensures { λ r. ⌜ Written (now (out .entry)) at (planText floor cap count arrival (roomOf places)) (now (out .exit)) r ⌝ }
 {
     let n = places_of(places);
     let mut row = blank_row();

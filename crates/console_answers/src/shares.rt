@@ -2,12 +2,15 @@
 
 use crate::entries;
 use crate::outcomes;
+use console_lines::commands::TITLES_MOST;
+use console_lines::lines::NUMBERS_MOST;
 use rules::DONE;
 use text::numbers;
 ghost use mathlib.Core.Path.{_≡_};
 ghost use Prim.Native.Nat.{_≤_};
 ghost use lib.ListN.{length};
-ghost use Rattle.text.specs.Output.{page, puts};
+ghost use Rattle.console_lines.specs.Commands.{titlesMost};
+ghost use Rattle.text.specs.Output.{Written};
 ghost use Rattle.console_answers.specs.Questions.{shareText, column as columnOf, titlesIn, shareIn};
 
 // Over rows that are lent.
@@ -21,7 +24,7 @@ fn put_rows(
     caps: &[u32],
     counts: &mut [u32],
 ) -> usize
-    ensures { λ r. ⌜ page (now (out .exit)) r ≡ puts (page (now (out .entry)) at) (shareText pool (now (rates .entry)) (now (lengths .entry)) (now (floors .entry)) (now (caps .entry)) (now (counts .entry))) ⌝ }
+    ensures { λ r. ⌜ Written (now (out .entry)) at (shareText pool (now (rates .entry)) (now (lengths .entry)) (now (floors .entry)) (now (caps .entry)) (now (counts .entry))) (now (out .exit)) r ⌝ }
 {
     let answer = sharing::share(pool, rates, lengths, floors, caps, counts);
     let a = outcomes::put_done(out, at, answer, 0);
@@ -31,44 +34,44 @@ fn put_rows(
     a
 }
 
-// Every fourth number of the line, from a place on: of each title the same one, at most what 32 bits hold.
-fn column(row: &[u64; 72], first: usize) -> [u32; 17]
+// Every fourth number of the line, from a place on: of each title the same one, at most the largest of four bytes.
+fn column(row: &[u64; NUMBERS_MOST], first: usize) -> [u32; TITLES_MOST]
     requires { ⌜ first ≤ 4 ⌝ }
-    ensures { λ r. ⌜ (r ≡ columnOf (now (row .entry)) first 17) × (length r ≡ 17) ⌝ }
+    ensures { λ r. ⌜ (r ≡ columnOf (now (row .entry)) first titlesMost) × (length r ≡ titlesMost) ⌝ }
 {
-    let mut c = [0u32; 17];
+    let mut c = [0u32; TITLES_MOST];
     let mut i = 0;
-    while i < 17 {
+    while i < TITLES_MOST {
         c[i] = numbers::as_four_bytes(row[first + 4 * i]);
         i += 1;
     }
     c
 }
 
-// How many titles follow the pool, 17 at most.
+// How many titles follow the pool, up to the most.
 fn titles_of(count: usize) -> usize
-    ensures { λ r. ⌜ (r ≡ titlesIn count) × (r ≤ 17) ⌝ }
+    ensures { λ r. ⌜ (r ≡ titlesIn count) × (r ≤ titlesMost) ⌝ }
 {
     if count < 1 {
         return 0;
     }
     let n = (count - 1) / 4;
-    if n < 17 {
+    if n < TITLES_MOST {
         return n;
     }
-    17
+    TITLES_MOST
 }
 
 // The numbers of the line: a pool, and four for each title up to its count.
-pub fn put_share(out: &mut [u8], at: usize, row: [u64; 72], count: usize) -> usize
-    ensures { λ r. ⌜ page (now (out .exit)) r ≡ puts (page (now (out .entry)) at) (shareIn row count) ⌝ }
+pub fn put_share(out: &mut [u8], at: usize, row: [u64; NUMBERS_MOST], count: usize) -> usize
+    ensures { λ r. ⌜ Written (now (out .entry)) at (shareIn row count) (now (out .exit)) r ⌝ }
 {
     let n = titles_of(count);
     let rates = column(&row, 1);
     let lengths = column(&row, 2);
     let floors = column(&row, 3);
     let caps = column(&row, 4);
-    let mut counts = [0u32; 17];
+    let mut counts = [0u32; TITLES_MOST];
     put_rows(
         out,
         at,

@@ -2,12 +2,15 @@
 
 use crate::entries;
 use crate::outcomes;
+use console_lines::commands::IDS_MOST;
+use console_lines::lines::NUMBERS_MOST;
 use rules::DONE;
 use story::State;
 ghost use mathlib.Core.Path.{_≡_};
 ghost use Prim.Native.Nat.{_-_, _≤_, min};
 ghost use lib.ListN.{length, getD};
-ghost use Rattle.text.specs.Output.{page, puts};
+ghost use Rattle.console_lines.specs.Commands.{idsMost};
+ghost use Rattle.text.specs.Output.{Written};
 ghost use Rattle.console_answers.specs.Questions.{statusText, idsIn};
 
 // Over rows of one length.
@@ -21,7 +24,7 @@ fn put_rows(
     held: &mut [u64],
 ) -> usize
     requires { ⌜ (length (now counts) ≡ length (now ids)) × (length (now held) ≡ length (now ids)) ⌝ }
-    ensures { λ r. ⌜ page (now (out .exit)) r ≡ puts (page (now (out .entry)) at) (statusText s time (now (ids .entry))) ⌝ }
+    ensures { λ r. ⌜ Written (now (out .entry)) at (statusText s time (now (ids .entry))) (now (out .exit)) r ⌝ }
 {
     let answer = status::status(s, time, ids, counts, held);
     let a = outcomes::put_done(out, at, answer, 0);
@@ -31,26 +34,32 @@ fn put_rows(
     a
 }
 
-// How many ids follow the time, 32 at most.
+// How many ids follow the time, up to the most.
 fn ids_of(count: usize) -> usize
-    ensures { λ r. ⌜ (r ≡ min (count - 1) 32) × (r ≤ 32) ⌝ }
+    ensures { λ r. ⌜ (r ≡ min (count - 1) idsMost) × (r ≤ idsMost) ⌝ }
 {
     if count < 1 {
         return 0;
     }
-    if 33 < count {
-        return 32;
+    if 1 + IDS_MOST < count {
+        return IDS_MOST;
     }
     count - 1
 }
 
 // The numbers of the line: a time, and ids up to its count.
-pub fn put_status(out: &mut [u8], at: usize, s: State, numbers: [u64; 72], count: usize) -> usize
-    ensures { λ r. ⌜ page (now (out .exit)) r ≡ puts (page (now (out .entry)) at) (statusText s (getD numbers 0 0) (idsIn numbers count)) ⌝ }
+pub fn put_status(
+    out: &mut [u8],
+    at: usize,
+    s: State,
+    numbers: [u64; NUMBERS_MOST],
+    count: usize,
+) -> usize
+    ensures { λ r. ⌜ Written (now (out .entry)) at (statusText s (getD numbers 0 0) (idsIn numbers count)) (now (out .exit)) r ⌝ }
 {
     let n = ids_of(count);
-    let mut counts = [0u64; 32];
-    let mut held = [0u64; 32];
+    let mut counts = [0u64; IDS_MOST];
+    let mut held = [0u64; IDS_MOST];
     let end = n + 1;
     put_rows(
         out,

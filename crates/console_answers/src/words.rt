@@ -5,13 +5,13 @@ use text::output;
 ghost use mathlib.Core.Path.{_≡_};
 ghost use Prim.Native.Nat.{_-_, _≤_};
 ghost use lib.ListN.{length, take, drop};
-ghost use Rattle.text.specs.Output.{page, puts};
+ghost use Rattle.text.specs.Output.{Written};
 ghost use Rattle.console_answers.specs.Words.{refusalWords, refusalText, faultWords, faultText, helpText, fromOne};
 
 // The part of a row from a place to another.
 fn put_part(out: &mut [u8], at: usize, row: &[u8], from: usize, to: usize) -> usize
     requires { ⌜ (from ≤ to) × (to ≤ length (now row)) ⌝ }
-    ensures { λ r. ⌜ page (now (out .exit)) r ≡ puts (page (now (out .entry)) at) (take (to - from) (drop from (now (row .entry)))) ⌝ }
+    ensures { λ r. ⌜ Written (now (out .entry)) at (take (to - from) (drop from (now (row .entry)))) (now (out .exit)) r ⌝ }
 {
     output::put(out, at, &row[from..to])
 }
@@ -39,7 +39,7 @@ const FAULTS: [usize; 13] = [0, 0, 27, 39, 54, 70, 81, 97, 128, 151, 167, 186, 2
 
 // The words of a refusal.
 fn refusal_words(out: &mut [u8], at: usize, number: u8) -> usize
-    ensures { λ r. ⌜ page (now (out .exit)) r ≡ puts (page (now (out .entry)) at) (refusalWords number) ⌝ }
+    ensures { λ r. ⌜ Written (now (out .entry)) at (refusalWords number) (now (out .exit)) r ⌝ }
 {
     let words = b"done\
         number out of range\
@@ -65,7 +65,7 @@ fn refusal_words(out: &mut [u8], at: usize, number: u8) -> usize
 
 // A refusal: its number, its words, and after OUT_OF_TURN the sequence that is expected.
 pub fn put_refusal(out: &mut [u8], at: usize, number: u8, expected: u64) -> usize
-    ensures { λ r. ⌜ page (now (out .exit)) r ≡ puts (page (now (out .entry)) at) (refusalText number expected) ⌝ }
+    ensures { λ r. ⌜ Written (now (out .entry)) at (refusalText number expected) (now (out .exit)) r ⌝ }
 {
     let a = digits::put_number(out, at, number as u64);
     let b = output::put(out, a, b" ");
@@ -78,7 +78,7 @@ pub fn put_refusal(out: &mut [u8], at: usize, number: u8, expected: u64) -> usiz
 
 // What is wrong with a line.
 fn fault_words(out: &mut [u8], at: usize, fault: u8) -> usize
-    ensures { λ r. ⌜ page (now (out .exit)) r ≡ puts (page (now (out .entry)) at) (faultWords fault) ⌝ }
+    ensures { λ r. ⌜ Written (now (out .entry)) at (faultWords fault) (now (out .exit)) r ⌝ }
 {
     let words = b"line longer than 4095 bytes\
         unknown word\
@@ -100,11 +100,14 @@ fn fault_words(out: &mut [u8], at: usize, fault: u8) -> usize
     at
 }
 
+// The last place that has a number when it is counted from 1.
+const LAST_PLACE: usize = 18_446_744_073_709_551_615;
+
 // A place of a line, counted from 1.
 fn from_one(place: usize) -> u64
     ensures { λ r. ⌜ r ≡ fromOne place ⌝ }
 {
-    if place < 18_446_744_073_709_551_615 {
+    if place < LAST_PLACE {
         return (place + 1) as u64;
     }
     place as u64
@@ -112,7 +115,7 @@ fn from_one(place: usize) -> u64
 
 // What is wrong with a line, and at which of its bytes.
 pub fn put_fault(out: &mut [u8], at: usize, fault: u8, place: usize) -> usize
-    ensures { λ r. ⌜ page (now (out .exit)) r ≡ puts (page (now (out .entry)) at) (faultText fault place) ⌝ }
+    ensures { λ r. ⌜ Written (now (out .entry)) at (faultText fault place) (now (out .exit)) r ⌝ }
 {
     let a = output::put(out, at, b"? ");
     let b = fault_words(out, a, fault);
@@ -122,7 +125,7 @@ pub fn put_fault(out: &mut [u8], at: usize, fault: u8, place: usize) -> usize
 
 // The commands, a line each.
 pub fn put_help(out: &mut [u8], at: usize) -> usize
-    ensures { λ r. ⌜ page (now (out .exit)) r ≡ puts (page (now (out .entry)) at) helpText ⌝ }
+    ensures { λ r. ⌜ Written (now (out .entry)) at helpText (now (out .exit)) r ⌝ }
 {
     output::put(
         out,

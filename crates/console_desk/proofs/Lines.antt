@@ -18,23 +18,23 @@ use Rattle.console_desk.specs.Acts.{agentAfter}
 use Rattle.console_desk.specs.Desk.{mayChange, actText, askText, newline, wholeText, afterWhole, lineText, afterLine, Left}
 
 -- a line that is too long is read as such
-too-long : (s : List ℕ) → ltb longest (length s) ≡ true → (meaning s) .fault ≡ 1
+too-long : (s : List ℕ) → ltb longest (length s) ≡ true → (meaning s) .fault ≡ Commands.tooLong
 unfolding meaning readOn begun withFault
 too-long s h = rw h
 
 -- a line with nothing wrong is no longer than the longest
-pub readable : (s : List ℕ) → (meaning s) .fault ≡ 0 → length s ≤ longest
+pub readable : (s : List ℕ) → (meaning s) .fault ≡ Commands.noFault → length s ≤ longest
 readable s e = by-test (ltb longest (length s)) refl where
   by-test : (t : Bool) → ltb longest (length s) ≡ t → length s ≤ longest
   by-test true h = let z : _≡_ {A = ℕ} 1 0 = sym (too-long s h) ∙ e in omega arith
   by-test false h = ltb-false _ _ h
 
 module _ (g : Agent) (l : Line) (s : List ℕ) (p : Page) where
-  pub asks-nothing : l .command ≡ 0 → Left (afterWhole g l s) (puts p (wholeText g l s)) g p
+  pub asks-nothing : l .command ≡ Commands.none → Left (afterWhole g l s) (puts p (wholeText g l s)) g p
   unfolding afterWhole wholeText mayChange puts
   asks-nothing h = record { agent = rw h; row = rw h }
 
-  module _ (something : l .command ≡ 0 → ⊥) (t : Bool) (e : t ≡ mayChange (l .command)) (after : Agent) (q r : Page) where
+  module _ (something : l .command ≡ Commands.none → ⊥) (t : Bool) (e : t ≡ mayChange (l .command)) (after : Agent) (q r : Page) where
     pub it-acts : t ≡ true → Left (agentAfter g l s) (puts p (actText g l s)) after q → r ≡ puts q newline
         → Left (afterWhole g l s) (puts p (wholeText g l s)) after r
     unfolding afterWhole wholeText
@@ -54,12 +54,12 @@ module _ (g : Agent) (l : Line) (s : List ℕ) (p : Page) where
         }
 
 module _ (g : Agent) (s : List ℕ) (l : Line) (is : l ≡ meaning s) (p : Page) where
-  pub it-is-whole : l .fault ≡ 0 → (after : Agent) (q : Page) → Left (afterWhole g l s) (puts p (wholeText g l s)) after q
+  pub it-is-whole : l .fault ≡ Commands.noFault → (after : Agent) (q : Page) → Left (afterWhole g l s) (puts p (wholeText g l s)) after q
       → Left (afterLine g s) (puts p (lineText g s)) after q
   unfolding afterLine lineText
   it-is-whole h after q d = rw (← is, eq-eqb _ _ h) d
 
-  pub it-is-faulty : (l .fault ≡ 0 → ⊥) → (q r : Page) → q ≡ puts p (faultText (l .fault) (l .place)) → r ≡ puts q newline
+  pub it-is-faulty : (l .fault ≡ Commands.noFault → ⊥) → (q r : Page) → q ≡ puts p (faultText (l .fault) (l .place)) → r ≡ puts q newline
       → Left (afterLine g s) (puts p (lineText g s)) g r
   unfolding afterLine lineText
   it-is-faulty h q r d f = record { agent = rw (← is, ne-eqb _ _ h); row = rw (← is, ne-eqb _ _ h, puts-append, ← d) f }

@@ -9,7 +9,8 @@ use lib.Seq.{take-at}
 use Rattle.text.specs.Output.{Page, page, puts}
 use Rattle.text.specs.Digits.{hexBytes}
 use Rattle.text.proofs.Pages.{puts-fits}
-use Rattle.console_desk.specs.Acts.{bytesOf}
+use Rattle.console_lines.specs.Lines.{longest}
+use Rattle.console_desk.specs.Acts.{bytesOf, hexRoom}
 
 -- two digits to a byte
 hex-half : (s : List ℕ) → 2 * length (hexBytes s) ≤ length s
@@ -27,7 +28,7 @@ module _ (s : List ℕ) (from to : ℕ) where
   unfolding bytesOf hexBytes
   none-before h g = let e : to - from ≡ 0 = omega arith in rw (le-ltb _ _ h, e)
 
-  pub spelt : (room room' : List ℕ) (n : ℕ) → to ≤ length s → length s ≤ 4095 → 2048 ≤ length room
+  pub spelt : (room room' : List ℕ) (n : ℕ) → to ≤ length s → length s ≤ longest → hexRoom ≤ length room
       → page room' n ≡ puts (page room 0) (hexBytes (take (to - from) (drop from s)))
       → (take n room' ≡ bytesOf s from to) × (n ≤ length room')
   unfolding bytesOf

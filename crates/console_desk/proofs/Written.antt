@@ -19,15 +19,15 @@ use Rattle.console_desk.specs.Acts.{numberIn}
 use Rattle.console_desk.specs.Writing.{byteIn, fourBytesIn, kindIn, noticeIn}
 
 module _ (l : Line) where
-  pub kind-open : (a b c d : ℕ) → l .command ≡ 13 → a ≡ fourBytesIn l 3 → b ≡ byteIn l 4 → c ≡ byteIn l 5 → d ≡ byteIn l 6 → Open a b c d ≡ kindIn l
+  pub kind-open : (a b c d : ℕ) → l .command ≡ Commands.writeOpen → a ≡ fourBytesIn l 3 → b ≡ byteIn l 4 → c ≡ byteIn l 5 → d ≡ byteIn l 6 → Open a b c d ≡ kindIn l
   unfolding kindIn
   kind-open a b c d h e f g k = rw (eq-eqb _ _ h) (cc)
 
-  pub kind-change : (d : ℕ) → (l .command ≡ 13 → ⊥) → l .command ≡ 14 → d ≡ byteIn l 3 → Change d ≡ kindIn l
+  pub kind-change : (d : ℕ) → (l .command ≡ Commands.writeOpen → ⊥) → l .command ≡ Commands.writeChange → d ≡ byteIn l 3 → Change d ≡ kindIn l
   unfolding kindIn
   kind-change d o h e = rw (ne-eqb _ _ o, eq-eqb _ _ h) (cc)
 
-  pub kind-close : (l .command ≡ 13 → ⊥) → (l .command ≡ 14 → ⊥) → Close ≡ kindIn l
+  pub kind-close : (l .command ≡ Commands.writeOpen → ⊥) → (l .command ≡ Commands.writeChange → ⊥) → Close ≡ kindIn l
   unfolding kindIn
   kind-close o h = rw (ne-eqb _ _ o, ne-eqb _ _ h)
 

@@ -1,4 +1,4 @@
--- What a line of the console does to the agent ("The operator's console", fresh, events and notice).
+-- What a line of the console does to the agent (docs/CONSOLE.md, "Commands": fresh, events and notice).
 use Prim.Native.Nat.{ℕ, _-_}
 use mathlib.Core.List.{List, []}
 use lib.Dec.{eqb, ltb}
@@ -13,6 +13,10 @@ use Rattle.agent.specs.Turns.{freshAgent, noticeAnswer, noticed}
 use Rattle.console_lines.specs.Commands
 use Rattle.console_lines.specs.declared.lines.Line.{Line}
 use Rattle.text.specs.Digits.{hexBytes}
+
+-- room for the bytes that the longest line spells
+abbrev pub hexRoom : ℕ
+hexRoom = 2048
 
 -- the number at a place of a line
 abbrev pub numberIn : Line → ℕ → ℕ

@@ -1,4 +1,4 @@
--- What a line of the console is answered, and the agent that it leaves ("The operator's console", the table of answers).
+-- What a line of the console is answered, and the agent that it leaves (docs/CONSOLE.md, "Commands").
 use Prim.Native.Nat.{ℕ, _+_}
 use mathlib.Core.Path.{_≡_}
 use mathlib.Core.Bool.{Bool}
@@ -44,9 +44,9 @@ tellText l s =
     (pick (eqb (l .command) Commands.doRead) (readingText (readOf (bytesIn s l)))
     (hexText (bytesOf (noticeIn l))))
 
--- the places that a plan is lent, 1,024 where the line leaves them out
+-- the places that a plan is lent, the most where the line leaves them out
 unfoldable pub placesIn : Line → ℕ
-placesIn l = pick (ltb 4 (l .count)) (numberIn l 4) 1024
+placesIn l = pick (ltb 4 (l .count)) (numberIn l 4) Commands.placesMost
 
 -- a question, which changes nothing
 unfoldable pub askText : State → Line → List ℕ → List ℕ

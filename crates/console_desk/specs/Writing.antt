@@ -1,4 +1,4 @@
--- The notice that a line writes ("The operator's console", write). A number too large for its field is an error of the
+-- The notice that a line writes (docs/CONSOLE.md, "Commands": write). A number too large for its field is an error of the
 -- line, so that none is cut here.
 use Prim.Native.Nat.{ℕ, _+_, min}
 use lib.Dec.{eqb}
@@ -6,20 +6,21 @@ use Rattle.rules.specs.Refusals.{pick}
 use Rattle.notice.specs.declared.Notice.{Notice}
 use Rattle.notice.specs.declared.Kind.{Kind}
 use Rattle.notice.specs.declared.Kind.the-variants.{Open, Change, Close}
+use Rattle.text.specs.Numbers.{byteMost, fourBytesMost}
 use Rattle.console_lines.specs.Commands
 use Rattle.console_lines.specs.declared.lines.Line.{Line}
 use Rattle.console_desk.specs.Acts.{numberIn}
 
 abbrev pub byteIn : Line → ℕ → ℕ
-byteIn l i = min (numberIn l i) 255
+byteIn l i = min (numberIn l i) byteMost
 
 abbrev pub fourBytesIn : Line → ℕ → ℕ
-fourBytesIn l i = min (numberIn l i) 4_294_967_295
+fourBytesIn l i = min (numberIn l i) fourBytesMost
 
 unfoldable pub kindIn : Line → Kind
 kindIn l =
-    pick (eqb (l .command) (Commands.doWrite + Commands.doOpen)) (Open (fourBytesIn l 3) (byteIn l 4) (byteIn l 5) (byteIn l 6))
-    (pick (eqb (l .command) (Commands.doWrite + Commands.doChange)) (Change (byteIn l 3))
+    pick (eqb (l .command) (Commands.writeOpen)) (Open (fourBytesIn l 3) (byteIn l 4) (byteIn l 5) (byteIn l 6))
+    (pick (eqb (l .command) (Commands.writeChange)) (Change (byteIn l 3))
     Close)
 
 unfoldable pub noticeIn : Line → Notice

@@ -10,18 +10,20 @@ ghost use lib.ListN.{length, take};
 ghost use Rattle.notice.specs.Decode.{readOf};
 ghost use Rattle.agent.specs.Turns.{noticeAnswer, noticed};
 ghost use Rattle.console_lines.specs.Lines.{longest};
-ghost use Rattle.console_desk.specs.Acts.{bytesOf};
+ghost use Rattle.console_desk.specs.Acts.{bytesOf, hexRoom};
 
-// Room for the bytes of the longest line.
-fn blank_room() -> [u8; 2048]
-    ensures { λ r. ⌜ length r ≡ 2048 ⌝ }
+// Room for the bytes that the longest line spells.
+const HEX_ROOM: usize = 2048;
+
+fn blank_room() -> [u8; HEX_ROOM]
+    ensures { λ r. ⌜ length r ≡ hexRoom ⌝ }
 {
-    [0; 2048]
+    [0; HEX_ROOM]
 }
 
 // Spells the digits of a line between two places into the start of a row, and gives back how many bytes they are.
 fn spell(s: &[u8], from: u64, to: u64, room: &mut [u8]) -> usize
-    requires { ⌜ (length (now s) ≤ longest) × (2048 ≤ length (now room)) ⌝ }
+    requires { ⌜ (length (now s) ≤ longest) × (hexRoom ≤ length (now room)) ⌝ }
     ensures { λ r. ⌜ (take r (now (room .exit)) ≡ bytesOf (now (s .entry)) from to) × (r ≤ length (now (room .exit))) ⌝ }
 {
     let size = s.len() as u64;

@@ -18,7 +18,7 @@ use text::output;
 ghost use mathlib.Core.Path.{_≡_};
 ghost use Prim.Native.Nat.{_≤_};
 ghost use lib.ListN.{length};
-ghost use Rattle.text.specs.Output.{page, puts};
+ghost use Rattle.text.specs.Output.{page, puts, Written};
 ghost use Rattle.console_lines.specs.Lines.{longest};
 ghost use Rattle.console_desk.specs.Acts.{agentAfter};
 ghost use Rattle.console_desk.specs.Desk.{mayChange, followedText, actText, placesIn, askText, tellText, Left, afterWhole, wholeText, afterLine, lineText};
@@ -40,12 +40,16 @@ fn may_change(command: u8) -> bool
     if command == commands::NOTICE {
         return true;
     }
-    rules::within(1, 4, command as u64)
+    rules::within(
+        commands::FRESH as u64,
+        commands::CLOSE as u64,
+        command as u64,
+    )
 }
 
 // What an event or a notice was answered, and the lanes held at the time of the last that was accepted.
 fn put_followed(out: &mut [u8], at: usize, answer: u8, agent: Agent) -> usize
-    ensures { λ r. ⌜ page (now (out .exit)) r ≡ puts (page (now (out .entry)) at) (followedText answer agent) ⌝ }
+    ensures { λ r. ⌜ Written (now (out .entry)) at (followedText answer agent) (now (out .exit)) r ⌝ }
 {
     let state = agent.state;
     let time = state.last;
@@ -73,7 +77,7 @@ fn act(agent: Agent, line: Line, s: &[u8], out: &mut [u8], at: usize) -> Turned
 // Help, and what concerns notices alone.
 fn tell(line: Line, s: &[u8], out: &mut [u8], at: usize) -> usize
     requires { ⌜ length (now s) ≤ longest ⌝ }
-    ensures { λ r. ⌜ page (now (out .exit)) r ≡ puts (page (now (out .entry)) at) (tellText line (now (s .entry))) ⌝ }
+    ensures { λ r. ⌜ Written (now (out .entry)) at (tellText line (now (s .entry))) (now (out .exit)) r ⌝ }
 {
     let command = line.command;
     if command == commands::HELP {
@@ -86,7 +90,7 @@ fn tell(line: Line, s: &[u8], out: &mut [u8], at: usize) -> usize
     writing::put_bytes(out, at, writing::notice_of(line))
 }
 
-// The places that a plan is lent, 1,024 where the line leaves them out.
+// The places that a plan is lent, the most where the line leaves them out.
 fn places_of(line: Line) -> u64
     ensures { λ r. ⌜ r ≡ placesIn line ⌝ }
 {
@@ -95,13 +99,13 @@ fn places_of(line: Line) -> u64
     if 4 < count {
         return n[4];
     }
-    1024
+    commands::PLACES_MOST
 }
 
 // A question, which changes nothing.
 fn ask(state: State, line: Line, s: &[u8], out: &mut [u8], at: usize) -> usize
     requires { ⌜ length (now s) ≤ longest ⌝ }
-    ensures { λ r. ⌜ page (now (out .exit)) r ≡ puts (page (now (out .entry)) at) (askText state line (now (s .entry))) ⌝ }
+    ensures { λ r. ⌜ Written (now (out .entry)) at (askText state line (now (s .entry))) (now (out .exit)) r ⌝ }
 {
     let command = line.command;
     let n = line.numbers;

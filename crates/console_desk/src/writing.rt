@@ -8,7 +8,7 @@ use text::digits;
 use text::numbers;
 ghost use mathlib.Core.Path.{_≡_};
 ghost use Rattle.notice.specs.Encode.{bytesOf};
-ghost use Rattle.text.specs.Output.{page, puts};
+ghost use Rattle.text.specs.Output.{Written};
 ghost use Rattle.text.specs.Digits.{hexText};
 ghost use Rattle.console_desk.specs.Writing.{kindIn, noticeIn};
 
@@ -48,7 +48,7 @@ pub fn notice_of(line: Line) -> Notice
 
 // A notice's bytes in hexadecimal.
 pub fn put_bytes(out: &mut [u8], at: usize, n: Notice) -> usize
-    ensures { λ r. ⌜ page (now (out .exit)) r ≡ puts (page (now (out .entry)) at) (hexText (bytesOf n)) ⌝ }
+    ensures { λ r. ⌜ Written (now (out .entry)) at (hexText (bytesOf n)) (now (out .exit)) r ⌝ }
 {
     let mut room = [0u8; 64];
     notice::write(n, &mut room);

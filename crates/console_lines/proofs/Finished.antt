@@ -16,11 +16,11 @@ use Rattle.console_lines.specs.Commands
 use Rattle.rules.proofs.Tests.{both-l}
 use Rattle.text.proofs.Tables.{up-to, allUpTo}
 use Rattle.console_lines.specs.declared.lines.Line.{Line}
-use Rattle.console_lines.specs.Lines.{withFault, ended, goOn, withNumber, withKind, withHex, wordAt, withWord, step, begun, readOn, meaning}
+use Rattle.console_lines.specs.Lines.{withFault, ended, goOn, withNumber, withKind, withHex, wordAt, withWord, step, begun, readOn, numbersMost, meaning}
 
 -- how many words a line may still have, its kind counted for one
 unfoldable room : Line → ℕ
-room l = (69 - l .count) + pick (eqb (l .command) Commands.doWrite) 1 0
+room l = (Commands.wordsMost - l .count) + pick (eqb (l .command) Commands.doWrite) 1 0
 
 pick-case : {A : Type 0} (P : A → Type 0) (t : Bool) (a b : A) → (t ≡ true → P a) → (t ≡ false → P b) → P (pick t a b)
 pick-case P true a b f g = f refl
@@ -48,9 +48,9 @@ oversized-known : (c : ℕ) → known (Commands.oversized c)
 unfolding Commands.oversized
 oversized-known c = pick-case known (eqb c Commands.doPlan) _ _ (λ e u. omega arith) (λ e u. omega arith)
 
-few : (c : ℕ) → Commands.mostOf c ≤ 69
+few : (c : ℕ) → Commands.mostOf c ≤ Commands.wordsMost
 unfolding Commands.mostOf allUpTo
-few c = up-to 69 Commands.mostTable refl c
+few c = up-to Commands.wordsMost Commands.mostTable refl c
 
 -- a number takes one word
 number-falls : (s : List ℕ) (l : Line) (a e : ℕ) → l .count < Commands.mostOf (l .command) → Falls l (withNumber s l a e)
@@ -79,7 +79,7 @@ kind-falls : (w : List ℕ) (l : Line) (a e : ℕ) → l .command ≡ Commands.d
 unfolding withKind room
 kind-falls w l a e h =
     pick-case (Falls l) (within Commands.doOpen Commands.doClose (Commands.verbOf w)) _ _
-    (λ t u. kind-less (l .command) (Commands.verbOf w) (69 - l .count) h
+    (λ t u. kind-less (l .command) (Commands.verbOf w) (Commands.wordsMost - l .count) h
     (leb-true _ _ (both-l (leb Commands.doOpen (Commands.verbOf w)) (leb (Commands.verbOf w) Commands.doClose) t)))
     (λ t. stops l Commands.unknownWord a (λ u. omega arith))
 
@@ -129,11 +129,11 @@ one-more : (t : Bool) → pick t 1 0 ≤ 1
 one-more true = omega arith
 one-more false = omega arith
 
-small : (l : Line) → room l < 72
+small : (l : Line) → room l < numbersMost
 unfolding room
 small l = let k : pick (eqb (l .command) Commands.doWrite) 1 0 ≤ 1 = one-more (eqb (l .command) Commands.doWrite) in omega arith
 
 -- the reader's answer is a whole line or a fault of it
 pub finished : (s : List ℕ) → (meaning s) .fault ≡ Commands.unread → ⊥
 unfolding meaning
-finished s = read-through 72 s (begun s) (λ u. small (begun s))
+finished s = read-through numbersMost s (begun s) (λ u. small (begun s))

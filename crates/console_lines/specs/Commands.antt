@@ -1,5 +1,5 @@
--- The console's commands, the words that name them, and how many numbers each takes, of which size ("The operator's console", the table of lines).
-use Prim.Native.Nat.{ℕ, _%_}
+-- The console's commands, the words that name them, and how many numbers each takes, of which size (docs/CONSOLE.md, "Commands").
+use Prim.Native.Nat.{ℕ, _+_, _*_, _%_}
 use mathlib.Core.Bool.{Bool}
 use mathlib.Core.List.{List, [], _∷_}
 use lib.ListN.{getD}
@@ -7,6 +7,7 @@ use lib.Dec.{eqb, leb, ltb}
 use Rattle.rules.specs.Limits.{both, either}
 use Rattle.rules.specs.Refusals.{pick}
 use Rattle.text.specs.Texts.{text, same}
+use Rattle.text.specs.Numbers.{byteMost, fourBytesMost, top}
 
 -- a line that asks nothing
 abbrev pub none : ℕ
@@ -74,12 +75,31 @@ verbOf w =
     (pick (same w (text "write")) doWrite
     (pick (same w (text "help")) doHelp none)))))))))))
 
--- by command: the fewest words after its own, and the most. 33 is a time and 32 ids, 69 a pool and 17 titles of four numbers
+-- what a line may name at most: ids of a status, titles of a share, places of a plan. One title more than the product shares
+-- among, so that its own refusal is seen
+abbrev pub idsMost : ℕ
+idsMost = 32
+
+abbrev pub titlesMost : ℕ
+titlesMost = 17
+
+abbrev pub placesMost : ℕ
+placesMost = 1024
+
+-- the numbers of a title in a share: rate, length, floor, cap
+abbrev pub titleNumbers : ℕ
+titleNumbers = 4
+
+-- no command has more words after its own than a share: a pool, and its titles
+abbrev pub wordsMost : ℕ
+wordsMost = 1 + titleNumbers * titlesMost
+
+-- by command: the fewest words after its own, and the most
 abbrev pub leastTable : List ℕ
 leastTable = 0 ∷ 1 ∷ 6 ∷ 3 ∷ 2 ∷ 3 ∷ 1 ∷ 4 ∷ 1 ∷ 1 ∷ 1 ∷ 2 ∷ 0 ∷ 7 ∷ 4 ∷ 3 ∷ []
 
 abbrev pub mostTable : List ℕ
-mostTable = 0 ∷ 1 ∷ 6 ∷ 3 ∷ 2 ∷ 3 ∷ 33 ∷ 5 ∷ 69 ∷ 1 ∷ 1 ∷ 2 ∷ 0 ∷ 7 ∷ 4 ∷ 3 ∷ []
+mostTable = 0 ∷ 1 ∷ 6 ∷ 3 ∷ 2 ∷ 3 ∷ (1 + idsMost) ∷ 5 ∷ wordsMost ∷ 1 ∷ 1 ∷ 2 ∷ 0 ∷ 7 ∷ 4 ∷ 3 ∷ []
 
 unfoldable pub leastOf : ℕ → ℕ
 leastOf c = getD leastTable c 0
@@ -89,7 +109,7 @@ mostOf c = getD mostTable c 0
 
 -- the command may end after n words: sharing after its pool and whole titles, any other from its least on
 unfoldable pub enough : ℕ → ℕ → Bool
-enough c n = pick (eqb c doShare) (eqb (n % 4) 1) (leb (leastOf c) n)
+enough c n = pick (eqb c doShare) (eqb (n % titleNumbers) 1) (leb (leastOf c) n)
 
 -- the command's word is HEX
 unfoldable pub takesHex : ℕ → Bool
@@ -99,30 +119,24 @@ takesHex c = either (eqb c doRead) (eqb c doNotice)
 unfoldable pub takesKind : ℕ → ℕ → Bool
 takesKind c n = both (eqb c doWrite) (eqb n 1)
 
--- the largest number of so many bytes
-abbrev pub byte : ℕ
-byte = 255
-
-abbrev pub fourBytes : ℕ
-fourBytes = 4_294_967_295
-
-abbrev pub eightBytes : ℕ
-eightBytes = 18_446_744_073_709_551_615
-
 -- the largest value of each number of a command, where a larger one is an error of the line; 0 where any is handed on.
 -- Of a notice's fields (01, "Notices") and of the places lent for a plan
 unfoldable pub limitsOf : ℕ → List ℕ
 limitsOf c =
-    pick (eqb c doPlan) (0 ∷ 0 ∷ 0 ∷ 0 ∷ 1024 ∷ 0 ∷ 0 ∷ [])
-    (pick (eqb c doWrite) (fourBytes ∷ 0 ∷ 0 ∷ 0 ∷ 0 ∷ 0 ∷ 0 ∷ [])
-    (pick (eqb c writeOpen) (fourBytes ∷ byte ∷ eightBytes ∷ fourBytes ∷ byte ∷ byte ∷ byte ∷ [])
-    (pick (eqb c writeChange) (fourBytes ∷ byte ∷ eightBytes ∷ byte ∷ 0 ∷ 0 ∷ 0 ∷ [])
-    (pick (eqb c writeClose) (fourBytes ∷ byte ∷ eightBytes ∷ 0 ∷ 0 ∷ 0 ∷ 0 ∷ [])
+    pick (eqb c doPlan) (0 ∷ 0 ∷ 0 ∷ 0 ∷ placesMost ∷ 0 ∷ 0 ∷ [])
+    (pick (eqb c doWrite) (fourBytesMost ∷ 0 ∷ 0 ∷ 0 ∷ 0 ∷ 0 ∷ 0 ∷ [])
+    (pick (eqb c writeOpen) (fourBytesMost ∷ byteMost ∷ top ∷ fourBytesMost ∷ byteMost ∷ byteMost ∷ byteMost ∷ [])
+    (pick (eqb c writeChange) (fourBytesMost ∷ byteMost ∷ top ∷ byteMost ∷ 0 ∷ 0 ∷ 0 ∷ [])
+    (pick (eqb c writeClose) (fourBytesMost ∷ byteMost ∷ top ∷ 0 ∷ 0 ∷ 0 ∷ 0 ∷ [])
     (0 ∷ 0 ∷ 0 ∷ 0 ∷ 0 ∷ 0 ∷ 0 ∷ [])))))
 
--- of its n-th number, from 0; no command limits more than seven
+-- no command limits more of its numbers than these
+abbrev pub limited : ℕ
+limited = 7
+
+-- of its n-th number, from 0
 unfoldable pub limitOf : ℕ → ℕ → ℕ
-limitOf c n = pick (ltb n 7) (getD (limitsOf c) n 0) 0
+limitOf c n = pick (ltb n limited) (getD (limitsOf c) n 0) 0
 
 -- what can be wrong with a line
 abbrev pub noFault : ℕ

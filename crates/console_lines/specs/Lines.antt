@@ -1,5 +1,5 @@
 -- What a line of the console means: which command with which numbers, or what is wrong with it and at which byte
--- ("The operator's console", lines). A line is read from the left, word by word; the first thing wrong decides.
+-- (docs/CONSOLE.md, "Lines"). A line is read from the left, word by word; the first thing wrong decides.
 use Prim.Native.Nat.{ℕ, zero, suc, _+_, _-_, _%_, min}
 use mathlib.Core.List.{List}
 use lib.ListN.{length, getD, take, drop, set, replicate}
@@ -12,9 +12,13 @@ use Rattle.text.specs.Bytes.{reach}
 use Rattle.text.specs.Numbers.{top, amount, tooLarge}
 use Rattle.console_lines.specs.Commands
 
+-- room for the numbers of a line; no command has so many
+abbrev pub numbersMost : ℕ
+numbersMost = 72
+
 -- a line that answers nothing
 unfoldable pub blank : Line
-blank = record { command = Commands.none; fault = Commands.noFault; place = 0; count = 0; numbers = replicate 72 0 }
+blank = record { command = Commands.none; fault = Commands.noFault; place = 0; count = 0; numbers = replicate numbersMost 0 }
 
 -- the reading stops at a place: for a fault, or for none at the line's end
 unfoldable pub withFault : Line → ℕ → ℕ → Line
@@ -91,18 +95,22 @@ step s l =
 unfoldable pub withVerb : ℕ → ℕ → ℕ → Line
 withVerb v a e =
     pick (eqb v Commands.none) (withFault blank Commands.unknownWord a)
-    (record { command = v; fault = Commands.unread; place = e; count = 0; numbers = replicate 72 0 })
+    (record { command = v; fault = Commands.unread; place = e; count = 0; numbers = replicate numbersMost 0 })
 
 -- the longest line, its newline not counted
 abbrev pub longest : ℕ
 longest = 4095
+
+-- the byte #
+abbrev pub hash : ℕ
+hash = 35
 
 -- the first word: none, or one that begins with #, asks nothing
 unfoldable pub begun : List ℕ → Line
 begun s =
     pick (ltb longest (length s)) (withFault blank Commands.tooLong longest)
     (pick (ltb (reach Separator s 0) (length s))
-    (pick (eqb (getD s (reach Separator s 0) 0) 35) blank
+    (pick (eqb (getD s (reach Separator s 0) 0) hash) blank
     (withVerb (Commands.verbOf (wordAt s (reach Separator s 0))) (reach Separator s 0) (reach Word s (reach Separator s 0))))
     blank)
 
@@ -111,6 +119,6 @@ unfoldable pub readOn : ℕ → List ℕ → Line → Line
 readOn zero s l = l
 readOn (suc n) s l = pick (eqb (l .fault) Commands.unread) (readOn n s (step s l)) l
 
--- what the line s means. No command has more than 69 words after its own
+-- what the line s means. No command has so many words after its own
 unfoldable pub meaning : List ℕ → Line
-meaning s = readOn 72 s (begun s)
+meaning s = readOn numbersMost s (begun s)

@@ -1,10 +1,13 @@
 // The console's commands by number, the words that name them, and how many numbers each takes, of which size.
 
+use text::numbers::BYTE_MOST;
+use text::numbers::FOUR_BYTES_MOST;
+use text::numbers::TOP;
 ghost use mathlib.Core.Path.{_≡_};
 ghost use Prim.Native.Nat.{_≤_};
 ghost use Rattle.rules.specs.Refusals.{pick};
 ghost use Rattle.text.specs.Texts.{same};
-ghost use Rattle.console_lines.specs.Commands.{verbOf, leastOf, mostOf, limitsOf, limitOf, enough as suffices, crowded, oversized, takesHex, takesKind};
+ghost use Rattle.console_lines.specs.Commands.{verbOf, leastOf, mostOf, limitsOf, limitOf, enough as suffices, crowded, oversized, takesHex, takesKind, wordsMost};
 
 // A line that asks nothing.
 pub const NONE: u8 = 0;
@@ -68,10 +71,22 @@ pub const TOO_MANY_PLACES: u8 = 11;
 // Not read to its end yet.
 pub const UNREAD: u8 = 12;
 
-// By command: the fewest words after its own, and the most. Read, notice and help have no number; HEX is a word.
-const LEAST: [usize; 16] = [0, 1, 6, 3, 2, 3, 1, 4, 1, 1, 1, 2, 0, 7, 4, 3];
+// How many there are.
+const COMMANDS: usize = 16;
 
-const MOST: [usize; 16] = [0, 1, 6, 3, 2, 3, 33, 5, 69, 1, 1, 2, 0, 7, 4, 3];
+// What a line may name at most: ids of a status, titles of a share, places of a plan. One title more than the product shares
+// among, so that its own refusal is seen.
+pub const IDS_MOST: usize = 32;
+
+pub const TITLES_MOST: usize = 17;
+
+pub const PLACES_MOST: u64 = 1024;
+
+// By command: the fewest words after its own, and the most: 33 is a time and the ids, 69 a pool and four numbers of each title.
+// Read and notice have no number, but HEX, which is a word.
+const LEAST: [usize; COMMANDS] = [0, 1, 6, 3, 2, 3, 1, 4, 1, 1, 1, 2, 0, 7, 4, 3];
+
+const MOST: [usize; COMMANDS] = [0, 1, 6, 3, 2, 3, 33, 5, 69, 1, 1, 2, 0, 7, 4, 3];
 
 // verb where the word is that name, or other.
 fn named(word: &[u8], name: &[u8], verb: u8, other: u8) -> u8
@@ -103,10 +118,11 @@ pub fn verb(word: &[u8]) -> u8
 
 // The most words that a command takes after its own.
 pub fn most(command: u8) -> usize
-    ensures { λ r. ⌜ (r ≡ mostOf command) × (r ≤ 69) ⌝ }
+    ensures { λ r. ⌜ (r ≡ mostOf command) × (r ≤ wordsMost) ⌝ }
 {
-    if command < 16 {
-        return MOST[command as usize];
+    let k = command as usize;
+    if k < COMMANDS {
+        return MOST[k];
     }
     0
 }
@@ -115,8 +131,9 @@ pub fn most(command: u8) -> usize
 pub fn least(command: u8) -> usize
     ensures { λ r. ⌜ r ≡ leastOf command ⌝ }
 {
-    if command < 16 {
-        return LEAST[command as usize];
+    let k = command as usize;
+    if k < COMMANDS {
+        return LEAST[k];
     }
     0
 }
@@ -151,28 +168,35 @@ pub fn takes_kind(command: u8, count: usize) -> bool
     false
 }
 
-const FOUR_BYTES: u64 = 4_294_967_295;
-
-const EIGHT_BYTES: u64 = 18_446_744_073_709_551_615;
+// No command limits more of its numbers than these.
+const LIMITED: usize = 7;
 
 // By place: the largest value of a command's numbers, 0 where any is handed on.
-fn limits(command: u8) -> [u64; 7]
+fn limits(command: u8) -> [u64; LIMITED]
     ensures { λ r. ⌜ r ≡ limitsOf command ⌝ }
 {
     if command == PLAN {
-        return [0, 0, 0, 0, 1024, 0, 0];
+        return [0, 0, 0, 0, PLACES_MOST, 0, 0];
     }
     if command == WRITE {
-        return [FOUR_BYTES, 0, 0, 0, 0, 0, 0];
+        return [FOUR_BYTES_MOST, 0, 0, 0, 0, 0, 0];
     }
     if command == WRITE_OPEN {
-        return [FOUR_BYTES, 255, EIGHT_BYTES, FOUR_BYTES, 255, 255, 255];
+        return [
+            FOUR_BYTES_MOST,
+            BYTE_MOST,
+            TOP,
+            FOUR_BYTES_MOST,
+            BYTE_MOST,
+            BYTE_MOST,
+            BYTE_MOST,
+        ];
     }
     if command == WRITE_CHANGE {
-        return [FOUR_BYTES, 255, EIGHT_BYTES, 255, 0, 0, 0];
+        return [FOUR_BYTES_MOST, BYTE_MOST, TOP, BYTE_MOST, 0, 0, 0];
     }
     if command == WRITE_CLOSE {
-        return [FOUR_BYTES, 255, EIGHT_BYTES, 0, 0, 0, 0];
+        return [FOUR_BYTES_MOST, BYTE_MOST, TOP, 0, 0, 0, 0];
     }
     [0, 0, 0, 0, 0, 0, 0]
 }
@@ -180,7 +204,7 @@ fn limits(command: u8) -> [u64; 7]
 pub fn limit(command: u8, n: usize) -> u64
     ensures { λ r. ⌜ r ≡ limitOf command n ⌝ }
 {
-    if n < 7 {
+    if n < LIMITED {
         let row = limits(command);
         return row[n];
     }

@@ -7,10 +7,13 @@ use text::numbers;
 ghost use mathlib.Core.Path.{_≡_};
 ghost use Prim.Native.Nat.{_<_, _≤_};
 ghost use lib.ListN.{length};
-ghost use Rattle.console_lines.specs.Lines.{blank, withFault, ended, withNumber, withKind, withHex, withWord, step as stepped, withVerb, begun, meaning};
+ghost use Rattle.console_lines.specs.Lines.{blank, withFault, ended, withNumber, withKind, withHex, withWord, step as stepped, withVerb, begun, numbersMost, meaning};
 
 // No line is longer than this, its newline not counted.
 pub const LONGEST: usize = 4095;
+
+// Room for the numbers of a line; no command has so many.
+pub const NUMBERS_MOST: usize = 72;
 
 // What a line asks. Where fault is 0 the command is one of `commands`, NONE for a line that answers nothing, and its
 // numbers are the first count of numbers, each at most the largest 64-bit number; of HEX the first two numbers are the
@@ -20,7 +23,7 @@ pub struct Line {
     pub fault: u8,
     pub place: usize,
     pub count: usize,
-    pub numbers: [u64; 72],
+    pub numbers: [u64; NUMBERS_MOST],
 }
 
 fn empty() -> Line
@@ -31,7 +34,7 @@ fn empty() -> Line
         fault: commands::NO_FAULT,
         place: 0,
         count: 0,
-        numbers: [0; 72],
+        numbers: [0; NUMBERS_MOST],
     }
 }
 
@@ -56,7 +59,7 @@ fn end(line: Line, place: usize) -> Line
 
 // The word from a to e is a number.
 fn take_number(s: &[u8], line: Line, a: usize, e: usize) -> Line
-    requires { ⌜ line .count < 70 ⌝ }
+    requires { ⌜ line .count < numbersMost ⌝ }
     ensures { λ r. ⌜ r ≡ withNumber (now (s .entry)) line a e ⌝ }
 {
     let p = bytes::reach(s, a, Sort::Digit);
@@ -157,7 +160,7 @@ fn take_verb(v: u8, a: usize, e: usize) -> Line
         fault: commands::UNREAD,
         place: e,
         count: 0,
-        numbers: [0; 72],
+        numbers: [0; NUMBERS_MOST],
     }
 }
 
@@ -183,7 +186,7 @@ pub fn parse(s: &[u8]) -> Line
     ensures { λ r. ⌜ r ≡ meaning (now (s .entry)) ⌝ }
 {
     let mut line = begin(s);
-    let mut left: usize = 72;
+    let mut left: usize = NUMBERS_MOST;
     while 0 < left {
         let fault = line.fault;
         if fault == commands::UNREAD {

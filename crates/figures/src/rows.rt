@@ -1,15 +1,8 @@
 // Two rows of numbers, computed and published.
 
+use rules::truth::also;
 ghost use mathlib.Core.Path.{_≡_};
-ghost use Rattle.rules.specs.Limits.{both};
 ghost use Rattle.figures.specs.Rows.{agree as agreeing};
-
-// Both.
-pub fn also(a: bool, b: bool) -> bool
-    ensures { λ r. ⌜ r ≡ both a b ⌝ }
-{
-    if a { b } else { false }
-}
 
 // Whether two rows have the same numbers.
 pub fn agree(a: &[u64], b: &[u64]) -> bool

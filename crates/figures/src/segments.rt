@@ -1,6 +1,6 @@
 // Segments on channels, counted from 1 as in the papers.
 
-use super::rows::also;
+use rules::truth::also;
 ghost use Prim.Native.Nat.{_-_, _<_, _≤_, _^_};
 ghost use mathlib.Core.Path.{_≡_};
 ghost use Rattle.rules.specs.Limits.{countMax};

@@ -129,7 +129,7 @@ module _ (A K k t : ℕ) (low : A ≤ k) (high : k < K) where
   pub lane-spare : laneCell A K k t ≡ channelCell A K (suc k) (spare A K k t) t
   lane-spare = lane-added A K k t low ∙ ap (λ d. channelCell A K (suc k) d t) added-spare
 
--- Theorem 1 of source 000: G(k, t) lies within G(k + 1, t)
+-- Corollary 1 of source 000: G(k, t) lies within G(k + 1, t)
 pub nested : (A K k t c : ℕ) → A ≤ k → k < K → InG A K k t c → InG A K (suc k) t c
 nested A K k t c low high m =
     (raised A K k t (m .0), raised-lt A K k t (m .0) (m .1), sym (raise A K k t low high (m .0) (m .1)) ∙ m .2)

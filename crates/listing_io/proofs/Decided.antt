@@ -1,7 +1,7 @@
 -- The listing of input that comes in pieces is the listing of the whole: at a place that is decided, a buffer has what the log
 -- has, with the place after it counted in the log.
 -- Rests on which bytes matter at a place of a log.
-use mathlib.Core.Path.{_≡_, refl, sym, ap, _∙_}
+use mathlib.Core.Path.{_≡_, refl}
 use mathlib.Core.Bool.{Bool, true, false}
 use mathlib.Core.List.{List, [], _++_, append-nil}
 use Prim.Native.Nat.{ℕ, _+_}
@@ -14,9 +14,7 @@ use Rattle.notice.specs.Log.{isNotice, withFound}
 use Rattle.notice.proofs.Alike.{further}
 use Rattle.notice.proofs.Part.{amid, at-last}
 use Rattle.agent.specs.declared.Agent.{Agent}
-use Rattle.agent.specs.Played.{agentTold}
-use Rattle.listing_io.specs.declared.steps.Listed.{Listed}
-use Rattle.listing_io.specs.Steps.{lineAfter, Hears, isDecided}
+use Rattle.listing_io.specs.Steps.{lineAfter, isDecided}
 use Rattle.listing_io.specs.Listing.{Seen}
 
 reads : (before buffer later : List ℕ) (p : ℕ) (over : Bool) → isDecided (length buffer) p over ≡ true

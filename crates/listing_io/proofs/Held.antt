@@ -17,11 +17,14 @@ use Rattle.agent.specs.declared.Agent.{Agent}
 use Rattle.agent.specs.Turns.{noticeNext, freshAgent}
 use Rattle.listing_io.specs.Steps.{heldAfter}
 
+abbrev ofKind : Notice → Kind → Notice
+ofKind n k = record { sequence = n .sequence; title = n .title; time = n .time; kind = k }
+
 -- an accepted notice leaves its own time as the last
 pub own-time : (g : Agent) (n : Notice) → noticeNext g (reading.Whole n) .state .last ≡ n .time
 own-time g n = go (n .kind)
   where
-    go : (k : Kind) → noticeNext g (reading.Whole (record { sequence = n .sequence; title = n .title; time = n .time; kind = k })) .state .last ≡ n .time
+    go : (k : Kind) → noticeNext g (reading.Whole (ofKind n k)) .state .last ≡ n .time
     go (Open d a c k) = refl
     go (Change k) = refl
     go Close = refl

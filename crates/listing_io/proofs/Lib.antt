@@ -4,5 +4,6 @@ pub mod Short
 pub mod Onward
 pub mod Decided
 pub mod Whole
+pub mod Ends
 pub mod Held
 pub mod Settled

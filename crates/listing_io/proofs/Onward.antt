@@ -104,7 +104,8 @@ count-low l from to = go (ltb (length l) to)
     go false = omega arith
 
 -- of a part of so many bytes, fewer are kept than the longest notice has
-pub kept-few : (g : Agent) (l part : List ℕ) (over : Bool) (r : Listed) (to n : ℕ) → Drained g part over r → to ≡ length part
+pub kept-few : (g : Agent) (l part : List ℕ) (over : Bool) (r : Listed) (to n : ℕ) → Drained g part over r
+    → to ≡ length part
     → n ≡ count l (r .place) to → r .more ≡ true → n < longestNotice
 unfolding table startOf spanOf
 kept-few g l part over r to n d is many more =

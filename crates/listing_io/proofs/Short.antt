@@ -1,6 +1,6 @@
 -- No line is longer than the room that a step of the listing has for it, so what is printed is the whole line.
 -- Rests on a number in decimal having 20 digits at most, and on a page keeping what has room.
-use mathlib.Core.Path.{_≡_, refl, sym, ap, _∙_}
+use mathlib.Core.Path.{_≡_, ap, _∙_}
 use mathlib.Core.Bool.{Bool, true, false}
 use mathlib.Core.List.{List, [], _∷_, _++_}
 use Prim.Native.Nat.{ℕ, zero, suc, _+_, _≤_, _/_, _%_}

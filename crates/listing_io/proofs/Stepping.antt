@@ -21,7 +21,7 @@ use Rattle.agent.specs.Played.{agentTold}
 use Rattle.text.specs.Output.{page, puts}
 use Rattle.listing_io.specs.declared.steps.Listed.{Listed}
 use Rattle.listing_io.specs.Lines.{lineOf, lastLine}
-use Rattle.listing_io.specs.Steps.{heldAfter, noticeLine, cutLine, Hears, Lists}
+use Rattle.listing_io.specs.Steps.{heldAfter, noticeLine, cutLine, Lists}
 
 -- the test of what is left is the test of where a longestNotice notice would end
 pub short-left : (size p : ℕ) → size < p → false ≡ leb (p + longestNotice) size
@@ -86,5 +86,8 @@ pub notice-at : (g : Agent) (n : Notice) (e p : ℕ) (q : Found) (room after : L
 notice-at g n e p q room after r is s =
     let h = s .hears in
     let there : Lists g (found.At n e) p room r after =
-    record { hears = record { agent-is = h .agent-is; place-is = h .place-is; more-is = h .more-is }; line-is = s .line-is } in
+    record {
+      hears = record { agent-is = h .agent-is; place-is = h .place-is; more-is = h .more-is };
+      line-is = s .line-is;
+    } in
     rw is there

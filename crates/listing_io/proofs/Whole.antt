@@ -3,25 +3,29 @@
 -- Rests on what a step promises, on places that are decided, and on a log being read through.
 use mathlib.Core.Path.{_≡_, refl, sym, ap, _∙_}
 use mathlib.Core.Bool.{Bool, true, false}
-use mathlib.Core.List.{List, [], _∷_, _++_, append-nil}
-use Prim.Native.Nat.{ℕ, suc, _+_, _≤_}
+use mathlib.Core.List.{List, [], _++_, map}
+use Prim.Native.Nat.{ℕ, suc, _+_}
 use lib.ListN.{length, take}
 use Rattle.rules.specs.Refusals.{pick}
+use Rattle.rules.proofs.Tests.{fails}
 use Rattle.notice.specs.declared.Notice.{Notice}
 use Rattle.notice.specs.declared.Found.{Found}
 use Rattle.notice.specs.declared.Found.the-variants as found
 use Rattle.notice.specs.Decode.{readAt, placeAfter}
-use Rattle.notice.specs.Log.{placeTo, isNotice, withFound, noticesTo, noticesOf, stopOf, isWholeLog}
+use Rattle.notice.specs.Encode.{bytesOf}
+use Rattle.notice.specs.Log.{Bytes, placeTo, isNotice, withFound, noticesTo, noticesOf, stopOf, isWholeLog}
 use Rattle.notice.proofs.Each.{false-true}
 use Rattle.notice.proofs.Alike.{further}
 use Rattle.notice.proofs.Through.{Stopped, stopped-on, all-read, last-read}
 use Rattle.agent.specs.declared.Agent.{Agent}
+use Rattle.agent.specs.Turns.{freshAgent}
+use Rattle.agent.specs.Series.{agentAfter}
 use Rattle.agent.specs.Played.{agentTold}
-use Rattle.agent.proofs.Played.{told-more}
+use Rattle.agent.proofs.Played.{told-more, played}
 use Rattle.listing_io.specs.declared.steps.Listed.{Listed}
 use Rattle.listing_io.specs.declared.input.Shown.{Shown}
-use Rattle.listing_io.specs.Steps.{cutLine, lineAfter, Hears, Shows}
-use Rattle.listing_io.specs.Listing.{linesOf, listingOf, Seen, Run, starts, goes}
+use Rattle.listing_io.specs.Steps.{cutLine, lineAfter, Shows, isDecided}
+use Rattle.listing_io.specs.Listing.{linesOf, listingOf, Seen, Run, starts, goes, Drained}
 use Rattle.listing_io.proofs.Decided.{seen-reads, same-line, same-notices, same-more, same-place}
 
 -- ---- one step
@@ -54,7 +58,7 @@ on-log g log buffer place p s r w =
 -- ---- a run
 
 -- after so many reads: the agent and the place of those reads, and the lines of their notices, or the whole listing
-pub record Told (g : Agent) (log : List ℕ) (h : Agent) (place : ℕ) (more : Bool) (text : List ℕ) : Type 0 where
+pub record SoFar (g : Agent) (log : List ℕ) (h : Agent) (place : ℕ) (more : Bool) (text : List ℕ) : Type 0 where
   pub reads : ℕ
   pub agent : h ≡ agentTold g (noticesTo log reads)
   pub at : place ≡ placeTo log reads
@@ -75,16 +79,19 @@ last-line g true = refl
 last-line g false = refl
 
 all-lines : (g : Agent) (log : List ℕ) (n : ℕ) → Stopped log n
-    → linesOf g (noticesTo log n) ++ lineAfter (agentTold g (noticesTo log n)) (readAt log (placeTo log n)) ≡ listingOf g log
+    → linesOf g (noticesTo log n) ++ lineAfter (agentTold g (noticesTo log n)) (readAt log (placeTo log n))
+    ≡ listingOf g log
 unfolding listingOf
 all-lines g log n h =
     let all = all-read log n h in
-    rw (all .0, all .1, last-read log) (ap (λ (s : List ℕ). linesOf g (noticesOf log) ++ s) (last-line _ (isWholeLog log)))
+    rw (all .0, all .1, last-read log)
+    (ap (λ (s : List ℕ). linesOf g (noticesOf log) ++ s) (last-line _ (isWholeLog log)))
 
-step-told : (g : Agent) (log : List ℕ) (h k : Agent) (place after : ℕ) (more : Bool) (text line : List ℕ)
-    → Told g log h place true text → Step h (readAt log place) place k after more line → Told g log k after more (text ++ line)
+step-more : (g : Agent) (log : List ℕ) (h k : Agent) (place after : ℕ) (more : Bool) (text line : List ℕ)
+    → SoFar g log h place true text → Step h (readAt log place) place k after more line
+    → SoFar g log k after more (text ++ line)
 unfolding placeTo noticesTo
-step-told g log h k place after more text line t s =
+step-more g log h k place after more text line t s =
     let n = t .reads in
     let f = readAt log (placeTo log n) in
     let ns = noticesTo log n in
@@ -101,13 +108,21 @@ step-told g log h k place after more text line t s =
       ended = λ q. printed ∙ all-lines g log n (sym on ∙ q);
     }
 
-pub told : (g : Agent) (log : List ℕ) (h : Agent) (place : ℕ) (more : Bool) (text : List ℕ) → Run g log h place more text
-    → Told g log h place more text
+pub so-far : (g : Agent) (log : List ℕ) (h : Agent) (place : ℕ) (more : Bool) (text : List ℕ)
+    → Run g log h place more text
+    → SoFar g log h place more text
 unfolding placeTo noticesTo agentTold linesOf
-told g log h place more text starts =
-    record { reads = 0; agent = refl; at = refl; going = λ _. refl; stopped = λ q. false-true (sym q); ended = λ q. false-true (sym q) }
-told g log h place more text (goes {h = k} {place = before} {p = p} {text = said} {buffer = buffer} {r = r} run s w) =
-    step-told g log k _ before _ _ said _ (told g log k before true said run) (on-log k log buffer before p s r w)
+so-far g log h place more text starts =
+    record {
+      reads = 0;
+      agent = refl;
+      at = refl;
+      going = λ _. refl;
+      stopped = λ q. false-true (sym q);
+      ended = λ q. false-true (sym q);
+    }
+so-far g log h place more text (goes {h = k} {place = before} {p = p} {text = said} {buffer = buffer} {r = r} run s w) =
+    step-more g log k _ before _ _ said _ (so-far g log k before true said run) (on-log k log buffer before p s r w)
 
 -- ---- the theorem
 
@@ -115,5 +130,20 @@ told g log h place more text (goes {h = k} {place = before} {p = p} {text = said
 pub listed : (g : Agent) (log : List ℕ) (h : Agent) (place : ℕ) (text : List ℕ) → Run g log h place false text
     → (h ≡ agentTold g (noticesOf log)) × (text ≡ listingOf g log)
 listed g log h place text run =
-    let t = told g log h place false text run in
+    let t = so-far g log h place false text run in
     (t .agent ∙ ap (agentTold g) (all-read log (t .reads) (t .stopped refl) .1), t .ended refl)
+
+-- heard by a fresh agent of a pool, that is the agent of the agent's page after the log's notices, each in its own bytes
+pub listed-fresh : (pool : ℕ) (log : List ℕ) → Bytes log → (h : Agent) (place : ℕ) (text : List ℕ)
+    → Run (freshAgent pool) log h place false text → h ≡ agentAfter pool (map bytesOf (noticesOf log))
+listed-fresh pool log small h place text run = listed (freshAgent pool) log h place text run .0 ∙ played pool log small
+
+-- what was read at the input's end is listed to where the log's reading stops
+pub drained-all : (g : Agent) (log : List ℕ) (r : Listed) → Drained g log true r
+    → (r .place ≡ stopOf log) × (r .agent ≡ agentTold g (noticesOf log))
+unfolding isDecided
+drained-all g log r d =
+    let u = d .up-to in
+    let over : r .more ≡ false = fails (r .more) (λ q. false-true (sym (d .undecided q))) in
+    let all = all-read log (u .reads) (rw (u .place-is) at (u .stopped over)) in
+    (u .place-is ∙ all .0, u .agent-is ∙ ap (agentTold g) (all .1))

@@ -1,9 +1,9 @@
 // The lines of the listing, written at the start of a lent row. What has no room is left out.
 
+use rules::MALFORMED;
 use text::digits::put_number;
 use text::output::put;
 use text::output::put_byte;
-use rules::MALFORMED;
 ghost use mathlib.Core.Path.{_≡_};
 ghost use Rattle.text.specs.Output.{page, puts};
 ghost use Rattle.listing_io.specs.Lines.{ended, lineOf, lastLine};

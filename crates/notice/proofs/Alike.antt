@@ -19,7 +19,8 @@ use Rattle.notice.specs.declared.Found.{Found}
 use Rattle.notice.specs.declared.Found.the-variants as found
 use Rattle.notice.specs.Fields.{table, sizeOf, isCarried, isKnown, startOf, lengthOf, rows}
 use Rattle.notice.specs.Numbers.{numberAt}
-use Rattle.notice.specs.Decode.{headStands, rowStands, standsTo, valueAt, kindIn, noticeIn, kindAt, isWhole, readAt, readOf}
+use Rattle.notice.specs.Decode.{headStands, rowStands, standsTo, valueAt, kindIn, noticeIn, kindAt, isWhole}
+use Rattle.notice.specs.Decode.{readAt, readOf}
 use Rattle.rules.proofs.Tests.{both-l}
 use Rattle.notice.proofs.Table.{by-kind, value-inside}
 use Rattle.notice.proofs.There.{there, inside}
@@ -40,12 +41,14 @@ inner bs cs p q m s n h fits j lt =
     rw (add-assoc p s j, add-assoc q s j) (h (s + j) (omega arith))
 
 module _ (bs cs : List ℕ) (p q k : ℕ) (same : Agree bs p cs q (lengthOf k)) where
-  head-alike : (i : ℕ) → i < rows → isCarried k i ≡ true → headStands bs (p + startOf k i) i ≡ headStands cs (q + startOf k i) i
+  head-alike : (i : ℕ) → i < rows → isCarried k i ≡ true
+      → headStands bs (p + startOf k i) i ≡ headStands cs (q + startOf k i) i
   unfolding headStands
   head-alike i h has =
       let fits = value-inside k i h has in
       let tag = inner bs cs p q (lengthOf k) (startOf k i + 0) 1 same (omega arith) 0 (omega arith) in
-      let size = number-alike bs cs (p + (startOf k i + 1)) (q + (startOf k i + 1)) 2 (inner bs cs p q (lengthOf k) (startOf k i + 1) 2 same (omega arith)) in
+      let size = number-alike bs cs (p + (startOf k i + 1)) (q + (startOf k i + 1)) 2
+      (inner bs cs p q (lengthOf k) (startOf k i + 1) 2 same (omega arith)) in
       let a : p + (startOf k i + 0) + 0 ≡ p + startOf k i = omega arith in
       let b : q + (startOf k i + 0) + 0 ≡ q + startOf k i = omega arith in
       let t : getD bs (p + startOf k i) 0 ≡ getD cs (q + startOf k i) 0 = rw (a, b) at tag in
@@ -55,7 +58,8 @@ module _ (bs cs : List ℕ) (p q k : ℕ) (same : Agree bs p cs q (lengthOf k)) 
   unfolding valueAt
   value-alike i h has =
       let fits = value-inside k i h has in
-      let n = number-alike bs cs (p + (startOf k i + 3)) (q + (startOf k i + 3)) (sizeOf i) (inner bs cs p q (lengthOf k) (startOf k i + 3) (sizeOf i) same (omega arith)) in
+      let n = number-alike bs cs (p + (startOf k i + 3)) (q + (startOf k i + 3)) (sizeOf i)
+      (inner bs cs p q (lengthOf k) (startOf k i + 3) (sizeOf i) same (omega arith)) in
       rw (add-assoc, add-assoc) n
 
   rows-alike : (i : ℕ) → i ≤ rows → standsTo bs p k i ≡ standsTo cs q k i
@@ -63,24 +67,32 @@ module _ (bs cs : List ℕ) (p q k : ℕ) (same : Agree bs p cs q (lengthOf k)) 
   rows-alike zero h = refl
   rows-alike (suc i) h = rw (rows-alike i (omega arith)) (ap (both (standsTo cs q k i)) (go (isCarried k i) refl))
     where
-      go : (b : Bool) → isCarried k i ≡ b → pick b (headStands bs (p + startOf k i) i) true ≡ pick b (headStands cs (q + startOf k i) i) true
+      go : (b : Bool) → isCarried k i ≡ b
+          → pick b (headStands bs (p + startOf k i) i) true ≡ pick b (headStands cs (q + startOf k i) i) true
       go true c = head-alike i (omega arith) c
       go false c = refl
 
-kind-alike : (bs cs : List ℕ) (p q k : ℕ) → isKnown k ≡ true → Agree bs p cs q (lengthOf k) → kindIn bs p k ≡ kindIn cs q k
+kind-alike : (bs cs : List ℕ) (p q k : ℕ) → isKnown k ≡ true → Agree bs p cs q (lengthOf k)
+    → kindIn bs p k ≡ kindIn cs q k
 unfolding kindIn table
 kind-alike bs cs p q =
     by-kind (λ (k : ℕ). Agree bs p cs q (lengthOf k) → kindIn bs p k ≡ kindIn cs q k)
-    (λ h. rw (value-alike bs cs p q 1 h 4 (omega arith) refl, value-alike bs cs p q 1 h 5 (omega arith) refl, value-alike bs cs p q 1 h 6 (omega arith) refl, value-alike bs cs p q 1 h 7 (omega arith) refl))
+    (λ h.
+    let v = value-alike bs cs p q 1 h in
+    rw (v 4 (omega arith) refl, v 5 (omega arith) refl, v 6 (omega arith) refl, v 7 (omega arith) refl))
     (λ h. rw (value-alike bs cs p q 2 h 7 (omega arith) refl))
     (λ h. refl)
 
 -- the rows that every kind carries
-common : (k : ℕ) → isKnown k ≡ true → (isCarried k 1 ≡ true) × ((isCarried k 2 ≡ true) × (isCarried k 3 ≡ true))
-unfolding table
-common = by-kind (λ (k : ℕ). (isCarried k 1 ≡ true) × ((isCarried k 2 ≡ true) × (isCarried k 3 ≡ true))) (refl, (refl, refl)) (refl, (refl, refl)) (refl, (refl, refl))
+abbrev Common : ℕ → Type 0
+Common k = (isCarried k 1 ≡ true) × ((isCarried k 2 ≡ true) × (isCarried k 3 ≡ true))
 
-notice-alike : (bs cs : List ℕ) (p q k : ℕ) → isKnown k ≡ true → Agree bs p cs q (lengthOf k) → noticeIn bs p k ≡ noticeIn cs q k
+common : (k : ℕ) → isKnown k ≡ true → Common k
+unfolding table
+common = by-kind Common (refl, (refl, refl)) (refl, (refl, refl)) (refl, (refl, refl))
+
+notice-alike : (bs cs : List ℕ) (p q k : ℕ) → isKnown k ≡ true → Agree bs p cs q (lengthOf k)
+    → noticeIn bs p k ≡ noticeIn cs q k
 unfolding noticeIn
 notice-alike bs cs p q k known h =
     let c = common k known in
@@ -96,7 +108,8 @@ notice-alike bs cs p q k known h =
 -- bs at p and cs at q have one kind, room for it or not alike, and its bytes
 pub record Alike (bs : List ℕ) (p : ℕ) (cs : List ℕ) (q : ℕ) : Type 0 where
   pub kind : kindAt bs p ≡ kindAt cs q
-  pub room : isKnown (kindAt bs p) ≡ true → leb (p + lengthOf (kindAt bs p)) (length bs) ≡ leb (q + lengthOf (kindAt bs p)) (length cs)
+  pub room : isKnown (kindAt bs p) ≡ true
+      → leb (p + lengthOf (kindAt bs p)) (length bs) ≡ leb (q + lengthOf (kindAt bs p)) (length cs)
   pub bytes : isKnown (kindAt bs p) ≡ true → Agree bs p cs q (lengthOf (kindAt bs p))
 
 module _ (bs cs : List ℕ) (p q : ℕ) (a : Alike bs p cs q) where
@@ -135,7 +148,8 @@ found-alike bs cs p d a ends = rw (← ends, ← whole-alike bs cs p (d + p) a) 
 -- ---- a notice by itself
 
 -- read from its own part of a log, it is the same notice
-pub by-itself : (bs : List ℕ) (p : ℕ) (n : Notice) (e : ℕ) → readAt bs p ≡ found.At n e → readOf (take (e - p) (drop p bs)) ≡ reading.Whole n
+pub by-itself : (bs : List ℕ) (p : ℕ) (n : Notice) (e : ℕ) → readAt bs p ≡ found.At n e
+    → readOf (take (e - p) (drop p bs)) ≡ reading.Whole n
 unfolding readOf
 by-itself bs p n e is =
     let t = there bs p n e is in
@@ -154,4 +168,5 @@ by-itself bs p n e is =
       bytes = λ known j lt. at j (omega (arith, t .end));
     } in
     let one : lengthOf (kindAt cs 0) ≡ length cs = ap lengthOf (sym (a .kind)) ∙ omega (arith, t .end) in
-    rw (← whole-alike bs cs p 0 a, t .all, eq-eqb _ _ one) (ap reading.Whole (sym (same-notice bs cs p 0 a (t .all)) ∙ t .notice))
+    rw (← whole-alike bs cs p 0 a, t .all, eq-eqb _ _ one)
+    (ap reading.Whole (sym (same-notice bs cs p 0 a (t .all)) ∙ t .notice))

@@ -67,7 +67,8 @@ only len found.End = reading.Malformed
 only len found.Malformed = reading.Malformed
 
 picks : (w : Bool) (len e : ℕ) (n : Notice)
-    → pick (both w (eqb e len)) (reading.Whole n) reading.Malformed ≡ only len (pick w (found.At n (0 + e)) found.Malformed)
+    → pick (both w (eqb e len)) (reading.Whole n) reading.Malformed
+    ≡ only len (pick w (found.At n (0 + e)) found.Malformed)
 unfolding only
 picks true len e n = rw zero-add
 picks false len e n = refl

@@ -3,7 +3,8 @@
 use mathlib.Core.Path.{_≡_, sym, ap, _∙_}
 use mathlib.Core.List.{List, _++_}
 use Prim.Native.Nat.{ℕ, zero, suc, _+_, _-_, _≤_, _<_, _^_, _/_, _%_}
-use native.Mathlib.Nat.{add-zero, add-assoc, add-suc, pow-suc, pow-succ', div-one, div-eq-of-lt, div-add-mod', div-div-eq-div-mul}
+use native.Mathlib.Nat.{add-zero, add-assoc, add-suc, pow-suc, pow-succ', div-one, div-eq-of-lt, div-add-mod'}
+use native.Mathlib.Nat.{div-div-eq-div-mul}
 use native.Mathlib.Omega.{arith}
 use lib.Arith.{digits-div, digits-mod}
 use lib.ListN.{length, getD, take, drop, length-append, length-take, length-drop, List·getD-append}
@@ -41,7 +42,8 @@ pub has-middle : (pre w post : List ℕ) → Has (pre ++ (w ++ post)) (length pr
 has-middle pre w post j lt = getD-append-add pre (w ++ post) j 0 ∙ List·getD-append w post 0 j lt
 
 -- what stands within a list is the part of it
-pub has-part : (bs : List ℕ) (a : ℕ) (w : List ℕ) → a + length w ≤ length bs → Has bs a w → take (length w) (drop a bs) ≡ w
+pub has-part : (bs : List ℕ) (a : ℕ) (w : List ℕ) → a + length w ≤ length bs → Has bs a w
+    → take (length w) (drop a bs) ≡ w
 has-part bs a w fits h =
     ext-getD 0 (take (length w) (drop a bs)) w
     (length-take (length w) (drop a bs) ∙ rw length-drop (omega arith))
@@ -61,7 +63,8 @@ big-at (suc n) v (suc j) h =
     rw e (big-at n v j (omega arith))
 
 -- the first m bytes of a number of n bytes spell what is left after taking the others off
-gather : (bs : List ℕ) (a n v : ℕ) → v < 256 ^ n → Has bs a (bigEndian n v) → (m : ℕ) → m ≤ n → numberAt bs a m ≡ v / 256 ^ (n - m)
+gather : (bs : List ℕ) (a n v : ℕ) → v < 256 ^ n → Has bs a (bigEndian n v) → (m : ℕ) → m ≤ n
+    → numberAt bs a m ≡ v / 256 ^ (n - m)
 unfolding numberAt
 gather bs a n v small h zero le =
     let e : n - 0 ≡ n = omega arith in

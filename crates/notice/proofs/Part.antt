@@ -1,7 +1,7 @@
 -- Which bytes matter at a place of a log: those from the place on, and of these no more than the longest notice has. So a reading
 -- is that of the log's part from the place on, and a log that comes in pieces reads as the whole.
 -- Rests on bytes that agree reading alike.
-use mathlib.Core.Path.{_≡_, refl, sym, ap, _∙_}
+use mathlib.Core.Path.{_≡_, sym, ap, _∙_}
 use mathlib.Core.List.{List, _++_}
 use Prim.Native.Nat.{ℕ, _+_, _≤_, _<_}
 use native.Mathlib.Nat.{add-assoc, add-zero}
@@ -10,9 +10,7 @@ use borrow.Author.Tests.{le-leb, lt-leb}
 use lib.Dec.{leb}
 use lib.ListN.{length, getD, take, drop, length-append, length-drop, take-append-drop, List·getD-append}
 use lib.Seq.{getD-append-add, length-take-le}
-use Rattle.notice.specs.declared.Found.{Found}
-use Rattle.notice.specs.declared.Found.the-variants as found
-use Rattle.notice.specs.Fields.{table, isKnown, spanOf, startOf, lengthOf, longestNotice}
+use Rattle.notice.specs.Fields.{table, spanOf, startOf, lengthOf, longestNotice}
 use Rattle.notice.specs.Decode.{kindAt, readAt}
 use Rattle.notice.proofs.Each.{by-order}
 use Rattle.notice.proofs.Table.{longest-kind}

@@ -18,7 +18,8 @@ use Rattle.notice.specs.declared.Found.the-variants as found
 use Rattle.notice.specs.Fields.{table, tagOf, sizeOf, isCarried, isKnown, startOf, lengthOf, rows}
 use Rattle.notice.specs.Numbers.{bigEndian, numberAt}
 use Rattle.notice.specs.Encode.{kindOf, valuesIn, fieldBytes, rowBytes, bytesTo, bytesOf}
-use Rattle.notice.specs.Decode.{headStands, rowStands, standsTo, valueAt, kindIn, noticeIn, kindAt, isWhole, readAt, readOf}
+use Rattle.notice.specs.Decode.{headStands, rowStands, standsTo, valueAt, kindIn, noticeIn, kindAt, readAt}
+use Rattle.notice.specs.Decode.{readOf}
 use Rattle.notice.specs.Log.{Bytes}
 use Rattle.rules.proofs.Tests.{both-l, both-r}
 use Rattle.notice.proofs.Table.{by-kind}
@@ -53,7 +54,8 @@ field-stands bs small at i stands =
 
 -- ---- all rows of a kind
 
-module _ (bs : List ℕ) (small : Bytes bs) (p k : ℕ) (vs : List ℕ) (same : (i : ℕ) → i < rows → isCarried k i ≡ true → getD vs i 0 ≡ valueAt bs p k i) where
+module _ (bs : List ℕ) (small : Bytes bs) (p k : ℕ) (vs : List ℕ)
+    (same : (i : ℕ) → i < rows → isCarried k i ≡ true → getD vs i 0 ≡ valueAt bs p k i) where
   rows-stand : (i : ℕ) → i ≤ rows → standsTo bs p k i ≡ true → Has bs p (bytesTo k vs i)
   unfolding standsTo rowStands bytesTo rowBytes valueAt
   rows-stand zero h s = λ j lt. absurd (omega arith)
@@ -92,7 +94,16 @@ module _ (bs : List ℕ) (p : ℕ) where
   values-same k known at =
       let d = data-same k known in
       each (Same k) 8
-      (((((((((tt, λ _. kind-same bs p k known ∙ (sym at ∙ sym (first-value bs p k))), λ _. refl), λ _. refl), λ _. refl), d .0), d .1 .0), d .1 .1 .0), d .1 .1 .1))
+      ((
+        (
+          (
+            (((((tt, λ _. kind-same bs p k known ∙ (sym at ∙ sym (first-value bs p k))), λ _. refl), λ _. refl), λ _. refl), d .0),
+            d .1 .0,
+          ),
+          d .1 .1 .0,
+        ),
+        d .1 .1 .1,
+      ))
 
 -- ---- the theorems
 
@@ -102,7 +113,8 @@ pub record Stands (bs : List ℕ) (p : ℕ) (n : Notice) (e : ℕ) : Type 0 wher
   pub after : e ≡ p + length (bytesOf n)
   pub inside : e ≤ length bs
 
-as-notice : (bs : List ℕ) (p k : ℕ) (m : Notice) → kindOf (m .kind) ≡ k → Has bs p (bytesTo k (valuesIn m) rows) → Has bs p (bytesOf m)
+as-notice : (bs : List ℕ) (p k : ℕ) (m : Notice) → kindOf (m .kind) ≡ k → Has bs p (bytesTo k (valuesIn m) rows)
+    → Has bs p (bytesOf m)
 unfolding bytesOf
 as-notice bs p k m same h = subst (λ (q : ℕ). Has bs p (bytesTo q (valuesIn m) rows)) (sym same) h
 
@@ -142,7 +154,8 @@ whole-at : (len : ℕ) (n : Notice) (f : Found) → only len f ≡ reading.Whole
 unfolding only
 whole-at len n (found.At m e) h = go (eqb e len) refl h
   where
-    go : (b : Bool) → eqb e len ≡ b → pick b (reading.Whole m) reading.Malformed ≡ reading.Whole n → found.At m e ≡ found.At n len
+    go : (b : Bool) → eqb e len ≡ b → pick b (reading.Whole m) reading.Malformed ≡ reading.Whole n
+        → found.At m e ≡ found.At n len
     go true s t = cc (eqb-true e len s)
     go false s t = absurd (let z : _≡_ {A = ℕ} 0 1 = cc in omega arith)
 whole-at len n found.End h = absurd (let z : _≡_ {A = ℕ} 0 1 = cc in omega arith)
@@ -160,7 +173,8 @@ read-writes bs small n is =
     sym (read-writes-at bs small 0 n (length bs) (alone-at bs n is)) ∙ take-all (length (bytesOf n)) bs long
 
 -- no two strings of bytes read as one notice, and none reads as two
-pub one-string : (bs cs : List ℕ) → Bytes bs → Bytes cs → (n : Notice) → readOf bs ≡ reading.Whole n → readOf cs ≡ reading.Whole n → bs ≡ cs
+pub one-string : (bs cs : List ℕ) → Bytes bs → Bytes cs → (n : Notice) → readOf bs ≡ reading.Whole n
+    → readOf cs ≡ reading.Whole n → bs ≡ cs
 one-string bs cs b c n p q = sym (read-writes bs b n p) ∙ read-writes cs c n q
 
 pub one-notice : (bs : List ℕ) (m n : Notice) → readOf bs ≡ reading.Whole m → readOf bs ≡ reading.Whole n → m ≡ n

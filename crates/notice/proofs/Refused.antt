@@ -38,7 +38,8 @@ refused bs w = simp w
 
 -- ---- each way to fail, at any place
 
-pub unknown-kind : (bs : List ℕ) (p : ℕ) → (kindAt bs p ≡ 1 → ⊥) → (kindAt bs p ≡ 2 → ⊥) → (kindAt bs p ≡ 3 → ⊥) → isWhole bs p ≡ false
+pub unknown-kind : (bs : List ℕ) (p : ℕ) → (kindAt bs p ≡ 1 → ⊥) → (kindAt bs p ≡ 2 → ⊥) → (kindAt bs p ≡ 3 → ⊥)
+    → isWhole bs p ≡ false
 unknown-kind bs p a b c = unknown bs p (go (isKnown (kindAt bs p)) refl)
   where
     go : (t : Bool) → isKnown (kindAt bs p) ≡ t → isKnown (kindAt bs p) ≡ false

@@ -17,7 +17,8 @@ use Rattle.notice.specs.declared.Found.the-variants as found
 use Rattle.notice.specs.Fields.{table, tagOf, sizeOf, isCarried, isKnown, startOf, lengthOf, rows}
 use Rattle.notice.specs.Numbers.{bigEndian, numberAt}
 use Rattle.notice.specs.Encode.{kindOf, dataIn, valuesIn, fieldBytes, rowBytes, bytesTo, bytesOf}
-use Rattle.notice.specs.Decode.{headStands, rowStands, standsTo, valueAt, kindIn, noticeIn, kindAt, isWhole, readAt, readOf}
+use Rattle.notice.specs.Decode.{headStands, rowStands, standsTo, valueAt, kindIn, noticeIn, kindAt, isWhole}
+use Rattle.notice.specs.Decode.{readAt, readOf}
 use Rattle.notice.specs.Log.{FitsFields, AllFit, none, more, logOf, Gives, ends, next}
 use Rattle.notice.proofs.Table.{sound, value-inside}
 use Rattle.notice.proofs.Bytes.{length-big, length-bytes, length-notice}
@@ -74,7 +75,8 @@ module _ (bs : List ℕ) (p k : ℕ) (vs : List ℕ) where
         go true c = head-back bs (p + startOf k i) i (getD vs i 0) h (field-has i h c)
         go false c = refl
 
-    values-back : (i : ℕ) → i < rows → isCarried k i ≡ true → getD vs i 0 < 256 ^ sizeOf i → valueAt bs p k i ≡ getD vs i 0
+    values-back : (i : ℕ) → i < rows → isCarried k i ≡ true → getD vs i 0 < 256 ^ sizeOf i
+        → valueAt bs p k i ≡ getD vs i 0
     unfolding valueAt
     values-back i h c small = value-back bs (p + startOf k i) i (getD vs i 0) h (field-has i h c) small
 
@@ -100,15 +102,19 @@ first-value bs p k =
 
 -- the data of a kind comes back from the values of its rows
 kind-back : (bs : List ℕ) (p : ℕ) (d : Kind) (s t u : ℕ)
-    → ((i : ℕ) → i < rows → isCarried (kindOf d) i ≡ true → valueAt bs p (kindOf d) i ≡ getD (kindOf d ∷ s ∷ t ∷ u ∷ dataIn d) i 0)
+    → ((i : ℕ) → i < rows → isCarried (kindOf d) i ≡ true
+    → valueAt bs p (kindOf d) i ≡ getD (kindOf d ∷ s ∷ t ∷ u ∷ dataIn d) i 0)
     → kindIn bs p (kindOf d) ≡ d
 unfolding kindIn table
-kind-back bs p (Open l a k n) s t u v = simp (v 4 (omega arith) refl, v 5 (omega arith) refl, v 6 (omega arith) refl, v 7 (omega arith) refl)
+kind-back bs p (Open l a k n) s t u v =
+    simp (v 4 (omega arith) refl, v 5 (omega arith) refl, v 6 (omega arith) refl, v 7 (omega arith) refl)
 kind-back bs p (Change n) s t u v = simp (v 7 (omega arith) refl)
 kind-back bs p Close s t u v = refl
 
-module _ (bs : List ℕ) (p : ℕ) (n : Notice) (fits : FitsFields n) (has : Has bs p (bytesOf n)) (room : p + length (bytesOf n) ≤ length bs) where
-  value : (i : ℕ) → i < rows → isCarried (kindOf (n .kind)) i ≡ true → valueAt bs p (kindOf (n .kind)) i ≡ getD (valuesIn n) i 0
+module _ (bs : List ℕ) (p : ℕ) (n : Notice) (fits : FitsFields n) (has : Has bs p (bytesOf n))
+    (room : p + length (bytesOf n) ≤ length bs) where
+  value : (i : ℕ) → i < rows → isCarried (kindOf (n .kind)) i ≡ true
+      → valueAt bs p (kindOf (n .kind)) i ≡ getD (valuesIn n) i 0
   unfolding bytesOf
   value i h c = values-back bs p (kindOf (n .kind)) (valuesIn n) has i h c (fits i h c)
 

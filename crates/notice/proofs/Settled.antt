@@ -69,7 +69,8 @@ same-reader : (h d e : Log) (r s : Found) → Steps (now (h .bytes)) (h .place) 
     → Steps (now (h .bytes)) (h .place) s (e .place) × (e .bytes ≡ h .bytes) → (r ≡ s) × (d ≡ e)
 same-reader h d e r s p q =
     let answer : r ≡ s = p .0 .finds .is ∙ sym (q .0 .finds .is) in
-    let place : d .place ≡ e .place = p .0 .moves ∙ ap (λ (f : Found). placeAfter f (h .place)) answer ∙ sym (q .0 .moves) in
+    let place : d .place ≡ e .place =
+    p .0 .moves ∙ ap (λ (f : Found). placeAfter f (h .place)) answer ∙ sym (q .0 .moves) in
     let bytes : d .bytes ≡ e .bytes = p .1 ∙ sym (q .1) in
     (answer, λ i. record { bytes = bytes i; place = place i })
 

@@ -14,7 +14,8 @@ use Rattle.rules.specs.Limits.{both}
 use Rattle.rules.specs.Refusals.{pick}
 use Rattle.rules.proofs.Tests.{both-l, both-r}
 use Rattle.notice.specs.declared.fields.Field.{Field}
-use Rattle.notice.specs.Fields.{table, rows, row, fieldOf, isCarried, isKnown, spanOf, startOf, lengthOf, longestNotice}
+use Rattle.notice.specs.Fields.{table, rows, row, fieldOf, isCarried, isKnown, spanOf, startOf, lengthOf}
+use Rattle.notice.specs.Fields.{longestNotice}
 use Rattle.notice.proofs.Each.{by-order, each, false-true}
 
 -- the test passes at every row of a list
@@ -22,7 +23,8 @@ every : (Field → Bool) → List Field → Bool
 every t [] = true
 every t (x ∷ xs) = both (t x) (every t xs)
 
-at : (t : Field → Bool) (xs : List Field) → every t xs ≡ true → (i : ℕ) → i < length xs → t (getD xs i (row 0 0 0)) ≡ true
+at : (t : Field → Bool) (xs : List Field) → every t xs ≡ true → (i : ℕ) → i < length xs
+    → t (getD xs i (row 0 0 0)) ≡ true
 unfolding every
 at t [] e i h = absurd (not-suc-le-zero h)
 at t (x ∷ xs) e zero h = both-l _ _ e

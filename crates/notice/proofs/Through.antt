@@ -5,7 +5,7 @@ use mathlib.Core.Path.{_≡_, refl, sym, ap, _∙_}
 use mathlib.Core.Bool.{Bool, true, false}
 use mathlib.Core.Logic.{_⊎_, inl, inr, ⊎-elim}
 use mathlib.Core.List.{List, [], _∷_, reverse, reverseAux}
-use Prim.Native.Nat.{ℕ, zero, suc, _+_, _≤_, _<_}
+use Prim.Native.Nat.{ℕ, zero, suc, _+_, _≤_}
 use native.Mathlib.Nat.{add-zero, add-suc}
 use native.Mathlib.Omega.{arith}
 use lib.Dec.{leb}
@@ -71,7 +71,8 @@ module _ (bs : List ℕ) where
   ahead zero = inl (omega arith)
   ahead (suc n) = ⊎-elim (λ low. go low (readAt bs (placeTo bs n)) refl) (λ h. inr (stopped-on n h)) (ahead n)
     where
-      go : n ≤ placeTo bs n → (f : Found) → readAt bs (placeTo bs n) ≡ f → (suc n ≤ placeTo bs (suc n)) ⊎ Stopped (suc n)
+      go : n ≤ placeTo bs n → (f : Found) → readAt bs (placeTo bs n) ≡ f
+          → (suc n ≤ placeTo bs (suc n)) ⊎ Stopped (suc n)
       go low (found.At m e) is =
           let far = inside bs (placeTo bs n) m e is .ahead in
           let at : placeTo bs (suc n) ≡ e = ap (λ f. placeAfter f (placeTo bs n)) is in
@@ -99,7 +100,8 @@ module _ (bs : List ℕ) where
   unfolding readAt
   last-read = go (leb (length bs) (stopOf bs)) (isWhole bs (stopOf bs)) _ _ enough
     where
-      go : (a w : Bool) (n : Notice) (e : ℕ) → isNotice (pick a found.End (pick w (found.At n e) found.Malformed)) ≡ false
+      go : (a w : Bool) (n : Notice) (e : ℕ)
+          → isNotice (pick a found.End (pick w (found.At n e) found.Malformed)) ≡ false
           → pick a found.End (pick w (found.At n e) found.Malformed) ≡ pick a found.End found.Malformed
       go true w n e h = refl
       go false true n e h = false-true (sym h)
@@ -128,7 +130,8 @@ module _ (bs : List ℕ) where
       let all = given 0 0 ns refl g in
       let stopped : Stopped (0 + length ns) = ap isNotice (all .at-last) in
       let read = all-read (0 + length ns) stopped in
-      (sym (read .1) ∙ all .notices, whole (isWholeLog bs) (sym last-read ∙ (ap (readAt bs) (sym (read .0)) ∙ all .at-last)))
+      let end = sym last-read ∙ ap (readAt bs) (sym (read .0)) ∙ all .at-last in
+      (sym (read .1) ∙ all .notices, whole (isWholeLog bs) end)
     where
       whole : (b : Bool) → pick b found.End found.Malformed ≡ found.End → b ≡ true
       whole true e = refl

@@ -42,11 +42,13 @@ unfolding table bytesOf bytesTo rowBytes fieldBytes bigEndian
 case-12 = refl
 
 -- values outside the limits are well formed and survive
-pub outside-survive : readOf (bytesOf (record { sequence = 2 ^ 32 - 1; title = 255; time = 2 ^ 64 - 1; kind = Open (2 ^ 32 - 1) 255 255 255 }))
-    ≡ reading.Whole (record { sequence = 2 ^ 32 - 1; title = 255; time = 2 ^ 64 - 1; kind = Open (2 ^ 32 - 1) 255 255 255 })
+abbrev outside : Notice
+outside = record { sequence = 2 ^ 32 - 1; title = 255; time = 2 ^ 64 - 1; kind = Open (2 ^ 32 - 1) 255 255 255 }
+
+pub outside-survive : readOf (bytesOf outside) ≡ reading.Whole outside
 outside-survive =
-    written-reads (record { sequence = 2 ^ 32 - 1; title = 255; time = 2 ^ 64 - 1; kind = Open (2 ^ 32 - 1) 255 255 255 })
-    (typed-fits (record { sequence = 2 ^ 32 - 1; title = 255; time = 2 ^ 64 - 1; kind = Open (2 ^ 32 - 1) 255 255 255 })
+    written-reads outside
+    (typed-fits outside
     (record { sequence-fits = omega arith; title-fits = omega arith; time-fits = omega arith; kind-fits = omega arith }))
 
 -- no notice is longer than an open

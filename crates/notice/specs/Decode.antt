@@ -14,7 +14,9 @@ use Rattle.notice.specs.declared.Reading.{Reading}
 use Rattle.notice.specs.declared.Reading.the-variants as reading
 use Rattle.notice.specs.declared.Found.{Found}
 use Rattle.notice.specs.declared.Found.the-variants as found
-use Rattle.notice.specs.Fields.{sequenceRow, titleRow, timeRow, lengthRow, floorRow, capRow, countRow, openKind, changeKind, headSize, tagOf, sizeOf, isCarried, isKnown, startOf, lengthOf, rows}
+use Rattle.notice.specs.Fields.{sequenceRow, titleRow, timeRow, lengthRow, floorRow, capRow, countRow, openKind}
+use Rattle.notice.specs.Fields.{changeKind, headSize, tagOf, sizeOf, isCarried, isKnown, startOf, lengthOf}
+use Rattle.notice.specs.Fields.{rows}
 use Rattle.notice.specs.Numbers.{numberAt}
 
 -- tag and length of row i stand at a place
@@ -37,13 +39,19 @@ valueAt bs p k i = numberAt bs (p + startOf k i + headSize) (sizeOf i)
 -- each kind carries only its own data
 unfoldable pub kindIn : List ℕ → ℕ → ℕ → Kind
 kindIn bs p k =
-    pick (eqb k openKind) (Open (valueAt bs p k lengthRow) (valueAt bs p k floorRow) (valueAt bs p k capRow) (valueAt bs p k countRow))
+    pick (eqb k openKind)
+    (Open (valueAt bs p k lengthRow) (valueAt bs p k floorRow) (valueAt bs p k capRow) (valueAt bs p k countRow))
     (pick (eqb k changeKind) (Change (valueAt bs p k countRow))
     Close)
 
 unfoldable pub noticeIn : List ℕ → ℕ → ℕ → Notice
 noticeIn bs p k =
-    record { sequence = valueAt bs p k sequenceRow; title = valueAt bs p k titleRow; time = valueAt bs p k timeRow; kind = kindIn bs p k }
+    record {
+      sequence = valueAt bs p k sequenceRow;
+      title = valueAt bs p k titleRow;
+      time = valueAt bs p k timeRow;
+      kind = kindIn bs p k;
+    }
 
 -- the kind's number is the value of the first field
 abbrev pub kindAt : List ℕ → ℕ → ℕ
@@ -98,7 +106,8 @@ pub record Reads (bs : List ℕ) (r : Reading) : Type 0 where
 
 pub record Finds (bs : List ℕ) (p : ℕ) (r : Found) : Type 0 where
   pub is : r ≡ readAt bs p
-  pub answers : answerOf r ≡ pick (leb (length bs) p) end (number (firstHit (refuse malformed (not (isWhole bs p)) ∷ [])))
+  pub answers : answerOf r
+      ≡ pick (leb (length bs) p) end (number (firstHit (refuse malformed (not (isWhole bs p)) ∷ [])))
 
 -- what a reader's step promises: the answer at its place, and the place that it keeps
 pub record Steps (bs : List ℕ) (p : ℕ) (r : Found) (after : ℕ) : Type 0 where

@@ -11,10 +11,10 @@ use Rattle.rules.specs.Limits.{both, askedMax, countPlaces}
 use Rattle.rules.specs.Refusals.{pick}
 use Rattle.rules.proofs.Search.{every-in}
 use Rattle.story.specs.declared.Title.{Title}
-use Rattle.story.specs.Kept.{rowOk, titleOk, tickAt}
+use Rattle.story.specs.Kept.{absentMode, rowOk, titleOk, tickAt}
 use Rattle.story.specs.Next.{ended, dropLane, dropLanes, changedTitle}
-use Rattle.held.specs.Film.{Film}
-use Rattle.held.proofs.Within.{in-row, readable, count-fit, ends-ok, dropped-ok}
+use Rattle.measures.specs.Film.{Film}
+use Rattle.measures.proofs.Within.{in-row, readable, count-fit, ends-ok, dropped-ok}
 use Rattle.owed.specs.Owing.{Owing, Sending, Changeable}
 
 -- a title with the same film, count and ends
@@ -63,7 +63,7 @@ drop-more t q n k i e l = rw (lt-ltb i (t .count) l, ← e) (go (leb k i))
     go false = refl
 
 -- a title that is there, in a state within its limits
-module _ (t : Title) (ok : titleOk t ≡ true) (there : t .mode ≡ 0 → ⊥) where
+module _ (t : Title) (ok : titleOk t ≡ true) (there : t .mode ≡ absentMode → ⊥) where
   pub owing : Owing t
   owing = record { cut = readable t ok there .cut; ends = ends-ok t ok }
 

@@ -6,7 +6,7 @@ use mathlib.Core.Bool.{true}
 use Rattle.grid.specs.Bounds.{FloorCap}
 use Rattle.story.specs.declared.Title.{Title}
 use Rattle.story.specs.Kept.{rowOk}
-use Rattle.held.specs.Film.{Film}
+use Rattle.measures.specs.Film.{Film}
 
 pub record Owing (t : Title) : Type 0 where
   pub cut : FloorCap (t .floor) (t .cap)

@@ -3,8 +3,8 @@
 
 use crate::owing::owed_within;
 use crate::sending::reach;
-use held::ticks::tick_at;
-use story::CLOSED;
+use measures::ticks::tick_at;
+use story::CLOSING;
 use story::OPEN;
 use story::Title;
 ghost use Prim.Native.Nat.{ℕ, _≤_, _<_};
@@ -109,5 +109,5 @@ pub fn closed_title(t: Title, time: u64) -> Title
     requires { ⌜ time ≤ askedMax ⌝ }
     ensures { λ r. ⌜ r ≡ closedTitle t time ⌝ }
 {
-    turned_title(t, time, 0, CLOSED, t.count)
+    turned_title(t, time, 0, CLOSING, t.count)
 }

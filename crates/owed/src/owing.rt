@@ -4,29 +4,16 @@ use grid::channel_cell;
 use grid::lane_cell;
 use grid::pow2;
 use grid::slot;
+use rules::truth::either;
+use rules::truth::one_if;
 use story::Title;
 ghost use Prim.Native.Nat.{ℕ, _+_, _≤_, _<_};
 ghost use mathlib.Core.Path.{_≡_};
 ghost use lib.Dec.{ltb, leb};
-ghost use Rattle.rules.specs.Limits.{both, either as eitherOf};
-ghost use Rattle.rules.specs.Refusals.{pick};
+ghost use Rattle.rules.specs.Limits.{both};
 ghost use Rattle.grid.specs.Bounds.{Exactly, Counted, tickMax};
 ghost use Rattle.story.specs.Kept.{wantsFrom, wants as wantsOf, keptOwed, keptWithin};
 ghost use Rattle.owed.specs.Owing.{Owing};
-
-// At least one of the tests holds.
-fn either(a: bool, b: bool) -> bool
-    ensures { λ r. ⌜ r ≡ eitherOf a b ⌝ }
-{
-    if a { true } else { b }
-}
-
-// 1 where a test holds, else 0.
-pub fn one_if(b: bool) -> u64
-    ensures { λ r. ⌜ Exactly (pick b 1 0) 0 1 r ⌝ }
-{
-    if b { 1 } else { 0 }
-}
 
 // The latest boxes of a count take a cell from one of its channels at a tick.
 fn wants_from(t: Title, cell: u64, tick: u64, count: u64, channel: u64) -> bool

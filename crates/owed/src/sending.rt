@@ -1,12 +1,12 @@
 // What a lane shows: its usual cell while it is active, else its owed cells in the order of their ticks (01, "Events").
 
 use crate::owing::is_owed;
-use crate::owing::one_if;
 use grid::lane_cell;
 use grid::pow2;
-use held::lanes::ruling;
-use held::limits::also;
-use held::ticks::since;
+use measures::lanes::ruling;
+use measures::ticks::since;
+use rules::truth::also;
+use rules::truth::one_if;
 use story::Title;
 ghost use Prim.Native.Nat.{ℕ, suc, _+_, _-_, _≤_, _<_};
 ghost use mathlib.Core.Path.{_≡_};

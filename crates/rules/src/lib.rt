@@ -1,6 +1,8 @@
 // The two tables that every call cites: the limits of each number, and what each refusal's number means.
 // Definitions of the same names stand in specs/; a crate whose code and contract cite different tables is not proved.
 
+pub mod truth;
+
 ghost use mathlib.Core.Path.{_≡_};
 ghost use Rattle.rules.specs.Limits.{within as inside};
 

@@ -11,9 +11,9 @@ use Rattle.story.specs.declared.State.{State}
 use Rattle.story.specs.Kept.{noTitle}
 use Rattle.story.specs.Next.{withTitle, openNext, changeNext}
 use Rattle.story.specs.Calls.{tooMany, callAnswer, openAnswer, changeAnswer}
-use Rattle.held.specs.Film.{Readable, AllReadable}
+use Rattle.measures.specs.Film.{Readable, AllReadable}
 use Rattle.owed.proofs.Fixed.{stored}
-use Rattle.answers.specs.Before.{openRules, openBefore, changeRules, changeBefore}
+use Rattle.verdicts.specs.Before.{openRules, openBefore, changeRules, changeBefore}
 use Rattle.rules.proofs.Refusals.{numbered, hit-append}
 use Rattle.scheduler.specs.Outcomes.{settledAnswer}
 

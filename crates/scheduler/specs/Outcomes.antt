@@ -7,7 +7,7 @@ use Rattle.rules.specs.Refusals.{pick, refuse, firstHit, noLanes}
 use Rattle.story.specs.declared.State.{State}
 use Rattle.story.specs.Kept.{lanesHeld}
 use Rattle.story.specs.Calls.{tooMany}
-use Rattle.answers.specs.Asked.{askedAnswer}
+use Rattle.verdicts.specs.Asked.{askedAnswer}
 
 -- 01, "Events": refused for want of lanes exactly when, with the event, more than the pool would be held
 unfoldable pub settledAnswer : State → ℕ → ℕ

@@ -1,14 +1,9 @@
 // The scheduler's calls. No public function has a `requires`: any numbers and any state may be handed in, and each contract
 // says what is answered. A refusal gives back the state as it came in, number for number, and writes nothing that is lent.
 
-use answers::questions::asked_verdict;
-use answers::verdicts::change_verdict;
-use answers::verdicts::close_verdict;
-use answers::verdicts::lane_verdict;
-use answers::verdicts::open_verdict;
-use answers::verdicts::title_of;
-use held::lanes::lanes_held;
-use held::ticks::tick_at;
+use measures::lanes::lanes_held;
+use measures::slots::title_of;
+use measures::ticks::tick_at;
 use owed::dropping::changed_title;
 use owed::dropping::closed_title;
 use owed::sending::shows;
@@ -21,10 +16,15 @@ use rules::POOL_MAX;
 use rules::POOL_MIN;
 use rules::TITLES_MAX;
 use rules::within;
-use story::NONE;
+use story::ABSENT;
 use story::OPEN;
 use story::State;
 use story::Title;
+use verdicts::events::change_verdict;
+use verdicts::events::close_verdict;
+use verdicts::events::open_verdict;
+use verdicts::questions::asked_verdict;
+use verdicts::questions::lane_verdict;
 ghost use Prim.Native.Nat.{ℕ, _≤_, _<_};
 ghost use mathlib.Core.Path.{_≡_};
 ghost use lib.Dec.{eqb};
@@ -44,7 +44,7 @@ ghost use Rattle.story.specs.Calls.{
   laneAnswer,
   laneShows,
 };
-ghost use Rattle.held.specs.Film.{AllReadable};
+ghost use Rattle.measures.specs.Film.{AllReadable};
 ghost use Rattle.scheduler.specs.Outcomes.{settledAnswer, heldAnswer, heldShown};
 
 // What a fresh call gives back.
@@ -76,7 +76,7 @@ fn blank_title() -> Title
     ensures { λ r. ⌜ r ≡ blankTitle ⌝ }
 {
     Title {
-        mode: NONE,
+        mode: ABSENT,
         opened: 0,
         length: 0,
         floor: 0,

@@ -1,15 +1,16 @@
 // Status: at a given time, the count and the lanes held of each title asked for, by its id (01, "Status"). No public
 // function has a `requires`; a refusal writes nothing.
 
-use answers::questions::asked_verdict;
-use answers::verdicts::title_of;
-use held::lanes::ruling;
-use held::lanes::title_held;
-use held::limits::also;
+use measures::lanes::ruling;
+use measures::lanes::title_held;
+use measures::slots::title_of;
 use rules::DONE;
 use rules::ID_MAX;
 use rules::WRONG_ROWS;
+use rules::truth::also;
+use rules::truth::row_within;
 use story::State;
+use verdicts::questions::asked_verdict;
 ghost use Prim.Native.Nat.{ℕ};
 ghost use mathlib.Core.Path.{_≡_};
 ghost use mathlib.Core.Bool.{true};
@@ -27,13 +28,7 @@ ghost use Rattle.status.specs.Records.{recordsAnswer, filledRecord, reco
 fn ids_ok(ids: &[u64]) -> bool
     ensures { λ r. ⌜ r ≡ idsOk (now (ids .entry)) ⌝ }
 {
-    let mut ok = true;
-    let mut i = 0;
-    while i < ids.len() {
-        ok = also(ids[i] <= ID_MAX, ok);
-        i += 1;
-    }
-    ok
+    row_within(ids, ids.len(), ID_MAX)
 }
 
 // The answer, for rows of as many counts and numbers of lanes held.
@@ -50,27 +45,18 @@ fn status_verdict(s: State, time: u64, ids: &[u64], counts: usize, held: usize) 
     asked_verdict(s, time, ids_ok(ids))
 }
 
-// The count of each title asked for, 0 where it isn't open.
-fn fill_counts(s: State, ids: &[u64], counts: &mut [u64])
-    requires { ⌜ (length (now counts) ≡ length (now ids)) × (idsOk (now ids) ≡ true) ⌝ }
+// The count of each title asked for, 0 where it isn't open, and the lanes that it holds at a time.
+fn fill(s: State, time: u64, ids: &[u64], counts: &mut [u64], held: &mut [u64])
+    requires { ⌜ (length (now counts) ≡ length (now ids)) × (length (now held) ≡ length (now ids)) ⌝ }
+    requires { ⌜ (stateOk s ≡ true) × (idsOk (now ids) ≡ true) ⌝ }
     ensures { λ _. ⌜ now (counts .exit) ≡ map (λ i. statusCount s i) (now (ids .entry)) ⌝ }
-{
-    let mut i = 0;
-    while i < ids.len() {
-        counts[i] = ruling(title_of(s, ids[i]));
-        i += 1;
-    }
-}
-
-// The lanes that each title asked for holds at a time.
-fn fill_held(s: State, time: u64, ids: &[u64], held: &mut [u64])
-    requires { ⌜ (length (now held) ≡ length (now ids)) × (idsOk (now ids) ≡ true) ⌝ }
-    requires { ⌜ stateOk s ≡ true ⌝ }
     ensures { λ _. ⌜ now (held .exit) ≡ map (λ i. statusHeld s i time) (now (ids .entry)) ⌝ }
 {
     let mut i = 0;
     while i < ids.len() {
-        held[i] = title_held(title_of(s, ids[i]), time);
+        let t = title_of(s, ids[i]);
+        counts[i] = ruling(t);
+        held[i] = title_held(t, time);
         i += 1;
     }
 }
@@ -83,8 +69,7 @@ pub fn status(s: State, time: u64, ids: &[u64], counts: &mut [u64], held: &mut [
 {
     let answer = status_verdict(s, time, ids, counts.len(), held.len());
     if answer == DONE {
-        fill_counts(s, ids, counts);
-        fill_held(s, time, ids, held);
+        fill(s, time, ids, counts, held);
     }
     answer
 }

@@ -6,11 +6,11 @@ use rules::LANE_PLACES;
 use rules::TITLES_MAX;
 
 // Whether a slot has a title: none, one that is open, one that is closing.
-pub const NONE: u64 = 0;
+pub const ABSENT: u64 = 0;
 
 pub const OPEN: u64 = 1;
 
-pub const CLOSED: u64 = 2;
+pub const CLOSING: u64 = 2;
 
 // One title. A tick is counted from the opening; a row of counts has a place for each count up to the largest, a row of
 // lanes one for each lane.

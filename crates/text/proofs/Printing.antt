@@ -12,7 +12,7 @@ use lib.Dec.{ltb}
 use Rattle.rules.specs.Refusals.{pick}
 use Rattle.text.specs.Bytes.{digit, digitOf}
 use Rattle.text.specs.Numbers.{top, amount, capped}
-use Rattle.text.specs.Digits.{digits, decimal}
+use Rattle.text.specs.Digits.{digitsMost, digits, decimal}
 
 stored : (row : List ℕ) (j d : ℕ) → j < length row → drop j (set row j d) ≡ d ∷ drop (suc j) row
 stored row j d h =
@@ -68,14 +68,14 @@ read-digits (suc f) n s h =
     by-size f n s (ltb n 10) refl (λ g. read-digits f (n / 10) ((48 + n % 10) ∷ s) (less g))
 
 -- printed digits read back as the number, for every 64-bit number
-pub read-back : (n : ℕ) → n < 10 ^ 20 → amount 0 (decimal n) ≡ n
+pub read-back : (n : ℕ) → n < 10 ^ digitsMost → amount 0 (decimal n) ≡ n
 unfolding decimal amount
-read-back n h = read-digits 20 n [] h
+read-back n h = read-digits digitsMost n [] h
 
 -- the reader of numbers, handed printed digits, gives the number itself and says that it was not too large
 pub spelt-back : (n : ℕ) → n ≤ top → capped (amount 0 (decimal n)) ≡ record { value = n; over = false }
 unfolding capped
 spelt-back n h =
-    let small : n < 10 ^ 20 = omega arith in
+    let small : n < 10 ^ digitsMost = omega arith in
     let held : min n top ≡ n = omega arith in
     rw (read-back n small, held, le-ltb _ _ h)

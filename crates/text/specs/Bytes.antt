@@ -1,4 +1,4 @@
--- Which bytes part words and which spell numbers, and how far a run of them goes ("The operator's console", lines).
+-- Which bytes part words and which spell numbers, and how far a run of them goes (docs/CONSOLE.md, "Lines").
 use Prim.Native.Nat.{ℕ, suc, _+_, _-_}
 use mathlib.Core.Bool.{Bool, not}
 use mathlib.Core.List.{List, [], _∷_}

@@ -1,4 +1,4 @@
--- Numbers in decimal, bytes in hexadecimal, and hexadecimal back into bytes ("The operator's console", answers).
+-- Numbers in decimal, bytes in hexadecimal, and hexadecimal back into bytes (docs/CONSOLE.md, "Lines" and "Answers").
 use Prim.Native.Nat.{ℕ, zero, suc, _+_, _-_, _*_, _/_, _%_, _≤_}
 use mathlib.Core.List.{List, [], _∷_}
 use mathlib.Core.Path.{_≡_}
@@ -12,15 +12,19 @@ unfoldable pub digits : ℕ → ℕ → List ℕ → List ℕ
 digits zero n s = s
 digits (suc f) n s = pick (ltb n 10) ((48 + n % 10) ∷ s) (digits f (n / 10) ((48 + n % 10) ∷ s))
 
--- a number in decimal with no leading zero; 20 digits hold every 64-bit number
+-- so many digits hold every 64-bit number
+abbrev pub digitsMost : ℕ
+digitsMost = 20
+
+-- a number in decimal with no leading zero
 unfoldable pub decimal : ℕ → List ℕ
-decimal n = digits 20 n []
+decimal n = digits digitsMost n []
 
 -- the digits of n stand at the end of a row
 pub record Made (n : ℕ) (d : Digits) : Type 0 where
   pub text : drop (d .from) (d .row) ≡ decimal n
-  pub start : d .from ≤ 20
-  pub size : length (d .row) ≡ 20
+  pub start : d .from ≤ digitsMost
+  pub size : length (d .row) ≡ digitsMost
 
 -- the letter of a hexadecimal digit, in lower case
 unfoldable pub letterOf : ℕ → ℕ

@@ -1,4 +1,4 @@
--- What is left of a block moves to the buffer's front ("The operator's console": input of any length, a line of up to 4,095 bytes).
+-- What is left of a block moves to the buffer's front, so that input of any length is read through it.
 use Prim.Native.Nat.{ℕ, _-_}
 use mathlib.Core.Path.{_≡_}
 use mathlib.Core.List.{List, _++_}

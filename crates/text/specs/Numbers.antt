@@ -1,4 +1,4 @@
--- The number that digits spell ("The operator's console", lines): any length, leading zeros allowed, no sign.
+-- The number that digits spell (docs/CONSOLE.md, "Lines"): any length, leading zeros allowed, no sign.
 use Prim.Native.Nat.{ℕ, _+_, _*_, min}
 use mathlib.Core.Bool.{Bool, true, false}
 use mathlib.Core.List.{List, [], _∷_}
@@ -7,7 +7,14 @@ use Rattle.rules.specs.Refusals.{pick}
 use Rattle.text.specs.declared.numbers.Number.{Number}
 use Rattle.text.specs.Bytes.{digit, digitOf}
 
--- the largest number that is handed on
+-- the largest number of one byte, and of four
+abbrev pub byteMost : ℕ
+byteMost = 255
+
+abbrev pub fourBytesMost : ℕ
+fourBytesMost = 4_294_967_295
+
+-- of eight, which is the largest that is handed on
 abbrev pub top : ℕ
 top = 18_446_744_073_709_551_615
 

@@ -1,5 +1,6 @@
 -- A lent row and the place up to which it is written; what has no room is left out.
 use Prim.Native.Nat.{ℕ, _+_}
+use mathlib.Core.Path.{_≡_}
 use mathlib.Core.List.{List, [], _∷_}
 use lib.ListN.{length, set}
 use lib.Dec.{ltb}
@@ -20,3 +21,7 @@ put p b = pick (ltb (p .at) (length (p .row))) (page (set (p .row) (p .at) b) (p
 unfoldable pub puts : Page → List ℕ → Page
 puts p [] = p
 puts p (b ∷ s) = puts (put p b) s
+
+-- a text was written at a place of a row: so the row is after it, and so far the place behind it
+abbrev pub Written : List ℕ → ℕ → List ℕ → List ℕ → ℕ → Type 0
+Written before at text after behind = page after behind ≡ puts (page before at) text

@@ -3,21 +3,24 @@
 use crate::output;
 ghost use mathlib.Core.Path.{_≡_};
 ghost use Prim.Native.Nat.{_<_};
-ghost use Rattle.text.specs.Output.{page, puts};
+ghost use Rattle.text.specs.Output.{Written};
 ghost use Rattle.text.specs.Digits.{Made, decimal as decimalText, letterOf, hexText, hexOf, hexBytes};
+
+// So many digits hold every 64-bit number.
+const DIGITS_MOST: usize = 20;
 
 // The digits of a number: those of row from `from` on.
 struct Digits {
-    row: [u8; 20],
+    row: [u8; DIGITS_MOST],
     from: usize,
 }
 
 fn decimal(n: u64) -> Digits
     ensures { λ r. ⌜ Made n r ⌝ }
 {
-    let mut row = [0u8; 20];
+    let mut row = [0u8; DIGITS_MOST];
     let mut left = n;
-    let mut i: usize = 20;
+    let mut i: usize = DIGITS_MOST;
     while 0 < i {
         i -= 1;
         row[i] = (48 + left % 10) as u8;
@@ -31,7 +34,7 @@ fn decimal(n: u64) -> Digits
 
 // The number in decimal.
 pub fn put_number(out: &mut [u8], at: usize, n: u64) -> usize
-    ensures { λ r. ⌜ page (now (out .exit)) r ≡ puts (page (now (out .entry)) at) (decimalText n) ⌝ }
+    ensures { λ r. ⌜ Written (now (out .entry)) at (decimalText n) (now (out .exit)) r ⌝ }
 {
     let d = decimal(n);
     let row = d.row;
@@ -52,7 +55,7 @@ fn letter(n: u8) -> u8
 
 // The bytes in lower-case hexadecimal.
 pub fn put_hex(out: &mut [u8], at: usize, bytes: &[u8]) -> usize
-    ensures { λ r. ⌜ page (now (out .exit)) r ≡ puts (page (now (out .entry)) at) (hexText (now (bytes .entry))) ⌝ }
+    ensures { λ r. ⌜ Written (now (out .entry)) at (hexText (now (bytes .entry))) (now (out .exit)) r ⌝ }
 {
     let mut place = at;
     let mut i = 0;
@@ -92,7 +95,7 @@ pub fn hex_of(b: u8) -> u8
 
 // The bytes that hexadecimal digits spell, two to a byte, from the row's start on; a last digit by itself is left out.
 pub fn decode(out: &mut [u8], hex: &[u8]) -> usize
-    ensures { λ r. ⌜ page (now (out .exit)) r ≡ puts (page (now (out .entry)) 0) (hexBytes (now (hex .entry))) ⌝ }
+    ensures { λ r. ⌜ Written (now (out .entry)) 0 (hexBytes (now (hex .entry))) (now (out .exit)) r ⌝ }
 {
     let mut place = 0;
     let mut i = 0;

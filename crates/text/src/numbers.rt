@@ -4,13 +4,18 @@ use crate::bytes;
 ghost use mathlib.Core.Path.{_≡_};
 ghost use Prim.Native.Nat.{min};
 ghost use lib.ListN.{drop};
-ghost use Rattle.text.specs.Numbers.{grow as grown, capped, amount, above as beyond};
+ghost use Rattle.text.specs.Numbers.{grow as grown, capped, amount, above as beyond, byteMost, fourBytesMost};
 
 // A number of any size, held at most at TOP; over says that it was larger.
 pub struct Number {
     pub value: u64,
     pub over: bool,
 }
+
+// The largest numbers of one byte, of four and of eight.
+pub const BYTE_MOST: u64 = 255;
+
+pub const FOUR_BYTES_MOST: u64 = 4_294_967_295;
 
 pub const TOP: u64 = 18_446_744_073_709_551_615;
 
@@ -69,20 +74,20 @@ pub fn above(limit: u64, n: Number) -> bool
 
 // A number as a parameter of one byte takes it: at most its largest value, so that the call itself refuses it.
 pub fn as_byte(n: u64) -> u8
-    ensures { λ r. ⌜ r ≡ min n 255 ⌝ }
+    ensures { λ r. ⌜ r ≡ min n byteMost ⌝ }
 {
-    if n < 255 {
+    if n < BYTE_MOST {
         return n as u8;
     }
-    255
+    u8::MAX
 }
 
 // The same for a parameter of four bytes.
 pub fn as_four_bytes(n: u64) -> u32
-    ensures { λ r. ⌜ r ≡ min n 4_294_967_295 ⌝ }
+    ensures { λ r. ⌜ r ≡ min n fourBytesMost ⌝ }
 {
-    if n < 4_294_967_295 {
+    if n < FOUR_BYTES_MOST {
         return n as u32;
     }
-    4_294_967_295
+    u32::MAX
 }

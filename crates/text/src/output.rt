@@ -1,7 +1,7 @@
 // Bytes into a lent row.
 
 ghost use mathlib.Core.Path.{_≡_};
-ghost use Rattle.text.specs.Output.{page, put as laid, puts};
+ghost use Rattle.text.specs.Output.{page, put as laid, Written};
 
 // One byte, where there is room for it.
 pub fn put_byte(out: &mut [u8], at: usize, b: u8) -> usize
@@ -15,7 +15,7 @@ pub fn put_byte(out: &mut [u8], at: usize, b: u8) -> usize
 }
 
 pub fn put(out: &mut [u8], at: usize, bytes: &[u8]) -> usize
-    ensures { λ r. ⌜ page (now (out .exit)) r ≡ puts (page (now (out .entry)) at) (now (bytes .entry)) ⌝ }
+    ensures { λ r. ⌜ Written (now (out .entry)) at (now (bytes .entry)) (now (out .exit)) r ⌝ }
 {
     let mut place = at;
     let mut i = 0;

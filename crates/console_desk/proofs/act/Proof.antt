@@ -15,11 +15,16 @@ same-length : tie.Need-same-length
 same-length c = search needs
 
 returns : tie.Need-returns
-returns c = let x = c .before .before .before .before .before .before .before .before .before .args in
-    let f = c .before .before .before .before .before .before .follow .ensures in
+returns c =
+    let at-put-done = c .before .before in
+    let at-if1 = at-put-done .before .before in
+    let at-follow = at-if1 .before .before in
+    let at-start = at-follow .before .before .before in
+    let x = at-start .args in
+    let f = at-follow .follow .ensures in
     record {
       agent = f .1;
-      row = acts-fresh (x .line) (x .s .now) (page (x .out .now) (x .at)) _ (x .agent) _ (c .before .before .before .before .if1 .taken) (f .0) (c .before .before .put-done .ensures);
+      row = acts-fresh (x .line) (x .s .now) (page (x .out .now) (x .at)) _ (x .agent) _ (at-if1 .if1 .taken) (f .0) (at-put-done .put-done .ensures);
     }
 
 put-followed-requires : tie.Need-put-followed-requires
@@ -29,11 +34,16 @@ same-length-2 : tie.Need-same-length-2
 same-length-2 c = search needs
 
 returns-2 : tie.Need-returns-2
-returns-2 c = let x = c .before .before .before .before .before .before .before .before .before .args in
-    let f = c .before .before .before .before .before .before .follow .ensures in
+returns-2 c =
+    let at-put-followed = c .before .before in
+    let at-if1 = at-put-followed .before .before in
+    let at-follow = at-if1 .before .before in
+    let at-start = at-follow .before .before .before in
+    let x = at-start .args in
+    let f = at-follow .follow .ensures in
     record {
       agent = f .1;
-      row = acts-other (x .line) (x .s .now) (page (x .out .now) (x .at)) _ (x .agent) _ _ (c .before .before .before .before .if1 .left) (f .0) (f .1) (c .before .before .put-followed .ensures);
+      row = acts-other (x .line) (x .s .now) (page (x .out .now) (x .at)) _ (x .agent) _ _ (at-if1 .if1 .left) (f .0) (f .1) (at-put-followed .put-followed .ensures);
     }
 
 pub act-spec : {M : Type 1} → statement M

@@ -17,9 +17,14 @@ same-length : tie.Need-same-length
 same-length c = search needs
 
 returns : tie.Need-returns
-returns c = let x = c .before .before .before .before .before .before .before .before .args in
+returns c =
+    let at-whole = c .before .before in
+    let at-if1 = at-whole .before .before in
+    let at-parse = at-if1 .before in
+    let at-start = at-parse .before .before .before in
+    let x = at-start .args in
     let p = page (x .out .now) (x .at) in
-    it-is-whole (x .agent) (x .s .now) _ (c .before .before .before .before .before .parse .ensures) p (c .before .before .before .before .if1 .taken) _ _ (c .before .before .whole .ensures)
+    it-is-whole (x .agent) (x .s .now) _ (at-parse .parse .ensures) p (at-if1 .if1 .taken) _ _ (at-whole .whole .ensures)
 
 put-fault-requires : tie.Need-put-fault-requires
 put-fault-requires c κs = search needs
@@ -34,9 +39,15 @@ same-length-2 : tie.Need-same-length-2
 same-length-2 c = search needs
 
 returns-2 : tie.Need-returns-2
-returns-2 c = let x = c .before .before .before .before .before .before .before .before .before .before .before .before .before .args in
+returns-2 c =
+    let at-put = c .before .before in
+    let at-put-fault = at-put .before .before .before .before .before in
+    let at-if1 = at-put-fault .before .before in
+    let at-parse = at-if1 .before in
+    let at-start = at-parse .before .before .before in
+    let x = at-start .args in
     let p = page (x .out .now) (x .at) in
-    it-is-faulty (x .agent) (x .s .now) _ (c .before .before .before .before .before .before .before .before .before .before .parse .ensures) p (c .before .before .before .before .before .before .before .before .before .if1 .left) _ _ (c .before .before .before .before .before .before .before .put-fault .ensures) (c .before .before .put .ensures)
+    it-is-faulty (x .agent) (x .s .now) _ (at-parse .parse .ensures) p (at-if1 .if1 .left) _ _ (at-put-fault .put-fault .ensures) (at-put .put .ensures)
 
 pub answer-spec : {M : Type 1} → statement M
 answer-spec =

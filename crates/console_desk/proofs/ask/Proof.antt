@@ -21,9 +21,13 @@ same-length : tie.Need-same-length
 same-length c = search needs
 
 returns : tie.Need-returns
-returns c = let x = c .before .before .before .before .before .before .before .before .args in
+returns c =
+    let at-put-lane = c .before .before in
+    let at-if1 = at-put-lane .before .before in
+    let at-start = at-if1 .before .before .before .before in
+    let x = at-start .args in
     let p = page (x .out .now) (x .at) in
-    asks-lane (x .line) (x .s .now) p _ (x .state) (c .before .before .before .before .if1 .taken) (c .before .before .put-lane .ensures)
+    asks-lane (x .line) (x .s .now) p _ (x .state) (at-if1 .if1 .taken) (at-put-lane .put-lane .ensures)
 
 put-status-requires : tie.Need-put-status-requires
 put-status-requires c κs = search needs
@@ -32,9 +36,14 @@ same-length-2 : tie.Need-same-length-2
 same-length-2 c = search needs
 
 returns-2 : tie.Need-returns-2
-returns-2 c = let x = c .before .before .before .before .before .before .before .before .before .args in
+returns-2 c =
+    let at-put-status = c .before .before in
+    let at-if2 = at-put-status .before .before in
+    let at-if1 = at-if2 .before in
+    let at-start = at-if1 .before .before .before .before in
+    let x = at-start .args in
     let p = page (x .out .now) (x .at) in
-    asks-status (x .line) (x .s .now) p _ (x .state) (c .before .before .before .before .before .if1 .left) (c .before .before .before .before .if2 .taken) (c .before .before .put-status .ensures)
+    asks-status (x .line) (x .s .now) p _ (x .state) (at-if1 .if1 .left) (at-if2 .if2 .taken) (at-put-status .put-status .ensures)
 
 put-share-requires : tie.Need-put-share-requires
 put-share-requires c κs = search needs
@@ -43,9 +52,15 @@ same-length-3 : tie.Need-same-length-3
 same-length-3 c = search needs
 
 returns-3 : tie.Need-returns-3
-returns-3 c = let x = c .before .before .before .before .before .before .before .before .before .before .args in
+returns-3 c =
+    let at-put-share = c .before .before in
+    let at-if3 = at-put-share .before .before in
+    let at-if2 = at-if3 .before in
+    let at-if1 = at-if2 .before in
+    let at-start = at-if1 .before .before .before .before in
+    let x = at-start .args in
     let p = page (x .out .now) (x .at) in
-    asks-share (x .line) (x .s .now) p _ (x .state) (c .before .before .before .before .before .before .if1 .left) (c .before .before .before .before .before .if2 .left) (c .before .before .before .before .if3 .taken) (c .before .before .put-share .ensures)
+    asks-share (x .line) (x .s .now) p _ (x .state) (at-if1 .if1 .left) (at-if2 .if2 .left) (at-if3 .if3 .taken) (at-put-share .put-share .ensures)
 
 array-read-put-plan : tie.Need-array-read-put-plan
 array-read-put-plan c = search needs
@@ -69,9 +84,17 @@ same-length-4 : tie.Need-same-length-4
 same-length-4 c = search needs
 
 returns-4 : tie.Need-returns-4
-returns-4 c = let x = c .before .before .before .before .before .before .before .before .before .before .before .before .args in
+returns-4 c =
+    let at-put-plan = c .before .before in
+    let at-places-of = at-put-plan .before in
+    let at-if4 = at-places-of .before .before in
+    let at-if3 = at-if4 .before in
+    let at-if2 = at-if3 .before in
+    let at-if1 = at-if2 .before in
+    let at-start = at-if1 .before .before .before .before in
+    let x = at-start .args in
     let p = page (x .out .now) (x .at) in
-    asks-plan (x .line) (x .s .now) p _ (x .state) (c .before .before .before .before .before .before .before .before .if1 .left) (c .before .before .before .before .before .before .before .if2 .left) (c .before .before .before .before .before .before .if3 .left) _ (c .before .before .before .before .before .if4 .taken) (c .before .before .before .places-of .ensures) (c .before .before .put-plan .ensures)
+    asks-plan (x .line) (x .s .now) p _ (x .state) (at-if1 .if1 .left) (at-if2 .if2 .left) (at-if3 .if3 .left) _ (at-if4 .if4 .taken) (at-places-of .places-of .ensures) (at-put-plan .put-plan .ensures)
 
 tell-requires : tie.Need-tell-requires
 tell-requires c κs = search needs
@@ -80,9 +103,16 @@ same-length-5 : tie.Need-same-length-5
 same-length-5 c = search needs
 
 returns-5 : tie.Need-returns-5
-returns-5 c = let x = c .before .before .before .before .before .before .before .before .before .before .before .args in
+returns-5 c =
+    let at-tell = c .before .before in
+    let at-if4 = at-tell .before .before in
+    let at-if3 = at-if4 .before in
+    let at-if2 = at-if3 .before in
+    let at-if1 = at-if2 .before in
+    let at-start = at-if1 .before .before .before .before in
+    let x = at-start .args in
     let p = page (x .out .now) (x .at) in
-    asks-else (x .line) (x .s .now) p _ (x .state) (c .before .before .before .before .before .before .before .if1 .left) (c .before .before .before .before .before .before .if2 .left) (c .before .before .before .before .before .if3 .left) (c .before .before .before .before .if4 .left) (c .before .before .tell .ensures)
+    asks-else (x .line) (x .s .now) p _ (x .state) (at-if1 .if1 .left) (at-if2 .if2 .left) (at-if3 .if3 .left) (at-if4 .if4 .left) (at-tell .tell .ensures)
 
 pub ask-spec : {M : Type 1} → statement M
 ask-spec =

@@ -31,8 +31,14 @@ same-length-2 : tie.Need-same-length-2
 same-length-2 c = search needs
 
 returns-2 : tie.Need-returns-2
-returns-2 c = let x = c .before .before .before .before .before .before .before .before .before .before .args in
-    tells-reading (x .line) (x .s .now) (page (x .out .now) (x .at)) _ _ (c .before .before .before .before .before .before .before .if1 .left) (c .before .before .before .before .before .if2 .taken) (c .before .before .before .reading .ensures) (c .before .before .put-reading .ensures)
+returns-2 c =
+    let at-put-reading = c .before .before in
+    let at-reading = at-put-reading .before in
+    let at-if2 = at-reading .before .before in
+    let at-if1 = at-if2 .before .before in
+    let at-start = at-if1 .before .before .before in
+    let x = at-start .args in
+    tells-reading (x .line) (x .s .now) (page (x .out .now) (x .at)) _ _ (at-if1 .if1 .left) (at-if2 .if2 .taken) (at-reading .reading .ensures) (at-put-reading .put-reading .ensures)
 
 notice-of-requires : tie.Need-notice-of-requires
 notice-of-requires c κs = search needs
@@ -44,8 +50,14 @@ same-length-3 : tie.Need-same-length-3
 same-length-3 c = search needs
 
 returns-3 : tie.Need-returns-3
-returns-3 c = let x = c .before .before .before .before .before .before .before .before .before .before .args in
-    tells-bytes (x .line) (x .s .now) (page (x .out .now) (x .at)) _ _ (c .before .before .before .before .before .before .before .if1 .left) (c .before .before .before .before .before .if2 .left) (c .before .before .before .notice-of .ensures) (c .before .before .put-bytes .ensures)
+returns-3 c =
+    let at-put-bytes = c .before .before in
+    let at-notice-of = at-put-bytes .before in
+    let at-if2 = at-notice-of .before .before in
+    let at-if1 = at-if2 .before .before in
+    let at-start = at-if1 .before .before .before in
+    let x = at-start .args in
+    tells-bytes (x .line) (x .s .now) (page (x .out .now) (x .at)) _ _ (at-if1 .if1 .left) (at-if2 .if2 .left) (at-notice-of .notice-of .ensures) (at-put-bytes .put-bytes .ensures)
 
 pub tell-spec : {M : Type 1} → statement M
 tell-spec =

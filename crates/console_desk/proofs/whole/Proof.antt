@@ -25,9 +25,16 @@ same-length : tie.Need-same-length
 same-length c = search needs
 
 returns-2 : tie.Need-returns-2
-returns-2 c = let x = c .before .before .before .before .before .before .before .before .before .before .before .before .before .before .before .args in
+returns-2 c =
+    let at-put = c .before .before in
+    let at-act = at-put .before .before .before .before .before .before in
+    let at-if2 = at-act .before .before in
+    let at-may-change = at-if2 .before in
+    let at-if1 = at-may-change .before in
+    let at-start = at-if1 .before .before .before in
+    let x = at-start .args in
     let p = page (x .out .now) (x .at) in
-    it-acts (x .agent) (x .line) (x .s .now) p (c .before .before .before .before .before .before .before .before .before .before .before .before .if1 .left) _ (c .before .before .before .before .before .before .before .before .before .before .before .may-change .ensures) _ _ _ (c .before .before .before .before .before .before .before .before .before .before .if2 .taken) (c .before .before .before .before .before .before .before .before .act .ensures) (c .before .before .put .ensures)
+    it-acts (x .agent) (x .line) (x .s .now) p (at-if1 .if1 .left) _ (at-may-change .may-change .ensures) _ _ _ (at-if2 .if2 .taken) (at-act .act .ensures) (at-put .put .ensures)
 
 ask-requires : tie.Need-ask-requires
 ask-requires c κs = search needs
@@ -42,9 +49,16 @@ same-length-2 : tie.Need-same-length-2
 same-length-2 c = search needs
 
 returns-3 : tie.Need-returns-3
-returns-3 c = let x = c .before .before .before .before .before .before .before .before .before .before .before .before .before .before .before .args in
+returns-3 c =
+    let at-put2 = c .before .before in
+    let at-ask = at-put2 .before .before .before .before .before in
+    let at-if2 = at-ask .before .before .before in
+    let at-may-change = at-if2 .before in
+    let at-if1 = at-may-change .before in
+    let at-start = at-if1 .before .before .before in
+    let x = at-start .args in
     let p = page (x .out .now) (x .at) in
-    it-asks (x .agent) (x .line) (x .s .now) p (c .before .before .before .before .before .before .before .before .before .before .before .before .if1 .left) _ (c .before .before .before .before .before .before .before .before .before .before .before .may-change .ensures) (x .agent) _ _ (c .before .before .before .before .before .before .before .before .before .before .if2 .left) (c .before .before .before .before .before .before .before .ask .ensures) (c .before .before .put2 .ensures)
+    it-asks (x .agent) (x .line) (x .s .now) p (at-if1 .if1 .left) _ (at-may-change .may-change .ensures) (x .agent) _ _ (at-if2 .if2 .left) (at-ask .ask .ensures) (at-put2 .put2 .ensures)
 
 pub whole-spec : {M : Type 1} → statement M
 whole-spec =

@@ -37,10 +37,19 @@ add-from : tie.Need-add-from Inv-loop μ-loop
 add-from c = omega arith
 
 loop-less : tie.Need-loop-less Inv-loop μ-loop
-loop-less c = omega (arith, reach-low Line (c .before .before .before .before .before .before .before .before .before .before .before .args .block .now) (c .before .before .before .before .before .before .before .before .loop .from), c .before .before .before .before .before .before .reach .ensures)
+loop-less c =
+    let at-reach = c .before .before .before .before .before .before in
+    let at-loop = at-reach .before .before in
+    let at-start = at-loop .before .before .before in
+    omega (arith, reach-low Line (at-start .args .block .now) (at-loop .loop .from), at-reach .reach .ensures)
 
 loop-again : tie.Need-loop-again Inv-loop μ-loop
-loop-again c = (omega (arith, reach-low Line (c .before .before .before .before .before .before .before .before .before .before .before .args .block .now) (c .before .before .before .before .before .before .before .before .loop .from), c .before .before .before .before .before .before .reach .ensures), c .before .before .take-line .kept .1 .1 .0 ∙ c .before .before .before .before .before .before .before .before .loop .inv .1)
+loop-again c =
+    let at-take-line = c .before .before in
+    let at-reach = at-take-line .before .before .before .before in
+    let at-loop = at-reach .before .before in
+    let at-start = at-loop .before .before .before in
+    (omega (arith, reach-low Line (at-start .args .block .now) (at-loop .loop .from), at-reach .reach .ensures), at-take-line .take-line .kept .1 .1 .0 ∙ at-loop .loop .inv .1)
 
 same-length : tie.Need-same-length Inv-loop μ-loop
 same-length c = c .before .before .before .loop .inv .1

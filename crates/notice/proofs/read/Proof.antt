@@ -21,19 +21,27 @@ enum-told-2 c = search needs
 
 returns : tie.Need-returns
 unfolding only
-returns c = reads _ (sym (alone _ ∙ ap (only _) (sym (c .before .before .before .before .read-at .ensures .is) ∙ c .before .before .n .given .1) ∙ simp (eq-eqb _ _ (c .if1 .taken))))
+returns c =
+    let found = c .before .before in
+    let is = sym (found .before .before .read-at .ensures .is) ∙ found .n .given .1 in
+    reads _ (sym (alone _ ∙ ap (only _) is ∙ simp (eq-eqb _ _ (c .if1 .taken))))
 
 returns-2 : tie.Need-returns-2
 unfolding only
-returns-2 c = reads _ (sym (alone _ ∙ ap (only _) (sym (c .before .before .before .before .read-at .ensures .is) ∙ c .before .before .n .given .1) ∙ simp (ne-eqb _ _ (c .if1 .left))))
+returns-2 c =
+    let found = c .before .before in
+    let is = sym (found .before .before .read-at .ensures .is) ∙ found .n .given .1 in
+    reads _ (sym (alone _ ∙ ap (only _) is ∙ simp (ne-eqb _ _ (c .if1 .left))))
 
 returns-3 : tie.Need-returns-3
 unfolding only
-returns-3 c = reads _ (sym (alone _ ∙ ap (only _) (sym (c .before .before .read-at .ensures .is) ∙ c .enum-told .given .1)))
+returns-3 c =
+    reads _ (sym (alone _ ∙ ap (only _) (sym (c .before .before .read-at .ensures .is) ∙ c .enum-told .given .1)))
 
 returns-4 : tie.Need-returns-4
 unfolding only
-returns-4 c = reads _ (sym (alone _ ∙ ap (only _) (sym (c .before .before .read-at .ensures .is) ∙ c .enum-told2 .given .1)))
+returns-4 c =
+    reads _ (sym (alone _ ∙ ap (only _) (sym (c .before .before .read-at .ensures .is) ∙ c .enum-told2 .given .1)))
 
 pub read-spec : {M : Type 1} → statement M
 read-spec =

@@ -35,27 +35,36 @@ rows-stand-requires : tie.Need-rows-stand-requires
 rows-stand-requires c κs = search needs
 
 notice-in-requires : tie.Need-notice-in-requires
-notice-in-requires c κs = (omega (arith, c .before .before .before .start .ensures), sym (c .before .before .before .before .before .carried .ensures) ∙ c .before .before .before .before .if3 .taken)
+notice-in-requires c κs =
+    let sized = c .before .before .before in
+    let known = sized .before in
+    (omega (arith, sized .start .ensures), sym (known .before .carried .ensures) ∙ known .if3 .taken)
 
 add-t14 : tie.Need-add-t14
 add-t14 c = search needs
 
 returns-3 : tie.Need-returns-3
 returns-3 c =
-    let known = sym (c .before .before .before .before .before .before .carried .ensures) ∙ c .before .before .before .before .before .if3 .taken in
+    let sized = c .before .before .before .before in
+    let carries = sized .before .before in
+    let some = carries .before .before .before .if1 .left in
+    let known = sym (carries .carried .ensures) ∙ sized .before .if3 .taken in
     let stand = sym (c .before .before .rows-stand .ensures) ∙ c .before .if5 .taken in
     finds _ _
-    (rw (c .notice-in .ensures, c .before .before .before .before .start .ensures)
-    (at-whole _ _ (c .before .before .before .before .before .before .before .before .before .if1 .left) (whole _ _ known (omega (arith, c .before .before .before .before .start .ensures)) stand))
-    )
+    (rw (c .notice-in .ensures, sized .start .ensures)
+    (at-whole _ _ some (whole _ _ known (omega (arith, sized .start .ensures)) stand)))
 
 returns-4 : tie.Need-returns-4
-returns-4 c = finds _ _ (at-none _ _ (c .before .before .before .before .before .before .before .before .if1 .left) (no-rows _ _ (sym (c .before .rows-stand .ensures) ∙ c .if5 .left)))
+returns-4 c =
+    let carries = c .before .before .before .before .before in
+    let some = carries .before .before .before .if1 .left in
+    finds _ _ (at-none _ _ some (no-rows _ _ (sym (c .before .rows-stand .ensures) ∙ c .if5 .left)))
 
 returns-5 : tie.Need-returns-5
 returns-5 c =
-    let a = c .before .before .before .before .before .before .before .before .args in
-    finds _ _ (at-none _ _ (c .before .before .before .before .before .before .if1 .left) (no-room (now (a .log)) (a .place) (omega (arith, c .before .start .ensures))))
+    let tested = c .before .before .before .before .before .before in
+    let a = tested .before .before .args in
+    finds _ _ (at-none _ _ (tested .if1 .left) (no-room (now (a .log)) (a .place) (omega (arith, c .before .start .ensures))))
 
 returns-6 : tie.Need-returns-6
 returns-6 c =

@@ -11,7 +11,9 @@ start-requires : tie.Need-start-requires
 start-requires c κs = search needs
 
 returns : tie.Need-returns
-returns c = written-short _ _ (rw (c .before .start .ensures, c .before .before .kind-number .ensures) at (c .if1 .taken))
+returns c =
+    let sized = c .before in
+    written-short _ _ (rw (sized .start .ensures, sized .before .kind-number .ensures) at (c .if1 .taken))
 
 values-requires : tie.Need-values-requires
 values-requires c κs = search needs
@@ -24,8 +26,12 @@ same-length c = search needs
 
 returns-2 : tie.Need-returns-2
 returns-2 c =
-    rw (c .before .before .put-rows .ensures, c .before .before .before .values .ensures, c .before .before .before .before .before .before .before .kind-number .ensures)
-    (written-whole _ _ (rw (c .before .before .before .before .before .before .start .ensures, c .before .before .before .before .before .before .before .kind-number .ensures) at (c .before .before .before .before .before .if1 .left)))
+    let rows = c .before .before in
+    let tested = rows .before .before .before in
+    let sized = tested .before in
+    let kind = sized .before in
+    rw (rows .put-rows .ensures, rows .before .values .ensures, kind .kind-number .ensures)
+    (written-whole _ _ (rw (sized .start .ensures, kind .kind-number .ensures) at (tested .if1 .left)))
 
 pub write-spec : {M : Type 1} → statement M
 write-spec =

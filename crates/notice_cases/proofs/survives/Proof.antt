@@ -53,10 +53,13 @@ read-requires c κs = search needs
 
 returns : tie.Need-returns
 returns c =
-    let s = c .before .before .before .before .before .before in
+    let wrote = c .before .before .before in
+    let sized = wrote .before .before in
+    let s = sized .before in
     let n = s .args .n in
-    let part = first n _ (c .before .before .before .write .last .1 .0) (fits n) (c .before .before .before .write .ensures) in
-    c .read .ensures .is ∙ (ap readOf (rw (c .before .before .before .before .before .size .ensures) part) ∙ written-reads n (held n _ (s .good .0)))
+    let part = first n _ (wrote .write .last .1 .0) (fits n) (wrote .write .ensures) in
+    c .read .ensures .is
+    ∙ (ap readOf (rw (sized .size .ensures) part) ∙ written-reads n (held n _ (s .good .0)))
 
 pub survives-spec : {M : Type 1} → statement M
 survives-spec =

@@ -4,12 +4,11 @@ use Rattle.story.specs.declared.Title.{Title}
 use Rattle.story.specs.Kept.{titleAt}
 use Rattle.story.specs.Next.{withTitle, changedTitle, changeNext}
 use Rattle.story.specs.Calls.{changeAnswer}
-use Rattle.held.proofs.Within.{all-readable}
+use Rattle.measures.proofs.Within.{all-readable}
 use Rattle.owed.proofs.Fixed.{changed-film}
-use Rattle.answers.specs.Before.{changeBefore}
-use Rattle.answers.proofs.Event.{event-id, event-state, event-time, change-event, change-ready}
+use Rattle.verdicts.specs.Before.{changeBefore}
+use Rattle.verdicts.proofs.Event.{event-id, event-state, event-time, change-event, change-ready}
 use Rattle.scheduler.proofs.Settled.{with-readable, change-in-two, then-settled, then-refused}
-use borrow.Author.Needs.{needs}
 use borrow.Author.Needs.{needs}
 use Rattle.scheduler.proofs.change.Statement.{statement}
 use Rattle.scheduler.proofs.change.Tie as tie

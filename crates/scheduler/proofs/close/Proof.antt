@@ -3,8 +3,7 @@ use mathlib.Core.Path.{refl, ap, sym, _∙_}
 use borrow.Author.Tests.{ne-eqb}
 use Rattle.story.specs.declared.Title.{Title}
 use Rattle.story.specs.Next.{withTitle, closedTitle}
-use Rattle.answers.proofs.Event.{event-id, event-time, close-event, close-ready}
-use borrow.Author.Needs.{needs}
+use Rattle.verdicts.proofs.Event.{event-id, event-time, close-event, close-ready}
 use borrow.Author.Needs.{needs}
 use Rattle.scheduler.proofs.close.Statement.{statement}
 use Rattle.scheduler.proofs.close.Tie as tie

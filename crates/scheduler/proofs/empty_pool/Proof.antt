@@ -1,6 +1,5 @@
 -- `empty_pool` meets its contract: every slot has the blank title.
 use borrow.Author.Needs.{needs}
-use borrow.Author.Needs.{needs}
 use Rattle.scheduler.proofs.empty_pool.Statement.{statement}
 use Rattle.scheduler.proofs.empty_pool.Tie as tie
 

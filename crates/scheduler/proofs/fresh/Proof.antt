@@ -2,7 +2,6 @@
 use mathlib.Core.Path.{refl}
 use Rattle.rules.specs.Refusals.{firstHit}
 use borrow.Author.Needs.{needs}
-use borrow.Author.Needs.{needs}
 use Rattle.scheduler.proofs.fresh.Statement.{statement}
 use Rattle.scheduler.proofs.fresh.Tie as tie
 

@@ -3,11 +3,10 @@ use mathlib.Core.Path.{refl, ap, sym, _∙_}
 use Rattle.story.specs.declared.Title.{Title}
 use Rattle.story.specs.Next.{withTitle, openedTitle, openNext}
 use Rattle.story.specs.Calls.{openAnswer}
-use Rattle.held.proofs.Within.{all-readable}
-use Rattle.answers.specs.Before.{openBefore}
-use Rattle.answers.proofs.Event.{event-id, event-state, open-event, open-film}
+use Rattle.measures.proofs.Within.{all-readable}
+use Rattle.verdicts.specs.Before.{openBefore}
+use Rattle.verdicts.proofs.Event.{event-id, event-state, open-event, open-film}
 use Rattle.scheduler.proofs.Settled.{with-readable, open-in-two, then-settled, then-refused}
-use borrow.Author.Needs.{needs}
 use borrow.Author.Needs.{needs}
 use Rattle.scheduler.proofs.open.Statement.{statement}
 use Rattle.scheduler.proofs.open.Tie as tie

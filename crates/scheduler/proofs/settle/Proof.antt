@@ -4,7 +4,6 @@ use borrow.Author.Tests.{lt-ltb, le-ltb}
 use Rattle.rules.specs.Refusals.{firstHit}
 use Rattle.scheduler.specs.Outcomes.{settledAnswer}
 use borrow.Author.Needs.{needs}
-use borrow.Author.Needs.{needs}
 use Rattle.scheduler.proofs.settle.Statement.{statement}
 use Rattle.scheduler.proofs.settle.Tie as tie
 

@@ -54,7 +54,7 @@ use Rattle.rules.specs.Refusals as Refusals
 use Rattle.story.specs.declared.State.{State}
 use Rattle.story.proofs.State as S
 use Rattle.story.proofs.State.Laws as S′
-use Rattle.answers.specs.Asked.{askedAnswer}
+use Rattle.verdicts.specs.Asked.{askedAnswer}
 use Rattle.status.specs.declared.Record.{Record}
 use Rattle.status.specs.Records.{noRecord, recordIdsOk, recordsAnswer, filledRecord, recordFor}
 use Rattle.status.proofs.Rows.{Filling, filling-more, records-filled}
@@ -64,10 +64,10 @@ use Rattle.status.proofs.id_ok as id′
 use Rattle.status.proofs.id_ok.Symbol as id-def
 use Rattle.status.proofs.id_ok.Symbol.{name as #id-ok}
 use Rattle.status.proofs.id_ok.Met as id-thm
-use Rattle.answers.proofs.questions.asked_verdict as verdict′
-use Rattle.answers.proofs.questions.asked_verdict.Symbol as verdict-def
-use Rattle.answers.proofs.questions.asked_verdict.Symbol.{name as #verdict}
-use Rattle.answers.proofs.questions.asked_verdict.Met as verdict-thm
+use Rattle.verdicts.proofs.questions.asked_verdict as verdict′
+use Rattle.verdicts.proofs.questions.asked_verdict.Symbol as verdict-def
+use Rattle.verdicts.proofs.questions.asked_verdict.Symbol.{name as #verdict}
+use Rattle.verdicts.proofs.questions.asked_verdict.Met as verdict-thm
 use Rattle.status.proofs.row_for as row′
 use Rattle.status.proofs.row_for.Symbol as row-def
 use Rattle.status.proofs.row_for.Symbol.{name as #row-for}
@@ -489,5 +489,5 @@ records-spec 𝓤 H 𝓜 𝓖 𝓡 =
     (tables 𝓤 H 𝓜 𝓡 code.env .C) (tables 𝓤 H 𝓜 𝓡 code.env .Λ) #records code.function (code.unfolded 𝓤 H 𝓜 𝓡)
     (records-meets 𝓤 H (𝓖 .A) (givenOf 𝓤 H 𝓜 𝓖) (𝓜 .mem) (𝓡 .run) (tablesOf 𝓤 H 𝓜 (tables 𝓤 H 𝓜 𝓡 code.env))
     (cited 𝓤 H (Id 𝓤 H (𝓖 .A) (givenOf 𝓤 H 𝓜 𝓖) (𝓜 .mem) (𝓡 .run)) 𝓜 𝓡 code.env #id-ok id-def.routine code.calls-status·id-ok (id-thm.met 𝓤 H 𝓜 𝓖 𝓡))
-    (cited 𝓤 H (Verdict 𝓤 H (𝓖 .A) (givenOf 𝓤 H 𝓜 𝓖) (𝓜 .mem) (𝓡 .run)) 𝓜 𝓡 code.env #verdict verdict-def.routine code.calls-answers·questions·asked-verdict (verdict-thm.met 𝓤 H 𝓜 𝓖 𝓡))
+    (cited 𝓤 H (Verdict 𝓤 H (𝓖 .A) (givenOf 𝓤 H 𝓜 𝓖) (𝓜 .mem) (𝓡 .run)) 𝓜 𝓡 code.env #verdict verdict-def.routine code.calls-verdicts·questions·asked-verdict (verdict-thm.met 𝓤 H 𝓜 𝓖 𝓡))
     (cited 𝓤 H (Row 𝓤 H (𝓖 .A) (givenOf 𝓤 H 𝓜 𝓖) (𝓜 .mem) (𝓡 .run)) 𝓜 𝓡 code.env #row-for row-def.routine code.calls-status·row-for (row-thm.met 𝓤 H 𝓜 𝓖 𝓡)))

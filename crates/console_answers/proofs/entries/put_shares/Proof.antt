@@ -1,14 +1,13 @@
 -- `console_answers::entries::put_shares` meets its contract: a row of counts, of which the entries passed are written.
-use Prim.Native.Nat.{_-_, _≤_}
+use Prim.Native.Nat.{ℕ, _-_, _≤_}
 use mathlib.Core.Path.{_≡_, refl}
+use mathlib.Core.List.{List}
 use native.Mathlib.Omega.{arith}
 use native.Mathlib.Nat.{le-antisymm}
-use native.Mathlib.Numerals.{add-one}
 use lib.ListN.{length, getD}
 use Rattle.text.specs.Output.{page, puts}
-use Rattle.text.proofs.Pages.{puts-append}
-use Rattle.console_answers.specs.Entries.{entry, numbersText}
-use Rattle.text.proofs.Pages.{same-room}
+use Rattle.console_answers.specs.Entries.{entry, each, numbersText}
+use Rattle.console_answers.proofs.Rows.{written-on}
 use borrow.Author.Needs.{needs}
 use Rattle.console_answers.proofs.entries.put_shares.Statement.{statement}
 use Rattle.console_answers.proofs.entries.put_shares.Tie as tie
@@ -20,7 +19,7 @@ abbrev μ-loop : tie.MeasureT-loop
 μ-loop out₀ at row place₀ i₀ out place i = length row - i
 
 loop-holds : tie.Need-loop-holds Inv-loop μ-loop
-unfolding numbersText puts
+unfolding each puts
 loop-holds c = (omega arith, refl, refl)
 
 mul-put-entry : tie.Need-mul-put-entry Inv-loop μ-loop
@@ -42,11 +41,15 @@ loop-less : tie.Need-loop-less Inv-loop μ-loop
 loop-less c = omega arith
 
 loop-again : tie.Need-loop-again Inv-loop μ-loop
-unfolding numbersText
-loop-again c = let l = c .before .before .before .before .before .before .loop in
-    let e = c .before .before .put-entry .ensures in
-    let row = c .before .before .before .before .before .before .before .before .before .args .row .now in
-    (omega arith, rw (add-one, puts-append) (cc), same-room (page (l .out) (l .place)) (entry (getD row (l .i) 0)) e (l .inv .2))
+loop-again c =
+    let at-put-entry = c .before .before in
+    let at-loop = at-put-entry .before .before .before .before in
+    let at-start = at-loop .before .before .before in
+    let l = at-loop .loop in
+    let x = at-start .args in
+    let f : ℕ → List ℕ = λ i. entry (getD (x .row .now) i 0) in
+    let w = written-on f (page (x .out .now) (x .at)) (l .i) _ (l .inv .1) (l .inv .2) (at-put-entry .put-entry .ensures) in
+    (omega arith, w .0, w .1)
 
 same-length : tie.Need-same-length Inv-loop μ-loop
 same-length c = c .before .loop .inv .2

@@ -1,14 +1,13 @@
 -- `console_answers::entries::put_titles` meets its contract: of the three rows, the titles passed are written.
-use Prim.Native.Nat.{_-_, _≤_}
+use Prim.Native.Nat.{ℕ, _-_, _≤_}
 use mathlib.Core.Path.{_≡_, refl}
+use mathlib.Core.List.{List}
 use native.Mathlib.Omega.{arith}
 use native.Mathlib.Nat.{le-antisymm}
-use native.Mathlib.Numerals.{add-one}
 use lib.ListN.{length, getD}
 use Rattle.text.specs.Output.{page, puts}
-use Rattle.text.proofs.Pages.{puts-then}
-use Rattle.console_answers.specs.Entries.{titleEntry, titlesText}
-use Rattle.text.proofs.Pages.{same-room}
+use Rattle.console_answers.specs.Entries.{titleEntry, each, titlesText}
+use Rattle.console_answers.proofs.Rows.{written-on}
 use borrow.Author.Needs.{needs}
 use Rattle.console_answers.proofs.entries.put_titles.Statement.{statement}
 use Rattle.console_answers.proofs.entries.put_titles.Tie as tie
@@ -20,7 +19,7 @@ abbrev μ-loop : tie.MeasureT-loop
 μ-loop out₀ at ids counts held place₀ i₀ out place i = length ids - i
 
 loop-holds : tie.Need-loop-holds Inv-loop μ-loop
-unfolding titlesText puts
+unfolding each puts
 loop-holds c = (omega arith, refl, refl)
 
 mul-put-title : tie.Need-mul-put-title Inv-loop μ-loop
@@ -51,16 +50,15 @@ loop-less : tie.Need-loop-less Inv-loop μ-loop
 loop-less c = omega arith
 
 loop-again : tie.Need-loop-again Inv-loop μ-loop
-unfolding titlesText
 loop-again c =
-    let l = c .before .before .before .before .before .before .before .before .loop in
-    let e = c .before .before .put-title .ensures in
-    let x = c .before .before .before .before .before .before .before .before .before .before .before .before .before .args in
-    let more = titleEntry (getD (x .ids .now) (l .i) 0) (getD (x .counts .now) (l .i) 0) (getD (x .held .now) (l .i) 0) in (
-      omega arith,
-      rw add-one (puts-then (page (x .out .now) (x .at)) (titlesText (x .ids .now) (x .counts .now) (x .held .now) (l .i)) more (l .inv .1) e),
-      same-room (page (l .out) (l .place)) more e (l .inv .2),
-    )
+    let at-put-title = c .before .before in
+    let at-loop = at-put-title .before .before .before .before .before .before in
+    let at-start = at-loop .before .before .before .before .before in
+    let l = at-loop .loop in
+    let x = at-start .args in
+    let f : ℕ → List ℕ = λ i. titleEntry (getD (x .ids .now) i 0) (getD (x .counts .now) i 0) (getD (x .held .now) i 0) in
+    let w = written-on f (page (x .out .now) (x .at)) (l .i) _ (l .inv .1) (l .inv .2) (at-put-title .put-title .ensures) in
+    (omega arith, w .0, w .1)
 
 same-length : tie.Need-same-length Inv-loop μ-loop
 same-length c = c .before .loop .inv .2

@@ -2,6 +2,7 @@
 use native.Mathlib.Omega.{arith}
 use Rattle.console_answers.specs.Questions.{roomOf}
 use Rattle.console_answers.proofs.Rows.{counted}
+use Rattle.console_lines.specs.Commands.{placesMost}
 use borrow.Author.Needs.{needs}
 use Rattle.console_answers.proofs.plans.put_plan.Statement.{statement}
 use Rattle.console_answers.proofs.plans.put_plan.Tie as tie
@@ -16,7 +17,7 @@ array-borrow-prefix-row : tie.Need-array-borrow-prefix-row
 array-borrow-prefix-row c = search needs
 
 slice-aggregate-put-row : tie.Need-slice-aggregate-put-row
-slice-aggregate-put-row c = counted _ 1024 (c .before .before .blank-row .result) (c .before .before .blank-row .ensures .1) (omega (arith, c .before .before .before .places-of .ensures))
+slice-aggregate-put-row c = counted _ placesMost (c .before .before .blank-row .result) (c .before .before .blank-row .ensures .1) (omega (arith, c .before .before .before .places-of .ensures))
 
 put-row-requires : tie.Need-put-row-requires
 put-row-requires c κs = search needs

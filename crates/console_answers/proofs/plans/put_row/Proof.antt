@@ -16,15 +16,23 @@ put-done-requires : tie.Need-put-done-requires
 put-done-requires c κs = search needs
 
 pow2-requires : tie.Need-pow2-requires
-pow2-requires c κs = let x = c .before .before .before .before .before .before .before .before .before .before .before .before .before .args in
-    let e = c .before .before .before .before .before .before .before .before .before .plan .ensures in
-    (accepted-only (x .floor) (x .cap) (x .count) (x .arrival) (length (x .row .now)) (sym (e .answer) ∙ c .before .before .if1 .taken)) .count .high
+pow2-requires c κs =
+    let at-if1 = c .before .before in
+    let at-plan = at-if1 .before .before .before .before .before .before .before in
+    let at-start = at-plan .before .before .before .before in
+    let x = at-start .args in
+    let e = at-plan .plan .ensures in
+    (accepted-only (x .floor) (x .cap) (x .count) (x .arrival) (length (x .row .now)) (sym (e .answer) ∙ at-if1 .if1 .taken)) .count .high
 
 put-cells-requires : tie.Need-put-cells-requires
-put-cells-requires c κs = let x = c .before .before .before .before .before .before .before .before .before .before .before .before .before .before .args in
-    let e = c .before .before .before .before .before .before .before .before .before .before .plan .ensures in
-    let t = accepted-only (x .floor) (x .cap) (x .count) (x .arrival) (length (x .row .now)) (sym (e .answer) ∙ c .before .before .before .if1 .taken) in
-    omega (arith, t .room, c .pow2 .ensures .is, c .before .before .before .before .before .before .before .before .before .before .plan .kept)
+put-cells-requires c κs =
+    let at-if1 = c .before .before .before in
+    let at-plan = at-if1 .before .before .before .before .before .before .before in
+    let at-start = at-plan .before .before .before .before in
+    let x = at-start .args in
+    let e = at-plan .plan .ensures in
+    let t = accepted-only (x .floor) (x .cap) (x .count) (x .arrival) (length (x .row .now)) (sym (e .answer) ∙ at-if1 .if1 .taken) in
+    omega (arith, t .room, c .pow2 .ensures .is, at-plan .plan .kept)
 
 same-length : tie.Need-same-length
 same-length c = search needs
@@ -33,9 +41,16 @@ same-length-2 : tie.Need-same-length-2
 same-length-2 c = search needs
 
 returns : tie.Need-returns
-returns c = let x = c .before .before .before .before .before .before .before .before .before .before .before .before .before .before .before .before .before .args in
+returns c =
+    let at-put-cells = c .before .before in
+    let at-pow2 = at-put-cells .before in
+    let at-if1 = at-pow2 .before .before .before in
+    let at-put-done = at-if1 .before .before .before in
+    let at-plan = at-put-done .before .before .before .before in
+    let at-start = at-plan .before .before .before .before in
+    let x = at-start .args in
     let p = page (x .out .now) (x .at) in
-    plan-told p _ _ (x .floor) (x .cap) (x .count) (x .arrival) _ (x .row .now) _ (c .before .before .before .before .before .before .before .before .before .before .before .before .before .plan .ensures) (c .before .before .before .before .before .before .before .before .before .put-done .ensures) (c .before .before .before .before .before .before .if1 .taken) (rw (c .before .before .before .pow2 .ensures .is) at (c .before .before .put-cells .ensures))
+    plan-told p _ _ (x .floor) (x .cap) (x .count) (x .arrival) _ (x .row .now) _ (at-plan .plan .ensures) (at-put-done .put-done .ensures) (at-if1 .if1 .taken) (rw (at-pow2 .pow2 .ensures .is) at (at-put-cells .put-cells .ensures))
 
 same-length-3 : tie.Need-same-length-3
 same-length-3 c = search needs
@@ -44,9 +59,13 @@ same-length-4 : tie.Need-same-length-4
 same-length-4 c = search needs
 
 returns-2 : tie.Need-returns-2
-returns-2 c = let x = c .before .before .before .before .before .before .before .before .before .before .before .args in
+returns-2 c =
+    let at-put-done = c .before .before .before in
+    let at-plan = at-put-done .before .before .before .before in
+    let at-start = at-plan .before .before .before .before in
+    let x = at-start .args in
     let p = page (x .out .now) (x .at) in
-    plan-refused p _ p (x .floor) (x .cap) (x .count) (x .arrival) _ (x .row .now) _ (c .before .before .before .before .before .before .before .plan .ensures) (c .before .before .before .put-done .ensures) (c .if1 .left)
+    plan-refused p _ p (x .floor) (x .cap) (x .count) (x .arrival) _ (x .row .now) _ (at-plan .plan .ensures) (at-put-done .put-done .ensures) (c .if1 .left)
 
 pub put-row-spec : {M : Type 1} → statement M
 put-row-spec =

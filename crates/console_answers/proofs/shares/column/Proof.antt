@@ -7,15 +7,16 @@ use native.Mathlib.Omega.{arith}
 use native.Mathlib.Nat.{le-antisymm}
 use native.Mathlib.Numerals.{add-one}
 use Rattle.console_answers.specs.Questions.{column}
+use Rattle.console_lines.specs.Commands.{titlesMost}
 use borrow.Author.Needs.{needs}
 use Rattle.console_answers.proofs.shares.column.Statement.{statement}
 use Rattle.console_answers.proofs.shares.column.Tie as tie
 
 abbrev Inv-loop : tie.InvT-loop
-Inv-loop row first c₀ i₀ c i = (i ≤ 17) × (c ≡ column row first i)
+Inv-loop row first c₀ i₀ c i = (i ≤ titlesMost) × (c ≡ column row first i)
 
 abbrev μ-loop : tie.MeasureT-loop
-μ-loop row first c₀ i₀ c i = 17 - i
+μ-loop row first c₀ i₀ c i = titlesMost - i
 
 loop-holds : tie.Need-loop-holds Inv-loop μ-loop
 unfolding column
@@ -54,9 +55,9 @@ loop-again c = (omega arith, rw add-one (cc))
 
 returns : tie.Need-returns Inv-loop μ-loop
 returns c =
-    let whole : c .before .loop .c ≡ column (c .before .before .args .row .now) (c .before .before .args .first) 17 =
+    let whole : c .before .loop .c ≡ column (c .before .before .args .row .now) (c .before .before .args .first) titlesMost =
     cc (le-antisymm (c .before .loop .inv .0) (c .loop-test .left)) in
-    (whole, ap length whole ∙ column-length (c .before .before .args .row .now) (c .before .before .args .first) 17)
+    (whole, ap length whole ∙ column-length (c .before .before .args .row .now) (c .before .before .args .first) titlesMost)
 
 pub column-spec : {M : Type 1} → statement M
 column-spec =

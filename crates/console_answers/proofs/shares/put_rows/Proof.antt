@@ -21,9 +21,15 @@ same-length-2 : tie.Need-same-length-2
 same-length-2 c = search needs
 
 returns : tie.Need-returns
-returns c = let x = c .before .before .before .before .before .before .before .before .before .before .before .before .before .before .before .before .before .before .before .before .args in
+returns c =
+    let at-put-shares = c .before .before in
+    let at-if1 = at-put-shares .before .before .before in
+    let at-put-done = at-if1 .before .before .before in
+    let at-share = at-put-done .before .before .before .before in
+    let at-start = at-share .before .before .before .before .before .before .before .before in
+    let x = at-start .args in
     let p = page (x .out .now) (x .at) in
-    share-told p _ _ (x .pool) _ (x .rates .now) (x .lengths .now) (x .floors .now) (x .caps .now) (x .counts .now) _ (c .before .before .before .before .before .before .before .before .before .before .before .before .share .ensures) (c .before .before .before .before .before .before .before .before .put-done .ensures) (c .before .before .before .before .before .if1 .taken) (search needs) (c .before .before .put-shares .ensures)
+    share-told p _ _ (x .pool) _ (x .rates .now) (x .lengths .now) (x .floors .now) (x .caps .now) (x .counts .now) _ (at-share .share .ensures) (at-put-done .put-done .ensures) (at-if1 .if1 .taken) (search needs) (at-put-shares .put-shares .ensures)
 
 same-length-3 : tie.Need-same-length-3
 same-length-3 c = search needs
@@ -32,9 +38,13 @@ same-length-4 : tie.Need-same-length-4
 same-length-4 c = search needs
 
 returns-2 : tie.Need-returns-2
-returns-2 c = let x = c .before .before .before .before .before .before .before .before .before .before .before .before .before .before .before .args in
+returns-2 c =
+    let at-put-done = c .before .before .before in
+    let at-share = at-put-done .before .before .before .before in
+    let at-start = at-share .before .before .before .before .before .before .before .before in
+    let x = at-start .args in
     let p = page (x .out .now) (x .at) in
-    share-refused p _ p (x .pool) _ (x .rates .now) (x .lengths .now) (x .floors .now) (x .caps .now) (x .counts .now) _ (c .before .before .before .before .before .before .before .share .ensures) (c .before .before .before .put-done .ensures) (c .if1 .left)
+    share-refused p _ p (x .pool) _ (x .rates .now) (x .lengths .now) (x .floors .now) (x .caps .now) (x .counts .now) _ (at-share .share .ensures) (at-put-done .put-done .ensures) (c .if1 .left)
 
 pub put-rows-spec : {M : Type 1} → statement M
 put-rows-spec =

@@ -1,4 +1,4 @@
--- `console_answers::shares::titles_of` meets its contract: a quarter of the numbers behind the pool, 17 at most.
+-- `console_answers::shares::titles_of` meets its contract: a quarter of the numbers behind the pool, up to the most.
 use native.Mathlib.Omega.{arith}
 use Rattle.console_answers.specs.Questions.{titlesIn}
 use Rattle.console_answers.proofs.shares.titles_of.Statement.{statement}

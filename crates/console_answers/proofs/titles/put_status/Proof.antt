@@ -49,9 +49,11 @@ same-length c = search needs
 returns : tie.Need-returns
 unfolding idsIn
 returns c =
-    let n = c .before .before .before .before .before .before .before .before .before .before .ids-of .result in
+    let at-put-rows = c .before .before .before .before in
+    let at-ids-of = at-put-rows .before .before .before .before .before .before in
+    let n = at-ids-of .ids-of .result in
     let e : n + 1 - 1 ≡ n = omega arith in
-    rw (← c .before .before .before .before .before .before .before .before .before .before .ids-of .ensures .0) (rw e at (c .before .before .before .before .put-rows .ensures))
+    rw (← at-ids-of .ids-of .ensures .0) (rw e at (at-put-rows .put-rows .ensures))
 
 pub put-status-spec : {M : Type 1} → statement M
 put-status-spec =

@@ -38,12 +38,18 @@ same-length c = search needs
 returns : tie.Need-returns
 unfolding faultText text
 returns c =
-    let x = c .before .before .before .before .before .before .before .before .before .before .before .before .before .before .before .before .before .before .before .before .args in
+    let at-put-number = c .before .before in
+    let at-from-one = at-put-number .before in
+    let at-put2 = at-from-one .before .before .before .before in
+    let at-fault-words = at-put2 .before .before .before .before .before in
+    let at-put = at-fault-words .before .before .before .before in
+    let at-start = at-put .before .before .before .before in
+    let x = at-start .args in
     let o = page (x .out .now) (x .at) in
     puts-then o ((text "? " ++ faultWords (x .fault)) ++ text " at byte ") (decimal (fromOne (x .place)))
     (puts-then o (text "? " ++ faultWords (x .fault)) (text " at byte ")
-    (puts-then o (text "? ") (faultWords (x .fault)) (c .before .before .before .before .before .before .before .before .before .before .before .before .before .before .before .before .put .ensures) (c .before .before .before .before .before .before .before .before .before .before .before .before .fault-words .ensures)) (c .before .before .before .before .before .before .before .put2 .ensures))
-    (c .before .before .put-number .ensures ∙ ap (λ (v : ℕ). puts (page (c .before .before .before .before .before .before .before .put2 .last .0) (c .before .before .before .before .before .before .before .put2 .result)) (decimal v)) (c .before .before .before .from-one .ensures))
+    (puts-then o (text "? ") (faultWords (x .fault)) (at-put .put .ensures) (at-fault-words .fault-words .ensures)) (at-put2 .put2 .ensures))
+    (at-put-number .put-number .ensures ∙ ap (λ (v : ℕ). puts (page (at-put2 .put2 .last .0) (at-put2 .put2 .result)) (decimal v)) (at-from-one .from-one .ensures))
 
 pub put-fault-spec : {M : Type 1} → statement M
 put-fault-spec =

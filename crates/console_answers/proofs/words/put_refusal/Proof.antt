@@ -31,11 +31,17 @@ same-length c = search needs
 returns : tie.Need-returns
 unfolding refusalText text
 returns c =
-    let x = c .before .before .before .before .before .before .before .before .before .before .before .before .before .before .before .before .before .before .before .args in
-    rw (eq-eqb _ _ (c .before .before .before .before .if1 .taken))
+    let at-put-number2 = c .before .before in
+    let at-if1 = at-put-number2 .before .before in
+    let at-refusal-words = at-if1 .before .before .before in
+    let at-put = at-refusal-words .before .before .before .before in
+    let at-put-number = at-put .before .before .before .before .before in
+    let at-start = at-put-number .before .before .before in
+    let x = at-start .args in
+    rw (eq-eqb _ _ (at-if1 .if1 .taken))
     (puts-then (page (x .out .now) (x .at)) ((decimal (x .number) ++ text " ") ++ refusalWords (x .number)) (decimal (x .expected))
     (puts-then (page (x .out .now) (x .at)) (decimal (x .number) ++ text " ") (refusalWords (x .number))
-    (puts-then (page (x .out .now) (x .at)) (decimal (x .number)) (text " ") (c .before .before .before .before .before .before .before .before .before .before .before .before .before .before .before .before .put-number .ensures) (c .before .before .before .before .before .before .before .before .before .before .before .put .ensures)) (c .before .before .before .before .before .before .before .refusal-words .ensures)) (c .before .before .put-number2 .ensures))
+    (puts-then (page (x .out .now) (x .at)) (decimal (x .number)) (text " ") (at-put-number .put-number .ensures) (at-put .put .ensures)) (at-refusal-words .refusal-words .ensures)) (at-put-number2 .put-number2 .ensures))
 
 same-length-2 : tie.Need-same-length-2
 same-length-2 c = search needs
@@ -43,10 +49,14 @@ same-length-2 c = search needs
 returns-2 : tie.Need-returns-2
 unfolding refusalText text
 returns-2 c =
-    let x = c .before .before .before .before .before .before .before .before .before .before .before .before .before .before .before .args in
+    let at-refusal-words = c .before .before .before in
+    let at-put = at-refusal-words .before .before .before .before in
+    let at-put-number = at-put .before .before .before .before .before in
+    let at-start = at-put-number .before .before .before in
+    let x = at-start .args in
     rw (ne-eqb _ _ (c .if1 .left), append-nil)
     (puts-then (page (x .out .now) (x .at)) (decimal (x .number) ++ text " ") (refusalWords (x .number))
-    (puts-then (page (x .out .now) (x .at)) (decimal (x .number)) (text " ") (c .before .before .before .before .before .before .before .before .before .before .before .before .put-number .ensures) (c .before .before .before .before .before .before .before .put .ensures)) (c .before .before .before .refusal-words .ensures))
+    (puts-then (page (x .out .now) (x .at)) (decimal (x .number)) (text " ") (at-put-number .put-number .ensures) (at-put .put .ensures)) (at-refusal-words .refusal-words .ensures))
 
 pub put-refusal-spec : {M : Type 1} → statement M
 put-refusal-spec =

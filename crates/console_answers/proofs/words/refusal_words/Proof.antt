@@ -41,8 +41,11 @@ same-length c = search needs
 returns : tie.Need-returns
 unfolding text joined begins refusalWords
 returns c =
-    let x = c .before .before .before .before .before .before .before .before .args in
-    c .before .before .put-part .ensures ∙ ap (puts (page (x .out .now) (x .at))) (found (x .number) (c .before .before .before .before .before .if1 .taken) .is)
+    let at-put-part = c .before .before in
+    let at-if1 = at-put-part .before .before .before in
+    let at-start = at-if1 .before .before .before in
+    let x = at-start .args in
+    at-put-part .put-part .ensures ∙ ap (puts (page (x .out .now) (x .at))) (found (x .number) (at-if1 .if1 .taken) .is)
 
 returns-2 : tie.Need-returns-2
 unfolding refusalWords

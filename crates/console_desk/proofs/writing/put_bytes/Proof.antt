@@ -28,7 +28,12 @@ same-length : tie.Need-same-length
 same-length c = search needs
 
 returns : tie.Need-returns
-returns c = rw (first (c .before .before .before .before .before .before .before .before .before .before .args .n) _ _ _ _ (c .before .before .before .before .before .before .before .write .ensures) refl (c .before .before .before .before .before .size .ensures)) at (c .before .before .put-hex .ensures)
+returns c =
+    let at-put-hex = c .before .before in
+    let at-size = at-put-hex .before .before .before in
+    let at-write = at-size .before .before in
+    let at-start = at-write .before .before .before in
+    rw (first (at-start .args .n) _ _ _ _ (at-write .write .ensures) refl (at-size .size .ensures)) at (at-put-hex .put-hex .ensures)
 
 pub put-bytes-spec : {M : Type 1} → statement M
 put-bytes-spec =

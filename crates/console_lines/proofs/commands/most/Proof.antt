@@ -2,7 +2,7 @@
 use mathlib.Core.Path.{refl, sym}
 use native.Mathlib.Omega.{arith}
 use lib.ListN.{List·getD-eq-default}
-use Rattle.console_lines.specs.Commands.{mostOf, mostTable}
+use Rattle.console_lines.specs.Commands.{mostOf, mostTable, wordsMost}
 use Rattle.text.proofs.Tables.{up-to, allUpTo}
 use borrow.Author.Needs.{needs}
 use Rattle.console_lines.proofs.commands.most.Statement.{statement}
@@ -16,7 +16,7 @@ array-read-result c = search needs
 
 returns : tie.Need-returns
 unfolding mostOf allUpTo
-returns c = (refl, up-to 69 mostTable refl (c .before .args .command))
+returns c = (refl, up-to wordsMost mostTable refl (c .before .args .command))
 
 returns-2 : tie.Need-returns-2
 unfolding mostOf allUpTo

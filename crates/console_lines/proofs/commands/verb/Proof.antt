@@ -87,19 +87,31 @@ chosen w n v e f = rw (← f) e
 returns : tie.Need-returns
 unfolding verbOf text
 returns c =
-    let w = c .before .before .before .before .before .before .before .before .before .before .before .before .before .before .before .before .before .before .before .before .before .before .before .before .before .args .word .now in
+    let at-named11 = c .before .before in
+    let at-named10 = at-named11 .before .before in
+    let at-named9 = at-named10 .before .before in
+    let at-named8 = at-named9 .before .before in
+    let at-named7 = at-named8 .before .before in
+    let at-named6 = at-named7 .before .before in
+    let at-named5 = at-named6 .before .before in
+    let at-named4 = at-named5 .before .before in
+    let at-named3 = at-named4 .before .before in
+    let at-named2 = at-named3 .before .before in
+    let at-named = at-named2 .before .before in
+    let at-start = at-named .before .before .before in
+    let w = at-start .args .word .now in
     chosen w (text "fresh") doFresh (c .named12 .ensures)
-    (chosen w (text "open") doOpen (c .before .before .named11 .ensures)
-    (chosen w (text "change") doChange (c .before .before .before .before .named10 .ensures)
-    (chosen w (text "close") doClose (c .before .before .before .before .before .before .named9 .ensures)
-    (chosen w (text "lane") doLane (c .before .before .before .before .before .before .before .before .named8 .ensures)
-    (chosen w (text "status") doStatus (c .before .before .before .before .before .before .before .before .before .before .named7 .ensures)
-    (chosen w (text "plan") doPlan (c .before .before .before .before .before .before .before .before .before .before .before .before .named6 .ensures)
-    (chosen w (text "share") doShare (c .before .before .before .before .before .before .before .before .before .before .before .before .before .before .named5 .ensures)
-    (chosen w (text "read") doRead (c .before .before .before .before .before .before .before .before .before .before .before .before .before .before .before .before .named4 .ensures)
-    (chosen w (text "notice") doNotice (c .before .before .before .before .before .before .before .before .before .before .before .before .before .before .before .before .before .before .named3 .ensures)
-    (chosen w (text "write") doWrite (c .before .before .before .before .before .before .before .before .before .before .before .before .before .before .before .before .before .before .before .before .named2 .ensures)
-    (chosen w (text "help") doHelp (c .before .before .before .before .before .before .before .before .before .before .before .before .before .before .before .before .before .before .before .before .before .before .named .ensures)
+    (chosen w (text "open") doOpen (at-named11 .named11 .ensures)
+    (chosen w (text "change") doChange (at-named10 .named10 .ensures)
+    (chosen w (text "close") doClose (at-named9 .named9 .ensures)
+    (chosen w (text "lane") doLane (at-named8 .named8 .ensures)
+    (chosen w (text "status") doStatus (at-named7 .named7 .ensures)
+    (chosen w (text "plan") doPlan (at-named6 .named6 .ensures)
+    (chosen w (text "share") doShare (at-named5 .named5 .ensures)
+    (chosen w (text "read") doRead (at-named4 .named4 .ensures)
+    (chosen w (text "notice") doNotice (at-named3 .named3 .ensures)
+    (chosen w (text "write") doWrite (at-named2 .named2 .ensures)
+    (chosen w (text "help") doHelp (at-named .named .ensures)
     refl)))))))))))
 
 pub verb-spec : {M : Type 1} → statement M

@@ -63,9 +63,15 @@ take-verb-requires c κs = search needs
 
 returns-3 : tie.Need-returns-3
 returns-3 c =
-    let x = c .before .before .before .before .before .before .before .before .before .before .args in
-    c .take-verb .ensures ∙ ap (λ (v : ℕ). withVerb v (c .before .before .before .before .before .before .before .reach .result) (c .before .before .before .reach2 .result)) (c .before .verb .ensures)
-    ∙ begun-verb (x .s .now) (c .before .before .before .before .before .before .before .before .if1 .left) _ (c .before .before .before .before .before .before .before .reach .ensures) (c .before .before .before .before .before .before .if2 .taken) (c .before .before .before .before .if3 .left) _ (c .before .before .before .reach2 .ensures)
+    let at-reach2 = c .before .before .before in
+    let at-if3 = at-reach2 .before in
+    let at-if2 = at-if3 .before .before in
+    let at-reach = at-if2 .before in
+    let at-if1 = at-reach .before in
+    let at-start = at-if1 .before .before in
+    let x = at-start .args in
+    c .take-verb .ensures ∙ ap (λ (v : ℕ). withVerb v (at-reach .reach .result) (at-reach2 .reach2 .result)) (c .before .verb .ensures)
+    ∙ begun-verb (x .s .now) (at-if1 .if1 .left) _ (at-reach .reach .ensures) (at-if2 .if2 .taken) (at-if3 .if3 .left) _ (at-reach2 .reach2 .ensures)
 
 empty-requires-3 : tie.Need-empty-requires-3
 empty-requires-3 c κs = search needs

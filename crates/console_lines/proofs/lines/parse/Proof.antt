@@ -3,7 +3,7 @@ use Prim.Native.Nat.{_-_}
 use mathlib.Core.Path.{_≡_, _∙_, ap}
 use native.Mathlib.Omega.{arith}
 use borrow.Author.Needs.{needs}
-use Rattle.console_lines.specs.Lines.{readOn, meaning}
+use Rattle.console_lines.specs.Lines.{readOn, numbersMost, meaning}
 use Rattle.console_lines.proofs.Reading.{read-on, read-stop, read-none}
 use Rattle.console_lines.proofs.lines.parse.Statement.{statement}
 use Rattle.console_lines.proofs.lines.parse.Tie as tie
@@ -21,7 +21,7 @@ loop-holds : tie.Need-loop-holds Inv-loop μ-loop
 unfolding meaning
 loop-holds c =
     let x = c .before .before .args in
-    ap (readOn 72 (x .s .now)) (c .begin .ensures)
+    ap (readOn numbersMost (x .s .now)) (c .begin .ensures)
 
 step-requires : tie.Need-step-requires Inv-loop μ-loop
 step-requires c κs = search needs

@@ -38,11 +38,18 @@ faulted-requires-2 c κs = search needs
 
 returns-2 : tie.Need-returns-2
 returns-2 c =
-    let x = c .before .before .before .before .before .before .before .before .before .args in
+    let at-if2 = c .before .before in
+    let at-above = at-if2 .before in
+    let at-limit = at-above .before in
+    let at-spelt = at-limit .before in
+    let at-if1 = at-spelt .before in
+    let at-reach = at-if1 .before in
+    let at-start = at-reach .before .before in
+    let x = at-start .args in
     c .faulted2 .ensures ∙ ap (λ (f : ℕ). withFault (x .line) f (x .a)) (c .before .oversized-fault .ensures)
-    ∙ number-large (x .s .now) (x .line) (x .a) (x .e) _ (c .before .before .before .before .before .before .before .reach .ensures) (c .before .before .before .before .before .before .if1 .left) _ (c .before .before .before .before .limit .ensures) (omega arith) _
-    (c .before .before .before .above .ensures ∙ ap (above (c .before .before .before .before .limit .result)) (c .before .before .before .before .before .spelt .ensures))
-    (c .before .before .if2 .taken)
+    ∙ number-large (x .s .now) (x .line) (x .a) (x .e) _ (at-reach .reach .ensures) (at-if1 .if1 .left) _ (at-limit .limit .ensures) (omega arith) _
+    (at-above .above .ensures ∙ ap (above (at-limit .limit .result)) (at-spelt .spelt .ensures))
+    (at-if2 .if2 .taken)
 
 mul-l : tie.Need-mul-l
 mul-l c = search needs

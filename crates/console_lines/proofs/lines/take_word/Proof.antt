@@ -46,34 +46,55 @@ takes-kind-requires c κs = search needs
 
 sub-take-kind : tie.Need-sub-take-kind
 sub-take-kind c =
-    let x = c .before .before .before .before .before .before .before .before .args in
-    omega (arith, c .before .before .before .before .reach .ensures, reach-low Word (x .s .now) (x .a), reach-high Word (x .s .now) (x .a) (omega arith))
+    let at-reach = c .before .before .before .before in
+    let at-start = at-reach .before .before .before .before in
+    let x = at-start .args in
+    omega (arith, at-reach .reach .ensures, reach-low Word (x .s .now) (x .a), reach-high Word (x .s .now) (x .a) (omega arith))
 
 part-take-kind-start : tie.Need-part-take-kind-start
 part-take-kind-start c =
-    let x = c .before .before .before .before .before .before .before .before .args in
-    omega (arith, c .before .before .before .before .reach .ensures, reach-low Word (x .s .now) (x .a), reach-high Word (x .s .now) (x .a) (omega arith))
+    let at-reach = c .before .before .before .before in
+    let at-start = at-reach .before .before .before .before in
+    let x = at-start .args in
+    omega (arith, at-reach .reach .ensures, reach-low Word (x .s .now) (x .a), reach-high Word (x .s .now) (x .a) (omega arith))
 
 part-take-kind-end : tie.Need-part-take-kind-end
 part-take-kind-end c =
-    let x = c .before .before .before .before .before .before .before .before .args in
-    omega (arith, c .before .before .before .before .reach .ensures, reach-low Word (x .s .now) (x .a), reach-high Word (x .s .now) (x .a) (omega arith))
+    let at-reach = c .before .before .before .before in
+    let at-start = at-reach .before .before .before .before in
+    let x = at-start .args in
+    omega (arith, at-reach .reach .ensures, reach-low Word (x .s .now) (x .a), reach-high Word (x .s .now) (x .a) (omega arith))
 
 take-kind-requires : tie.Need-take-kind-requires
 take-kind-requires c κs = search needs
 
 returns-3 : tie.Need-returns-3
 returns-3 c =
-    let x = c .before .before .before .before .before .before .before .before .before .before .args in
-    c .take-kind .ensures ∙ word-kind (x .s .now) (x .line) (x .a) _ (c .before .before .before .before .before .before .before .before .most .ensures .0) (c .before .before .before .before .before .before .before .if1 .left) _ (c .before .before .before .before .before .takes-hex .ensures) _ (c .before .before .before .before .before .before .reach .ensures) (c .before .before .before .before .if2 .left) _ (c .before .before .before .takes-kind .ensures) (c .before .before .if3 .taken)
+    let at-if3 = c .before .before in
+    let at-takes-kind = at-if3 .before in
+    let at-if2 = at-takes-kind .before in
+    let at-takes-hex = at-if2 .before in
+    let at-reach = at-takes-hex .before in
+    let at-if1 = at-reach .before in
+    let at-most = at-if1 .before in
+    let at-start = at-most .before .before in
+    let x = at-start .args in
+    c .take-kind .ensures ∙ word-kind (x .s .now) (x .line) (x .a) _ (at-most .most .ensures .0) (at-if1 .if1 .left) _ (at-takes-hex .takes-hex .ensures) _ (at-reach .reach .ensures) (at-if2 .if2 .left) _ (at-takes-kind .takes-kind .ensures) (at-if3 .if3 .taken)
 
 take-number-requires : tie.Need-take-number-requires
 take-number-requires c κs = search needs
 
 returns-4 : tie.Need-returns-4
 returns-4 c =
-    let x = c .before .before .before .before .before .before .before .before .before .args in
-    c .take-number .ensures ∙ word-number (x .s .now) (x .line) (x .a) _ (c .before .before .before .before .before .before .before .most .ensures .0) (c .before .before .before .before .before .before .if1 .left) _ (c .before .before .before .before .takes-hex .ensures) _ (c .before .before .before .before .before .reach .ensures) (c .before .before .before .if2 .left) _ (c .before .before .takes-kind .ensures) (c .before .if3 .left)
+    let at-takes-kind = c .before .before in
+    let at-if2 = at-takes-kind .before in
+    let at-takes-hex = at-if2 .before in
+    let at-reach = at-takes-hex .before in
+    let at-if1 = at-reach .before in
+    let at-most = at-if1 .before in
+    let at-start = at-most .before .before in
+    let x = at-start .args in
+    c .take-number .ensures ∙ word-number (x .s .now) (x .line) (x .a) _ (at-most .most .ensures .0) (at-if1 .if1 .left) _ (at-takes-hex .takes-hex .ensures) _ (at-reach .reach .ensures) (at-if2 .if2 .left) _ (at-takes-kind .takes-kind .ensures) (c .before .if3 .left)
 
 pub take-word-spec : {M : Type 1} → statement M
 take-word-spec =

@@ -34,7 +34,10 @@ loop-again c =
 
 returns : tie.Need-returns Inv-loop μ-loop
 returns c =
-    record { up-to = c .before .before .before .loop .inv; undecided = λ _. sym (c .before .decided .ensures) ∙ c .if1 .left }
+    record {
+      up-to = c .before .before .before .loop .inv;
+      undecided = λ _. sym (c .before .decided .ensures) ∙ c .if1 .left;
+    }
 
 returns-2 : tie.Need-returns-2 Inv-loop μ-loop
 returns-2 c =

@@ -22,7 +22,8 @@ unfolding ended puts
 returns c =
     let made = c .before .before .before .before .before .before in
     let x = made .before .before .before .args in
-    puts-then (page (x .out .now) (x .at)) (decimal (x .n)) (x .end ∷ []) (made .put-number .ensures) (c .before .before .put-byte .ensures)
+    puts-then (page (x .out .now) (x .at)) (decimal (x .n)) (x .end ∷ []) (made .put-number .ensures)
+    (c .before .before .put-byte .ensures)
 
 pub put-ended-spec : {M : Type 1} → statement M
 put-ended-spec = tie.close (tie.spec put-number-requires put-byte-requires same-length returns)

@@ -35,7 +35,8 @@ returns c =
     let x = one .before .before .before .before .before .before .args in
     let room = page (x .out .now) 0 in
     puts-then room (text "- - - " ++ ended malformed space) (ended (x .held) newline)
-    (puts-then room (text "- - - ") (ended malformed space) (one .before .before .put .ensures) (two .before .before .put-ended .ensures))
+    (puts-then room (text "- - - ") (ended malformed space) (one .before .before .put .ensures)
+    (two .before .before .put-ended .ensures))
     (c .before .before .put-ended2 .ensures)
 
 pub put-last-spec : {M : Type 1} → statement M

@@ -31,8 +31,9 @@ same-length c = search needs
 
 returns : tie.Need-returns
 returns c =
-    let read = c .before .before .before in
-    notice-at _ _ _ _ _ _ _ _ (sym (read .before .before .before .before .next-in .ensures .is) ∙ read .before .before .found .given .1) (c .before .before .list-notice .ensures)
+    let found = c .before .before .before .before .before in
+    let is = sym (found .before .before .next-in .ensures .is) ∙ found .found .given .1 in
+    notice-at _ _ _ _ _ _ _ _ is (c .before .before .list-notice .ensures)
 
 returns-2 : tie.Need-returns-2
 returns-2 c =

@@ -32,7 +32,9 @@ cast-cap c = record { fits = c .value3 .ensures .1 }
 
 value-requires-4 : tie.Need-value-requires-4
 unfolding table
-value-requires-4 c κs = (omega arith, (c .before .before .before .before .before .pre .0, rw (c .before .before .before .if1 .taken)))
+value-requires-4 c κs =
+    let tested = c .before .before .before in
+    (omega arith, (tested .before .before .pre .0, rw (tested .if1 .taken)))
 
 cast-count : tie.Need-cast-count
 unfolding table
@@ -59,7 +61,8 @@ cast-count-2 c = record { fits = c .value5 .ensures .1 }
 
 returns-2 : tie.Need-returns-2
 unfolding kindIn
-returns-2 c = simp (ne-eqb _ _ (c .before .before .if1 .left), eq-eqb _ _ (c .before .if2 .taken), c .value5 .ensures .0)
+returns-2 c =
+    simp (ne-eqb _ _ (c .before .before .if1 .left), eq-eqb _ _ (c .before .if2 .taken), c .value5 .ensures .0)
 
 returns-3 : tie.Need-returns-3
 unfolding kindIn

@@ -12,7 +12,8 @@ carried-requires c κs = search needs
 head-stands-requires : tie.Need-head-stands-requires
 unfolding spanOf
 head-stands-requires c κs =
-    (c .before .before .before .pre .0, omega (arith, rw (← c .before .carried .ensures, c .if1 .taken) at (c .before .before .before .pre .1)))
+    let asked = c .before .before .before .pre in
+    (asked .0, omega (arith, rw (← c .before .carried .ensures, c .if1 .taken) at (asked .1)))
 
 returns : tie.Need-returns
 unfolding rowStands

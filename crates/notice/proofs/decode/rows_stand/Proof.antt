@@ -36,8 +36,10 @@ span-requires c κs = search needs
 
 add-at : tie.Need-add-at Inv-loop μ-loop
 add-at c =
-    let inside = row-inside (c .before .before .before .before .before .before .args .kind) (c .before .before .before .before .loop .i) (omega arith) in
-    omega (arith, c .before .before .before .before .loop .inv .1 .0, c .span .ensures, c .before .before .before .before .before .before .pre)
+    let at = c .before .before .before .before in
+    let start = at .before .before in
+    let inside = row-inside (start .args .kind) (at .loop .i) (omega arith) in
+    omega (arith, at .loop .inv .1 .0, c .span .ensures, start .pre)
 
 add-i : tie.Need-add-i Inv-loop μ-loop
 add-i c = omega arith

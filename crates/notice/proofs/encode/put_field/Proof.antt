@@ -24,15 +24,20 @@ add-put-2 c = search needs
 
 put-requires-2 : tie.Need-put-requires-2
 put-requires-2 c κs =
-    rw (c .before .before .before .put .kept .0, length-set, c .before .before .before .before .before .entry .ensures) (omega (arith, c .before .before .before .before .before .before .before .pre))
+    let laid = c .before .before .before in
+    let row = laid .before .before in
+    rw (laid .put .kept .0, length-set, row .entry .ensures) (omega (arith, row .before .before .pre))
 
 same-length : tie.Need-same-length
-same-length c = c .before .before .put2 .kept .0 ∙ (c .before .before .before .before .before .before .put .kept .0 ∙ simp length-set)
+same-length c =
+    let laid = c .before .before in
+    laid .put2 .kept .0 ∙ (laid .before .before .before .before .put .kept .0 ∙ simp length-set)
 
 returns : tie.Need-returns
 returns c =
-    c .before .before .put2 .ensures
-    ∙ rw (c .before .before .before .before .before .before .put .ensures, c .before .before .before .before .before .before .before .before .entry .ensures) (field-laid _ _ _ _)
+    let laid = c .before .before in
+    let sized = laid .before .before .before .before in
+    laid .put2 .ensures ∙ rw (sized .put .ensures, sized .before .before .entry .ensures) (field-laid _ _ _ _)
 
 pub put-field-spec : {M : Type 1} → statement M
 put-field-spec =

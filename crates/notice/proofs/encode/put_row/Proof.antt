@@ -20,7 +20,9 @@ same-length c = search needs
 
 returns : tie.Need-returns
 unfolding rowBytes
-returns c = rw (← c .before .before .before .before .before .carried .ensures, c .before .before .before .before .if1 .taken) (c .before .before .put-field .ensures)
+returns c =
+    let tested = c .before .before .before .before in
+    rw (← tested .before .carried .ensures, tested .if1 .taken) (c .before .before .put-field .ensures)
 
 returns-2 : tie.Need-returns-2
 unfolding rowBytes

@@ -33,19 +33,21 @@ array-read-put-row c = search needs
 
 put-row-requires : tie.Need-put-row-requires Inv-loop μ-loop
 put-row-requires c κs =
-    let l = c .before .before .loop .inv in (
-      omega arith,
-      rw (l .1 .1, length-sets) (omega (arith, l .1 .0, row-inside (c .before .before .before .before .args .kind) (c .before .before .loop .i) (omega arith), c .before .before .before .before .pre)),
-    )
+    let at = c .before .before in
+    let l = at .loop .inv in
+    let start = at .before .before in
+    let inside = row-inside (start .args .kind) (at .loop .i) (omega arith) in
+    (omega arith, rw (l .1 .1, length-sets) (omega (arith, l .1 .0, inside, start .pre)))
 
 span-requires : tie.Need-span-requires Inv-loop μ-loop
 span-requires c κs = search needs
 
 add-at : tie.Need-add-at Inv-loop μ-loop
 add-at c =
-    let k = c .before .before .before .before .before .before .before .before .args .kind in
-    let i = c .before .before .before .before .before .before .loop .i in
-    omega (arith, c .before .before .before .before .before .before .loop .inv .1 .0, c .span .ensures, start-small k i (omega arith), span-small k i (omega arith))
+    let at = c .before .before .before .before .before .before in
+    let k = at .before .before .args .kind in
+    let i = at .loop .i in
+    omega (arith, at .loop .inv .1 .0, c .span .ensures, start-small k i (omega arith), span-small k i (omega arith))
 
 add-i : tie.Need-add-i Inv-loop μ-loop
 add-i c = omega arith

@@ -1,7 +1,6 @@
 -- `drop_above` meets its contract: each way out decides whether the lane is dropped.
 use borrow.Author.Tests.{le-leb, lt-leb}
 use borrow.Author.Needs.{needs}
-use borrow.Author.Needs.{needs}
 use Rattle.owed.proofs.dropping.drop_above.Statement.{statement}
 use Rattle.owed.proofs.dropping.drop_above.Tie as tie
 

@@ -1,6 +1,5 @@
 -- `drop_lane` meets its contract: what is stored is the count of the ticks owed within reach.
 use borrow.Author.Needs.{needs}
-use borrow.Author.Needs.{needs}
 use Rattle.owed.proofs.dropping.drop_lane.Statement.{statement}
 use Rattle.owed.proofs.dropping.drop_lane.Tie as tie
 

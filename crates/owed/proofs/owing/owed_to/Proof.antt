@@ -1,7 +1,6 @@
 -- `owed_to` meets its contract: each way out decides the tests up to it.
 use borrow.Author.Tests.{lt-ltb, le-ltb, le-leb, lt-leb}
 use borrow.Author.Needs.{needs}
-use borrow.Author.Needs.{needs}
 use Rattle.owed.proofs.owing.owed_to.Statement.{statement}
 use Rattle.owed.proofs.owing.owed_to.Tie as tie
 

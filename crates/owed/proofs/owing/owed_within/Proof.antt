@@ -40,7 +40,7 @@ loop-less c = search needs
 
 loop-again : tie.Need-loop-again Inv-loop μ-loop
 unfolding keptWithin howMany
-loop-again c = (omega arith, rw add-one (cc (c .one-if .ensures .is)), omega arith)
+loop-again c = (omega arith, rw add-one (cc (c .one-if .ensures .0)), omega arith)
 
 returns : tie.Need-returns Inv-loop μ-loop
 returns c = record { is = cc (le-antisymm (c .before .loop .inv .0) (c .loop-test .left)); low = omega arith; high = omega arith }

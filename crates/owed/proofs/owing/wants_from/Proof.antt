@@ -6,8 +6,7 @@ use lib.ListN.{getD}
 use borrow.Author.Tests.{lt-ltb, le-ltb}
 use Rattle.rules.specs.Limits.{askedMax, countPlaces}
 use Rattle.story.specs.Kept.{wantsFrom}
-use Rattle.held.proofs.Within.{in-row}
-use borrow.Author.Needs.{needs}
+use Rattle.measures.proofs.Within.{in-row}
 use borrow.Author.Needs.{needs}
 use Rattle.owed.proofs.owing.wants_from.Statement.{statement}
 use Rattle.owed.proofs.owing.wants_from.Tie as tie

@@ -2,7 +2,6 @@
 use native.Mathlib.Numerals.{add-one}
 use borrow.Author.Tests.{lt-ltb, le-ltb}
 use borrow.Author.Needs.{needs}
-use borrow.Author.Needs.{needs}
 use Rattle.owed.proofs.sending.keep_first.Statement.{statement}
 use Rattle.owed.proofs.sending.keep_first.Tie as tie
 

@@ -51,7 +51,7 @@ loop-less c = search needs
 loop-again : tie.Need-loop-again Inv-loop μ-loop
 unfolding first keptNth keptWithin howMany
 loop-again c =
-    (omega arith, rw add-one (cc), rw add-one (cc (c .one-if .ensures .is)), omega arith)
+    (omega arith, rw add-one (cc), rw add-one (cc (c .one-if .ensures .0)), omega arith)
 
 returns : tie.Need-returns Inv-loop μ-loop
 returns c =

@@ -1,7 +1,6 @@
 -- `reach` meets its contract.
 use Rattle.story.specs.Life.{reach as reachOf}
 use borrow.Author.Needs.{needs}
-use borrow.Author.Needs.{needs}
 use Rattle.owed.proofs.sending.reach.Statement.{statement}
 use Rattle.owed.proofs.sending.reach.Tie as tie
 

@@ -4,7 +4,7 @@ use native.Mathlib.Omega.{arith}
 use lib.ListN.{getD}
 use Rattle.rules.specs.Limits.{askedMax, lanePlaces}
 use Rattle.story.specs.Kept.{sendingTick}
-use Rattle.held.proofs.Within.{in-row}
+use Rattle.measures.proofs.Within.{in-row}
 use Rattle.owed.proofs.sending.sending_tick.Statement.{statement}
 use Rattle.owed.proofs.sending.sending_tick.Tie as tie
 

@@ -2,7 +2,6 @@
 use borrow.Author.Tests.{lt-ltb, le-ltb}
 use Rattle.story.specs.Kept.{shows as showsOf}
 use borrow.Author.Needs.{needs}
-use borrow.Author.Needs.{needs}
 use Rattle.owed.proofs.sending.shows.Statement.{statement}
 use Rattle.owed.proofs.sending.shows.Tie as tie
 

@@ -3,13 +3,13 @@ use Prim.Native.Nat.{_+_, _-_, _%_, _≤_}
 use mathlib.Core.Path.{_≡_, refl, _∙_}
 use native.Mathlib.Omega.{arith}
 use lib.ListN.{length, drop, length-set}
-use Rattle.text.specs.Digits.{digits, decimal}
+use Rattle.text.specs.Digits.{digitsMost, digits, decimal}
 use Rattle.text.proofs.Printing.{digit-on, digit-last, digit-none}
 use Rattle.text.proofs.digits.decimal.Statement.{statement}
 use Rattle.text.proofs.digits.decimal.Tie as tie
 
 abbrev Inv-loop : tie.InvT-loop
-Inv-loop n row₀ left₀ i₀ row left i = (digits i left (drop i row) ≡ decimal n) × (i ≤ 20) × (length row ≡ 20)
+Inv-loop n row₀ left₀ i₀ row left i = (digits i left (drop i row) ≡ decimal n) × (i ≤ digitsMost) × (length row ≡ digitsMost)
 
 abbrev μ-loop : tie.MeasureT-loop
 μ-loop n row₀ left₀ i₀ row left i = i

@@ -71,15 +71,20 @@ loop-less c =
 
 loop-again : tie.Need-loop-again Inv-loop μ-loop
 loop-again c =
-    let s = c .before .before .before .before .before .before .before .before .before .before .before .before .args .hex .now in
-    let l = c .before .before .before .before .before .before .before .before .before .loop in
+    let at-put-byte = c .before .before in
+    let at-hex-of2 = at-put-byte .before .before in
+    let at-hex-of = at-hex-of2 .before .before in
+    let at-loop = at-hex-of .before .before .before in
+    let at-start = at-loop .before .before .before in
+    let s = at-start .args .hex .now in
+    let l = at-loop .loop in
     let p = page (l .out) (l .place) in
     let high = hexOf (getD s (2 * l .i) 0) in
     let low = hexOf (getD s (2 * l .i + 1) 0) in
-    let h : c .before .before .before .before .before .before .hex-of .result ≡ high = c .before .before .before .before .before .before .hex-of .ensures .0 in
-    let k : c .before .before .before .before .hex-of2 .result ≡ low = c .before .before .before .before .hex-of2 .ensures .0 in
-    let e : page (c .before .before .put-byte .last .0) (c .before .before .put-byte .result) ≡ put p (16 * high + low) =
-    c .before .before .put-byte .ensures ∙ ap (put p) (ap (λ (v : ℕ). 16 * v + c .before .before .before .before .hex-of2 .result) h ∙ ap (λ (v : ℕ). 16 * high + v) k) in (
+    let h : at-hex-of .hex-of .result ≡ high = at-hex-of .hex-of .ensures .0 in
+    let k : at-hex-of2 .hex-of2 .result ≡ low = at-hex-of2 .hex-of2 .ensures .0 in
+    let e : page (at-put-byte .put-byte .last .0) (at-put-byte .put-byte .result) ≡ put p (16 * high + low) =
+    at-put-byte .put-byte .ensures ∙ ap (put p) (ap (λ (v : ℕ). 16 * v + at-hex-of2 .hex-of2 .result) h ∙ ap (λ (v : ℕ). 16 * high + v) k) in (
       ap (λ (r : Page). puts r (hexBytes (drop (2 * (l .i + 1)) s))) e ∙ decode-on p s (l .i) (omega arith) ∙ l .inv .0,
       ap (λ (r : Page). length (r .row)) e ∙ put-length p (16 * high + low) ∙ l .inv .1,
     )

@@ -35,7 +35,9 @@ put-byte-requires c κs =
 
 letter-requires-2 : tie.Need-letter-requires-2 Inv-loop μ-loop
 letter-requires-2 c κs =
-    omega (arith, c .before .before .before .before .before .before .shared-slice-known2 .given (c .before .before .before .before .before .before .before .before .loop .i))
+    let at-shared-slice-known2 = c .before .before .before .before .before .before in
+    let at-loop = at-shared-slice-known2 .before .before in
+    omega (arith, at-shared-slice-known2 .shared-slice-known2 .given (at-loop .loop .i))
 
 put-byte-requires-2 : tie.Need-put-byte-requires-2 Inv-loop μ-loop
 put-byte-requires-2 c κs =
@@ -51,16 +53,22 @@ loop-less c =
 
 loop-again : tie.Need-loop-again Inv-loop μ-loop
 loop-again c =
-    let s = c .before .before .before .before .before .before .before .before .before .before .before .before .before .before .before .args .bytes .now in
-    let l = c .before .before .before .before .before .before .before .before .before .before .before .before .loop in
+    let at-put-byte2 = c .before .before in
+    let at-letter2 = at-put-byte2 .before in
+    let at-put-byte = at-letter2 .before .before .before .before in
+    let at-letter = at-put-byte .before in
+    let at-loop = at-letter .before .before .before .before in
+    let at-start = at-loop .before .before .before in
+    let s = at-start .args .bytes .now in
+    let l = at-loop .loop in
     let p = page (l .out) (l .place) in
     let high = letterOf (getD s (l .i) 0 / 16) in
     let low = letterOf (getD s (l .i) 0 % 16) in
-    let e : page (c .before .before .before .before .before .before .before .put-byte .last .0) (c .before .before .before .before .before .before .before .put-byte .result) ≡ put p high =
-    c .before .before .before .before .before .before .before .put-byte .ensures ∙ ap (put p) (c .before .before .before .before .before .before .before .before .letter .ensures) in
-    let q = page (c .before .before .before .before .before .before .before .put-byte .last .0) (c .before .before .before .before .before .before .before .put-byte .result) in
-    let f : page (c .before .before .put-byte2 .last .0) (c .before .before .put-byte2 .result) ≡ put (put p high) low =
-    c .before .before .put-byte2 .ensures ∙ ap (put q) (c .before .before .before .letter2 .ensures) ∙ ap (λ (r : Page). put r low) e in (
+    let e : page (at-put-byte .put-byte .last .0) (at-put-byte .put-byte .result) ≡ put p high =
+    at-put-byte .put-byte .ensures ∙ ap (put p) (at-letter .letter .ensures) in
+    let q = page (at-put-byte .put-byte .last .0) (at-put-byte .put-byte .result) in
+    let f : page (at-put-byte2 .put-byte2 .last .0) (at-put-byte2 .put-byte2 .result) ≡ put (put p high) low =
+    at-put-byte2 .put-byte2 .ensures ∙ ap (put q) (at-letter2 .letter2 .ensures) ∙ ap (λ (r : Page). put r low) e in (
       ap (λ (r : Page). puts r (hexText (drop (l .i + 1) s))) f ∙ hex-on p s (l .i) (omega arith) ∙ l .inv .0,
       ap (λ (r : Page). length (r .row)) f ∙ put-length (put p high) low ∙ put-length p high ∙ l .inv .1,
     )

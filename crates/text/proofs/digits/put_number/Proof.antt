@@ -5,6 +5,7 @@ use native.Mathlib.Omega.{arith}
 use lib.ListN.{length, drop, length-drop}
 use lib.Seq.{take-all}
 use Rattle.text.specs.Output.{page, puts}
+use Rattle.text.specs.Digits.{digitsMost}
 use borrow.Author.Needs.{needs}
 use Rattle.text.proofs.digits.put_number.Statement.{statement}
 use Rattle.text.proofs.digits.put_number.Tie as tie
@@ -29,11 +30,14 @@ same-length c = search needs
 
 returns : tie.Need-returns
 returns c =
-    let x = c .before .before .before .before .before .before .before .before .before .args in
-    let d = c .before .before .before .before .before .before .before .decimal .result in
-    let e = c .before .before .before .before .before .before .before .decimal .ensures in
-    let most : length (drop (d .from) (d .row)) ≤ 20 - d .from = rw (length-drop, e .size) (omega arith) in
-    c .before .before .put .ensures ∙ ap (puts (page (x .out .now) (x .at))) (take-all (20 - d .from) (drop (d .from) (d .row)) most ∙ e .text)
+    let at-put = c .before .before in
+    let at-decimal = at-put .before .before .before .before .before in
+    let at-start = at-decimal .before .before in
+    let x = at-start .args in
+    let d = at-decimal .decimal .result in
+    let e = at-decimal .decimal .ensures in
+    let most : length (drop (d .from) (d .row)) ≤ digitsMost - d .from = rw (length-drop, e .size) (omega arith) in
+    at-put .put .ensures ∙ ap (puts (page (x .out .now) (x .at))) (take-all (digitsMost - d .from) (drop (d .from) (d .row)) most ∙ e .text)
 
 pub put-number-spec : {M : Type 1} → statement M
 put-number-spec =

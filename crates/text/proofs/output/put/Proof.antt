@@ -32,9 +32,12 @@ loop-less c = omega arith
 
 loop-again : tie.Need-loop-again Inv-loop μ-loop
 loop-again c =
-    let s = c .before .before .before .before .before .before .before .before .before .args .bytes .now in
-    let l = c .before .before .before .before .before .before .loop in
-    let e = c .before .before .put-byte .ensures in (
+    let at-put-byte = c .before .before in
+    let at-loop = at-put-byte .before .before .before .before in
+    let at-start = at-loop .before .before .before in
+    let s = at-start .args .bytes .now in
+    let l = at-loop .loop in
+    let e = at-put-byte .put-byte .ensures in (
       ap (λ (p : Page). puts p (drop (l .i + 1) s)) e ∙ puts-on (page (l .out) (l .place)) s (l .i) (omega arith) ∙ l .inv .0,
       ap (λ (p : Page). length (p .row)) e ∙ put-length (page (l .out) (l .place)) (getD s (l .i) 0) ∙ l .inv .1,
     )

@@ -1,4 +1,0 @@
--- Laws of the refusals' order and of the next states.
-pub mod Ladder
-pub mod Event
-pub mod Asked

@@ -1,4 +1,0 @@
-// What events and lane questions answer, read off any state: the verdicts that the calls go by, in 01's order of refusals.
-
-pub mod questions;
-pub mod verdicts;

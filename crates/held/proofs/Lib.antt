@@ -1,3 +1,0 @@
--- Laws of this crate's definitions.
-pub mod Compared
-pub mod Within

@@ -1,0 +1,28 @@
+-- `order_ok` meets its contract: each way out decides the tests up to it.
+use borrow.Author.Tests.{le-leb, lt-leb}
+use Rattle.story.specs.Kept.{orderOk}
+use borrow.Author.Needs.{needs}
+use Rattle.measures.proofs.limits.order_ok.Statement.{statement}
+use Rattle.measures.proofs.limits.order_ok.Tie as tie
+
+returns : tie.Need-returns
+unfolding orderOk
+returns c = search (le-leb, lt-leb)
+
+returns-2 : tie.Need-returns-2
+unfolding orderOk
+returns-2 c = search (le-leb, lt-leb)
+
+returns-3 : tie.Need-returns-3
+unfolding orderOk
+returns-3 c = search (le-leb, lt-leb)
+
+within-requires : tie.Need-within-requires
+within-requires c κs = search needs
+
+returns-4 : tie.Need-returns-4
+unfolding orderOk
+returns-4 c = search (le-leb, lt-leb)
+
+pub order-ok-spec : {M : Type 1} → statement M
+order-ok-spec = tie.close (tie.spec returns returns-2 returns-3 within-requires returns-4)

@@ -1,0 +1,21 @@
+-- `at_tick_start` meets its contract.
+use Rattle.story.specs.Kept.{atTickStart}
+use borrow.Author.Needs.{needs}
+use Rattle.measures.proofs.ticks.at_tick_start.Statement.{statement}
+use Rattle.measures.proofs.ticks.at_tick_start.Tie as tie
+
+since-requires : tie.Need-since-requires
+since-requires c κs = search needs
+
+tick-requires : tie.Need-tick-requires
+tick-requires c κs = search needs
+
+rem-result : tie.Need-rem-result
+rem-result c = search needs
+
+returns : tie.Need-returns
+unfolding atTickStart
+returns c = simp (c .before .since .ensures, c .tick .ensures .is)
+
+pub at-tick-start-spec : {M : Type 1} → statement M
+at-tick-start-spec = tie.close (tie.spec since-requires tick-requires rem-result returns)

@@ -1,0 +1,27 @@
+-- `tick_at` meets its contract: a quotient is no more than what is divided.
+use Prim.Native.Nat.{_/_, _≤_}
+use native.Mathlib.Omega.{arith}
+use native.Mathlib.Nat.{div-le-self}
+use Rattle.story.specs.Kept.{tickAt}
+use borrow.Author.Needs.{needs}
+use Rattle.measures.proofs.ticks.tick_at.Statement.{statement}
+use Rattle.measures.proofs.ticks.tick_at.Tie as tie
+
+since-requires : tie.Need-since-requires
+since-requires c κs = search needs
+
+tick-requires : tie.Need-tick-requires
+tick-requires c κs = search needs
+
+div-result : tie.Need-div-result
+div-result c = search needs
+
+returns : tie.Need-returns
+unfolding tickAt
+returns c =
+    let a = c .before .since in
+    let below : a .result / c .tick .result ≤ a .result = div-le-self _ _ in
+    record { is = simp (a .ensures, c .tick .ensures .is); low = omega arith; high = omega (arith, a .ensures) }
+
+pub tick-at-spec : {M : Type 1} → statement M
+tick-at-spec = tie.close (tie.spec since-requires tick-requires div-result returns)

@@ -1,0 +1,26 @@
+-- The numbers of a title's film, fixed at its opening, within their limits (01, "What the product holds").
+use Prim.Native.Nat.{ℕ, _<_}
+use mathlib.Core.Path.{_≡_}
+use mathlib.Core.Bool.{Bool}
+use lib.Dec.{leb, eqb}
+use Rattle.rules.specs.Limits.{both, either, poolMin, titlesMax}
+use Rattle.grid.specs.Bounds.{Length, FloorCap}
+use Rattle.story.specs.declared.Title.{Title}
+use Rattle.story.specs.declared.State.{State}
+use Rattle.story.specs.Kept.{absentMode, titleAt, titleOk}
+
+-- the test of one slot of a state
+abbrev pub slotOk : State → ℕ → Bool
+slotOk s i = both (titleOk (titleAt s i)) (either (leb poolMin (s .pool)) (eqb (titleAt s i .mode) absentMode))
+
+-- a length, a floor and a cap that a title may have
+pub record Film (t : Title) : Type 0 where
+  pub sized : Length (t .length)
+  pub cut : FloorCap (t .floor) (t .cap)
+
+-- a slot without a title, or with one whose film is within its limits
+abbrev pub Readable : Title → Type 0
+Readable t = (t .mode ≡ absentMode → ⊥) → Film t
+
+abbrev pub AllReadable : State → Type 0
+AllReadable s = (i : ℕ) → i < titlesMax → Readable (titleAt s i)

@@ -1,0 +1,34 @@
+// Where a time lies in a title's ticks (01, "Cells, ticks, slots").
+
+use story::Title;
+ghost use Prim.Native.Nat.{_-_};
+ghost use mathlib.Core.Path.{_≡_};
+ghost use Rattle.grid.specs.Bounds.{Exactly};
+ghost use Rattle.story.specs.Kept.{tickAt, atTickStart};
+ghost use Rattle.measures.specs.Film.{Film};
+
+// How far a moment lies after another, 0 where it lies before.
+pub fn since(from: u64, moment: u64) -> u64
+    ensures { λ r. ⌜ r ≡ moment - from ⌝ }
+{
+    if moment < from {
+        return 0;
+    }
+    moment - from
+}
+
+// The tick of a title that holds a time.
+pub fn tick_at(t: Title, time: u64) -> u64
+    requires { ⌜ Film t ⌝ }
+    ensures { λ r. ⌜ Exactly (tickAt t time) 0 time r ⌝ }
+{
+    since(t.opened, time) / grid::tick(t.length, t.floor, t.cap)
+}
+
+// Whether a time is the start of a tick.
+pub fn at_tick_start(t: Title, time: u64) -> bool
+    requires { ⌜ Film t ⌝ }
+    ensures { λ r. ⌜ r ≡ atTickStart t time ⌝ }
+{
+    since(t.opened, time) % grid::tick(t.length, t.floor, t.cap) == 0
+}

@@ -1,0 +1,3 @@
+-- Laws of the refusals' order and of the next states.
+pub mod Event
+pub mod Asked

@@ -1,0 +1,69 @@
+-- `change_verdict` meets its contract: the numbers, then the title's standing, then its count and turn.
+use mathlib.Core.Path.{refl, ap, sym, _∙_}
+use mathlib.Core.Bool.{not}
+use Rattle.rules.specs.Limits.{both, within, countMin, countMax}
+use Rattle.rules.specs.Refusals.{firstHit}
+use Rattle.story.specs.declared.Title.{Title}
+use Rattle.story.specs.Kept.{titleAt}
+use Rattle.story.specs.Calls.{eventOk}
+use Rattle.verdicts.specs.Before.{standingRules, countRules, changeBefore}
+use Rattle.rules.proofs.Refusals.{numbered, then-late, then-first}
+use Rattle.verdicts.proofs.Event.{event-id, standing-changeable}
+use borrow.Author.Needs.{needs}
+use Rattle.verdicts.proofs.events.change_verdict.Statement.{statement}
+use Rattle.verdicts.proofs.events.change_verdict.Tie as tie
+
+event-ok-requires : tie.Need-event-ok-requires
+event-ok-requires c κs = search needs
+
+within-requires : tie.Need-within-requires
+within-requires c κs = search needs
+
+standing-requires : tie.Need-standing-requires
+standing-requires c κs = sym (c .before .before .before .event-ok .ensures) ∙ c .before .before .if1 .taken
+
+title-of-requires : tie.Need-title-of-requires
+title-of-requires c κs = event-id (c .before .before .before .before .before .before .args .s) (c .before .before .before .before .before .before .args .id) (c .before .before .before .before .before .before .args .time) (sym (c .before .before .before .before .before .event-ok .ensures) ∙ c .before .before .before .before .if1 .taken)
+
+count-verdict-requires : tie.Need-count-verdict-requires
+count-verdict-requires c κs =
+    let a = c .before .before .before .before .before .before .before .args in
+    let ready = standing-changeable (a .s) (a .id) (a .time) (sym (c .before .before .before .before .before .before .event-ok .ensures) ∙ c .before .before .before .before .before .if1 .taken) (sym (c .before .before .standing .ensures) ∙ c .before .if3 .taken) in
+    rw (c .title-of .ensures) (ready .film, ready .ruled)
+
+returns : tie.Need-returns
+unfolding changeBefore numbered
+returns c =
+    let a = c .before .before .before .before .before .before .before .before .args in
+    then-late 1 (not (both (eventOk (a .s) (a .id) (a .time)) (within countMin countMax (a .count)))) (standingRules (a .s) (a .id) (a .time)) (countRules (titleAt (a .s) (a .id)) (a .count) (a .time)) (c .before .before .before .standing .result) refl
+    (simp (← c .before .before .before .before .before .before .before .event-ok .ensures, c .before .before .before .before .before .before .if1 .taken, ← c .before .before .before .before .before .within .ensures, c .before .before .before .before .if2 .taken)) (c .before .before .before .standing .ensures) (c .count-verdict .result) (c .before .before .if3 .taken)
+    (c .count-verdict .ensures ∙ ap (λ (t : Title). firstHit (countRules t (a .count) (a .time))) (c .before .title-of .ensures))
+
+returns-2 : tie.Need-returns-2
+unfolding changeBefore numbered
+returns-2 c =
+    let a = c .before .before .before .before .before .before .args in
+    then-first 1 (not (both (eventOk (a .s) (a .id) (a .time)) (within countMin countMax (a .count)))) (standingRules (a .s) (a .id) (a .time)) (countRules (titleAt (a .s) (a .id)) (a .count) (a .time)) (c .before .standing .result) refl
+    (simp (← c .before .before .before .before .before .event-ok .ensures, c .before .before .before .before .if1 .taken, ← c .before .before .before .within .ensures, c .before .before .if2 .taken)) (c .before .standing .ensures) (c .if3 .left)
+
+returns-3 : tie.Need-returns-3
+unfolding changeBefore firstHit
+returns-3 c = simp (← c .before .before .before .event-ok .ensures, c .before .before .if1 .taken, ← c .before .within .ensures, c .if2 .left)
+
+returns-4 : tie.Need-returns-4
+unfolding changeBefore firstHit
+returns-4 c = simp (← c .before .event-ok .ensures, c .if1 .left)
+
+pub change-verdict-spec : {M : Type 1} → statement M
+change-verdict-spec =
+    tie.close
+    (tie.spec
+    event-ok-requires
+    within-requires
+    standing-requires
+    title-of-requires
+    count-verdict-requires
+    returns
+    returns-2
+    returns-3
+    returns-4)

@@ -1,0 +1,23 @@
+-- `lane_ok` meets its contract: the tests are joined.
+use borrow.Author.Needs.{needs}
+use Rattle.verdicts.proofs.questions.lane_ok.Statement.{statement}
+use Rattle.verdicts.proofs.questions.lane_ok.Tie as tie
+
+state-ok-requires : tie.Need-state-ok-requires
+state-ok-requires c κs = search needs
+
+also-requires : tie.Need-also-requires
+also-requires c κs = search needs
+
+also-requires-2 : tie.Need-also-requires-2
+also-requires-2 c κs = search needs
+
+also-requires-3 : tie.Need-also-requires-3
+also-requires-3 c κs = search needs
+
+returns : tie.Need-returns
+returns c = cc
+
+pub lane-ok-spec : {M : Type 1} → statement M
+lane-ok-spec =
+    tie.close (tie.spec state-ok-requires also-requires also-requires-2 also-requires-3 returns)
