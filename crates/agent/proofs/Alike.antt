@@ -14,28 +14,29 @@ use Rattle.agent.specs.declared.Agent.{Agent}
 use Rattle.agent.specs.Series.{agentAfter, eventsHeard}
 use Rattle.agent.proofs.Order.{state-heard}
 
-module _ (pool : ℕ) (cs : List Event) (bss : List (List ℕ)) (same : accepted (lanesOf pool) cs ≡ eventsHeard pool bss) where
-  pub alike : stateAfter pool cs ≡ agentAfter pool bss .state
-  alike =
-      left-alone pool (accepted (lanesOf pool) cs) (stateAfter pool cs) (every-run pool cs)
-      ∙ ap (stateAfter pool) same
-      ∙ sym (state-heard pool bss)
+module _ (pool : ℕ) (cs : List Event) (bss : List (List ℕ)) (same : accepted (lanesOf pool) cs ≡ eventsHeard pool bss)
+  where
+    pub alike : stateAfter pool cs ≡ agentAfter pool bss .state
+    alike =
+        left-alone pool (accepted (lanesOf pool) cs) (stateAfter pool cs) (every-run pool cs)
+        ∙ ap (stateAfter pool) same
+        ∙ sym (state-heard pool bss)
 
-  -- so every lane question is answered alike,
-  pub lanes-alike : (i l τ : ℕ) →
-      (laneAnswer (stateAfter pool cs) i l τ ≡ laneAnswer (agentAfter pool bss .state) i l τ)
-      × (laneShows (stateAfter pool cs) i l τ ≡ laneShows (agentAfter pool bss .state) i l τ)
-  lanes-alike i l τ = (ap (λ s. laneAnswer s i l τ) alike, ap (λ s. laneShows s i l τ) alike)
+    -- so every lane question is answered alike,
+    pub lanes-alike : (i l τ : ℕ) →
+        (laneAnswer (stateAfter pool cs) i l τ ≡ laneAnswer (agentAfter pool bss .state) i l τ)
+        × (laneShows (stateAfter pool cs) i l τ ≡ laneShows (agentAfter pool bss .state) i l τ)
+    lanes-alike i l τ = (ap (λ s. laneAnswer s i l τ) alike, ap (λ s. laneShows s i l τ) alike)
 
-  -- and status, and lanes held
-  pub status-alike : (τ : ℕ) (ids : List ℕ) (m h i : ℕ) →
-      (statusAnswer (stateAfter pool cs) τ ids m h ≡ statusAnswer (agentAfter pool bss .state) τ ids m h)
-      × (statusCount (stateAfter pool cs) i ≡ statusCount (agentAfter pool bss .state) i)
-      × (statusHeld (stateAfter pool cs) i τ ≡ statusHeld (agentAfter pool bss .state) i τ)
-      × (lanesHeld (stateAfter pool cs) τ ≡ lanesHeld (agentAfter pool bss .state) τ)
-  status-alike τ ids m h i = (
-    ap (λ s. statusAnswer s τ ids m h) alike,
-    ap (λ s. statusCount s i) alike,
-    ap (λ s. statusHeld s i τ) alike,
-    ap (λ s. lanesHeld s τ) alike,
-  )
+    -- and status, and lanes held
+    pub status-alike : (τ : ℕ) (ids : List ℕ) (m h i : ℕ) →
+        (statusAnswer (stateAfter pool cs) τ ids m h ≡ statusAnswer (agentAfter pool bss .state) τ ids m h)
+        × (statusCount (stateAfter pool cs) i ≡ statusCount (agentAfter pool bss .state) i)
+        × (statusHeld (stateAfter pool cs) i τ ≡ statusHeld (agentAfter pool bss .state) i τ)
+        × (lanesHeld (stateAfter pool cs) τ ≡ lanesHeld (agentAfter pool bss .state) τ)
+    status-alike τ ids m h i = (
+      ap (λ s. statusAnswer s τ ids m h) alike,
+      ap (λ s. statusCount s i) alike,
+      ap (λ s. statusHeld s i τ) alike,
+      ap (λ s. lanesHeld s τ) alike,
+    )

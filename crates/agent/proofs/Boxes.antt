@@ -10,9 +10,11 @@ use Rattle.rules.specs.Limits.{titlesMax, askedMax}
 use Rattle.story.specs.Life.{cell}
 use Rattle.story.specs.Kept.{lanesHeld}
 use Rattle.story.specs.Calls.{laneAnswer, laneShows, statusAnswer, statusCount, statusHeld}
-use Rattle.story.specs.Story.{Accepted, lifeOf, lifeAt, lastTime, upTo, airAt, countIn, heldIn, heldOver, laneAnswerTo, statusAnswerTo, filmAt, InTick, Received, Begins}
+use Rattle.story.specs.Story.{Accepted, lifeOf, lifeAt, lastTime, upTo, airAt, countIn, heldIn, heldOver, laneAnswerTo}
+use Rattle.story.specs.Story.{statusAnswerTo, filmAt, InTick, Received, Begins}
 use Rattle.story.specs.Runs.{stateAfter, lanesOf, Reached}
-use Rattle.story.proofs.Demands.{in-sequence, every-lane, on-air, every-status, every-count, every-held, all-held, boxes, by-the-calls, the-pool}
+use Rattle.story.proofs.Demands.{in-sequence, every-lane, on-air, every-status, every-count, every-held, all-held}
+use Rattle.story.proofs.Demands.{boxes, by-the-calls, the-pool}
 use Rattle.agent.specs.declared.Agent.{Agent}
 use Rattle.agent.specs.Series.{agentAfter, eventsHeard}
 use Rattle.agent.proofs.Order.{follows, state-heard}
@@ -31,7 +33,8 @@ module _ (pool : ℕ) (bss : List (List ℕ)) where
   heard-state = state-heard pool bss
 
   -- what the agent answers to a lane question is what is on air after them,
-  pub heard-lane : (i l τ : ℕ) → laneAnswer (agentAfter pool bss .state) i l τ ≡ laneAnswerTo (eventsHeard pool bss) i l τ
+  pub heard-lane : (i l τ : ℕ) →
+      laneAnswer (agentAfter pool bss .state) i l τ ≡ laneAnswerTo (eventsHeard pool bss) i l τ
   heard-lane = every-lane pool (eventsHeard pool bss) (agentAfter pool bss .state) heard-reached
 
   pub heard-on-air : (i l τ : ℕ) → laneAnswer (agentAfter pool bss .state) i l τ ≡ 0 →

@@ -9,7 +9,8 @@ use native.Mathlib.Omega.{arith}
 use lib.Dec.{leb, eqb}
 use lib.ListN.{length}
 use borrow.Author.Tests.{leb-true, eq-eqb}
-use Rattle.rules.specs.Limits.{both, within, idMax, eventTimeMax, lengthMin, lengthMax, floorMin, floorMax, countMin, countMax}
+use Rattle.rules.specs.Limits.{both, within, idMax, eventTimeMax, lengthMin, lengthMax, floorMin, floorMax, countMin}
+use Rattle.rules.specs.Limits.{countMax}
 use Rattle.rules.proofs.Tests.{both-l, both-r, both-in, pick-true}
 use Rattle.notice.specs.declared.Notice.{Notice}
 use Rattle.notice.specs.declared.Reading.the-variants as reading
@@ -18,7 +19,8 @@ use Rattle.notice.specs.Encode.{bytesOf}
 use Rattle.notice.specs.Decode.{readOf}
 use Rattle.notice.proofs.RoundTrip.{written-reads}
 use Rattle.notice.proofs.Typed.{typed-fits}
-use Rattle.story.specs.Story.{Act, opens, changes, closes, Event, event, answer, accepted, Accepted, none, more, withinLimits, openLimits, actLimits}
+use Rattle.story.specs.Story.{Act, opens, changes, closes, Event, event, answer, accepted, Accepted, none, more}
+use Rattle.story.specs.Story.{withinLimits, openLimits, actLimits}
 use Rattle.story.specs.Runs.{stateAfter, lanesOf}
 use Rattle.story.proofs.Passed.{in-limits}
 use Rattle.story.proofs.Reached.{accepted-is}

@@ -24,7 +24,8 @@ data Each (log : Notice → Type 0) : List Notice → Type 0 where
   nobody : Each log []
   also : {n : Notice} {ns : List Notice} → log n → Each log ns → Each log (n ∷ ns)
 
-kept : (log : Notice → Type 0) (lanes : ℕ) (ns : List Notice) (r : Reading) → ((n : Notice) → r ≡ reading.Whole n → log n) → Each log ns → Each log (hearing lanes ns r)
+kept : (log : Notice → Type 0) (lanes : ℕ) (ns : List Notice) (r : Reading) →
+    ((n : Notice) → r ≡ reading.Whole n → log n) → Each log ns → Each log (hearing lanes ns r)
 kept log lanes ns reading.Malformed f w = w
 kept log lanes ns (reading.Whole n) f w =
     elim (both (eqb (n .sequence) (suc (length ns))) (eqb (answer lanes (map eventOf ns) (eventOf n)) 0)) as (λ b. Each log (pick b (n ∷ ns) ns))
@@ -36,7 +37,8 @@ heard-of log lanes [] no-bytes = nobody
 heard-of log lanes (bs ∷ bss) (more-bytes f w) = kept log lanes (heard lanes bss) (readOf bs) f (heard-of log lanes bss w)
 
 -- two runs of notices of one log, each in turn and equally long, are one
-one-run : (log : Notice → Type 0) → OneEach log → (ms ns : List Notice) → InTurn ms → InTurn ns → Each log ms → Each log ns → length ms ≡ length ns → ms ≡ ns
+one-run : (log : Notice → Type 0) → OneEach log → (ms ns : List Notice) → InTurn ms → InTurn ns → Each log ms →
+    Each log ns → length ms ≡ length ns → ms ≡ ns
 one-run log one [] [] t u w v e = refl
 one-run log one [] (n ∷ ns) t u w v e = absurd (omega arith)
 one-run log one (m ∷ ms) [] t u w v e = absurd (omega arith)
@@ -46,7 +48,8 @@ one-run log one (m ∷ ms) (n ∷ ns) (next p t) (next q u) (also a w) (also b v
     let rest : ms ≡ ns = one-run log one ms ns t u w v shorter in
     λ i. head i ∷ rest i
 
-pub one-log : (log : Notice → Type 0) → OneEach log → (pool : ℕ) (bss css : List (List ℕ)) → Of log bss → Of log css → agentAfter pool bss .sequence ≡ agentAfter pool css .sequence → agentAfter pool bss ≡ agentAfter pool css
+pub one-log : (log : Notice → Type 0) → OneEach log → (pool : ℕ) (bss css : List (List ℕ)) → Of log bss → Of log css →
+    agentAfter pool bss .sequence ≡ agentAfter pool css .sequence → agentAfter pool bss ≡ agentAfter pool css
 one-log log one pool bss css w v e =
     let b = follows pool bss in
     let c = follows pool css in

@@ -22,13 +22,7 @@ use Rattle.story.proofs.Reached.{reached, run-more, run-state}
 use Rattle.story.proofs.Demands.{every-answer}
 use Rattle.agent.specs.declared.Agent.{Agent}
 use Rattle.agent.specs.Turns.{eventOf, freshAgent, noticeAnswer, noticeNext, noticed}
-use Rattle.agent.specs.Series.{agentAfter, hearing, heard, eventsHeard, InTurn, start, next}
-
--- what an agent that heard ns is
-pub record Hearing (pool : ℕ) (ns : List Notice) (g : Agent) : Type 0 where
-  pub sequence : g .sequence ≡ length ns
-  pub run : Reached pool (map eventOf ns) (g .state)
-  pub turn : InTurn ns
+use Rattle.agent.specs.Series.{agentAfter, hearing, heard, eventsHeard, Hearing, InTurn, start, next}
 
 fresh-hearing : (pool : ℕ) → Hearing pool [] (freshAgent pool)
 unfolding stateAfter

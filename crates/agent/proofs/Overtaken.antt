@@ -11,7 +11,8 @@ use Rattle.grid.specs.Ticks.{tickOf, roundedUp, slot, isSlotStart, cellOf}
 use Rattle.grid.specs.Channels.{floorRem, shift, segment, channelCell}
 use Rattle.grid.specs.Lanes.{isInG, isAdded, addedChannel, laneCell}
 use Rattle.grid.specs.Plan.{takenFrom, inPlan}
-use Rattle.story.specs.Life.{isAdmission, isActive, droppedAt, isAwaited, isOwed, reach, owedWithin, isNth, nthOwed, sends, onAir, isHeld}
+use Rattle.story.specs.Life.{isAdmission, isActive, droppedAt, isAwaited, isOwed, reach, owedWithin, isNth, nthOwed}
+use Rattle.story.specs.Life.{sends, onAir, isHeld}
 use Rattle.story.specs.Story.{tickIn, lifeOf, latestOf, heldIn, heldOver, answerTo}
 use Rattle.notice.specs.declared.Notice.{Notice}
 use Rattle.notice.specs.declared.Kind.the-variants.{Open, Change}
@@ -26,7 +27,8 @@ use Rattle.agent.specs.Series.{heard}
 use Rattle.agent.proofs.Turns.{out-of-turn, refused-stays}
 
 -- the agent waits for the raise, and the drop comes first
-module _ (g : Agent) (raise drop : Notice) (waits : raise .sequence ≡ suc (g .sequence)) (follows : drop .sequence ≡ suc (raise .sequence)) where
+module _ (g : Agent) (raise drop : Notice) (waits : raise .sequence ≡ suc (g .sequence))
+    (follows : drop .sequence ≡ suc (raise .sequence)) where
   pub answers-twelve : noticeAnswer g (reading.Whole drop) ≡ outOfTurn
   answers-twelve = out-of-turn g drop (λ e. omega arith)
 

@@ -35,8 +35,8 @@ told-series pool (bs ∷ bss) (n ∷ ns) (one-read is rest) =
     ∙ ap (noticed (agentAfter pool bss)) (sym is)
 
 -- one read more of a log, its notice written out
-one-more : (bs : List ℕ) → Bytes bs → (p : ℕ) (ns : List Notice) (f : Found) → readAt bs p ≡ f → ReadAs (map bytesOf ns) ns
-    → ReadAs (map bytesOf (withFound f ns)) (withFound f ns)
+one-more : (bs : List ℕ) → Bytes bs → (p : ℕ) (ns : List Notice) (f : Found) → readAt bs p ≡ f
+    → ReadAs (map bytesOf ns) ns → ReadAs (map bytesOf (withFound f ns)) (withFound f ns)
 one-more bs small p ns (found.At m e) is rest = one-read (read-alone bs small p m e is) rest
 one-more bs small p ns found.End is rest = rest
 one-more bs small p ns found.Malformed is rest = rest
@@ -49,5 +49,6 @@ log-series bs small (suc n) =
     one-more bs small (placeTo bs n) (noticesTo bs n) (readAt bs (placeTo bs n)) refl (log-series bs small n)
 
 -- a log played into a fresh agent is the series of its notices, each in its own bytes
-pub played : (pool : ℕ) (log : List ℕ) → Bytes log → agentPlayed pool log ≡ agentAfter pool (map bytesOf (noticesOf log))
+pub played : (pool : ℕ) (log : List ℕ) → Bytes log
+    → agentPlayed pool log ≡ agentAfter pool (map bytesOf (noticesOf log))
 played pool log small = told-series pool _ _ (log-series log small _)

@@ -21,7 +21,10 @@ abbrev pub agentOf : ℕ → State → Agent
 agentOf n s = record { sequence = n; state = s }
 
 -- what a call answers and leaves, by the notice's kind
-pub enacts : (s : State) (n : Notice) (k : Kind) (a : ℕ) (t : State) → n .kind ≡ k → a ≡ callAnswer s (n .title) (n .time) (actOf k) → t ≡ pick (eqb (callAnswer s (n .title) (n .time) (actOf k)) 0) (callNext s (n .title) (n .time) (actOf k)) s → (a ≡ answered s (eventOf n)) × (t ≡ called s (eventOf n))
+pub enacts : (s : State) (n : Notice) (k : Kind) (a : ℕ) (t : State) → n .kind ≡ k →
+    a ≡ callAnswer s (n .title) (n .time) (actOf k) →
+    t ≡ pick (eqb (callAnswer s (n .title) (n .time) (actOf k)) 0) (callNext s (n .title) (n .time) (actOf k)) s →
+    (a ≡ answered s (eventOf n)) × (t ≡ called s (eventOf n))
 enacts s n k a t e p q = (
   p ∙ sym (ap (λ x. callAnswer s (n .title) (n .time) (actOf x)) e),
   q ∙ sym (ap (λ x. pick (eqb (callAnswer s (n .title) (n .time) (actOf x)) 0) (callNext s (n .title) (n .time) (actOf x)) s) e),
@@ -32,11 +35,14 @@ abbrev pub Turn : Agent → Notice → ℕ → Agent → Type 0
 Turn g n a h = (a ≡ noticeAnswer g (reading.Whole n)) × (h ≡ noticed g (reading.Whole n))
 
 -- in turn: the answer is the event's
-in-turn : (g : Agent) (n : Notice) → n .sequence ≡ g .sequence + 1 → noticeAnswer g (reading.Whole n) ≡ answered (g .state) (eventOf n)
+in-turn : (g : Agent) (n : Notice) → n .sequence ≡ g .sequence + 1 →
+    noticeAnswer g (reading.Whole n) ≡ answered (g .state) (eventOf n)
 unfolding noticeAnswer
 in-turn g n e = ap (λ b. pick b (answered (g .state) (eventOf n)) outOfTurn) (eq-eqb (n .sequence) (suc (g .sequence)) (e ∙ add-one (g .sequence)))
 
-pub turn-taken : (g : Agent) (n : Notice) (a : ℕ) (s : State) → n .sequence ≡ g .sequence + 1 → a ≡ answered (g .state) (eventOf n) → s ≡ called (g .state) (eventOf n) → a ≡ 0 → Turn g n a (agentOf (n .sequence) s)
+pub turn-taken : (g : Agent) (n : Notice) (a : ℕ) (s : State) → n .sequence ≡ g .sequence + 1 →
+    a ≡ answered (g .state) (eventOf n) → s ≡ called (g .state) (eventOf n) → a ≡ 0 →
+    Turn g n a (agentOf (n .sequence) s)
 turn-taken g n a s e p q z =
     let zero-answer : answered (g .state) (eventOf n) ≡ 0 = sym p ∙ z in
     let in-state : s ≡ callNext (g .state) (n .title) (n .time) (actOf (n .kind)) =
@@ -50,11 +56,13 @@ turn-taken g n a s e p q z =
 stays : (g : Agent) (r : Reading) → (noticeAnswer g r ≡ 0 → ⊥) → g ≡ noticed g r
 stays g r h = rw (ne-eqb (noticeAnswer g r) 0 h) refl
 
-pub turn-refused : (g : Agent) (n : Notice) (a : ℕ) → n .sequence ≡ g .sequence + 1 → a ≡ answered (g .state) (eventOf n) → (a ≡ 0 → ⊥) → Turn g n a g
+pub turn-refused : (g : Agent) (n : Notice) (a : ℕ) → n .sequence ≡ g .sequence + 1 →
+    a ≡ answered (g .state) (eventOf n) → (a ≡ 0 → ⊥) → Turn g n a g
 turn-refused g n a e p z =
     (p ∙ sym (in-turn g n e), stays g (reading.Whole n) (λ h. z (p ∙ sym (in-turn g n e) ∙ h)))
 
-pub out-of-turn : (g : Agent) (n : Notice) → (n .sequence ≡ suc (g .sequence) → ⊥) → noticeAnswer g (reading.Whole n) ≡ outOfTurn
+pub out-of-turn : (g : Agent) (n : Notice) → (n .sequence ≡ suc (g .sequence) → ⊥) →
+    noticeAnswer g (reading.Whole n) ≡ outOfTurn
 unfolding noticeAnswer
 out-of-turn g n h = ap (λ b. pick b (answered (g .state) (eventOf n)) outOfTurn) (ne-eqb (n .sequence) (suc (g .sequence)) h)
 
@@ -68,7 +76,8 @@ unfolding noticeAnswer
 malformed-stays g = (refl, refl)
 
 -- by what the bytes read as
-pub reads-as : (g : Agent) (r q : Reading) (a : ℕ) (h : Agent) → r ≡ q → (a ≡ noticeAnswer g q) × (h ≡ noticed g q) → (a ≡ noticeAnswer g r) × (h ≡ noticed g r)
+pub reads-as : (g : Agent) (r q : Reading) (a : ℕ) (h : Agent) → r ≡ q → (a ≡ noticeAnswer g q) × (h ≡ noticed g q) →
+    (a ≡ noticeAnswer g r) × (h ≡ noticed g r)
 reads-as g r q a h e w = rw e w
 
 -- a reading that is refused changes nothing

@@ -16,7 +16,8 @@ use Rattle.agent.proofs.take.Kinds as take-kinds
 use Rattle.agent.proofs.take.Reads as take-call
 
 -- an answer and an agent, each said twice
-both-told : {n : ℕ} {g : Agent} (x y : Followed) → (x .answer ≡ n) × (x .agent ≡ g) → (y .answer ≡ n) × (y .agent ≡ g) → x ≡ y
+both-told : {n : ℕ} {g : Agent} (x y : Followed) → (x .answer ≡ n) × (x .agent ≡ g) → (y .answer ≡ n) × (y .agent ≡ g) →
+    x ≡ y
 both-told x y p q =
     ap₂ (λ (n : ℕ) (g : Agent). record { answer = n; agent = g }) (p .0 ∙ sym (q .0)) (p .1 ∙ sym (q .1))
 

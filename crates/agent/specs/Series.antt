@@ -15,7 +15,7 @@ use Rattle.notice.specs.declared.Reading.the-variants as reading
 use Rattle.notice.specs.Encode.{bytesOf}
 use Rattle.notice.specs.Decode.{readOf}
 use Rattle.story.specs.Story.{Act, opens, changes, closes, Event, answer}
-use Rattle.story.specs.Runs.{lanesOf}
+use Rattle.story.specs.Runs.{lanesOf, Reached}
 use Rattle.agent.specs.declared.Agent.{Agent}
 use Rattle.agent.specs.Turns.{eventOf, freshAgent, noticed}
 
@@ -58,10 +58,17 @@ pub data InTurn : List Notice → Type 0 where
 abbrev pub eventsHeard : ℕ → List (List ℕ) → List Event
 eventsHeard pool bss = map eventOf (heard (lanesOf pool) bss)
 
+-- what an agent that heard ns is: its sequence is their number, their events are reached with its state, and each came in turn
+pub record Hearing (pool : ℕ) (ns : List Notice) (g : Agent) : Type 0 where
+  pub sequence : g .sequence ≡ length ns
+  pub run : Reached pool (map eventOf ns) (g .state)
+  pub turn : InTurn ns
+
 -- every notice of a series stands in a log, given by which notices it has
 pub data Of (log : Notice → Type 0) : List (List ℕ) → Type 0 where
   no-bytes : Of log []
-  more-bytes : {bs : List ℕ} {bss : List (List ℕ)} → ((n : Notice) → readOf bs ≡ reading.Whole n → log n) → Of log bss → Of log (bs ∷ bss)
+  more-bytes : {bs : List ℕ} {bss : List (List ℕ)} → ((n : Notice) → readOf bs ≡ reading.Whole n → log n) → Of log bss →
+      Of log (bs ∷ bss)
 
 -- no two different notices of a log share a sequence
 abbrev pub OneEach : (Notice → Type 0) → Type 0

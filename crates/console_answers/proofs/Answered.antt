@@ -17,21 +17,25 @@ use Rattle.console_answers.specs.Outcomes.{doneText, withText, valueText
 use Rattle.console_answers.specs.Questions.{laneText, statusText, planText, shareText}
 
 -- what is told stands behind the 0
-pub told : (p q r : Page) (a x : ℕ) (more : List ℕ) → q ≡ puts p (doneText a x) → a ≡ 0 → r ≡ puts q more → r ≡ puts p (withText a x more)
+pub told : (p q r : Page) (a x : ℕ) (more : List ℕ) → q ≡ puts p (doneText a x) → a ≡ 0 → r ≡ puts q more
+    → r ≡ puts p (withText a x more)
 unfolding withText
 told p q r a x more e z f = rw (eq-eqb _ _ z, puts-append) (cc)
 
 -- nothing stands behind a refusal
-pub refused : (p q : Page) (a x : ℕ) (more : List ℕ) → q ≡ puts p (doneText a x) → (a ≡ 0 → ⊥) → q ≡ puts p (withText a x more)
+pub refused : (p q : Page) (a x : ℕ) (more : List ℕ) → q ≡ puts p (doneText a x) → (a ≡ 0 → ⊥)
+    → q ≡ puts p (withText a x more)
 unfolding withText
 refused p q a x more e z = rw (ne-eqb _ _ z, append-nil) e
 
 module _ (p q r : Page) where
-  pub lane-told : (s : State) (i l τ a v : ℕ) → a ≡ laneAnswer s i l τ → v ≡ laneShows s i l τ → r ≡ puts p (valueText a v 0) → r ≡ puts p (laneText s i l τ)
+  pub lane-told : (s : State) (i l τ a v : ℕ) → a ≡ laneAnswer s i l τ → v ≡ laneShows s i l τ
+      → r ≡ puts p (valueText a v 0) → r ≡ puts p (laneText s i l τ)
   unfolding laneText
   lane-told s i l τ a v e f g = rw (← e, ← f) g
 
-  module _ (s : State) (τ a : ℕ) (ids counts held : List ℕ) (lc : length counts ≡ length ids) (lh : length held ≡ length ids)
+  module _ (s : State) (τ a : ℕ) (ids counts held : List ℕ) (lc : length counts ≡ length ids)
+      (lh : length held ≡ length ids)
       (e : a ≡ statusAnswer s τ ids (length counts) (length held)) (g : q ≡ puts p (doneText a 0)) where
     same-answer : statusAnswer s τ ids (length ids) (length ids) ≡ a
     same-answer = sym (rw (lc, lh) at e)
@@ -58,7 +62,8 @@ module _ (p q r : Page) where
     unfolding planText
     plan-told z f = rw (sym (e .answer)) (told p q r n 0 _ g z (rw (e .left) at f))
 
-  module _ (pool n : ℕ) (rates lengths floors caps row row' : List ℕ) (e : Answered pool rates lengths floors caps row n row')
+  module _ (pool n : ℕ) (rates lengths floors caps row row' : List ℕ)
+      (e : Answered pool rates lengths floors caps row n row')
       (g : q ≡ puts p (doneText n 0)) where
     pub share-refused : (n ≡ 0 → ⊥) → q ≡ puts p (shareText pool rates lengths floors caps row)
     unfolding shareText

@@ -1,4 +1,5 @@
--- Texts that stand one behind the other in one row: a computed test over the whole table gives each text as a part of the row.
+-- Texts that stand one behind the other in one row: a computed test over the whole table gives each text as a part of
+-- the row.
 use Prim.Native.Nat.{ℕ, zero, suc, _+_, _-_, _<_, _≤_}
 use mathlib.Core.Path.{_≡_}
 use mathlib.Core.Bool.{Bool, true}
@@ -39,7 +40,8 @@ module _ (row starts : List ℕ) (texts : List (List ℕ)) where
       let a = getD starts k 0 in
       let b = getD starts (k + 1) 0 in
       let same-part = same (take (b - a) (drop a row)) (getD texts k []) in
-      let rest : both (leb b (length row)) same-part ≡ true = both-r (leb a b) (both (leb b (length row)) same-part) e in
+      let rest : both (leb b (length row)) same-part ≡ true = both-r (leb a b)
+      (both (leb b (length row)) same-part) e in
       record {
         low = leb-true a b (both-l (leb a b) (both (leb b (length row)) same-part) e);
         high = leb-true b (length row) (both-l (leb b (length row)) same-part rest);

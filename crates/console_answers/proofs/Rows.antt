@@ -23,7 +23,8 @@ pub column-length : (numbers : List ℕ) (first n : ℕ) → length (column numb
 unfolding column
 column-length numbers first zero = refl
 column-length numbers first (suc n) =
-    length-set (column numbers first n) n (min (getD numbers (first + titleNumbers * n) 0) fourBytesMost) ∙ column-length numbers first n
+    length-set (column numbers first n) n (min (getD numbers (first + titleNumbers * n) 0) fourBytesMost)
+    ∙ column-length numbers first n
 
 -- a part from the start on is as long as asked
 pub counted : (n m : ℕ) (row : List ℕ) → length row ≡ m → n ≤ m → n ≡ length (take n row)

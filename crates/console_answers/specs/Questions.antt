@@ -45,11 +45,12 @@ shareText pool rates lengths floors caps row =
     withText (sharing.verdictOf pool rates lengths floors caps (length row)) 0
     (numbersText (sharing.rowAfter pool rates lengths floors caps row) (length row))
 
--- of the first n titles of a line, the number at the same place of each: every fourth number from a place on, at most the
--- largest of four bytes
+-- of the first n titles of a line, the number at the same place of each: every fourth number from a place on, at most
+-- the largest of four bytes
 unfoldable pub column : List ℕ → ℕ → ℕ → List ℕ
 column numbers first zero = replicate titlesMost 0
-column numbers first (suc n) = set (column numbers first n) n (min (getD numbers (first + titleNumbers * n) 0) fourBytesMost)
+column numbers first (suc n) =
+    set (column numbers first n) n (min (getD numbers (first + titleNumbers * n) 0) fourBytesMost)
 
 -- the titles of a line of so many numbers, four for each behind the pool
 unfoldable pub titlesIn : ℕ → ℕ
@@ -61,5 +62,6 @@ columnIn numbers count first = take (titlesIn count) (column numbers first title
 -- rates, lengths, floors and caps stand in this order in a line
 unfoldable pub shareIn : List ℕ → ℕ → List ℕ
 shareIn numbers count =
-    shareText (getD numbers 0 0) (columnIn numbers count 1) (columnIn numbers count 2) (columnIn numbers count 3) (columnIn numbers count 4)
+    shareText (getD numbers 0 0) (columnIn numbers count 1) (columnIn numbers count 2) (columnIn numbers count 3)
+    (columnIn numbers count 4)
     (take (titlesIn count) (replicate titlesMost 0))

@@ -1,4 +1,5 @@
--- The words that the console answers in (docs/CONSOLE.md, "Refusals" and "Faults of a line"; 01, "Numbers that calls give back").
+-- The words that the console answers in (docs/CONSOLE.md, "Refusals" and "Faults of a line"; 01, "Numbers that calls
+-- give back").
 use Prim.Native.Nat.{ℕ, _+_, min}
 use mathlib.Core.List.{List, [], _∷_, _++_}
 use lib.ListN.{getD}

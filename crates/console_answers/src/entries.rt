@@ -17,7 +17,8 @@ pub fn put_entry(out: &mut [u8], at: usize, n: u64) -> usize
 }
 
 pub fn put_numbers(out: &mut [u8], at: usize, row: &[u64]) -> usize
-    ensures { λ r. ⌜ Written (now (out .entry)) at (numbersText (now (row .entry)) (length (now (row .entry)))) (now (out .exit)) r ⌝ }
+    ensures { λ r. ⌜ Written (now (out .entry)) at (numbersText (now (row .entry)) (length (now (row .entry))))
+        (now (out .exit)) r ⌝ }
 {
     let mut place = at;
     let mut i = 0;
@@ -30,7 +31,8 @@ pub fn put_numbers(out: &mut [u8], at: usize, row: &[u64]) -> usize
 
 // The counts of a sharing.
 pub fn put_shares(out: &mut [u8], at: usize, row: &[u32]) -> usize
-    ensures { λ r. ⌜ Written (now (out .entry)) at (numbersText (now (row .entry)) (length (now (row .entry)))) (now (out .exit)) r ⌝ }
+    ensures { λ r. ⌜ Written (now (out .entry)) at (numbersText (now (row .entry)) (length (now (row .entry))))
+        (now (out .exit)) r ⌝ }
 {
     let mut place = at;
     let mut i = 0;
@@ -79,7 +81,9 @@ fn put_title(out: &mut [u8], at: usize, id: u64, count: u64, held: u64) -> usize
 
 pub fn put_titles(out: &mut [u8], at: usize, ids: &[u64], counts: &[u64], held: &[u64]) -> usize
     requires { ⌜ (length (now counts) ≡ length (now ids)) × (length (now held) ≡ length (now ids)) ⌝ }
-    ensures { λ r. ⌜ Written (now (out .entry)) at (titlesText (now (ids .entry)) (now (counts .entry)) (now (held .entry)) (length (now (ids .entry)))) (now (out .exit)) r ⌝ }
+    ensures { λ r. ⌜ Written (now (out .entry)) at
+        (titlesText (now (ids .entry)) (now (counts .entry)) (now (held .entry)) (length (now (ids .entry))))
+        (now (out .exit)) r ⌝ }
 {
     let mut place = at;
     let mut i = 0;

@@ -1,6 +1,6 @@
-// What the console answers: the words of refusals, faults and help; numbers and rows behind a 0; and the questions, which
-// change nothing, asked of the product and written. Each call takes a lent row and a place in it and gives back the place
-// behind what it wrote; nothing is written past the row's end.
+// What the console answers: the words of refusals, faults and help; numbers and rows behind a 0; and the questions,
+// which change nothing, asked of the product and written. Each call takes a lent row and a place in it and gives back
+// the place behind what it wrote; nothing is written past the row's end.
 pub mod entries;
 pub mod lanes;
 pub mod notices;

@@ -16,7 +16,8 @@ ghost use Rattle.console_answers.specs.Notices.{kindText, noticeText, re
 
 // A word and a row of numbers.
 fn put_event(out: &mut [u8], at: usize, word: &[u8], row: &[u64]) -> usize
-    ensures { λ r. ⌜ Written (now (out .entry)) at (now (word .entry) ++ numbersText (now (row .entry)) (length (now (row .entry)))) (now (out .exit)) r ⌝ }
+    ensures { λ r. ⌜ Written (now (out .entry)) at
+        (now (word .entry) ++ numbersText (now (row .entry)) (length (now (row .entry)))) (now (out .exit)) r ⌝ }
 {
     let a = output::put(out, at, word);
     entries::put_numbers(out, a, row)

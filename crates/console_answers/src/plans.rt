@@ -21,7 +21,8 @@ fn put_row(
     arrival: u64,
     row: &mut [u16],
 ) -> usize
-    ensures { λ r. ⌜ Written (now (out .entry)) at (planText floor cap count arrival (now (row .entry))) (now (out .exit)) r ⌝ }
+    ensures { λ r. ⌜ Written (now (out .entry)) at (planText floor cap count arrival (now (row .entry)))
+        (now (out .exit)) r ⌝ }
 {
     let answer = plan::plan(floor, cap, count, arrival, row);
     let a = outcomes::put_done(out, at, answer, 0);
@@ -60,7 +61,8 @@ pub fn put_plan(
     arrival: u64,
     places: u64,
 ) -> usize
-    ensures { λ r. ⌜ Written (now (out .entry)) at (planText floor cap count arrival (roomOf places)) (now (out .exit)) r ⌝ }
+    ensures { λ r. ⌜ Written (now (out .entry)) at (planText floor cap count arrival (roomOf places))
+        (now (out .exit)) r ⌝ }
 {
     let n = places_of(places);
     let mut row = blank_row();

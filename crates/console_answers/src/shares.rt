@@ -24,7 +24,9 @@ fn put_rows(
     caps: &[u32],
     counts: &mut [u32],
 ) -> usize
-    ensures { λ r. ⌜ Written (now (out .entry)) at (shareText pool (now (rates .entry)) (now (lengths .entry)) (now (floors .entry)) (now (caps .entry)) (now (counts .entry))) (now (out .exit)) r ⌝ }
+    ensures { λ r. ⌜ Written (now (out .entry)) at
+        (shareText pool (now (rates .entry)) (now (lengths .entry)) (now (floors .entry)) (now (caps .entry))
+        (now (counts .entry))) (now (out .exit)) r ⌝ }
 {
     let answer = sharing::share(pool, rates, lengths, floors, caps, counts);
     let a = outcomes::put_done(out, at, answer, 0);

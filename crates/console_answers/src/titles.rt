@@ -55,7 +55,8 @@ pub fn put_status(
     numbers: [u64; NUMBERS_MOST],
     count: usize,
 ) -> usize
-    ensures { λ r. ⌜ Written (now (out .entry)) at (statusText s (getD numbers 0 0) (idsIn numbers count)) (now (out .exit)) r ⌝ }
+    ensures { λ r. ⌜ Written (now (out .entry)) at (statusText s (getD numbers 0 0) (idsIn numbers count))
+        (now (out .exit)) r ⌝ }
 {
     let n = ids_of(count);
     let mut counts = [0u64; IDS_MOST];

@@ -6,12 +6,20 @@ ghost use mathlib.Core.Path.{_≡_};
 ghost use Prim.Native.Nat.{_-_, _≤_};
 ghost use lib.ListN.{length, take, drop};
 ghost use Rattle.text.specs.Output.{Written};
-ghost use Rattle.console_answers.specs.Words.{refusalWords, refusalText, faultWords, faultText, helpText, fromOne};
+ghost use Rattle.console_answers.specs.Words.{
+  refusalWords,
+  refusalText,
+  faultWords,
+  faultText,
+  helpText,
+  fromOne,
+};
 
 // The part of a row from a place to another.
 fn put_part(out: &mut [u8], at: usize, row: &[u8], from: usize, to: usize) -> usize
     requires { ⌜ (from ≤ to) × (to ≤ length (now row)) ⌝ }
-    ensures { λ r. ⌜ Written (now (out .entry)) at (take (to - from) (drop from (now (row .entry)))) (now (out .exit)) r ⌝ }
+    ensures { λ r. ⌜ Written (now (out .entry)) at (take (to - from) (drop from (now (row .entry))))
+        (now (out .exit)) r ⌝ }
 {
     output::put(out, at, &row[from..to])
 }

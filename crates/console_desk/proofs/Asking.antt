@@ -22,11 +22,13 @@ use Rattle.console_desk.specs.Writing.{noticeIn}
 use Rattle.console_desk.specs.Desk.{followedText, actText, tellText, placesIn, askText}
 
 module _ (l : Line) (s : List ℕ) (p q : Page) where
-  pub acts-fresh : (g : Agent) (n : ℕ) → l .command ≡ Commands.doFresh → n ≡ answerAfter g l s → q ≡ puts p (doneText n 0) → q ≡ puts p (actText g l s)
+  pub acts-fresh : (g : Agent) (n : ℕ) → l .command ≡ Commands.doFresh → n ≡ answerAfter g l s
+      → q ≡ puts p (doneText n 0) → q ≡ puts p (actText g l s)
   unfolding actText
   acts-fresh g n h e f = rw (eq-eqb _ _ h, ← e) f
 
-  pub acts-other : (g after : Agent) (n : ℕ) → (l .command ≡ Commands.doFresh → ⊥) → n ≡ answerAfter g l s → after ≡ agentAfter g l s
+  pub acts-other : (g after : Agent) (n : ℕ) → (l .command ≡ Commands.doFresh → ⊥) → n ≡ answerAfter g l s
+      → after ≡ agentAfter g l s
       → q ≡ puts p (followedText n after) → q ≡ puts p (actText g l s)
   unfolding actText
   acts-other g after n h e f k = rw (ne-eqb _ _ h, ← e, ← f) k
@@ -35,34 +37,40 @@ module _ (l : Line) (s : List ℕ) (p q : Page) where
   unfolding tellText
   tells-help h e = rw (eq-eqb _ _ h) e
 
-  pub tells-reading : (r : Reading) → (l .command ≡ Commands.doHelp → ⊥) → l .command ≡ Commands.doRead → r ≡ readOf (bytesIn s l) → q ≡ puts p (readingText r)
+  pub tells-reading : (r : Reading) → (l .command ≡ Commands.doHelp → ⊥) → l .command ≡ Commands.doRead
+      → r ≡ readOf (bytesIn s l) → q ≡ puts p (readingText r)
       → q ≡ puts p (tellText l s)
   unfolding tellText
   tells-reading r o h e f = rw (ne-eqb _ _ o, eq-eqb _ _ h, ← e) f
 
-  pub tells-bytes : (n : Notice) → (l .command ≡ Commands.doHelp → ⊥) → (l .command ≡ Commands.doRead → ⊥) → n ≡ noticeIn l → q ≡ puts p (hexText (bytesOf n))
+  pub tells-bytes : (n : Notice) → (l .command ≡ Commands.doHelp → ⊥) → (l .command ≡ Commands.doRead → ⊥)
+      → n ≡ noticeIn l → q ≡ puts p (hexText (bytesOf n))
       → q ≡ puts p (tellText l s)
   unfolding tellText
   tells-bytes n o h e f = rw (ne-eqb _ _ o, ne-eqb _ _ h, ← e) f
 
   module _ (t : State) where
-    pub asks-lane : l .command ≡ Commands.doLane → q ≡ puts p (laneText t (numberIn l 0) (numberIn l 1) (numberIn l 2)) → q ≡ puts p (askText t l s)
+    pub asks-lane : l .command ≡ Commands.doLane → q ≡ puts p (laneText t (numberIn l 0) (numberIn l 1) (numberIn l 2))
+        → q ≡ puts p (askText t l s)
     unfolding askText
     asks-lane h e = rw (eq-eqb _ _ h) e
 
     module _ (no-lane : l .command ≡ Commands.doLane → ⊥) where
-      pub asks-status : l .command ≡ Commands.doStatus → q ≡ puts p (statusText t (numberIn l 0) (idsIn (l .numbers) (l .count))) → q ≡ puts p (askText t l s)
+      pub asks-status : l .command ≡ Commands.doStatus
+          → q ≡ puts p (statusText t (numberIn l 0) (idsIn (l .numbers) (l .count))) → q ≡ puts p (askText t l s)
       unfolding askText
       asks-status h e = rw (ne-eqb _ _ no-lane, eq-eqb _ _ h) e
 
       module _ (no-status : l .command ≡ Commands.doStatus → ⊥) where
-        pub asks-share : l .command ≡ Commands.doShare → q ≡ puts p (shareIn (l .numbers) (l .count)) → q ≡ puts p (askText t l s)
+        pub asks-share : l .command ≡ Commands.doShare → q ≡ puts p (shareIn (l .numbers) (l .count))
+            → q ≡ puts p (askText t l s)
         unfolding askText
         asks-share h e = rw (ne-eqb _ _ no-lane, ne-eqb _ _ no-status, eq-eqb _ _ h) e
 
         module _ (no-share : l .command ≡ Commands.doShare → ⊥) where
           pub asks-plan : (places : ℕ) → l .command ≡ Commands.doPlan → places ≡ placesIn l
-              → q ≡ puts p (planText (numberIn l 0) (numberIn l 1) (numberIn l 2) (numberIn l 3) (roomOf places)) → q ≡ puts p (askText t l s)
+              → q ≡ puts p (planText (numberIn l 0) (numberIn l 1) (numberIn l 2) (numberIn l 3) (roomOf places))
+              → q ≡ puts p (askText t l s)
           unfolding askText
           asks-plan places h f e =
               rw (ne-eqb _ _ no-lane, ne-eqb _ _ no-status, ne-eqb _ _ no-share, eq-eqb _ _ h, ← f) e

@@ -19,12 +19,14 @@ abbrev with : Line → Act → Event
 with l a = record { time = numberIn l 1; title = numberIn l 0; act = a }
 
 -- a call that answered as an act of the line's numbers did, where the line's word says that act
-pub happened : (s : State) (l : Line) (a : Act) (n : ℕ) (t : State) → actIn l ≡ a → n ≡ answered s (with l a) → t ≡ called s (with l a)
+pub happened : (s : State) (l : Line) (a : Act) (n : ℕ) (t : State) → actIn l ≡ a → n ≡ answered s (with l a)
+    → t ≡ called s (with l a)
     → (n ≡ answered s (eventIn l)) × (t ≡ called s (eventIn l))
 happened s l a n t e f g = rw e (f, g)
 
 module _ (l : Line) where
-  pub is-open : l .command ≡ Commands.doOpen → actIn l ≡ opens (numberIn l 2) (numberIn l 3) (numberIn l 4) (numberIn l 5)
+  pub is-open : l .command ≡ Commands.doOpen
+      → actIn l ≡ opens (numberIn l 2) (numberIn l 3) (numberIn l 4) (numberIn l 5)
   unfolding actIn
   is-open h = rw (eq-eqb _ _ h)
 
@@ -41,7 +43,8 @@ module _ (g : Agent) (l : Line) (s : List ℕ) (n : ℕ) (after : Agent) where
   abbrev Follows : Type 0
   Follows = (n ≡ answerAfter g l s) × (after ≡ agentAfter g l s)
 
-  pub follows-fresh : l .command ≡ Commands.doFresh → (n ≡ freshAnswer (numberIn l 0)) × (after ≡ freshAgent (numberIn l 0)) → Follows
+  pub follows-fresh : l .command ≡ Commands.doFresh
+      → (n ≡ freshAnswer (numberIn l 0)) × (after ≡ freshAgent (numberIn l 0)) → Follows
   unfolding answerAfter agentAfter
   follows-fresh h e = rw (eq-eqb _ _ h) e
 

@@ -4,4 +4,4 @@ pub mod Following
 pub mod Written
 pub mod Asking
 pub mod Lines
-pub mod Settled
+pub mod Unique

@@ -1,4 +1,5 @@
--- A line from its first test on: what is wrong with it, nothing asked, an act or a question; a newline behind each answer.
+-- A line from its first test on: what is wrong with it, nothing asked, an act or a question; a newline behind each
+-- answer.
 use Prim.Native.Nat.{ℕ, _≤_}
 use mathlib.Core.Path.{_≡_, refl, sym, _∙_}
 use mathlib.Core.Bool.{Bool, true, false}
@@ -15,7 +16,17 @@ use Rattle.text.specs.Output.{Page, puts}
 use Rattle.console_answers.specs.Words.{faultText}
 use Rattle.text.proofs.Pages.{puts-append}
 use Rattle.console_desk.specs.Acts.{agentAfter}
-use Rattle.console_desk.specs.Desk.{mayChange, actText, askText, newline, wholeText, afterWhole, lineText, afterLine, Left}
+use Rattle.console_desk.specs.Desk.{
+  mayChange,
+  actText,
+  askText,
+  newline,
+  wholeText,
+  afterWhole,
+  lineText,
+  afterLine,
+  Left,
+}
 
 -- a line that is too long is read as such
 too-long : (s : List ℕ) → ltb longest (length s) ≡ true → (meaning s) .fault ≡ Commands.tooLong
@@ -34,7 +45,8 @@ module _ (g : Agent) (l : Line) (s : List ℕ) (p : Page) where
   unfolding afterWhole wholeText mayChange puts
   asks-nothing h = record { agent = rw h; row = rw h }
 
-  module _ (something : l .command ≡ Commands.none → ⊥) (t : Bool) (e : t ≡ mayChange (l .command)) (after : Agent) (q r : Page) where
+  module _ (something : l .command ≡ Commands.none → ⊥) (t : Bool) (e : t ≡ mayChange (l .command)) (after : Agent)
+      (q r : Page) where
     pub it-acts : t ≡ true → Left (agentAfter g l s) (puts p (actText g l s)) after q → r ≡ puts q newline
         → Left (afterWhole g l s) (puts p (wholeText g l s)) after r
     unfolding afterWhole wholeText
@@ -54,12 +66,14 @@ module _ (g : Agent) (l : Line) (s : List ℕ) (p : Page) where
         }
 
 module _ (g : Agent) (s : List ℕ) (l : Line) (is : l ≡ meaning s) (p : Page) where
-  pub it-is-whole : l .fault ≡ Commands.noFault → (after : Agent) (q : Page) → Left (afterWhole g l s) (puts p (wholeText g l s)) after q
+  pub it-is-whole : l .fault ≡ Commands.noFault → (after : Agent) (q : Page)
+      → Left (afterWhole g l s) (puts p (wholeText g l s)) after q
       → Left (afterLine g s) (puts p (lineText g s)) after q
   unfolding afterLine lineText
   it-is-whole h after q d = rw (← is, eq-eqb _ _ h) d
 
-  pub it-is-faulty : (l .fault ≡ Commands.noFault → ⊥) → (q r : Page) → q ≡ puts p (faultText (l .fault) (l .place)) → r ≡ puts q newline
+  pub it-is-faulty : (l .fault ≡ Commands.noFault → ⊥) → (q r : Page) → q ≡ puts p (faultText (l .fault) (l .place))
+      → r ≡ puts q newline
       → Left (afterLine g s) (puts p (lineText g s)) g r
   unfolding afterLine lineText
   it-is-faulty h q r d f = record { agent = rw (← is, ne-eqb _ _ h); row = rw (← is, ne-eqb _ _ h, puts-append, ← d) f }

@@ -19,11 +19,13 @@ use Rattle.console_desk.specs.Acts.{numberIn}
 use Rattle.console_desk.specs.Writing.{byteIn, fourBytesIn, kindIn, noticeIn}
 
 module _ (l : Line) where
-  pub kind-open : (a b c d : ℕ) → l .command ≡ Commands.writeOpen → a ≡ fourBytesIn l 3 → b ≡ byteIn l 4 → c ≡ byteIn l 5 → d ≡ byteIn l 6 → Open a b c d ≡ kindIn l
+  pub kind-open : (a b c d : ℕ) → l .command ≡ Commands.writeOpen → a ≡ fourBytesIn l 3 → b ≡ byteIn l 4
+      → c ≡ byteIn l 5 → d ≡ byteIn l 6 → Open a b c d ≡ kindIn l
   unfolding kindIn
   kind-open a b c d h e f g k = rw (eq-eqb _ _ h) (cc)
 
-  pub kind-change : (d : ℕ) → (l .command ≡ Commands.writeOpen → ⊥) → l .command ≡ Commands.writeChange → d ≡ byteIn l 3 → Change d ≡ kindIn l
+  pub kind-change : (d : ℕ) → (l .command ≡ Commands.writeOpen → ⊥) → l .command ≡ Commands.writeChange → d ≡ byteIn l 3
+      → Change d ≡ kindIn l
   unfolding kindIn
   kind-change d o h e = rw (ne-eqb _ _ o, eq-eqb _ _ h) (cc)
 
@@ -45,7 +47,8 @@ short-kind Close = omega (arith, close-length)
 pub short : (n : Notice) → length (bytesOf n) ≤ 45
 short n = rw length-notice (short-kind (n .kind))
 
-module _ (n : Notice) (room room' : List ℕ) (a size : ℕ) (e : Writes n room a room') (big : length room ≡ 64) (f : size ≡ length (bytesOf n)) where
+module _ (n : Notice) (room room' : List ℕ) (a size : ℕ) (e : Writes n room a room') (big : length room ≡ 64)
+    (f : size ≡ length (bytesOf n)) where
   row : room' ≡ bytesOf n ++ drop (length (bytesOf n)) room
   row =
       let few : length (bytesOf n) ≤ length room = omega (arith, short n) in

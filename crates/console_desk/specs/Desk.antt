@@ -27,8 +27,8 @@ use Rattle.console_desk.specs.Writing.{noticeIn}
 unfoldable pub mayChange : ℕ → Bool
 mayChange c = either (eqb c Commands.doNotice) (within Commands.doFresh Commands.doClose c)
 
--- what an event or a notice was answered, with the lanes held at its time, which is that of the last accepted event; of a
--- notice out of turn, which sequence is expected
+-- what an event or a notice was answered, with the lanes held at its time, which is that of the last accepted event; of
+-- a notice out of turn, which sequence is expected
 unfoldable pub followedText : ℕ → Agent → List ℕ
 followedText a g = valueText a (heldShown (g .state) (g .state .last)) (g .sequence + 1)
 

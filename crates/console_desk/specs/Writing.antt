@@ -1,5 +1,5 @@
--- The notice that a line writes (docs/CONSOLE.md, "Commands": write). A number too large for its field is an error of the
--- line, so that none is cut here.
+-- The notice that a line writes (docs/CONSOLE.md, "Commands": write). A number too large for its field is an error of
+-- the line, so that none is cut here.
 use Prim.Native.Nat.{ℕ, _+_, min}
 use lib.Dec.{eqb}
 use Rattle.rules.specs.Refusals.{pick}

@@ -1,5 +1,5 @@
-// What a line of the console does to the agent: a fresh one, an event put to its scheduler, a notice handed to it. `follow`
-// answers as specs/Acts.antt defines it.
+// What a line of the console does to the agent: a fresh one, an event put to its scheduler, a notice handed to it.
+// `follow` answers as specs/Acts.antt defines it.
 
 use crate::hex;
 use agent::Agent;
@@ -47,10 +47,12 @@ fn event(agent: Agent, line: Line) -> Followed
     }
 }
 
-// What a line that may change the agent is answered, and the agent after it. The line's bytes are those it was read from.
+// What a line that may change the agent is answered, and the agent after it. The line's bytes are those it was read
+// from.
 pub fn follow(agent: Agent, line: Line, s: &[u8]) -> Followed
     requires { ⌜ length (now s) ≤ longest ⌝ }
-    ensures { λ r. ⌜ (r .answer ≡ answerAfter agent line (now (s .entry))) × (r .agent ≡ agentAfter agent line (now (s .entry))) ⌝ }
+    ensures { λ r. ⌜ (r .answer ≡ answerAfter agent line (now (s .entry))) × (r .agent ≡ agentAfter agent line
+        (now (s .entry))) ⌝ }
 {
     let command = line.command;
     let n = line.numbers;

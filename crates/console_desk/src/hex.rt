@@ -24,7 +24,8 @@ fn blank_room() -> [u8; HEX_ROOM]
 // Spells the digits of a line between two places into the start of a row, and gives back how many bytes they are.
 fn spell(s: &[u8], from: u64, to: u64, room: &mut [u8]) -> usize
     requires { ⌜ (length (now s) ≤ longest) × (hexRoom ≤ length (now room)) ⌝ }
-    ensures { λ r. ⌜ (take r (now (room .exit)) ≡ bytesOf (now (s .entry)) from to) × (r ≤ length (now (room .exit))) ⌝ }
+    ensures { λ r. ⌜ (take r (now (room .exit)) ≡ bytesOf (now (s .entry)) from to) × (r ≤ length
+        (now (room .exit))) ⌝ }
 {
     let size = s.len() as u64;
     if size < to {
@@ -51,7 +52,9 @@ pub fn reading(s: &[u8], from: u64, to: u64) -> Reading
 // The agent is handed what the digits spell.
 pub fn taken(agent: Agent, s: &[u8], from: u64, to: u64) -> Followed
     requires { ⌜ length (now s) ≤ longest ⌝ }
-    ensures { λ r. ⌜ (r .answer ≡ noticeAnswer agent (readOf (bytesOf (now (s .entry)) from to))) × (r .agent ≡ noticed agent (readOf (bytesOf (now (s .entry)) from to))) ⌝ }
+    ensures { λ r. ⌜ (r .answer ≡ noticeAnswer agent
+        (readOf (bytesOf (now (s .entry)) from to))) × (r .agent ≡ noticed agent
+        (readOf (bytesOf (now (s .entry)) from to))) ⌝ }
 {
     let mut room = blank_room();
     let n = spell(s, from, to, &mut room);

@@ -1,6 +1,7 @@
-// The operator's desk: one line of the console, answered over an agent. `answer` takes the agent, the line's bytes, a lent
-// row and a place in it, and gives back the agent after the line and the place behind its answer, as specs/Desk.antt
-// defines them. It has no `requires`: any agent and any bytes have an answer, and no answer goes past the row's end.
+// The operator's desk: one line of the console, answered over an agent. `answer` takes the agent, the line's bytes, a
+// lent row and a place in it, and gives back the agent after the line and the place behind its answer, as
+// specs/Desk.antt defines them. It has no `requires`: any agent and any bytes have an answer, and no answer goes past
+// the row's end.
 
 use agent::Agent;
 use console_answers::lanes;
@@ -21,7 +22,19 @@ ghost use lib.ListN.{length};
 ghost use Rattle.text.specs.Output.{page, puts, Written};
 ghost use Rattle.console_lines.specs.Lines.{longest};
 ghost use Rattle.console_desk.specs.Acts.{agentAfter};
-ghost use Rattle.console_desk.specs.Desk.{mayChange, followedText, actText, placesIn, askText, tellText, Left, afterWhole, wholeText, afterLine, lineText};
+ghost use Rattle.console_desk.specs.Desk.{
+  mayChange,
+  followedText,
+  actText,
+  placesIn,
+  askText,
+  tellText,
+  Left,
+  afterWhole,
+  wholeText,
+  afterLine,
+  lineText,
+};
 
 mod acts;
 mod hex;
@@ -60,7 +73,9 @@ fn put_followed(out: &mut [u8], at: usize, answer: u8, agent: Agent) -> usize
 // A command that may change the agent.
 fn act(agent: Agent, line: Line, s: &[u8], out: &mut [u8], at: usize) -> Turned
     requires { ⌜ length (now s) ≤ longest ⌝ }
-    ensures { λ r. ⌜ Left (agentAfter agent line (now (s .entry))) (puts (page (now (out .entry)) at) (actText agent line (now (s .entry)))) (r .agent) (page (now (out .exit)) (r .at)) ⌝ }
+    ensures { λ r. ⌜ Left (agentAfter agent line (now (s .entry)))
+        (puts (page (now (out .entry)) at) (actText agent line (now (s .entry)))) (r .agent)
+        (page (now (out .exit)) (r .at)) ⌝ }
 {
     let f = acts::follow(agent, line, s);
     let next = f.agent;
@@ -127,7 +142,9 @@ fn ask(state: State, line: Line, s: &[u8], out: &mut [u8], at: usize) -> usize
 // A line with nothing wrong.
 fn whole(agent: Agent, line: Line, s: &[u8], out: &mut [u8], at: usize) -> Turned
     requires { ⌜ length (now s) ≤ longest ⌝ }
-    ensures { λ r. ⌜ Left (afterWhole agent line (now (s .entry))) (puts (page (now (out .entry)) at) (wholeText agent line (now (s .entry)))) (r .agent) (page (now (out .exit)) (r .at)) ⌝ }
+    ensures { λ r. ⌜ Left (afterWhole agent line (now (s .entry)))
+        (puts (page (now (out .entry)) at) (wholeText agent line (now (s .entry)))) (r .agent)
+        (page (now (out .exit)) (r .at)) ⌝ }
 {
     let command = line.command;
     if command == commands::NONE {
@@ -147,7 +164,9 @@ fn whole(agent: Agent, line: Line, s: &[u8], out: &mut [u8], at: usize) -> Turne
 
 // Answers one line, given without its newline.
 pub fn answer(agent: Agent, s: &[u8], out: &mut [u8], at: usize) -> Turned
-    ensures { λ r. ⌜ Left (afterLine agent (now (s .entry))) (puts (page (now (out .entry)) at) (lineText agent (now (s .entry)))) (r .agent) (page (now (out .exit)) (r .at)) ⌝ }
+    ensures { λ r. ⌜ Left (afterLine agent (now (s .entry)))
+        (puts (page (now (out .entry)) at) (lineText agent (now (s .entry)))) (r .agent)
+        (page (now (out .exit)) (r .at)) ⌝ }
 {
     let line = lines::parse(s);
     let fault = line.fault;

@@ -1,6 +1,7 @@
-// A session of the operator's console: lines from standard input, answers to standard output. Input is read as it comes, in
-// blocks; what was answered is written out before each read, so that on a terminal an answer appears as its line is
-// entered, and a file costs few system calls. A read or a write that fails is said on standard error and ends the session.
+// A session of the operator's console: lines from standard input, answers to standard output. Input is read as it
+// comes, in blocks; what was answered is written out before each read, so that on a terminal an answer appears as its
+// line is entered, and a file costs few system calls. A read or a write that fails is said on standard error and ends
+// the session.
 
 use agent::Agent;
 use console_lines::lines::LONGEST;
@@ -18,8 +19,8 @@ const POOL: u64 = 8;
 // More than any answer has: the longest is a plan's, of 1,024 numbers of at most four digits.
 const ANSWER_MAX: usize = 8192;
 
-// Where a session stands between two lines: its agent, how far the output row is written, whether the rest of a line that
-// was too long is being passed over, and whether it goes on. One that does not go on answers and writes nothing.
+// Where a session stands between two lines: its agent, how far the output row is written, whether the rest of a line
+// that was too long is being passed over, and whether it goes on. One that does not go on answers and writes nothing.
 struct Session {
     agent: Agent,
     at: usize,
@@ -27,7 +28,8 @@ struct Session {
     more: bool,
 }
 
-// A session, and a place in the input row: where the line that has no newline yet begins, or how many bytes of it are kept.
+// A session, and a place in the input row: where the line that has no newline yet begins, or how many bytes of it are
+// kept.
 struct Stand {
     session: Session,
     place: usize,
@@ -114,7 +116,8 @@ fn skip(session: Session) -> Session {
     s
 }
 
-// What is left of the bytes up to `to` is a line without its newline: kept at the buffer's front, or answered as too long.
+// What is left of the bytes up to `to` is a line without its newline: kept at the buffer's front, or answered as too
+// long.
 fn keep(stand: Stand, buffer: &mut [u8], to: usize, out: &mut [u8]) -> Stand {
     let session = stand.session;
     let from = stand.place;
@@ -241,8 +244,8 @@ fn goes_on(stand: Stand) -> bool {
     session.more
 }
 
-// Answers the lines of standard input until it ends, or a read or a write fails. A proved loop has to end, and nothing says
-// that the input does: so the turns are counted down from a number that no run uses up.
+// Answers the lines of standard input until it ends, or a read or a write fails. A proved loop has to end, and nothing
+// says that the input does: so the turns are counted down from a number that no run uses up.
 pub fn run() {
     let mut buffer = io::large_buffer();
     let mut out = io::large_buffer();

@@ -7,15 +7,43 @@ use lib.ListN.{take}
 use Rattle.text.specs.Bytes.{isSort, run, reach}
 use Rattle.text.specs.Numbers.{amount, tooLarge}
 use Rattle.text.specs.Texts.{text, same}
-use Rattle.console_lines.specs.Commands.{verbOf, leastOf, mostOf, enough, takesHex, takesKind, limitsOf, limitOf, crowded, oversized}
+use Rattle.console_lines.specs.Commands.{
+  verbOf,
+  leastOf,
+  mostOf,
+  enough,
+  takesHex,
+  takesKind,
+  limitsOf,
+  limitOf,
+  crowded,
+  oversized,
+}
 use Rattle.console_lines.specs.declared.lines.Line.{Line}
-use Rattle.console_lines.specs.Lines.{blank, withFault, ended, goOn, withNumber, withKind, withHex, wordAt, withWord, step, withVerb, begun, readOn, meaning}
+use Rattle.console_lines.specs.Lines.{
+  blank,
+  withFault,
+  ended,
+  goOn,
+  withNumber,
+  withKind,
+  withHex,
+  wordAt,
+  withWord,
+  step,
+  withVerb,
+  begun,
+  readOn,
+  meaning,
+}
 
 unfoldable pub told : Line → List ℕ
 told l = l .command ∷ l .fault ∷ l .place ∷ take (l .count) (l .numbers)
 
 unfoldable pub each : List String → List (List ℕ)
-unfolding told isSort run reach amount tooLarge text same verbOf leastOf mostOf enough takesHex takesKind limitsOf limitOf crowded oversized blank withFault ended goOn withNumber withKind withHex wordAt withWord step withVerb begun readOn meaning
+unfolding told isSort run reach amount tooLarge text same verbOf leastOf mostOf enough takesHex takesKind limitsOf
+    limitOf crowded oversized blank withFault ended goOn withNumber withKind withHex wordAt withWord step withVerb begun
+    readOn meaning
 each [] = []
 each (s ∷ rest) = told (meaning (text s)) ∷ each rest
 
@@ -59,5 +87,7 @@ meanings =
 
 -- the lines above, one after the other, mean what the list says
 pub shown : each lines ≡ meanings
-unfolding told each isSort run reach amount tooLarge text same verbOf leastOf mostOf enough takesHex takesKind limitsOf limitOf crowded oversized blank withFault ended goOn withNumber withKind withHex wordAt withWord step withVerb begun readOn meaning
+unfolding told each isSort run reach amount tooLarge text same verbOf leastOf mostOf enough takesHex takesKind limitsOf
+    limitOf crowded oversized blank withFault ended goOn withNumber withKind withHex wordAt withWord step withVerb begun
+    readOn meaning
 shown = refl

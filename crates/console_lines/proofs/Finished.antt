@@ -1,4 +1,5 @@
--- Every line is read to its end: what it means is never "not read yet". Each word that is taken leaves less room for further words.
+-- Every line is read to its end: what it means is never "not read yet". Each word that is taken leaves less room for
+-- further words.
 use Prim.Native.Nat.{ℕ, zero, suc, _+_, _-_, _%_, _<_, _≤_}
 use mathlib.Core.Path.{_≡_, refl}
 use mathlib.Core.Bool.{Bool, true, false}
@@ -16,7 +17,21 @@ use Rattle.console_lines.specs.Commands
 use Rattle.rules.proofs.Tests.{both-l}
 use Rattle.text.proofs.Tables.{up-to, allUpTo}
 use Rattle.console_lines.specs.declared.lines.Line.{Line}
-use Rattle.console_lines.specs.Lines.{withFault, ended, goOn, withNumber, withKind, withHex, wordAt, withWord, step, begun, readOn, numbersMost, meaning}
+use Rattle.console_lines.specs.Lines.{
+  withFault,
+  ended,
+  goOn,
+  withNumber,
+  withKind,
+  withHex,
+  wordAt,
+  withWord,
+  step,
+  begun,
+  readOn,
+  numbersMost,
+  meaning,
+}
 
 -- how many words a line may still have, its kind counted for one
 unfoldable room : Line → ℕ
@@ -53,10 +68,12 @@ unfolding Commands.mostOf allUpTo
 few c = up-to Commands.wordsMost Commands.mostTable refl c
 
 -- a number takes one word
-number-falls : (s : List ℕ) (l : Line) (a e : ℕ) → l .count < Commands.mostOf (l .command) → Falls l (withNumber s l a e)
+number-falls : (s : List ℕ) (l : Line) (a e : ℕ) → l .count < Commands.mostOf (l .command)
+    → Falls l (withNumber s l a e)
 unfolding withNumber goOn room
 number-falls s l a e h =
-    pick-case (Falls l) (ltb (reach Digit s a) e) _ _ (λ t. stops l Commands.notNumber (reach Digit s a) (λ u. omega arith))
+    pick-case (Falls l) (ltb (reach Digit s a) e) _ _
+    (λ t. stops l Commands.notNumber (reach Digit s a) (λ u. omega arith))
     (λ t. pick-case (Falls l) (tooLarge (Commands.limitOf (l .command) (l .count)) (amount 0 (drop a s))) _ _
     (λ q. stops l (Commands.oversized (l .command)) a (oversized-known (l .command)))
     (λ q u. omega (arith, few (l .command))))
@@ -66,12 +83,14 @@ hex-falls : (s : List ℕ) (l : Line) (a e : ℕ) → l .count < 1 → Falls l (
 unfolding withHex room
 hex-falls s l a e h =
     pick-case (Falls l) (ltb (reach Hex s a) e) _ _ (λ t. stops l Commands.badHex (reach Hex s a) (λ u. omega arith))
-    (λ t. pick-case (Falls l) (eqb ((e - a) % 2) 1) _ _ (λ q. stops l Commands.oddHex a (λ u. omega arith)) (λ q u. omega arith))
+    (λ t. pick-case (Falls l) (eqb ((e - a) % 2) 1) _ _ (λ q. stops l Commands.oddHex a (λ u. omega arith))
+    (λ q u. omega arith))
 
 kind-less : (c v n : ℕ) → c ≡ Commands.doWrite → 2 ≤ v
     → suc (n + pick (eqb (Commands.doWrite + v) Commands.doWrite) 1 0) ≤ n + pick (eqb c Commands.doWrite) 1 0
 kind-less c v n h g =
-    let more : Commands.doWrite + v ≡ Commands.doWrite → ⊥ = λ q. let z : Commands.doWrite + v ≡ Commands.doWrite = q in omega arith in
+    let more : Commands.doWrite + v ≡ Commands.doWrite → ⊥ =
+    λ q. let z : Commands.doWrite + v ≡ Commands.doWrite = q in omega arith in
     rw (ne-eqb _ _ more, h) (omega arith)
 
 -- the kind makes a write one of three commands that are no write without kind
@@ -109,18 +128,23 @@ word-falls s l a =
 step-falls : (s : List ℕ) (l : Line) → Falls l (step s l)
 unfolding step ended
 step-falls s l =
-    pick-case (Falls l) (ltb (reach Separator s (l .place)) (length s)) _ _ (λ t. word-falls s l (reach Separator s (l .place)))
-    (λ t. stops l _ (reach Separator s (l .place)) (pick-case known (Commands.enough (l .command) (l .count)) _ _ (λ q u. omega arith) (λ q u. omega arith)))
+    pick-case (Falls l) (ltb (reach Separator s (l .place)) (length s)) _ _
+    (λ t. word-falls s l (reach Separator s (l .place)))
+    (λ t. stops l _ (reach Separator s (l .place))
+    (pick-case known (Commands.enough (l .command) (l .count)) _ _ (λ q u. omega arith) (λ q u. omega arith)))
 
 after : (n : ℕ) (s : List ℕ) (l : Line) (t : Bool) → eqb (l .fault) Commands.unread ≡ t
     → (l .fault ≡ Commands.unread → room l < suc n)
-    → (((step s l) .fault ≡ Commands.unread → room (step s l) < n) → (readOn n s (step s l)) .fault ≡ Commands.unread → ⊥)
+    → (((step s l) .fault ≡ Commands.unread → room (step s l) < n) → (readOn n s (step s l)) .fault ≡ Commands.unread
+    → ⊥)
     → (pick t (readOn n s (step s l)) l) .fault ≡ Commands.unread → ⊥
 after n s l true e h more =
-    more (λ u. let full : room l < suc n = h (eqb-true _ _ e) in let less : suc (room (step s l)) ≤ room l = step-falls s l u in omega arith)
+    more (λ u. let full : room l < suc n = h (eqb-true _ _ e) in let less : suc
+    (room (step s l)) ≤ room l = step-falls s l u in omega arith)
 after n s l false e h more = eqb-false _ _ e
 
-read-through : (n : ℕ) (s : List ℕ) (l : Line) → (l .fault ≡ Commands.unread → room l < n) → (readOn n s l) .fault ≡ Commands.unread → ⊥
+read-through : (n : ℕ) (s : List ℕ) (l : Line) → (l .fault ≡ Commands.unread → room l < n)
+    → (readOn n s l) .fault ≡ Commands.unread → ⊥
 unfolding readOn
 read-through zero s l h = λ u. let none : room l < 0 = h u in omega arith
 read-through (suc n) s l h = after n s l (eqb (l .fault) Commands.unread) refl h (read-through n s (step s l))
@@ -131,7 +155,9 @@ one-more false = omega arith
 
 small : (l : Line) → room l < numbersMost
 unfolding room
-small l = let k : pick (eqb (l .command) Commands.doWrite) 1 0 ≤ 1 = one-more (eqb (l .command) Commands.doWrite) in omega arith
+small l =
+    let k : pick (eqb (l .command) Commands.doWrite) 1 0 ≤ 1 = one-more
+    (eqb (l .command) Commands.doWrite) in omega arith
 
 -- the reader's answer is a whole line or a fault of it
 pub finished : (s : List ℕ) → (meaning s) .fault ≡ Commands.unread → ⊥

@@ -1,5 +1,5 @@
 -- Laws of reading a line, with what follows of its meaning.
 pub mod Reading
 pub mod Examples
-pub mod Settled
+pub mod Unique
 pub mod Finished

@@ -12,8 +12,38 @@ use Rattle.text.specs.declared.bytes.Sort.the-variants.{Separator, Word, Digit,
 use Rattle.console_lines.specs.declared.lines.Line.{Line}
 use Rattle.text.specs.Bytes.{reach}
 use Rattle.text.specs.Numbers.{top, amount, capped, above, tooLarge}
-use Rattle.console_lines.specs.Commands.{verbOf, limitOf, oversized, badHex, oddHex, notNumber, unknownWord, tooLong, unread, doWrite, mostOf, crowded, takesHex, takesKind}
-use Rattle.console_lines.specs.Lines.{blank, withFault, ended, goOn, withNumber, withKind, withHex, withWord, wordAt, step, withVerb, longest, begun, readOn}
+use Rattle.console_lines.specs.Commands.{
+  verbOf,
+  limitOf,
+  oversized,
+  badHex,
+  oddHex,
+  notNumber,
+  unknownWord,
+  tooLong,
+  unread,
+  doWrite,
+  mostOf,
+  crowded,
+  takesHex,
+  takesKind,
+}
+use Rattle.console_lines.specs.Lines.{
+  blank,
+  withFault,
+  ended,
+  goOn,
+  withNumber,
+  withKind,
+  withHex,
+  withWord,
+  wordAt,
+  step,
+  withVerb,
+  longest,
+  begun,
+  readOn,
+}
 
 -- a number as it is handed on is above a limit when the number itself is
 held-above : (limit v : ℕ) → limit ≤ top → (t u : Bool) → eqb limit 0 ≡ t → ltb top v ≡ u
@@ -42,7 +72,8 @@ module _ (s : List ℕ) (l : Line) (a e : ℕ) where
   hex-odd p q h o = rw (← q, le-ltb _ _ h, eq-eqb _ _ o)
 
   pub hex-whole : (p : ℕ) → p ≡ reach Hex s a → e ≤ p → ((e - a) % 2 ≡ 1 → ⊥)
-      → record { command = l .command; fault = l .fault; place = e; count = 1; numbers = set (set (l .numbers) 0 a) 1 e } ≡ withHex s l a e
+      → record { command = l .command; fault = l .fault; place = e; count = 1; numbers = set (set (l .numbers) 0 a) 1 e }
+      ≡ withHex s l a e
   unfolding withHex
   hex-whole p q h o = rw (← q, le-ltb _ _ h, ne-eqb _ _ o)
 
@@ -55,7 +86,8 @@ module _ (s : List ℕ) (l : Line) (a e : ℕ) where
   kind-high v q h g = rw (← q, le-leb _ _ h, lt-leb _ _ g)
 
   pub kind-told : (v : ℕ) → v ≡ verbOf s → 2 ≤ v → v ≤ 4
-      → record { command = doWrite + v; fault = l .fault; place = e; count = l .count; numbers = l .numbers } ≡ withKind s l a e
+      → record { command = doWrite + v; fault = l .fault; place = e; count = l .count; numbers = l .numbers }
+      ≡ withKind s l a e
   unfolding withKind
   kind-told v q h g = rw (← q, le-leb _ _ h, le-leb _ _ g)
 
@@ -63,15 +95,20 @@ module _ (s : List ℕ) (l : Line) (a e : ℕ) where
   unfolding withNumber
   number-bad p q h = rw (← q, lt-ltb _ _ h)
 
-  module _ (p : ℕ) (q : p ≡ reach Digit s a) (h : e ≤ p) (m : ℕ) (r : m ≡ limitOf (l .command) (l .count)) (small : m ≤ top) where
-    number-rest : pick (above m (capped (amount 0 (drop a s)))) (withFault l (oversized (l .command)) a) (goOn l (amount 0 (drop a s)) e) ≡ withNumber s l a e
+  module _ (p : ℕ) (q : p ≡ reach Digit s a) (h : e ≤ p) (m : ℕ) (r : m ≡ limitOf (l .command) (l .count))
+      (small : m ≤ top) where
+    number-rest : pick (above m (capped (amount 0 (drop a s)))) (withFault l (oversized (l .command)) a)
+        (goOn l (amount 0 (drop a s)) e)
+        ≡ withNumber s l a e
     unfolding withNumber
     number-rest = rw (← q, le-ltb _ _ h, ← r, above-capped m (amount 0 (drop a s)) small)
 
-    pub number-large : (t : Bool) → t ≡ above m (capped (amount 0 (drop a s))) → t ≡ true → withFault l (oversized (l .command)) a ≡ withNumber s l a e
+    pub number-large : (t : Bool) → t ≡ above m (capped (amount 0 (drop a s))) → t ≡ true
+        → withFault l (oversized (l .command)) a ≡ withNumber s l a e
     number-large t f g = rw (sym f ∙ g) at number-rest
 
-    pub number-whole : (t : Bool) → t ≡ above m (capped (amount 0 (drop a s))) → t ≡ false → goOn l (amount 0 (drop a s)) e ≡ withNumber s l a e
+    pub number-whole : (t : Bool) → t ≡ above m (capped (amount 0 (drop a s))) → t ≡ false
+        → goOn l (amount 0 (drop a s)) e ≡ withNumber s l a e
     number-whole t f g = rw (sym f ∙ g) at number-rest
 
 module _ (s : List ℕ) (l : Line) (a m : ℕ) (q : m ≡ mostOf (l .command)) where

@@ -1,4 +1,5 @@
--- The console's commands, the words that name them, and how many numbers each takes, of which size (docs/CONSOLE.md, "Commands").
+-- The console's commands, the words that name them, and how many numbers each takes, of which size (docs/CONSOLE.md,
+-- "Commands").
 use Prim.Native.Nat.{ℕ, _+_, _*_, _%_}
 use mathlib.Core.Bool.{Bool}
 use mathlib.Core.List.{List, [], _∷_}
@@ -75,8 +76,8 @@ verbOf w =
     (pick (same w (text "write")) doWrite
     (pick (same w (text "help")) doHelp none)))))))))))
 
--- what a line may name at most: ids of a status, titles of a share, places of a plan. One title more than the product shares
--- among, so that its own refusal is seen
+-- what a line may name at most: ids of a status, titles of a share, places of a plan. One title more than the product
+-- shares among, so that its own refusal is seen
 abbrev pub idsMost : ℕ
 idsMost = 32
 

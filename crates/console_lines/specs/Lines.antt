@@ -18,7 +18,14 @@ numbersMost = 72
 
 -- a line that answers nothing
 unfoldable pub blank : Line
-blank = record { command = Commands.none; fault = Commands.noFault; place = 0; count = 0; numbers = replicate numbersMost 0 }
+blank =
+    record {
+      command = Commands.none;
+      fault = Commands.noFault;
+      place = 0;
+      count = 0;
+      numbers = replicate numbersMost 0;
+    }
 
 -- the reading stops at a place: for a fault, or for none at the line's end
 unfoldable pub withFault : Line → ℕ → ℕ → Line
@@ -111,7 +118,8 @@ begun s =
     pick (ltb longest (length s)) (withFault blank Commands.tooLong longest)
     (pick (ltb (reach Separator s 0) (length s))
     (pick (eqb (getD s (reach Separator s 0) 0) hash) blank
-    (withVerb (Commands.verbOf (wordAt s (reach Separator s 0))) (reach Separator s 0) (reach Word s (reach Separator s 0))))
+    (withVerb (Commands.verbOf (wordAt s (reach Separator s 0))) (reach Separator s 0)
+    (reach Word s (reach Separator s 0))))
     blank)
 
 -- reading on, at most so many words, until the line is whole or faulty

@@ -7,7 +7,19 @@ ghost use mathlib.Core.Path.{_≡_};
 ghost use Prim.Native.Nat.{_≤_};
 ghost use Rattle.rules.specs.Refusals.{pick};
 ghost use Rattle.text.specs.Texts.{same};
-ghost use Rattle.console_lines.specs.Commands.{verbOf, leastOf, mostOf, limitsOf, limitOf, enough as suffices, crowded, oversized, takesHex, takesKind, wordsMost};
+ghost use Rattle.console_lines.specs.Commands.{
+  verbOf,
+  leastOf,
+  mostOf,
+  limitsOf,
+  limitOf,
+  enough as suffices,
+  crowded,
+  oversized,
+  takesHex,
+  takesKind,
+  wordsMost,
+};
 
 // A line that asks nothing.
 pub const NONE: u8 = 0;
@@ -74,16 +86,16 @@ pub const UNREAD: u8 = 12;
 // How many there are.
 const COMMANDS: usize = 16;
 
-// What a line may name at most: ids of a status, titles of a share, places of a plan. One title more than the product shares
-// among, so that its own refusal is seen.
+// What a line may name at most: ids of a status, titles of a share, places of a plan. One title more than the product
+// shares among, so that its own refusal is seen.
 pub const IDS_MOST: usize = 32;
 
 pub const TITLES_MOST: usize = 17;
 
 pub const PLACES_MOST: u64 = 1024;
 
-// By command: the fewest words after its own, and the most: 33 is a time and the ids, 69 a pool and four numbers of each title.
-// Read and notice have no number, but HEX, which is a word.
+// By command: the fewest words after its own, and the most: 33 is a time and the ids, 69 a pool and four numbers of
+// each title. Read and notice have no number, but HEX, which is a word.
 const LEAST: [usize; COMMANDS] = [0, 1, 6, 3, 2, 3, 1, 4, 1, 1, 1, 2, 0, 7, 4, 3];
 
 const MOST: [usize; COMMANDS] = [0, 1, 6, 3, 2, 3, 33, 5, 69, 1, 1, 2, 0, 7, 4, 3];

@@ -7,7 +7,20 @@ use text::numbers;
 ghost use mathlib.Core.Path.{_≡_};
 ghost use Prim.Native.Nat.{_<_, _≤_};
 ghost use lib.ListN.{length};
-ghost use Rattle.console_lines.specs.Lines.{blank, withFault, ended, withNumber, withKind, withHex, withWord, step as stepped, withVerb, begun, numbersMost, meaning};
+ghost use Rattle.console_lines.specs.Lines.{
+  blank,
+  withFault,
+  ended,
+  withNumber,
+  withKind,
+  withHex,
+  withWord,
+  step as stepped,
+  withVerb,
+  begun,
+  numbersMost,
+  meaning,
+};
 
 // No line is longer than this, its newline not counted.
 pub const LONGEST: usize = 4095;

@@ -4,7 +4,8 @@ use mathlib.Core.Path.{_≡_, refl, sym, ap, _∙_}
 use mathlib.Core.Logic.{⊎-elim}
 use Prim.Native.Nat.{ℕ, zero, suc, _+_, _-_, _*_, _/_, _%_, _^_, _≤_, _<_}
 use native.Mathlib.Omega.{arith}
-use native.Mathlib.Nat.{mod-lt, div-add-mod, mul-comm, div-div-eq-div-mul, pow-succ', eq-of-mul-eq-mul-left, add-right-cancel, add-mul-div-left, add-mul-mod-self-left, mul-le-mul-right}
+use native.Mathlib.Nat.{mod-lt, div-add-mod, mul-comm, div-div-eq-div-mul, pow-succ', eq-of-mul-eq-mul-left}
+use native.Mathlib.Nat.{add-right-cancel, add-mul-div-left, add-mul-mod-self-left, mul-le-mul-right}
 use lib.Arith.{mod-mul}
 use lib.IntN.{pos, _-ℤ_}
 use lib.Dec.{ltb, eqb}
@@ -49,7 +50,8 @@ rem-lifted A k d j l =
     ∙ ap (λ n. n % 2 ^ d) (omega arith)
 
 -- the cell of a channel by the lifted slot
-pub cell-lifted : (A K k d t : ℕ) → d ≤ k → channelCell A K k d t ≡ (2 ^ d - 1 + lifted A k (t / slot K k) % 2 ^ d) * slot K k + t % slot K k
+pub cell-lifted : (A K k d t : ℕ) → d ≤ k →
+    channelCell A K k d t ≡ (2 ^ d - 1 + lifted A k (t / slot K k) % 2 ^ d) * slot K k + t % slot K k
 unfolding channelCell cellOf segment
 cell-lifted A K k d t l =
     rw (rem-lifted A k d (t / slot K k) l)
@@ -97,7 +99,9 @@ raised A K k t d = pick (eqb (turn A K k t % 2 ^ suc d) 0) d (suc d)
 
 module _ (A K k t : ℕ) (low : A ≤ k) (high : k < K) where
   -- a cell of count k, by slots of count k + 1
-  cell-halved : (d : ℕ) → d ≤ k → channelCell A K k d t ≡ (2 * (2 ^ d - 1 + lifted A k (t / slot K (suc k) / 2) % 2 ^ d) + t / slot K (suc k) % 2) * slot K (suc k) + t % slot K (suc k)
+  cell-halved : (d : ℕ) → d ≤ k →
+      channelCell A K k d t
+      ≡ (2 * (2 ^ d - 1 + lifted A k (t / slot K (suc k) / 2) % 2 ^ d) + t / slot K (suc k) % 2) * slot K (suc k) + t % slot K (suc k)
   cell-halved d l =
       let w : ℕ = slot K (suc k) in
       let q : t / slot K k ≡ t / w / 2 = ap (λ n. t / n) (slot-half K k high ∙ mul-comm 2 w) ∙ sym (div-div-eq-div-mul t w 2) in
@@ -113,7 +117,8 @@ module _ (A K k t : ℕ) (low : A ≤ k) (high : k < K) where
       (same-place (2 ^ d) (lifted A k (j / 2)) (j % 2) (lifted A (suc k) j) (pow-pos d) (omega arith) (lifted-half A k j low) (rw (← pow-succ' 2 d) z))
       ∙ sym (cell-lifted A K (suc k) d t (omega arith))
 
-  raise-next : (d : ℕ) → d < k → 0 < turn A K k t % 2 ^ suc d → channelCell A K k d t ≡ channelCell A K (suc k) (suc d) t
+  raise-next : (d : ℕ) → d < k → 0 < turn A K k t % 2 ^ suc d →
+      channelCell A K k d t ≡ channelCell A K (suc k) (suc d) t
   unfolding turn
   raise-next d l z =
       let j : ℕ = t / slot K (suc k) in
@@ -149,7 +154,8 @@ unfolding lifted
 lifted-add A k j o = omega arith
 
 -- the grid's period: 2^(K-1) ticks, for every count
-pub channel-period : (A K k d t n : ℕ) → k ≤ K → d < k → channelCell A K k d (t + 2 ^ (K - 1) * n) ≡ channelCell A K k d t
+pub channel-period : (A K k d t n : ℕ) → k ≤ K → d < k →
+    channelCell A K k d (t + 2 ^ (K - 1) * n) ≡ channelCell A K k d t
 channel-period A K k d t n high l =
     let w : ℕ = slot K k in
     let h : w * 2 ^ (k - 1) ≡ 2 ^ (K - 1) = half-cells K k (omega arith) high in
@@ -174,7 +180,9 @@ cell-within A K k d t high l =
     omega (arith, cell-lifted A K k d t (omega arith), all-cells K k high)
 
 -- the cell, from the parts by which code computes it
-pub cell-parts : (A K k d t p r w : ℕ) → k ≤ K → d < k → p ≡ 2 ^ d → r ≡ floorRem (pos (t / w) -ℤ pos (shift A k)) (2 ^ d) → w ≡ slot K k → IsCell K (channelCell A K k d t) ((p + r - 1) * w + t % w)
+pub cell-parts : (A K k d t p r w : ℕ) → k ≤ K → d < k → p ≡ 2 ^ d →
+    r ≡ floorRem (pos (t / w) -ℤ pos (shift A k)) (2 ^ d) → w ≡ slot K k →
+    IsCell K (channelCell A K k d t) ((p + r - 1) * w + t % w)
 unfolding channelCell cellOf segment
 cell-parts A K k d t p r w high l e f g =
     let q : (p + r - 1) * w + t % w ≡ (2 ^ d + floorRem (pos (t / slot K k) -ℤ pos (shift A k)) (2 ^ d) - 1) * slot K k + t % slot K k = rw (e, f, g) refl in

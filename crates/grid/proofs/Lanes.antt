@@ -95,7 +95,8 @@ module _ (A K k t : ℕ) (low : A ≤ k) (high : k < K) where
       (λ h. above e l n (ltb-false e (spare A K k t) h))
       (decide (ltb e (spare A K k t)))
     where
-      above : (e : ℕ) → e < suc k → (e ≡ spare A K k t → ⊥) → spare A K k t ≤ e → InG A K k t (channelCell A K (suc k) e t)
+      above : (e : ℕ) → e < suc k → (e ≡ spare A K k t → ⊥) → spare A K k t ≤ e →
+          InG A K k t (channelCell A K (suc k) e t)
       above zero l n h = absurd (n (omega arith))
       above (suc d) l n h =
           let s : spare A K k t ≤ d = omega (arith, n) in

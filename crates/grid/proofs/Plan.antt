@@ -4,7 +4,8 @@ use mathlib.Core.Path.{_≡_, refl, sym, ap, _∙_}
 use mathlib.Core.Bool.{Bool, true}
 use Prim.Native.Nat.{ℕ, suc, _+_, _-_, _*_, _/_, _%_, _^_, _≤_, _<_}
 use native.Mathlib.Omega.{arith}
-use native.Mathlib.Nat.{mod-lt, div-add-mod, div-add-mod', mul-le-mul-right, mul-le-mul-left, lt-of-mul-lt-mul-right, le-div-iff-mul-le, div-lt-iff-lt-mul, mul-sub}
+use native.Mathlib.Nat.{mod-lt, div-add-mod, div-add-mod', mul-le-mul-right, mul-le-mul-left, lt-of-mul-lt-mul-right}
+use native.Mathlib.Nat.{le-div-iff-mul-le, div-lt-iff-lt-mul, mul-sub}
 use lib.Count.{leading-top}
 use lib.Dec.{leb, ltb, eqb}
 use lib.Pow.{pow-pos, pow-mono}
@@ -133,7 +134,8 @@ module _ (A K k a c d : ℕ) (start : isSlotStart K k a ≡ true) (count : d < k
       }
 
   -- and only then, on that channel alone
-  pub taken-only : (t : ℕ) → Taken A K k a c t d → Carrier K k c d × (t ≡ a + (wait A K k a c d * slot K k + c % slot K k))
+  pub taken-only : (t : ℕ) → Taken A K k a c t d →
+      Carrier K k c d × (t ≡ a + (wait A K k a c d * slot K k + c % slot K k))
   unfolding wait
   taken-only t h =
       let w : ℕ = slot K k in
@@ -180,7 +182,8 @@ carrier K k c l h =
     (r .0, omega (arith, r .1), record { low = r .2; high = r .3 })
 
 -- a box takes a cell once: at one tick, from one channel
-pub once : (A K k a c t d u e : ℕ) → isSlotStart K k a ≡ true → Taken A K k a c t d → Taken A K k a c u e → (t ≡ u) × (d ≡ e)
+pub once : (A K k a c t d u e : ℕ) → isSlotStart K k a ≡ true → Taken A K k a c t d → Taken A K k a c u e →
+    (t ≡ u) × (d ≡ e)
 once A K k a c t d u e start h g =
     let x = taken-only A K k a c d start (h .channel) t h in
     let y = taken-only A K k a c e start (g .channel) u g in
@@ -188,7 +191,8 @@ once A K k a c t d u e start h g =
     (x .1 ∙ ap (λ n. a + (wait A K k a c n * slot K k + c % slot K k)) same ∙ sym (y .1), same)
 
 -- a cell comes no later than its turn
-pub in-time : (A K k a c : ℕ) → A ≤ k → k ≤ K → isSlotStart K k a ≡ true → c < 2 ^ K - slot K k → (t : ℕ) × (t ≤ a + c) × (inPlan A K k a c t ≡ true)
+pub in-time : (A K k a c : ℕ) → A ≤ k → k ≤ K → isSlotStart K k a ≡ true → c < 2 ^ K - slot K k →
+    (t : ℕ) × (t ≤ a + c) × (inPlan A K k a c t ≡ true)
 in-time A K k a c low high start h =
     let r = carrier K k c high h in
     let d : ℕ = r .0 in

@@ -63,7 +63,8 @@ rounded-high (suc n) (suc m) p q = div-le-of-le-mul (suc m) (omega arith)
 pub held-pos : (A K : ℕ) → 0 < A → A ≤ K → 2 ^ (K - A) < 2 ^ K
 held-pos A K p l = pow-lt (omega arith)
 
-pub tick-exactly : (D A K p q : ℕ) → 0 < D → 0 < A → A ≤ K → p ≡ 2 ^ K → q ≡ 2 ^ (K - A) → Exactly (tickOf D A K) 1 D ((D + (p - q - 1)) / (p - q))
+pub tick-exactly : (D A K p q : ℕ) → 0 < D → 0 < A → A ≤ K → p ≡ 2 ^ K → q ≡ 2 ^ (K - A) →
+    Exactly (tickOf D A K) 1 D ((D + (p - q - 1)) / (p - q))
 unfolding tickOf roundedUp
 tick-exactly D A K p q d a l e f =
     let m : ℕ = 2 ^ K - 2 ^ (K - A) in

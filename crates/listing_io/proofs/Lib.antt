@@ -6,4 +6,4 @@ pub mod Decided
 pub mod Whole
 pub mod Ends
 pub mod Held
-pub mod Settled
+pub mod Unique

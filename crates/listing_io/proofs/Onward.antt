@@ -23,6 +23,7 @@ use Rattle.agent.specs.Played.{agentTold}
 use Rattle.agent.proofs.Played.{told-more}
 use Rattle.text.specs.Feed.{count}
 use Rattle.listing_io.specs.declared.steps.Listed.{Listed}
+use Rattle.listing_io.specs.declared.input.Printed.{Printed}
 use Rattle.listing_io.specs.Steps.{Hears, isDecided}
 use Rattle.listing_io.specs.Listing.{UpTo, Drained}
 
@@ -104,10 +105,11 @@ count-low l from to = go (ltb (length l) to)
     go false = omega arith
 
 -- of a part of so many bytes, fewer are kept than the longest notice has
-pub kept-few : (g : Agent) (l part : List ℕ) (over : Bool) (r : Listed) (to n : ℕ) → Drained g part over r
-    → to ≡ length part
-    → n ≡ count l (r .place) to → r .more ≡ true → n < longestNotice
+pub kept-few : (g : Agent) (l part : List ℕ) (over : Bool) (r : Printed) (to n : ℕ) → Drained g part over r
+    → r .written ≡ true → to ≡ length part
+    → n ≡ count l (r .listed .place) to → r .listed .more ≡ true → n < longestNotice
 unfolding table startOf spanOf
-kept-few g l part over r to n d is many more =
-    let few = few-left over (length part) (r .place) (d .undecided more) in
-    omega (arith, few, count-low l (r .place) to)
+kept-few g l part over r to n d written is many more =
+    let place = r .listed .place in
+    let few = few-left over (length part) place (d .undecided written more) in
+    omega (arith, few, count-low l place to)

@@ -22,7 +22,7 @@ use Rattle.agent.specs.Turns.{freshAgent}
 use Rattle.agent.specs.Series.{agentAfter}
 use Rattle.agent.specs.Played.{agentTold}
 use Rattle.agent.proofs.Played.{told-more, played}
-use Rattle.listing_io.specs.declared.steps.Listed.{Listed}
+use Rattle.listing_io.specs.declared.input.Printed.{Printed}
 use Rattle.listing_io.specs.declared.input.Shown.{Shown}
 use Rattle.listing_io.specs.Steps.{cutLine, lineAfter, Shows, isDecided}
 use Rattle.listing_io.specs.Listing.{linesOf, listingOf, Seen, Run, starts, goes, Drained}
@@ -138,12 +138,12 @@ pub listed-fresh : (pool : ℕ) (log : List ℕ) → Bytes log → (h : Agent) (
     → Run (freshAgent pool) log h place false text → h ≡ agentAfter pool (map bytesOf (noticesOf log))
 listed-fresh pool log small h place text run = listed (freshAgent pool) log h place text run .0 ∙ played pool log small
 
--- what was read at the input's end is listed to where the log's reading stops
-pub drained-all : (g : Agent) (log : List ℕ) (r : Listed) → Drained g log true r
-    → (r .place ≡ stopOf log) × (r .agent ≡ agentTold g (noticesOf log))
+-- what was read at the input's end is listed to where the log's reading stops, where every line was written
+pub drained-all : (g : Agent) (log : List ℕ) (r : Printed) → Drained g log true r → r .written ≡ true
+    → (r .listed .place ≡ stopOf log) × (r .listed .agent ≡ agentTold g (noticesOf log))
 unfolding isDecided
-drained-all g log r d =
+drained-all g log r d written =
     let u = d .up-to in
-    let over : r .more ≡ false = fails (r .more) (λ q. false-true (sym (d .undecided q))) in
+    let over : r .listed .more ≡ false = fails (r .listed .more) (λ q. false-true (sym (d .undecided written q))) in
     let all = all-read log (u .reads) (rw (u .place-is) at (u .stopped over)) in
     (u .place-is ∙ all .0, u .agent-is ∙ ap (agentTold g) (all .1))

@@ -11,6 +11,7 @@ use Rattle.notice.specs.Log.{placeTo, isNotice, noticesTo, noticesOf, isWholeLo
 use Rattle.agent.specs.declared.Agent.{Agent}
 use Rattle.agent.specs.Played.{agentTold}
 use Rattle.listing_io.specs.declared.steps.Listed.{Listed}
+use Rattle.listing_io.specs.declared.input.Printed.{Printed}
 use Rattle.listing_io.specs.declared.input.Shown.{Shown}
 use Rattle.listing_io.specs.Steps.{noticeLine, cutLine, Shows, isDecided}
 
@@ -50,7 +51,8 @@ pub record UpTo (g : Agent) (log : List ℕ) (r : Listed) : Type 0 where
   pub agent-is : r .agent ≡ agentTold g (noticesTo log reads)
   pub stopped : r .more ≡ false → isNotice (readAt log (r .place)) ≡ false
 
--- a listing of what was read goes on up to the first place that is not decided
-pub record Drained (g : Agent) (log : List ℕ) (over : Bool) (r : Listed) : Type 0 where
-  pub up-to : UpTo g log r
-  pub undecided : r .more ≡ true → isDecided (length log) (r .place) over ≡ false
+-- a listing of what was read goes on up to the first place that is not decided, unless a line could not be written
+pub record Drained (g : Agent) (log : List ℕ) (over : Bool) (r : Printed) : Type 0 where
+  pub up-to : UpTo g log (r .listed)
+  pub undecided : r .written ≡ true → r .listed .more ≡ true
+      → isDecided (length log) (r .listed .place) over ≡ false

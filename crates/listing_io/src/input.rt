@@ -1,6 +1,8 @@
 // From standard input to standard output, for input of any length. What was read is kept in a buffer; a place of it is listed
 // once it is decided, so a notice may lie in two reads, and what is left moves to the buffer's front before the next read.
-// No contract can say what is read and written: the work is in `steps`, and these functions are safe and end.
+// A read or a write that fails is said on standard error and ends the listing: nothing more is read, and no line more written.
+// No contract can say what is read and written: `drain` says the agent and the place that it leaves, and proofs/Whole that the
+// lines of such steps are the log's listing.
 
 use super::lines::LINE_ROOM;
 use super::steps::Listed;
@@ -8,11 +10,10 @@ use super::steps::decided;
 use super::steps::list_at;
 use agent::Agent;
 use agent::fresh_agent;
-use libc::STDIN_FILENO;
-use libc::STDOUT_FILENO;
+use streams::Got;
 use text::feed::compact;
 ghost use mathlib.Core.Path.{_≡_};
-ghost use mathlib.Core.Bool.{true};
+ghost use mathlib.Core.Bool.{true, false};
 ghost use Prim.Native.Nat.{_≤_, _<_};
 ghost use lib.ListN.{length};
 ghost use Rattle.notice.specs.Fields.{longestNotice};
@@ -33,6 +34,12 @@ struct Shown {
     row: [u8; LINE_ROOM],
 }
 
+// A step, and whether its line was written.
+struct Printed {
+    listed: Listed,
+    written: bool,
+}
+
 // Lists what stands at a place, in a row that has room for any line.
 fn list_line(agent: Agent, bytes: &[u8], place: usize) -> Shown
     ensures { λ r. ⌜ Shows agent (readAt (now (bytes .entry)) place) place r ⌝ }
@@ -46,19 +53,22 @@ fn list_line(agent: Agent, bytes: &[u8], place: usize) -> Shown
 }
 
 // Lists what stands at a place, and writes its line.
-fn show(agent: Agent, bytes: &[u8], place: usize) -> Listed
-    ensures { λ r. ⌜ Hears agent (readAt (now (bytes .entry)) place) place r ⌝ }
+fn show(agent: Agent, bytes: &[u8], place: usize) -> Printed
+    ensures { λ r. ⌜ Hears agent (readAt (now (bytes .entry)) place) place (r .listed) ⌝ }
 {
     let shown = list_line(agent, bytes, place);
     let listed = shown.listed;
     let row = shown.row;
     let size = listed.size;
-    io::write_all(STDOUT_FILENO, &row[..size]);
-    listed
+    let written = streams::write_all(&row[..size]);
+    Printed {
+        listed: listed,
+        written: written,
+    }
 }
 
-// Lists from the start on as long as places are decided.
-fn drain(agent: Agent, bytes: &[u8], over: bool) -> Listed
+// Lists from the start on as long as places are decided and lines can be written.
+fn drain(agent: Agent, bytes: &[u8], over: bool) -> Printed
     ensures { λ r. ⌜ Drained agent (now (bytes .entry)) over r ⌝ }
 {
     let mut listed = Listed {
@@ -67,42 +77,62 @@ fn drain(agent: Agent, bytes: &[u8], over: bool) -> Listed
         size: 0,
         more: true,
     };
-    while listed.more && decided(bytes.len(), listed.place, over) {
-        listed = show(listed.agent, bytes, listed.place);
+    let mut written = true;
+    while written && listed.more && decided(bytes.len(), listed.place, over) {
+        let printed = show(listed.agent, bytes, listed.place);
+        listed = printed.listed;
+        written = printed.written;
     }
-    listed
+    Printed {
+        listed: listed,
+        written: written,
+    }
 }
 
-// Reads once. No byte more, and a read that fails, end the input.
-fn read_some(room: &mut [u8]) -> usize
-    ensures { λ r. ⌜ r ≤ length (now (room .entry)) ⌝ }
+// Nothing more is read.
+fn ended(agent: Agent) -> Fed
+    ensures { λ r. ⌜ r .more ≡ false ⌝ }
 {
-    let got = libc::read(STDIN_FILENO, room);
-    io::count(got, room)
+    Fed {
+        agent: agent,
+        kept: 0,
+        more: false,
+    }
 }
 
-// One read behind what is kept, the lines of what is decided, and what is left moved to the front. What is left is shorter than
-// the longest notice, so the next read has room.
+// The lines of what is decided of the bytes up to `filled`, and what is left moved to the front: it is shorter than the longest
+// notice.
+fn list_filled(agent: Agent, buffer: &mut [u8], filled: usize, over: bool) -> Fed
+    requires { ⌜ filled ≤ length (now buffer) ⌝ }
+    ensures { λ r. ⌜ (r .more ≡ true → r .kept < longestNotice) ⌝ }
+{
+    let printed = drain(agent, &buffer[..filled], over);
+    let listed = printed.listed;
+    let next = listed.agent;
+    if printed.written {
+        return Fed {
+            agent: next,
+            kept: compact(buffer, listed.place, filled),
+            more: listed.more,
+        };
+    }
+    ended(next)
+}
+
+// One read behind what is kept, and the lines of what is decided then. What is left is so short that the next read has room.
 fn feed(fed: Fed, buffer: &mut [u8]) -> Fed
     ensures { λ r. ⌜ (r .more ≡ true → r .kept < longestNotice) ⌝ }
 {
     let kept = fed.kept;
     let agent = fed.agent;
     if buffer.len() < kept {
-        return Fed {
-            agent: agent,
-            kept: 0,
-            more: false,
-        };
+        return ended(agent);
     }
-    let got = read_some(&mut buffer[kept..]);
-    let filled = kept + got;
-    let listed = drain(agent, &buffer[..filled], got == 0);
-    let next = listed.agent;
-    Fed {
-        agent: next,
-        kept: compact(buffer, listed.place, filled),
-        more: listed.more,
+    let got = streams::read_some(&mut buffer[kept..]);
+    match got {
+        Got::Bytes(n) => list_filled(agent, buffer, kept + n, false),
+        Got::End => list_filled(agent, buffer, kept, true),
+        Got::Failed => ended(agent),
     }
 }
 

@@ -11,9 +11,9 @@ pub mod Part
 pub mod ReadBack
 pub mod Refused
 pub mod RoundTrip
-pub mod Settled
 pub mod Table
 pub mod There
 pub mod Through
 pub mod Typed
+pub mod Unique
 pub mod Worked

@@ -18,19 +18,13 @@ use super::fields::entry;
 use super::fields::span;
 use super::fields::start;
 use super::numbers::get;
+use rules::truth::also;
 ghost use mathlib.Core.Path.{_≡_};
 ghost use mathlib.Core.Bool.{true};
 ghost use Prim.Native.Nat.{_+_, _<_, _≤_, _^_};
 ghost use lib.ListN.{length};
-ghost use Rattle.rules.specs.Limits.{both};
 ghost use Rattle.notice.specs.Fields.{rows, spanOf, sizeOf, lengthOf, isCarried, isKnown};
 ghost use Rattle.notice.specs.Decode.{headStands, rowStands, standsTo, valueAt, kindIn, noticeIn};
-
-fn also(a: bool, b: bool) -> bool
-    ensures { λ r. ⌜ r ≡ both a b ⌝ }
-{
-    if a { b } else { false }
-}
 
 // Whether the row's tag and length stand at a place.
 fn head_stands(bytes: &[u8], at: usize, row: usize) -> bool

@@ -30,7 +30,8 @@ unfolding dropLanes
 fixed-drops t n k zero = record { length = refl; floor = refl; cap = refl; count = refl; ends = refl }
 fixed-drops t n k (suc i) = go (both (leb k i) (ltb i (t .count))) (fixed-drops t n k i)
   where
-    go : (b : Bool) → Fixed t (dropLanes t n k i) → Fixed t (pick b (dropLane (dropLanes t n k i) n i) (dropLanes t n k i))
+    go : (b : Bool) → Fixed t (dropLanes t n k i) →
+        Fixed t (pick b (dropLane (dropLanes t n k i) n i) (dropLanes t n k i))
     go true f = record { length = f .length; floor = f .floor; cap = f .cap; count = f .count; ends = f .ends }
     go false f = f
 
@@ -38,7 +39,8 @@ pub fixed-owing : (t q : Title) → Fixed t q → Owing t → Owing q
 fixed-owing t q f o = record { cut = rw (f .floor, f .cap) (o .cut); ends = rw (f .ends) (o .ends) }
 
 -- what holds of a value, and of each place of a row, holds of each place once the value is stored
-pub stored : {A : Type 0} (P : A → Type 0) (row : List A) (i j : ℕ) (v d : A) → P v → P (getD row j d) → P (getD (set row i v) j d)
+pub stored : {A : Type 0} (P : A → Type 0) (row : List A) (i j : ℕ) (v d : A) → P v → P (getD row j d) →
+    P (getD (set row i v) j d)
 stored P [] i j v d a b = b
 stored P (x ∷ xs) zero zero v d a b = a
 stored P (x ∷ xs) zero (suc j) v d a b = b
@@ -54,7 +56,8 @@ pub ended-owing : (t : Title) (n : ℕ) → n ≤ askedMax → Owing t → Owing
 ended-owing t n l o = record { cut = o .cut; ends = stored-row (t .ends) countPlaces (t .count) n l (o .ends) }
 
 -- below the old count a lane is dropped or not by the new count alone
-pub drop-more : (t q : Title) (n k i : ℕ) → q ≡ dropLanes t n k i → i < t .count → pick (leb k i) (dropLane q n i) q ≡ dropLanes t n k (suc i)
+pub drop-more : (t q : Title) (n k i : ℕ) → q ≡ dropLanes t n k i → i < t .count →
+    pick (leb k i) (dropLane q n i) q ≡ dropLanes t n k (suc i)
 unfolding dropLanes
 drop-more t q n k i e l = rw (lt-ltb i (t .count) l, ← e) (go (leb k i))
   where

@@ -43,7 +43,9 @@ parts-small K k d w size x c high l e f =
     rw (e, f) (window-lt K k d (x % 2 ^ d) (c % slot K k) high l (mod-lt x (pow-pos d)) (mod-lt c (slot-pos K k)))
 
 -- the plan's number
-pub parts-plan : (A K k a c w d size at : ℕ) → k ≤ K → isSlotStart K k a ≡ true → d < k → w ≡ slot K k → size ≡ 2 ^ d → at ≡ floorRem (pos (a / w) -ℤ pos (shift A k)) (2 ^ d) → 2 ^ d ≤ c / w + 1 → c / w + 1 < 2 ^ suc d → (c / w + 1 + (size - at)) % size * w + c % w ≡ planAt A K k a c
+pub parts-plan : (A K k a c w d size at : ℕ) → k ≤ K → isSlotStart K k a ≡ true → d < k → w ≡ slot K k → size ≡ 2 ^ d →
+    at ≡ floorRem (pos (a / w) -ℤ pos (shift A k)) (2 ^ d) → 2 ^ d ≤ c / w + 1 → c / w + 1 < 2 ^ suc d →
+    (c / w + 1 + (size - at)) % size * w + c % w ≡ planAt A K k a c
 unfolding wait
 parts-plan A K k a c w d size at count start channel width power place l h =
     parts-due ∙ sym (plan-due A K k a c count start d channel (record { low = rw (← width) l; high = rw (← width) h }))
@@ -52,7 +54,8 @@ parts-plan A K k a c w d size at count start channel width power place l h =
     parts-due = rw (place, power, width, rem-lifted A k d (a / slot K k) (omega arith)) refl
 
 -- the last slot's cells
-pub parts-never : (A K k a c w : ℕ) → k ≤ K → isSlotStart K k a ≡ true → w ≡ slot K k → 2 ^ k ≤ c / w + 1 → never ≡ planAt A K k a c
+pub parts-never : (A K k a c w : ℕ) → k ≤ K → isSlotStart K k a ≡ true → w ≡ slot K k → 2 ^ k ≤ c / w + 1 →
+    never ≡ planAt A K k a c
 parts-never A K k a c w count start e l =
     let m : 2 ^ k * w ≤ (c / w + 1) * w = mul-le-mul-right w l in
     let d : c / w * w ≤ c = div-mul-le-self c w in

@@ -32,7 +32,8 @@ module _ (A K k a n : ℕ) where
     unfolding planAnswer firstHit
     refused-slot l w s = rw (h, le-ltb K A l, w, s) refl
 
-    pub refused-rows : A ≤ K → within A K k ≡ true → isSlotStart K k a ≡ true → n < 2 ^ K → planAnswer A K k a n ≡ wrongRows
+    pub refused-rows : A ≤ K → within A K k ≡ true → isSlotStart K k a ≡ true → n < 2 ^ K →
+        planAnswer A K k a n ≡ wrongRows
     unfolding planAnswer firstHit
     refused-rows l w s r = rw (h, le-ltb K A l, w, s, lt-ltb n (2 ^ K) r) refl
 

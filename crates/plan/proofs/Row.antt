@@ -66,7 +66,8 @@ module _ (A K k a : ℕ) (row : List ℕ) where
     row-later c l = ap (λ r. getD r c 0) (row-done accepted) ∙ written-later (planAt A K k a) row (cells K) c l
 
     -- every cell but the last w is taken at the number in its place, no later than its turn
-    pub row-taken : (c : ℕ) → c < cells K - slot K k → (inPlan A K k a c (a + getD (rowAfter A K k a row) c 0) ≡ true) × (getD (rowAfter A K k a row) c 0 ≤ c)
+    pub row-taken : (c : ℕ) → c < cells K - slot K k →
+        (inPlan A K k a c (a + getD (rowAfter A K k a row) c 0) ≡ true) × (getD (rowAfter A K k a row) c 0 ≤ c)
     row-taken c l =
         let t = accepted-only A K k a (length row) accepted in
         rw (row-first c (omega arith)) (plan-in A K k a c (t .count .fit) (t .start) (t .count .floor) l)

@@ -73,7 +73,8 @@ listed (r ∷ rs) n p h =
     (decide (eqb (r .number) n))
 
 -- an answer n that is no 0 means that the rule of number n hits, and none before it
-pub first-hit : (rs : List Rule) → distinct rs ≡ true → (n : ℕ) → 0 < n → firstHit rs ≡ n → (hitsOf n rs ≡ true) × (firstHit (before n rs) ≡ 0)
+pub first-hit : (rs : List Rule) → distinct rs ≡ true → (n : ℕ) → 0 < n → firstHit rs ≡ n →
+    (hitsOf n rs ≡ true) × (firstHit (before n rs) ≡ 0)
 unfolding firstHit hitsOf distinct
 first-hit [] d n p h = absurd (omega arith)
 first-hit (r ∷ rs) d n p h =
@@ -94,13 +95,15 @@ first-hit (r ∷ rs) d n p h =
     (decide (eqb (r .number) n))
 
 -- the same test at the head of two lists, and the same answer behind it where it passes
-pub hit-same : (n : ℕ) (a b : Bool) (rs qs : List Rule) → a ≡ b → (a ≡ false → firstHit rs ≡ firstHit qs) → firstHit (refuse n a ∷ rs) ≡ firstHit (refuse n b ∷ qs)
+pub hit-same : (n : ℕ) (a b : Bool) (rs qs : List Rule) → a ≡ b → (a ≡ false → firstHit rs ≡ firstHit qs) →
+    firstHit (refuse n a ∷ rs) ≡ firstHit (refuse n b ∷ qs)
 unfolding firstHit
 hit-same n true b rs qs e f = rw (← e) refl
 hit-same n false b rs qs e f = rw (← e) (f refl)
 
 -- a list in two parts: the second answers where the first has no rule that hits
-pub hit-append : (xs ys : List Rule) → numbered xs ≡ true → firstHit (xs ++ ys) ≡ pick (eqb (firstHit xs) 0) (firstHit ys) (firstHit xs)
+pub hit-append : (xs ys : List Rule) → numbered xs ≡ true →
+    firstHit (xs ++ ys) ≡ pick (eqb (firstHit xs) 0) (firstHit ys) (firstHit xs)
 unfolding firstHit
 hit-append [] ys c = refl
 hit-append (r ∷ rs) ys c = go (r .hits) (hit-append rs ys (numbered-rest r rs c))
@@ -108,7 +111,9 @@ hit-append (r ∷ rs) ys c = go (r .hits) (hit-append rs ys (numbered-rest r rs 
     some : eqb (r .number) 0 ≡ false
     some = ne-eqb (r .number) 0 (λ e. omega (arith, positive r rs c))
 
-    go : (b : Bool) → firstHit (rs ++ ys) ≡ pick (eqb (firstHit rs) 0) (firstHit ys) (firstHit rs) → pick b (r .number) (firstHit (rs ++ ys)) ≡ pick (eqb (pick b (r .number) (firstHit rs)) 0) (firstHit ys) (pick b (r .number) (firstHit rs))
+    go : (b : Bool) → firstHit (rs ++ ys) ≡ pick (eqb (firstHit rs) 0) (firstHit ys) (firstHit rs) →
+        pick b (r .number) (firstHit (rs ++ ys))
+        ≡ pick (eqb (pick b (r .number) (firstHit rs)) 0) (firstHit ys) (pick b (r .number) (firstHit rs))
     go true rest = rw some refl
     go false rest = rest
 
@@ -119,7 +124,8 @@ none-first xs ys c none =
     (decide (eqb (firstHit xs) 0))
 
 -- one rule that does not hit, then two parts: the first part answers where it has one that hits, else the second
-module _ (n : ℕ) (h : Bool) (xs ys : List Rule) (first : ℕ) (counts : numbered xs ≡ true) (passed : h ≡ false) (is-first : first ≡ firstHit xs) where
+module _ (n : ℕ) (h : Bool) (xs ys : List Rule) (first : ℕ) (counts : numbered xs ≡ true) (passed : h ≡ false)
+    (is-first : first ≡ firstHit xs) where
   pub in-two : firstHit (refuse n h ∷ (xs ++ ys)) ≡ pick (eqb first 0) (firstHit ys) first
   unfolding firstHit
   in-two = rw (passed, is-first) (hit-append xs ys counts)

@@ -10,7 +10,8 @@ use lib.Dec.{ltb}
 use borrow.Author.Tests.{ltb-true, ltb-false}
 use Rattle.rules.specs.Refusals.{pick}
 use Rattle.rules.specs.Search.{some, every, first, keepFirst, howMany, after, total}
-use Rattle.rules.proofs.Tests.{decide, both-l, both-r, both-in, either-l, either-r, either-out, fails, pick-true, pick-false}
+use Rattle.rules.proofs.Tests.{decide, both-l, both-r, both-in, either-l, either-r, either-out, fails, pick-true}
+use Rattle.rules.proofs.Tests.{pick-false}
 
 -- below suc n: below n, or n itself
 pub below-suc : (i n : ℕ) → i < suc n → (i < n) ⊎ (i ≡ n)
@@ -83,7 +84,8 @@ module _ (p : ℕ → Bool) where
   first-hit zero l = absurd (omega arith)
   first-hit (suc n) l = go (first p n) (p n) refl (first-le n) (first-hit n) l
     where
-      go : (f : ℕ) (b : Bool) → p n ≡ b → f ≤ n → (f < n → p f ≡ true) → keepFirst f n b < suc n → p (keepFirst f n b) ≡ true
+      go : (f : ℕ) (b : Bool) → p n ≡ b → f ≤ n → (f < n → p f ≡ true) → keepFirst f n b < suc n →
+          p (keepFirst f n b) ≡ true
       go f b e le ih =
           ⊎-elim (λ t. rw t (λ h. ih (ltb-true f n t)))
           (λ t. rw t (elim b as (λ b. p n ≡ b → pick b n (suc n) < suc n → p (pick b n (suc n)) ≡ true) [ true ↦ λ e h. e | false ↦ λ e h. absurd (omega arith) ] e))

@@ -23,7 +23,8 @@ fresh-one-outcome κs a x y e f p q =
     ap₂ (λ (n : ℕ) (s : State). record { answer = n; state = s }) (p .0 ∙ sym (q .0)) (p .1 ∙ sym (q .1))
 
 -- an event's answer and state, each said twice
-both-told : {n : ℕ} {s : State} (x y : Outcome) → (x .answer ≡ n) × (x .state ≡ s) → (y .answer ≡ n) × (y .state ≡ s) → x ≡ y
+both-told : {n : ℕ} {s : State} (x y : Outcome) → (x .answer ≡ n) × (x .state ≡ s) → (y .answer ≡ n) × (y .state ≡ s) →
+    x ≡ y
 both-told x y p q =
     ap₂ (λ (n : ℕ) (s : State). record { answer = n; state = s }) (p .0 ∙ sym (q .0)) (p .1 ∙ sym (q .1))
 

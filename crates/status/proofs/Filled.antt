@@ -18,7 +18,8 @@ use Rattle.status.specs.Rows.{idsOk}
 abbrev pub Filled : (ℕ → ℕ) → List ℕ → List ℕ → ℕ → Type 0
 Filled f ids row i = (k : ℕ) → k < i → getD row k 0 ≡ f (getD ids k 0)
 
-pub filled-more : (f : ℕ → ℕ) (ids row : List ℕ) (i v : ℕ) → i < length row → Filled f ids row i → v ≡ f (getD ids i 0) → Filled f ids (set row i v) (suc i)
+pub filled-more : (f : ℕ → ℕ) (ids row : List ℕ) (i v : ℕ) → i < length row → Filled f ids row i →
+    v ≡ f (getD ids i 0) → Filled f ids (set row i v) (suc i)
 filled-more f ids row i v l done e k below =
     ⊎-elim
     (λ less. getD-set-other row i k v 0 (λ q. omega arith) ∙ done k less)
@@ -35,7 +36,8 @@ every-place {A} {B} f x y (a ∷ xs) (b ∷ ys) e g =
     ap₂ (λ (z : B) (zs : List B). z ∷ zs) (g zero (omega arith))
     (every-place f x y xs ys (omega arith) (λ k l. g (suc k) (omega arith)))
 
-pub filled-all : (f : ℕ → ℕ) (ids row : List ℕ) → length row ≡ length ids → Filled f ids row (length ids) → row ≡ map f ids
+pub filled-all : (f : ℕ → ℕ) (ids row : List ℕ) → length row ≡ length ids → Filled f ids row (length ids) →
+    row ≡ map f ids
 filled-all f ids row e done = every-place f 0 0 ids row e done
 
 pub id-below : (ids : List ℕ) (i : ℕ) → idsOk ids ≡ true → i < length ids → getD ids i 0 ≤ idMax

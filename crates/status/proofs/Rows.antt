@@ -29,7 +29,8 @@ pub one-row : (s : State) (τ : ℕ) (r : Record) (a : ℕ) (cs hs : List ℕ) �
 unfolding recordFor
 one-row s τ r a cs hs e c h = rw (c, h, ← e) (go (eqb a 0))
   where
-    go : (b : Bool) → _≡_ {A = Record} (record { id = r .id; count = getD (pick b (statusCount s (r .id) ∷ []) (r .count ∷ [])) 0 0; held = getD (pick b (statusHeld s (r .id) τ ∷ []) (r .held ∷ [])) 0 0 }) (pick b (filledRecord s τ r) r)
+    go : (b : Bool) →
+        _≡_ {A = Record} (record { id = r .id; count = getD (pick b (statusCount s (r .id) ∷ []) (r .count ∷ [])) 0 0; held = getD (pick b (statusHeld s (r .id) τ ∷ []) (r .held ∷ [])) 0 0 }) (pick b (filledRecord s τ r) r)
     go true = refl
     go false = refl
 
@@ -37,7 +38,8 @@ one-row s τ r a cs hs e c h = rw (c, h, ← e) (go (eqb a 0))
 abbrev pub Filling : (Record → Record) → List Record → ℕ → ℕ → List Record → Type 0
 Filling f xs t i ls = (i + t ≡ length xs) × (length ls ≡ length xs) × ((k : ℕ) → k < i → getD ls k noRecord ≡ f (getD xs k noRecord)) × ((k : ℕ) → i ≤ k → getD ls k noRecord ≡ getD xs k noRecord)
 
-pub filling-more : (f : Record → Record) (xs : List Record) (t i : ℕ) (ls : List Record) (r : Record) → Filling f xs (suc t) i ls → r ≡ f (getD ls i noRecord) → Filling f xs t (suc i) (set ls i r)
+pub filling-more : (f : Record → Record) (xs : List Record) (t i : ℕ) (ls : List Record) (r : Record) →
+    Filling f xs (suc t) i ls → r ≡ f (getD ls i noRecord) → Filling f xs t (suc i) (set ls i r)
 filling-more f xs t i ls r h e =
     let l : i < length ls = omega (arith, h .0, h .1) in (
       omega (arith, h .0),
@@ -47,7 +49,8 @@ filling-more f xs t i ls r h e =
     )
 
 -- a record with an id, where the answer over all is done, is filled in
-pub done-record : (s : State) (τ : ℕ) (r : Record) → askedAnswer s τ true ≡ 0 → leb (r .id) idMax ≡ true → recordFor s τ r ≡ filledRecord s τ r
+pub done-record : (s : State) (τ : ℕ) (r : Record) → askedAnswer s τ true ≡ 0 → leb (r .id) idMax ≡ true →
+    recordFor s τ r ≡ filledRecord s τ r
 unfolding recordFor statusAnswer firstHit every
 done-record s τ r none i =
     simp (asked-state s τ true none, asked-time s τ true none, i, asked-late s τ true none)
@@ -63,7 +66,8 @@ records-filled s τ xs ls none len each =
     (λ k l. each k l ∙ done-record s τ (getD xs k noRecord) (rw ids at none) (every-out (λ j. leb (getD xs j noRecord .id) idMax) (length xs) k ids l))
 
 -- the answer over records is the flat call's over their ids, in rows of one length
-pub flat-answer : (s : State) (τ : ℕ) (rows : List Record) → recordsAnswer s τ rows ≡ statusAnswer s τ (map (λ r. r .id) rows) (length rows) (length rows)
+pub flat-answer : (s : State) (τ : ℕ) (rows : List Record) →
+    recordsAnswer s τ rows ≡ statusAnswer s τ (map (λ r. r .id) rows) (length rows) (length rows)
 unfolding recordsAnswer askedAnswer recordIdsOk statusAnswer firstHit
 flat-answer s τ rows =
     let rows-long : length (map (λ r. r .id) rows) ≡ length rows = length-map rows (λ r. r .id) in

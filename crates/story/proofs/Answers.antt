@@ -9,21 +9,27 @@ use native.Mathlib.Omega.{arith}
 use native.Mathlib.Nat.{le-antisymm}
 use lib.Dec.{ltb, leb, eqb}
 use borrow.Author.Tests.{ltb-true, ltb-false, leb-true, eqb-true, eqb-false, not-false}
-use Rattle.rules.specs.Limits.{both, either, within, idMax, eventTimeMax, lengthMin, lengthMax, floorMin, floorMax, countMin, countMax}
-use Rattle.rules.specs.Refusals.{Rule, refuse, firstHit, outsideLimits, tooEarly, notThere, idTaken, isClosing, wrongCount, secondEvent, notAtSlot, noLanes}
+use Rattle.rules.specs.Limits.{both, either, within, idMax, eventTimeMax, lengthMin, lengthMax, floorMin, floorMax}
+use Rattle.rules.specs.Limits.{countMin, countMax}
+use Rattle.rules.specs.Refusals.{Rule, refuse, firstHit, outsideLimits, tooEarly, notThere, idTaken, isClosing}
+use Rattle.rules.specs.Refusals.{wrongCount, secondEvent, notAtSlot, noLanes}
 use Rattle.rules.proofs.Tests.{decide, both-l, both-r, either-false-l, either-false-r}
 use Rattle.rules.proofs.Refusals.{hitsOf, numbered, cleared, hit-same}
 use Rattle.grid.specs.Ticks.{tickOf, isSlotStart}
 use Rattle.story.specs.declared.Title.{Title}
 use Rattle.story.specs.declared.State.{State}
 use Rattle.story.specs.Kept.{openMode, closingMode, titleAt, stateOk, tickAt, atTickStart, lanesHeld, isThere}
-use Rattle.story.specs.Next.{openedTitle, withTitle, openNext, changedTitle, changeNext, closedTitle, closeNext, turnedTitle, callNext}
+use Rattle.story.specs.Next.{openedTitle, withTitle, openNext, changedTitle, changeNext, closedTitle, closeNext}
+use Rattle.story.specs.Next.{turnedTitle, callNext}
 use Rattle.story.specs.Calls.{eventOk, tooMany, atSlotStart, testsIn, callAnswer}
-use Rattle.story.specs.Story.{Act, opens, changes, closes, Event, event, Life, lifeAfter, lifeOf, latestOf, lastTime, tickIn, countIn, isSlotIn, isThereIn, withinLimits, openLimits, overfull, orderOf, answerTo, turn}
+use Rattle.story.specs.Story.{Act, opens, changes, closes, Event, event, Life, lifeAfter, lifeOf, latestOf}
+use Rattle.story.specs.Story.{lastTime, tickIn, countIn, isSlotIn, isThereIn, withinLimits, openLimits, overfull}
+use Rattle.story.specs.Story.{orderOf, answerTo, turn}
 use Rattle.story.proofs.Kept.{lifeIn, Present}
 use Rattle.story.proofs.Turn.{Turning, turned-laid, turn-present, open-ruling}
 use Rattle.story.proofs.Passed.{within-low, within-high}
-use Rattle.story.proofs.Tells.{TellsTitle, absent, present, Tells, opened-present, count-told, there-told, closing-told, lanes-told, told-with, blank-away}
+use Rattle.story.proofs.Tells.{TellsTitle, absent, present, Tells, opened-present, count-told, there-told}
+use Rattle.story.proofs.Tells.{closing-told, lanes-told, told-with, blank-away}
 
 -- a title that is open: the rule of its life, its count and its latest event
 record Open (L : Life) (m : ℕ) (t : Title) (τ : ℕ) : Type 0 where
@@ -34,7 +40,8 @@ record Open (L : Life) (m : ℕ) (t : Title) (τ : ℕ) : Type 0 where
   mode : t .mode ≡ openMode
   count : countIn L τ ≡ t .count
 
-open-title : (L : Life) (m : ℕ) (t : Title) (τ : ℕ) → TellsTitle L m t → m ≤ τ → isThere t τ ≡ true → eqb (t .mode) closingMode ≡ false → Open L m t τ
+open-title : (L : Life) (m : ℕ) (t : Title) (τ : ℕ) → TellsTitle L m t → m ≤ τ → isThere t τ ≡ true →
+    eqb (t .mode) closingMode ≡ false → Open L m t τ
 open-title L m t τ (absent e f g) le there off =
     absurd (false≢true (sym (blank-away τ) ∙ ap (λ x. isThere x τ) (sym g) ∙ there))
 open-title L m t τ (present r e f p) le there off =
@@ -60,7 +67,8 @@ life-turned t τ q m c r = ap (λ x. lifeIn x r) (turned-laid t τ q m c)
 
 module _ (lanes : ℕ) (es : List Event) (s : State) (w : Tells lanes es s) where
   -- the pool is too small for the state after an event just where it is for the sequence after it
-  full-told : (e : Event) (s′ : State) → Tells lanes (e ∷ es) s′ → tooMany s′ (e .time) ≡ overfull lanes (e ∷ es) (e .time)
+  full-told : (e : Event) (s′ : State) → Tells lanes (e ∷ es) s′ →
+      tooMany s′ (e .time) ≡ overfull lanes (e ∷ es) (e .time)
   full-told e s′ w′ =
       ap (λ n. ltb n (lanesHeld s′ (e .time))) (w′ .pool)
       ∙ ap (λ n. ltb lanes n) (sym (lanes-told lanes (e ∷ es) s′ (e .time) w′ (omega arith)))
@@ -91,7 +99,9 @@ module _ (lanes : ℕ) (es : List Event) (s : State) (w : Tells lanes es s) wher
     seen le = omega (arith, w .newest i)
 
     -- an opening within its limits, not too early, with a count from floor to cap
-    open-next : (D A K k : ℕ) → i ≤ idMax → τ ≤ eventTimeMax → openLimits D A K k ≡ true → lastTime es ≤ τ → either (ltb K A) (not (within A K k)) ≡ false → Tells lanes (event i τ (opens D A K k) ∷ es) (openNext s i τ D A K k)
+    open-next : (D A K k : ℕ) → i ≤ idMax → τ ≤ eventTimeMax → openLimits D A K k ≡ true → lastTime es ≤ τ →
+        either (ltb K A) (not (within A K k)) ≡ false →
+        Tells lanes (event i τ (opens D A K k) ∷ es) (openNext s i τ D A K k)
     open-next D A K k id limit nums late order =
         let k-ok : Bool = within countMin countMax k in
         let K-ok : Bool = within countMin countMax K in
@@ -106,7 +116,8 @@ module _ (lanes : ℕ) (es : List Event) (s : State) (w : Tells lanes es s) wher
         (present (λ t. k) refl refl
         (opened-present τ D A K k limit (within-low lengthMin lengthMax D d) (within-high lengthMin lengthMax D d) (within-low floorMin floorMax A a) (within-high floorMin floorMax A a) (within-high countMin countMax K c) (within-low A K k count) (within-high A K k count)))
 
-    open-told : (D A K k : ℕ) → callAnswer s i τ (opens D A K k) ≡ answerTo lanes es (event i τ (opens D A K k)) (lifeOf es i) (opens D A K k)
+    open-told : (D A K k : ℕ) →
+        callAnswer s i τ (opens D A K k) ≡ answerTo lanes es (event i τ (opens D A K k)) (lifeOf es i) (opens D A K k)
     unfolding callAnswer answerTo
     open-told D A K k =
         hit-same outsideLimits _ _ _ _ (limits-told (openLimits D A K k))
@@ -123,7 +134,10 @@ module _ (lanes : ℕ) (es : List Event) (s : State) (w : Tells lanes es s) wher
         (λ t9. refl)))))
 
     -- a turn of an open title
-    turn-next : (t : Title) (q m c : ℕ) (a : Act) → titleAt s i ≡ t → (o : Open (lifeOf es i) (latestOf es i) t τ) → i ≤ idMax → τ ≤ eventTimeMax → lastTime es ≤ τ → Turning t (o .rule) τ q m c → lifeAfter (lifeIn t (o .rule)) τ a ≡ lifeIn t (turn (o .rule) (tickAt t τ) q) → Tells lanes (event i τ a ∷ es) (withTitle s i (turnedTitle t τ q m c) τ)
+    turn-next : (t : Title) (q m c : ℕ) (a : Act) → titleAt s i ≡ t → (o : Open (lifeOf es i) (latestOf es i) t τ) →
+        i ≤ idMax → τ ≤ eventTimeMax → lastTime es ≤ τ → Turning t (o .rule) τ q m c →
+        lifeAfter (lifeIn t (o .rule)) τ a ≡ lifeIn t (turn (o .rule) (tickAt t τ) q) →
+        Tells lanes (event i τ a ∷ es) (withTitle s i (turnedTitle t τ q m c) τ)
     turn-next t q m c a e o id limit late turning same =
         told-with lanes es s (event i τ a) (turnedTitle t τ q m c) w (omega arith) late limit
         (present (turn (o .rule) (tickAt t τ) q)
@@ -131,13 +145,15 @@ module _ (lanes : ℕ) (es : List Event) (s : State) (w : Tells lanes es s) wher
         refl (turn-present t (o .rule) τ q m c turning))
 
     -- the tests of a slot start, a later moment and a new count, as facts
-    later-out : (t : Title) → Open (lifeOf es i) (latestOf es i) t τ → lastTime es ≤ τ → eqb τ (t .last) ≡ false → t .last < τ
+    later-out : (t : Title) → Open (lifeOf es i) (latestOf es i) t τ → lastTime es ≤ τ → eqb τ (t .last) ≡ false →
+        t .last < τ
     later-out t o late h =
         ⊎-elim (λ x. ltb-true (t .last) τ x)
         (λ x. absurd (eqb-false τ (t .last) h (le-antisymm (ltb-false (t .last) τ x) (omega (arith, o .latest, w .newest i)))))
         (decide (ltb (t .last) τ))
 
-    tick-out : (t : Title) (k : ℕ) → not (atSlotStart t k τ) ≡ false → ((τ - t .opened) % tickOf (t .length) (t .floor) (t .cap) ≡ 0) × (isSlotStart (t .cap) k (tickAt t τ) ≡ true)
+    tick-out : (t : Title) (k : ℕ) → not (atSlotStart t k τ) ≡ false →
+        ((τ - t .opened) % tickOf (t .length) (t .floor) (t .cap) ≡ 0) × (isSlotStart (t .cap) k (tickAt t τ) ≡ true)
     unfolding atTickStart
     tick-out t k h =
         let all : atSlotStart t k τ ≡ true = not-false (atSlotStart t k τ) h in (
@@ -145,7 +161,11 @@ module _ (lanes : ℕ) (es : List Event) (s : State) (w : Tells lanes es s) wher
           both-r (atTickStart t τ) (isSlotStart (t .cap) k (tickAt t τ)) all,
         )
 
-    change-next : (k : ℕ) (o : Open (lifeOf es i) (latestOf es i) (titleAt s i) τ) → i ≤ idMax → τ ≤ eventTimeMax → lastTime es ≤ τ → either (not (within (titleAt s i .floor) (titleAt s i .cap) k)) (eqb k (titleAt s i .count)) ≡ false → eqb τ (titleAt s i .last) ≡ false → not (atSlotStart (titleAt s i) (min (titleAt s i .count) k) τ) ≡ false → Tells lanes (event i τ (changes k) ∷ es) (changeNext s i τ k)
+    change-next : (k : ℕ) (o : Open (lifeOf es i) (latestOf es i) (titleAt s i) τ) → i ≤ idMax → τ ≤ eventTimeMax →
+        lastTime es ≤ τ →
+        either (not (within (titleAt s i .floor) (titleAt s i .cap) k)) (eqb k (titleAt s i .count)) ≡ false →
+        eqb τ (titleAt s i .last) ≡ false → not (atSlotStart (titleAt s i) (min (titleAt s i .count) k) τ) ≡ false →
+        Tells lanes (event i τ (changes k) ∷ es) (changeNext s i τ k)
     unfolding changedTitle tickIn tickAt
     change-next k o id limit late t6 t7 t8 =
         let t : Title = titleAt s i in
@@ -171,7 +191,10 @@ module _ (lanes : ℕ) (es : List Event) (s : State) (w : Tells lanes es s) wher
         })
         refl
 
-    close-next : (o : Open (lifeOf es i) (latestOf es i) (titleAt s i) τ) → i ≤ idMax → τ ≤ eventTimeMax → lastTime es ≤ τ → eqb τ (titleAt s i .last) ≡ false → not (atSlotStart (titleAt s i) (titleAt s i .floor) τ) ≡ false → Tells lanes (event i τ closes ∷ es) (closeNext s i τ)
+    close-next : (o : Open (lifeOf es i) (latestOf es i) (titleAt s i) τ) → i ≤ idMax → τ ≤ eventTimeMax →
+        lastTime es ≤ τ → eqb τ (titleAt s i .last) ≡ false →
+        not (atSlotStart (titleAt s i) (titleAt s i .floor) τ) ≡ false →
+        Tells lanes (event i τ closes ∷ es) (closeNext s i τ)
     unfolding closedTitle tickIn tickAt
     close-next o id limit late t7 t8 =
         let t : Title = titleAt s i in
@@ -195,13 +218,17 @@ module _ (lanes : ℕ) (es : List Event) (s : State) (w : Tells lanes es s) wher
         refl
 
     -- the tests that a change and a close share: there, and not closing
-    opened-told : i ≤ idMax → lastTime es ≤ τ → not (isThere (titleAt s i) τ) ≡ false → eqb (titleAt s i .mode) closingMode ≡ false → Open (lifeOf es i) (latestOf es i) (titleAt s i) τ
+    opened-told : i ≤ idMax → lastTime es ≤ τ → not (isThere (titleAt s i) τ) ≡ false →
+        eqb (titleAt s i .mode) closingMode ≡ false → Open (lifeOf es i) (latestOf es i) (titleAt s i) τ
     opened-told id late t3 t5 =
         open-title (lifeOf es i) (latestOf es i) (titleAt s i) τ (w .title i (omega arith)) (seen late)
         (not-false (isThere (titleAt s i) τ) t3) t5
 
     -- the rungs that a change and a close climb alike: in order, there, and not closing; behind them the title is open
-    standing-told : (x y : Bool) (rs qs : List Rule) → x ≡ y → (x ≡ true → (i ≤ idMax) × (τ ≤ eventTimeMax)) → (i ≤ idMax → τ ≤ eventTimeMax → lastTime es ≤ τ → Open (lifeOf es i) (latestOf es i) (titleAt s i) τ → firstHit rs ≡ firstHit qs) → firstHit (refuse outsideLimits (not x) ∷ refuse tooEarly (ltb τ (s .last)) ∷ refuse notThere (not (isThere (titleAt s i) τ)) ∷ refuse isClosing (eqb (titleAt s i .mode) closingMode) ∷ rs) ≡ firstHit (refuse outsideLimits (not y) ∷ refuse tooEarly (ltb τ (lastTime es)) ∷ refuse notThere (not (isThereIn (lifeOf es i) τ)) ∷ refuse isClosing (eqb (countIn (lifeOf es i) τ) 0) ∷ qs)
+    standing-told : (x y : Bool) (rs qs : List Rule) → x ≡ y → (x ≡ true → (i ≤ idMax) × (τ ≤ eventTimeMax)) →
+        (i ≤ idMax → τ ≤ eventTimeMax → lastTime es ≤ τ → Open (lifeOf es i) (latestOf es i) (titleAt s i) τ → firstHit rs ≡ firstHit qs) →
+        firstHit (refuse outsideLimits (not x) ∷ refuse tooEarly (ltb τ (s .last)) ∷ refuse notThere (not (isThere (titleAt s i) τ)) ∷ refuse isClosing (eqb (titleAt s i .mode) closingMode) ∷ rs)
+        ≡ firstHit (refuse outsideLimits (not y) ∷ refuse tooEarly (ltb τ (lastTime es)) ∷ refuse notThere (not (isThereIn (lifeOf es i) τ)) ∷ refuse isClosing (eqb (countIn (lifeOf es i) τ) 0) ∷ qs)
     standing-told x y rs qs same nums rest =
         hit-same outsideLimits _ _ _ _ (ap not same)
         (λ t1.
@@ -215,7 +242,8 @@ module _ (lanes : ℕ) (es : List Event) (s : State) (w : Tells lanes es s) wher
         hit-same isClosing _ _ _ _ (closing-told (lifeOf es i) (latestOf es i) (titleAt s i) τ told (seen late) (not-false (isThere (titleAt s i) τ) t3))
         (λ t5. rest (n .0) (n .1) late (opened-told (n .0) late t3 t5)))))
 
-    change-told : (k : ℕ) → callAnswer s i τ (changes k) ≡ answerTo lanes es (event i τ (changes k)) (lifeOf es i) (changes k)
+    change-told : (k : ℕ) →
+        callAnswer s i τ (changes k) ≡ answerTo lanes es (event i τ (changes k)) (lifeOf es i) (changes k)
     unfolding callAnswer answerTo
     change-told k =
         standing-told (both (eventOk s i τ) (within countMin countMax k)) (both (withinLimits (event i τ (changes k))) (within countMin countMax k)) _ _ (rw ok refl)

@@ -4,7 +4,8 @@ use mathlib.Core.Path.{_≡_}
 use mathlib.Core.Logic.{⊎-elim}
 use Prim.Native.Nat.{ℕ, suc, _+_, _-_, _*_, _/_, _%_, _^_, _≤_, _<_}
 use native.Mathlib.Omega.{arith}
-use native.Mathlib.Nat.{le-antisymm, div-lt-iff-lt-mul, div-add-mod', div-mul-le-self, le-div-iff-mul-le, mul-div-cancel, mul-le-mul-right}
+use native.Mathlib.Nat.{le-antisymm, div-lt-iff-lt-mul, div-add-mod', div-mul-le-self, le-div-iff-mul-le}
+use native.Mathlib.Nat.{mul-div-cancel, mul-le-mul-right}
 use Rattle.grid.specs.Ticks.{tickOf}
 use Rattle.grid.proofs.Ticks.{rounded-low, held-pos}
 

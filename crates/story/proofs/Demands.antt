@@ -17,18 +17,23 @@ use Rattle.story.specs.declared.State.{State}
 use Rattle.story.specs.Life.{cell, reach}
 use Rattle.story.specs.Kept.{stateOk, lanesHeld}
 use Rattle.story.specs.Calls.{laneAnswer, laneShows, statusAnswer, statusCount, statusHeld}
-use Rattle.story.specs.Story.{Act, opens, changes, closes, Event, Life, lifeOf, lastTime, upTo, countIn, airAt, heldIn, heldOver, testsTo, orderOf, answerTo, answer, accepted, Accepted, more, laneAnswerTo, statusAnswerTo, lifeAt, filmAt, isActiveAt, isHeldAt, isOwedAt, owedAmong, owesAt, InTick, Received, Begins, Dropped, Quiet}
+use Rattle.story.specs.Story.{Act, opens, changes, closes, Event, Life, lifeOf, lastTime, upTo, countIn, airAt}
+use Rattle.story.specs.Story.{heldIn, heldOver, testsTo, orderOf, answerTo, answer, accepted, Accepted, more}
+use Rattle.story.specs.Story.{laneAnswerTo, statusAnswerTo, lifeAt, filmAt, isActiveAt, isHeldAt, isOwedAt}
+use Rattle.story.specs.Story.{owedAmong, owesAt, InTick, Received, Begins, Dropped, Quiet}
 use Rattle.story.specs.Runs.{answered, stateAfter, lanesOf, Reached}
 use Rattle.story.proofs.Ruled.{Ruled}
 use Rattle.story.proofs.Owed.{owed-reach, owes-all}
 use Rattle.story.proofs.Held.{held-exactly, held-throughout}
 use Rattle.story.proofs.Tells.{lanes-told}
 use Rattle.story.proofs.Runs.{lanes-limit, told-answer, sound-state}
-use Rattle.story.proofs.Questions.{lane-answer-told, lane-late, lane-cell-told, status-answer-told, status-count-told, status-held-told}
+use Rattle.story.proofs.Questions.{lane-answer-told, lane-late, lane-cell-told, status-answer-told}
+use Rattle.story.proofs.Questions.{status-count-told, status-held-told}
 use Rattle.story.proofs.Lively.{Lively, lively}
 use Rattle.story.proofs.World.{no-box-runs-dry}
 use Rattle.story.proofs.Pool.{never-exceeded, upTo-all}
-use Rattle.story.proofs.Reached.{accepted-all, accepted-is, upTo-accepted, run-accepted, run-told, run-state, asked-done, asked-cell, lane-limit, as-it-stands, life-stays}
+use Rattle.story.proofs.Reached.{accepted-all, accepted-is, upTo-accepted, run-accepted, run-told, run-state}
+use Rattle.story.proofs.Reached.{asked-done, asked-cell, lane-limit, as-it-stands, life-stays}
 
 -- every run of calls reaches its accepted events and the state it leaves
 pub every-run : (pool : ℕ) (cs : List Event) → Reached pool (accepted (lanesOf pool) cs) (stateAfter pool cs)

@@ -14,8 +14,11 @@ use Rattle.grid.specs.Ticks.{tickOf, roundedUp, slot, isSlotStart, cellOf}
 use Rattle.grid.specs.Channels.{floorRem, shift, segment, channelCell}
 use Rattle.grid.specs.Lanes.{isInG, isAdded, addedChannel, laneCell}
 use Rattle.grid.specs.Plan.{takenFrom, inPlan}
-use Rattle.story.specs.Life.{isAdmission, isActive, droppedAt, isAwaited, isOwed, reach, owedWithin, owes, isNth, nthOwed, Air, nothing, cell, sends, onAir, isHeld}
-use Rattle.story.specs.Story.{opens, changes, closes, Event, event, Life, tickIn, lifeOf, latestOf, upTo, heldIn, heldOver, answerTo, accepted, lifeAt, airAt, isActiveAt, isHeldAt, owesAt, Begins, Dropped, Quiet, nothing-new, elsewhere}
+use Rattle.story.specs.Life.{isAdmission, isActive, droppedAt, isAwaited, isOwed, reach, owedWithin, owes, isNth}
+use Rattle.story.specs.Life.{nthOwed, Air, nothing, cell, sends, onAir, isHeld}
+use Rattle.story.specs.Story.{opens, changes, closes, Event, event, Life, tickIn, lifeOf, latestOf, upTo, heldIn}
+use Rattle.story.specs.Story.{heldOver, answerTo, accepted, lifeAt, airAt, isActiveAt, isHeldAt, owesAt, Begins}
+use Rattle.story.specs.Story.{Dropped, Quiet, nothing-new, elsewhere}
 use Rattle.story.proofs.Demands.{exactly, throughout}
 
 -- newest first; the change to 4 at 2 is not at a slot start of count 3

@@ -14,7 +14,8 @@ use Rattle.rules.proofs.Tests.{decide, same}
 use Rattle.rules.proofs.Search
 use Rattle.grid.specs.Plan.{inPlan}
 use Rattle.grid.specs.Lanes.{laneCell}
-use Rattle.story.specs.Life.{isAdmission, isActive, droppedAt, isAwaited, isOwed, reach, owedWithin, owes, isNth, nthOwed, sends, onAir, isCell, isHeld}
+use Rattle.story.specs.Life.{isAdmission, isActive, droppedAt, isAwaited, isOwed, reach, owedWithin, owes, isNth}
+use Rattle.story.specs.Life.{nthOwed, sends, onAir, isCell, isHeld}
 use Rattle.story.proofs.Owed.{after-between, sends-while, sends-until, air-sends, air-active}
 
 -- the numbers below k, all below m
@@ -39,7 +40,8 @@ module _ (A K : ℕ) (r : ℕ → ℕ) (l : ℕ) where
   held-active t on = rw (air-active A K r l t on) refl
 
   -- a lane that is not active is held while fewer ticks have passed since its drop than it owes cells
-  pub held-sending : (t : ℕ) → isActive r l t ≡ false → isHeld A K r l t ≡ ltb (t - droppedAt r l t) (owes A K r l (droppedAt r l t))
+  pub held-sending : (t : ℕ) → isActive r l t ≡ false →
+      isHeld A K r l t ≡ ltb (t - droppedAt r l t) (owes A K r l (droppedAt r l t))
   unfolding isHeld
   held-sending t off =
       let T = droppedAt r l t in
@@ -49,7 +51,8 @@ module _ (A K : ℕ) (r : ℕ → ℕ) (l : ℕ) where
       (λ h. sends-while A K r l T (t - T) (ltb-true (t - T) (owes A K r l T) h)))
 
   -- seen from a tick up to which it was not raised again, a lane was dropped right after it was last active
-  pub dropped-since : (s n : ℕ) → isActive r l s ≡ true → ((i : ℕ) → i < n → isActive r l (suc s + i) ≡ false) → droppedAt r l (suc s + n) ≡ suc s
+  pub dropped-since : (s n : ℕ) → isActive r l s ≡ true → ((i : ℕ) → i < n → isActive r l (suc s + i) ≡ false) →
+      droppedAt r l (suc s + n) ≡ suc s
   unfolding droppedAt
   dropped-since s n on off =
       let p : ℕ → Bool = isActive r l in
@@ -67,28 +70,32 @@ module _ (A K : ℕ) (r : ℕ → ℕ) (l : ℕ) where
       (Search.after-above p (suc s + n) s (omega arith) on)
 
   -- dropped at T = s + 1 and not raised up to tick T + i, it is held there while i is less than what it owes
-  pub held-after : (s i : ℕ) → isActive r l s ≡ true → ((j : ℕ) → j < suc i → isActive r l (suc s + j) ≡ false) → isHeld A K r l (suc s + i) ≡ ltb i (owes A K r l (suc s))
+  pub held-after : (s i : ℕ) → isActive r l s ≡ true → ((j : ℕ) → j < suc i → isActive r l (suc s + j) ≡ false) →
+      isHeld A K r l (suc s + i) ≡ ltb i (owes A K r l (suc s))
   held-after s i on off =
       let d : droppedAt r l (suc s + i) ≡ suc s = dropped-since s i on (λ j c. off j (omega arith)) in
       let gap : suc s + i - suc s ≡ i = omega arith in
       held-sending (suc s + i) (off i (omega arith)) ∙ rw (d, gap) refl
 
   -- demand 3: dropped at T and not raised in the n ticks from then, it is held in just as many of them as it owes cells
-  pub held-exactly : (s n : ℕ) → isActive r l s ≡ true → ((j : ℕ) → j < n → isActive r l (suc s + j) ≡ false) → owes A K r l (suc s) ≤ n → howMany (λ i. isHeld A K r l (suc s + i)) n ≡ owes A K r l (suc s)
+  pub held-exactly : (s n : ℕ) → isActive r l s ≡ true → ((j : ℕ) → j < n → isActive r l (suc s + j) ≡ false) →
+      owes A K r l (suc s) ≤ n → howMany (λ i. isHeld A K r l (suc s + i)) n ≡ owes A K r l (suc s)
   held-exactly s n on off enough =
       Search.howMany-ext (λ i. isHeld A K r l (suc s + i)) (λ i. ltb i (owes A K r l (suc s))) n
       (λ i b. held-after s i on (λ j c. off j (omega arith)))
       ∙ count-below (owes A K r l (suc s)) n enough
 
   -- raised again at T + n while it still sends, it is held throughout
-  pub held-throughout : (s n i : ℕ) → isActive r l s ≡ true → ((j : ℕ) → j < n → isActive r l (suc s + j) ≡ false) → isActive r l (suc s + n) ≡ true → n ≤ owes A K r l (suc s) → i ≤ n → isHeld A K r l (suc s + i) ≡ true
+  pub held-throughout : (s n i : ℕ) → isActive r l s ≡ true → ((j : ℕ) → j < n → isActive r l (suc s + j) ≡ false) →
+      isActive r l (suc s + n) ≡ true → n ≤ owes A K r l (suc s) → i ≤ n → isHeld A K r l (suc s + i) ≡ true
   held-throughout s n i on off again sending within =
       ⊎-elim (λ b. held-after s i on (λ j c. off j (omega arith)) ∙ lt-ltb i (owes A K r l (suc s)) (omega arith))
       (λ e. rw e (held-active (suc s + n) again))
       (Search.below-suc i n (omega arith))
 
   -- while the lane is not raised it can only be released
-  pub held-falls : (t u : ℕ) → t ≤ u → ((v : ℕ) → t ≤ v → v ≤ u → isActive r l v ≡ false) → isHeld A K r l u ≡ true → isHeld A K r l t ≡ true
+  pub held-falls : (t u : ℕ) → t ≤ u → ((v : ℕ) → t ≤ v → v ≤ u → isActive r l v ≡ false) → isHeld A K r l u ≡ true →
+      isHeld A K r l t ≡ true
   unfolding droppedAt
   held-falls t u le off h =
       let p : ℕ → Bool = isActive r l in

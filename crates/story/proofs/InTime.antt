@@ -46,7 +46,9 @@ active-below r l t b = lt-ltb l (r t) b
 
 module _ (A K : ℕ) (r : ℕ → ℕ) (ruled : Ruled A K r) where
   -- a tick of a plan whose lane has been dropped meanwhile is owed, and its cell goes out by then
-  pub dropped-in-time : (a l u : ℕ) → isAdmission K r a ≡ true → l < r a → inPlan A K (r a) a (laneCell A K l u) u ≡ true → isActive r l u ≡ false → (t : ℕ) × (a ≤ t) × (t ≤ u) × (onAir A K r l t ≡ cell (laneCell A K l u))
+  pub dropped-in-time : (a l u : ℕ) → isAdmission K r a ≡ true → l < r a →
+      inPlan A K (r a) a (laneCell A K l u) u ≡ true → isActive r l u ≡ false →
+      (t : ℕ) × (a ≤ t) × (t ≤ u) × (onAir A K r l t ≡ cell (laneCell A K l u))
   unfolding droppedAt
   dropped-in-time a l u ad b pl off =
       let p : ℕ → Bool = isActive r l in
@@ -72,7 +74,8 @@ module _ (A K : ℕ) (r : ℕ → ℕ) (ruled : Ruled A K r) where
       )
 
   -- every cell in the plan of an admission is on air on a lane, from the start on and no later than its planned tick
-  pub planned-in-time : (a c u : ℕ) → isAdmission K r a ≡ true → inPlan A K (r a) a c u ≡ true → (l : ℕ) × (l < K) × (t : ℕ) × (a ≤ t) × (t ≤ u) × (onAir A K r l t ≡ cell c)
+  pub planned-in-time : (a c u : ℕ) → isAdmission K r a ≡ true → inPlan A K (r a) a c u ≡ true →
+      (l : ℕ) × (l < K) × (t : ℕ) × (a ≤ t) × (t ≤ u) × (onAir A K r l t ≡ cell c)
   planned-in-time a c u ad pl =
       let s = plan-on-channel A K (r a) a c u pl in
       let k : r a ≤ K = ruled .high a in
@@ -88,7 +91,8 @@ module _ (A K : ℕ) (r : ℕ → ℕ) (ruled : Ruled A K r) where
       (decide (isActive r l u))
 
   -- and a cell that holds film no later than its turn to play
-  pub film-in-time : (D a c : ℕ) → 0 < A → isAdmission K r a ≡ true → holdsFilm D A K c ≡ true → (l : ℕ) × (l < K) × (t : ℕ) × (a ≤ t) × (t ≤ a + c) × (onAir A K r l t ≡ cell c)
+  pub film-in-time : (D a c : ℕ) → 0 < A → isAdmission K r a ≡ true → holdsFilm D A K c ≡ true →
+      (l : ℕ) × (l < K) × (t : ℕ) × (a ≤ t) × (t ≤ a + c) × (onAir A K r l t ≡ cell c)
   film-in-time D a c pos ad film =
       let k = admitted A K r ruled a ad in
       let plan = in-time A K (r a) a c (k .1) (ruled .high a) (k .2) (film-taken D A K (r a) c pos (k .1) (ruled .high a) film) in

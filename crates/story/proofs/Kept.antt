@@ -8,7 +8,8 @@ use native.Mathlib.Omega.{arith}
 use lib.Dec.{ltb, eqb}
 use lib.ListN.{getD, length}
 use borrow.Author.Tests.{ltb-true, ltb-false, lt-ltb, le-ltb, ne-eqb}
-use Rattle.rules.specs.Limits.{either, askedMax, eventTimeMax, lengthMin, lengthMax, floorMin, floorMax, countMax, countPlaces, lanePlaces}
+use Rattle.rules.specs.Limits.{either, askedMax, eventTimeMax, lengthMin, lengthMax, floorMin, floorMax, countMax}
+use Rattle.rules.specs.Limits.{countPlaces, lanePlaces}
 use Rattle.rules.specs.Refusals.{pick}
 use Rattle.rules.specs.Search.{first}
 use Rattle.rules.proofs.Tests.{decide, same}
@@ -16,9 +17,11 @@ use Rattle.rules.proofs.Search
 use Rattle.grid.specs.Ticks.{tickOf}
 use Rattle.grid.specs.Lanes.{laneCell}
 use Rattle.story.specs.declared.Title.{Title}
-use Rattle.story.specs.Life.{isActive, droppedAt, isOwed, reach, owedWithin, owes, isNth, nthOwed, cell, sends, onAir, isHeld}
+use Rattle.story.specs.Life.{isActive, droppedAt, isOwed, reach, owedWithin, owes, isNth, nthOwed, cell, sends}
+use Rattle.story.specs.Life.{onAir, isHeld}
 use Rattle.story.proofs.Ruled.{Ruled, Legal, isRuling, lastEnd}
-use Rattle.story.specs.Kept.{tickAt, ruling, keptOwed, keptWithin, keptHeld, titleHeld, keptNth, sendingTick, shows}
+use Rattle.story.specs.Kept.{tickAt, ruling, keptOwed, keptWithin, keptHeld, titleHeld, keptNth, sendingTick}
+use Rattle.story.specs.Kept.{shows}
 use Rattle.story.specs.Story.{Life, tickIn, heldIn}
 use Rattle.story.proofs.Clock.{tick-pos, tick-mono}
 use Rattle.story.proofs.Owed.{air-sends, air-active}
@@ -56,12 +59,15 @@ pub record Present (t : Title) (r : ℕ → ℕ) : Type 0 where
   pub steady : (u : ℕ) → tickAt t (t .last) ≤ u → r u ≡ ruling t
   pub ruled : Ruled (t .floor) (t .cap) r
   pub legal : Legal (t .floor) (t .cap) r
-  pub ends : (c : ℕ) → t .floor ≤ c → c ≤ t .cap → (ruling t ≡ c → ⊥) → getD (t .ends) c 0 ≡ lastEnd r c (tickAt t (t .last))
+  pub ends : (c : ℕ) → t .floor ≤ c → c ≤ t .cap → (ruling t ≡ c → ⊥) →
+      getD (t .ends) c 0 ≡ lastEnd r c (tickAt t (t .last))
   pub drops : (l : ℕ) → l < t .cap → ruling t ≤ l → getD (t .dropped) l 0 ≡ droppedAt r l (tickAt t (t .last))
-  pub owing : (l : ℕ) → l < t .cap → ruling t ≤ l → getD (t .owed) l 0 ≡ owes (t .floor) (t .cap) r l (getD (t .dropped) l 0)
+  pub owing : (l : ℕ) → l < t .cap → ruling t ≤ l →
+      getD (t .owed) l 0 ≡ owes (t .floor) (t .cap) r l (getD (t .dropped) l 0)
 
 -- what a held lane that is not active shows
-air-held : (A K : ℕ) (r : ℕ → ℕ) (l n : ℕ) → isActive r l n ≡ false → isHeld A K r l n ≡ true → onAir A K r l n ≡ cell (laneCell A K l (droppedAt r l n + nthOwed A K r l (droppedAt r l n) (n - droppedAt r l n)))
+air-held : (A K : ℕ) (r : ℕ → ℕ) (l n : ℕ) → isActive r l n ≡ false → isHeld A K r l n ≡ true →
+    onAir A K r l n ≡ cell (laneCell A K l (droppedAt r l n + nthOwed A K r l (droppedAt r l n) (n - droppedAt r l n)))
 unfolding isHeld sends
 air-held A K r l n off held =
     let air : onAir A K r l n ≡ sends A K r l (droppedAt r l n) (n - droppedAt r l n) = air-sends A K r l n off in
@@ -74,7 +80,8 @@ module _ (t : Title) (r : ℕ → ℕ) (here : Present t r) where
   active-kept l n le = rw (here .steady n le) refl
 
   -- a lane that is not active was dropped at the stored tick
-  pub dropped-kept : (l n : ℕ) → l < t .cap → ruling t ≤ l → tickAt t (t .last) ≤ n → droppedAt r l n ≡ getD (t .dropped) l 0
+  pub dropped-kept : (l n : ℕ) → l < t .cap → ruling t ≤ l → tickAt t (t .last) ≤ n →
+      droppedAt r l n ≡ getD (t .dropped) l 0
   unfolding droppedAt
   dropped-kept l n lane off le =
       Search.after-flat (isActive r l) (tickAt t (t .last)) n le
@@ -100,12 +107,14 @@ module _ (t : Title) (r : ℕ → ℕ) (here : Present t r) where
       (λ i lo hi. ne-eqb (r i) c (λ e. omega (arith, off-since l i lane off lo)))
 
   -- the stored ends say which of its ticks are owed
-  pub owed-kept : (l u : ℕ) → l < t .cap → ruling t ≤ l → getD (t .dropped) l 0 ≤ u → isOwed (t .floor) (t .cap) r l (getD (t .dropped) l 0) u ≡ keptOwed t l u
+  pub owed-kept : (l u : ℕ) → l < t .cap → ruling t ≤ l → getD (t .dropped) l 0 ≤ u →
+      isOwed (t .floor) (t .cap) r l (getD (t .dropped) l 0) u ≡ keptOwed t l u
   owed-kept l u lane off le =
       kept-owed t r l (getD (t .dropped) l 0) u (here .ruled) (here .legal) lane
       (off-since l (getD (t .dropped) l 0) lane off (omega arith)) le (ends-kept l lane off)
 
-  pub within-kept : (l n : ℕ) → l < t .cap → ruling t ≤ l → owedWithin (t .floor) (t .cap) r l (getD (t .dropped) l 0) n ≡ keptWithin t l (getD (t .dropped) l 0) n
+  pub within-kept : (l n : ℕ) → l < t .cap → ruling t ≤ l →
+      owedWithin (t .floor) (t .cap) r l (getD (t .dropped) l 0) n ≡ keptWithin t l (getD (t .dropped) l 0) n
   unfolding owedWithin keptWithin
   within-kept l n lane off =
       Search.howMany-ext (λ o. isOwed (t .floor) (t .cap) r l (getD (t .dropped) l 0) (getD (t .dropped) l 0 + o))
@@ -116,10 +125,14 @@ module _ (t : Title) (r : ℕ → ℕ) (here : Present t r) where
   unfolding keptHeld
   held-kept l n lane le = ⊎-elim on off (decide (ltb l (ruling t)))
     where
-      on : ltb l (ruling t) ≡ true → isHeld (t .floor) (t .cap) r l n ≡ either (ltb l (ruling t)) (ltb n (getD (t .dropped) l 0 + getD (t .owed) l 0))
+      on : ltb l (ruling t) ≡ true →
+          isHeld (t .floor) (t .cap) r l n
+          ≡ either (ltb l (ruling t)) (ltb n (getD (t .dropped) l 0 + getD (t .owed) l 0))
       on x = held-active (t .floor) (t .cap) r l n (active-kept l n le ∙ x) ∙ rw x refl
 
-      off : ltb l (ruling t) ≡ false → isHeld (t .floor) (t .cap) r l n ≡ either (ltb l (ruling t)) (ltb n (getD (t .dropped) l 0 + getD (t .owed) l 0))
+      off : ltb l (ruling t) ≡ false →
+          isHeld (t .floor) (t .cap) r l n
+          ≡ either (ltb l (ruling t)) (ltb n (getD (t .dropped) l 0 + getD (t .owed) l 0))
       off x =
           let quiet : ruling t ≤ l = ltb-false l (ruling t) x in
           let d : droppedAt r l n ≡ getD (t .dropped) l 0 = dropped-kept l n lane quiet le in
@@ -131,21 +144,28 @@ module _ (t : Title) (r : ℕ → ℕ) (here : Present t r) where
           (λ h. lt-ltb (n - getD (t .dropped) l 0) (getD (t .owed) l 0) (omega (arith, ltb-true n (getD (t .dropped) l 0 + getD (t .owed) l 0) h))))
 
   -- the tick whose cell goes out is found from the stored ends
-  pub nth-kept : (l i : ℕ) → l < t .cap → ruling t ≤ l → nthOwed (t .floor) (t .cap) r l (getD (t .dropped) l 0) i ≡ first (keptNth t l (getD (t .dropped) l 0) i) (reach (t .cap))
+  pub nth-kept : (l i : ℕ) → l < t .cap → ruling t ≤ l →
+      nthOwed (t .floor) (t .cap) r l (getD (t .dropped) l 0) i
+      ≡ first (keptNth t l (getD (t .dropped) l 0) i) (reach (t .cap))
   unfolding nthOwed isNth keptNth
   nth-kept l i lane off =
       Search.first-ext (isNth (t .floor) (t .cap) r l (getD (t .dropped) l 0) i) (keptNth t l (getD (t .dropped) l 0) i) (reach (t .cap))
       (λ o b. rw (owed-kept l (getD (t .dropped) l 0 + o) lane off (omega arith), within-kept l o lane off) refl)
 
   -- a held lane shows the cell that the stored numbers give
-  pub shows-kept : (l n : ℕ) → l < t .cap → tickAt t (t .last) ≤ n → isHeld (t .floor) (t .cap) r l n ≡ true → onAir (t .floor) (t .cap) r l n ≡ cell (shows t l n)
+  pub shows-kept : (l n : ℕ) → l < t .cap → tickAt t (t .last) ≤ n → isHeld (t .floor) (t .cap) r l n ≡ true →
+      onAir (t .floor) (t .cap) r l n ≡ cell (shows t l n)
   unfolding shows sendingTick
   shows-kept l n lane le held = ⊎-elim on off (decide (ltb l (ruling t)))
     where
-      on : ltb l (ruling t) ≡ true → onAir (t .floor) (t .cap) r l n ≡ cell (laneCell (t .floor) (t .cap) l (pick (ltb l (ruling t)) n (sendingTick t l n)))
+      on : ltb l (ruling t) ≡ true →
+          onAir (t .floor) (t .cap) r l n
+          ≡ cell (laneCell (t .floor) (t .cap) l (pick (ltb l (ruling t)) n (sendingTick t l n)))
       on x = air-active (t .floor) (t .cap) r l n (active-kept l n le ∙ x) ∙ rw x refl
 
-      off : ltb l (ruling t) ≡ false → onAir (t .floor) (t .cap) r l n ≡ cell (laneCell (t .floor) (t .cap) l (pick (ltb l (ruling t)) n (sendingTick t l n)))
+      off : ltb l (ruling t) ≡ false →
+          onAir (t .floor) (t .cap) r l n
+          ≡ cell (laneCell (t .floor) (t .cap) l (pick (ltb l (ruling t)) n (sendingTick t l n)))
       off x =
           let quiet : ruling t ≤ l = ltb-false l (ruling t) x in
           let still : isActive r l n ≡ false = active-kept l n le ∙ x in

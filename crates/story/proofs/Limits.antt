@@ -9,7 +9,8 @@ use native.Mathlib.Omega.{arith}
 use lib.Dec.{leb, eqb}
 use lib.ListN.{getD}
 use borrow.Author.Tests.{le-leb}
-use Rattle.rules.specs.Limits.{both, either, poolMin, poolMax, askedMax, lengthMin, lengthMax, floorMin, floorMax, countMax, titlesMax, countPlaces, lanePlaces}
+use Rattle.rules.specs.Limits.{both, either, poolMin, poolMax, askedMax, lengthMin, lengthMax, floorMin, floorMax}
+use Rattle.rules.specs.Limits.{countMax, titlesMax, countPlaces, lanePlaces}
 use Rattle.rules.specs.Search.{every}
 use Rattle.rules.proofs.Tests.{both-in, either-l, either-r}
 use Rattle.rules.proofs.Search
@@ -78,7 +79,8 @@ abbrev pub Funded : ℕ → List Event → Type 0
 Funded lanes es = (0 < lanes) ⊎ (es ≡ [])
 
 -- a slot is within its limits, and empty where the pool has no lanes
-slot-ok : (lanes : ℕ) (es : List Event) (s : State) → Tells lanes es s → Funded lanes es → (i : ℕ) → i < titlesMax → both (titleOk (titleAt s i)) (either (leb poolMin (s .pool)) (eqb (titleAt s i .mode) 0)) ≡ true
+slot-ok : (lanes : ℕ) (es : List Event) (s : State) → Tells lanes es s → Funded lanes es → (i : ℕ) → i < titlesMax →
+    both (titleOk (titleAt s i)) (either (leb poolMin (s .pool)) (eqb (titleAt s i .mode) 0)) ≡ true
 slot-ok lanes es s w funded i b =
     let some-lane : Bool = leb poolMin (s .pool) in
     let empty : Bool = eqb (titleAt s i .mode) 0 in
@@ -88,7 +90,8 @@ slot-ok lanes es s w funded i b =
     (λ e. either-r some-lane empty (nobody (lifeOf es i) (latestOf es i) (titleAt s i) (w .title i b) (untold es i e)))
     funded)
 
-pub state-ok : (lanes : ℕ) (es : List Event) (s : State) → Tells lanes es s → lanes ≤ poolMax → Funded lanes es → stateOk s ≡ true
+pub state-ok : (lanes : ℕ) (es : List Event) (s : State) → Tells lanes es s → lanes ≤ poolMax → Funded lanes es →
+    stateOk s ≡ true
 unfolding stateOk
 state-ok lanes es s w high funded =
     let slots : ℕ → Bool = λ i. both (titleOk (titleAt s i)) (either (leb poolMin (s .pool)) (eqb (titleAt s i .mode) 0)) in

@@ -12,7 +12,8 @@ use Rattle.story.proofs.Ruled.{Ruled}
 use Rattle.story.specs.Kept.{titleAt, tickAt}
 use Rattle.story.specs.Calls.{emptyPool}
 use Rattle.story.specs.Next.{callNext}
-use Rattle.story.specs.Story.{Event, Life, unopened, tickLength, tickIn, lifeOf, latestOf, lastTime, Accepted, none, more}
+use Rattle.story.specs.Story.{Event, Life, unopened, tickLength, tickIn, lifeOf, latestOf, lastTime, Accepted}
+use Rattle.story.specs.Story.{none, more}
 use Rattle.story.proofs.Kept.{lifeIn, Present, tick-some}
 use Rattle.story.proofs.Tells.{TellsTitle, absent, present}
 use Rattle.story.proofs.Runs.{Told, told-more, fresh-tells}
@@ -49,7 +50,8 @@ witness lanes es high (more {e = e} {es = es′} acc h) =
     let w = witness lanes es′ high acc in
     (callNext (w .0) (e .title) (e .time) (e .act), told-more lanes high es′ (w .0) (w .1) e h)
 
-pub lively : (lanes : ℕ) (es : List Event) → lanes ≤ poolMax → Accepted lanes es → (i : ℕ) → i < titlesMax → (lifeOf es i ≡ unopened) ⊎ Lively (lifeOf es i) (latestOf es i)
+pub lively : (lanes : ℕ) (es : List Event) → lanes ≤ poolMax → Accepted lanes es → (i : ℕ) → i < titlesMax →
+    (lifeOf es i ≡ unopened) ⊎ Lively (lifeOf es i) (latestOf es i)
 lively lanes es high acc i id =
     let w = witness lanes es high acc in
     lively-told (lifeOf es i) (latestOf es i) (titleAt (w .0) i) (w .1 .tells .title i id)

@@ -17,7 +17,8 @@ use Rattle.grid.specs.Plan.{inPlan}
 use Rattle.grid.specs.Lanes.{laneCell}
 use Rattle.grid.proofs.Plan.{window-end}
 use Rattle.story.proofs.Ruled.{Ruled, admitted}
-use Rattle.story.specs.Life.{isAdmission, isActive, droppedAt, isAwaited, isOwed, reach, owedWithin, owes, isNth, nthOwed, cell, sends, onAir, isCell}
+use Rattle.story.specs.Life.{isAdmission, isActive, droppedAt, isAwaited, isOwed, reach, owedWithin, owes, isNth}
+use Rattle.story.specs.Life.{nthOwed, cell, sends, onAir, isCell}
 
 -- the tick after the last one that passes is the same, seen from any tick between the two
 pub after-between : (p : ℕ → Bool) (u t : ℕ) → after p u ≤ t → t ≤ u → after p t ≡ after p u
@@ -33,14 +34,16 @@ after-between p u t lo hi = le-antisymm (up (after p t) refl) (down (after p u) 
 
 module _ (A K : ℕ) (r : ℕ → ℕ) (l T : ℕ) where
   -- a cell in the plan of an admission before the drop is owed at its tick
-  pub owed-in : (a t : ℕ) → a < T → isAdmission K r a ≡ true → inPlan A K (r a) a (laneCell A K l t) t ≡ true → isOwed A K r l T t ≡ true
+  pub owed-in : (a t : ℕ) → a < T → isAdmission K r a ≡ true → inPlan A K (r a) a (laneCell A K l t) t ≡ true →
+      isOwed A K r l T t ≡ true
   unfolding isOwed isAwaited
   owed-in a t b ad pl =
       Search.some-in (λ a. both (isAdmission K r a) (inPlan A K (r a) a (laneCell A K l t) t)) T a b
       (both-in (isAdmission K r a) (inPlan A K (r a) a (laneCell A K l t) t) ad pl)
 
   -- and only such a cell
-  pub owed-out : (t : ℕ) → isOwed A K r l T t ≡ true → (a : ℕ) × (a < T) × (isAdmission K r a ≡ true) × (inPlan A K (r a) a (laneCell A K l t) t ≡ true)
+  pub owed-out : (t : ℕ) → isOwed A K r l T t ≡ true →
+      (a : ℕ) × (a < T) × (isAdmission K r a ≡ true) × (inPlan A K (r a) a (laneCell A K l t) t ≡ true)
   unfolding isOwed isAwaited
   owed-out t h =
       let s = Search.some-out (λ a. both (isAdmission K r a) (inPlan A K (r a) a (laneCell A K l t) t)) T h in
@@ -126,7 +129,8 @@ module _ (A K : ℕ) (r : ℕ → ℕ) (l T : ℕ) where
       f = first nth (reach K)
 
   -- the cell of an owed tick goes out at the drop plus its rank, which is no later
-  pub sends-owed : (o : ℕ) → o < reach K → isOwed A K r l T (T + o) ≡ true → sends A K r l T (owedWithin A K r l T o) ≡ cell (laneCell A K l (T + o))
+  pub sends-owed : (o : ℕ) → o < reach K → isOwed A K r l T (T + o) ≡ true →
+      sends A K r l T (owedWithin A K r l T o) ≡ cell (laneCell A K l (T + o))
   unfolding sends
   sends-owed o b h = rw (nth-is o b h, lt-ltb o (reach K) b) refl
 
@@ -135,7 +139,8 @@ module _ (A K : ℕ) (r : ℕ → ℕ) (l T : ℕ) where
   rank-le o = Search.howMany-le (λ o. isOwed A K r l T (T + o)) o
 
 -- a lane shows what it sends while it is not active
-pub air-sends : (A K : ℕ) (r : ℕ → ℕ) (l t : ℕ) → isActive r l t ≡ false → onAir A K r l t ≡ sends A K r l (droppedAt r l t) (t - droppedAt r l t)
+pub air-sends : (A K : ℕ) (r : ℕ → ℕ) (l t : ℕ) → isActive r l t ≡ false →
+    onAir A K r l t ≡ sends A K r l (droppedAt r l t) (t - droppedAt r l t)
 unfolding onAir
 air-sends A K r l t h = rw h refl
 

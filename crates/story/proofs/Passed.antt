@@ -6,13 +6,17 @@ use Prim.Native.Nat.{ℕ, _-_, _%_, _≤_, _<_, min}
 use native.Mathlib.Omega.{arith}
 use lib.Dec.{ltb, leb, eqb}
 use borrow.Author.Tests.{ltb-false, leb-true, eqb-true, eqb-false, not-false}
-use Rattle.rules.specs.Limits.{both, within, idMax, eventTimeMax, lengthMin, lengthMax, floorMin, floorMax, countMin, countMax}
-use Rattle.rules.specs.Refusals.{outsideLimits, tooEarly, notThere, idTaken, isClosing, wrongCount, secondEvent, notAtSlot, noLanes}
+use Rattle.rules.specs.Limits.{both, within, idMax, eventTimeMax, lengthMin, lengthMax, floorMin, floorMax, countMin}
+use Rattle.rules.specs.Limits.{countMax}
+use Rattle.rules.specs.Refusals.{outsideLimits, tooEarly, notThere, idTaken, isClosing, wrongCount, secondEvent}
+use Rattle.rules.specs.Refusals.{notAtSlot, noLanes}
 use Rattle.rules.proofs.Tests.{both-l, both-r, either-false-r}
 use Rattle.rules.proofs.Refusals.{hitsOf, numbered, cleared}
 use Rattle.grid.proofs.Numbers.{ne-zero-pos}
 use Rattle.grid.specs.Ticks.{isSlotStart}
-use Rattle.story.specs.Story.{Act, opens, changes, closes, Event, event, Life, tickLength, tickIn, lifeOf, latestOf, lastTime, countIn, heldOver, isThereIn, isSlotIn, withinLimits, openLimits, actLimits, testsTo, orderOf, answerTo}
+use Rattle.story.specs.Story.{Act, opens, changes, closes, Event, event, Life, tickLength, tickIn, lifeOf}
+use Rattle.story.specs.Story.{latestOf, lastTime, countIn, heldOver, isThereIn, isSlotIn, withinLimits}
+use Rattle.story.specs.Story.{openLimits, actLimits, testsTo, orderOf, answerTo}
 
 -- a number within two limits
 pub within-low : (lo hi x : ℕ) → within lo hi x ≡ true → lo ≤ x
@@ -44,7 +48,8 @@ pub record Turned (es : List Event) (i τ : ℕ) : Type 0 where
   pub fresh : τ ≡ latestOf es i → ⊥
   pub on-tick : (τ - lifeOf es i .opened) % tickLength (lifeOf es i) ≡ 0
 
-timely : (es : List Event) (i τ : ℕ) (a : Act) → withinLimits (event i τ a) ≡ true → ltb τ (lastTime es) ≡ false → Timely es i τ
+timely : (es : List Event) (i τ : ℕ) (a : Act) → withinLimits (event i τ a) ≡ true → ltb τ (lastTime es) ≡ false →
+    Timely es i τ
 timely es i τ a h t =
     record {
       id = leb-true i idMax (both-l (leb i idMax) (leb τ eventTimeMax) h);
@@ -60,20 +65,23 @@ on-its-tick L k τ h =
 
 module _ (lanes : ℕ) (es : List Event) (i τ : ℕ) where
   -- an accepted event clears every refusal of its order
-  clears : (a : Act) → answerTo lanes es (event i τ a) (lifeOf es i) a ≡ 0 → (n : ℕ) → hitsOf n (orderOf a (testsTo lanes es (event i τ a) (lifeOf es i) a)) ≡ false
+  clears : (a : Act) → answerTo lanes es (event i τ a) (lifeOf es i) a ≡ 0 → (n : ℕ) →
+      hitsOf n (orderOf a (testsTo lanes es (event i τ a) (lifeOf es i) a)) ≡ false
   unfolding answerTo numbered
   clears (opens D A K k) h = cleared (orderOf (opens D A K k) (testsTo lanes es (event i τ (opens D A K k)) (lifeOf es i) (opens D A K k))) refl h
   clears (changes k) h = cleared (orderOf (changes k) (testsTo lanes es (event i τ (changes k)) (lifeOf es i) (changes k))) refl h
   clears closes h = cleared (orderOf closes (testsTo lanes es (event i τ closes) (lifeOf es i) closes)) refl h
 
   -- so all its numbers are within their limits
-  pub in-limits : (a : Act) → answerTo lanes es (event i τ a) (lifeOf es i) a ≡ 0 → actLimits a (withinLimits (event i τ a)) ≡ true
+  pub in-limits : (a : Act) → answerTo lanes es (event i τ a) (lifeOf es i) a ≡ 0 →
+      actLimits a (withinLimits (event i τ a)) ≡ true
   unfolding hitsOf
   in-limits (opens D A K k) h = not-false _ (clears (opens D A K k) h outsideLimits)
   in-limits (changes k) h = not-false _ (clears (changes k) h outsideLimits)
   in-limits closes h = not-false _ (clears closes h outsideLimits)
 
-  pub opening : (D A K k : ℕ) → answerTo lanes es (event i τ (opens D A K k)) (lifeOf es i) (opens D A K k) ≡ 0 → Opening lanes es i τ D A K k
+  pub opening : (D A K k : ℕ) → answerTo lanes es (event i τ (opens D A K k)) (lifeOf es i) (opens D A K k) ≡ 0 →
+      Opening lanes es i τ D A K k
   unfolding hitsOf
   opening D A K k h =
       let e : Event = event i τ (opens D A K k) in
@@ -96,7 +104,9 @@ module _ (lanes : ℕ) (es : List Event) (i τ : ℕ) where
       }
 
   -- what a change and a close have passed alike: there, open, later than the latest event, at a slot start
-  turned : (a : Act) (k : ℕ) → withinLimits (event i τ a) ≡ true → ltb τ (lastTime es) ≡ false → not (isThereIn (lifeOf es i) τ) ≡ false → eqb (countIn (lifeOf es i) τ) 0 ≡ false → eqb τ (latestOf es i) ≡ false → not (isSlotIn (lifeOf es i) k τ) ≡ false → Turned es i τ
+  turned : (a : Act) (k : ℕ) → withinLimits (event i τ a) ≡ true → ltb τ (lastTime es) ≡ false →
+      not (isThereIn (lifeOf es i) τ) ≡ false → eqb (countIn (lifeOf es i) τ) 0 ≡ false →
+      eqb τ (latestOf es i) ≡ false → not (isSlotIn (lifeOf es i) k τ) ≡ false → Turned es i τ
   turned a k limits late there some second off =
       record {
         timely = timely es i τ a limits late;
@@ -106,7 +116,8 @@ module _ (lanes : ℕ) (es : List Event) (i τ : ℕ) where
         on-tick = on-its-tick (lifeOf es i) k τ off;
       }
 
-  pub changing : (k : ℕ) → answerTo lanes es (event i τ (changes k)) (lifeOf es i) (changes k) ≡ 0 → Turned es i τ × (heldOver (event i τ (changes k) ∷ es) τ ≤ lanes)
+  pub changing : (k : ℕ) → answerTo lanes es (event i τ (changes k)) (lifeOf es i) (changes k) ≡ 0 →
+      Turned es i τ × (heldOver (event i τ (changes k) ∷ es) τ ≤ lanes)
   unfolding hitsOf
   changing k h =
       let e : Event = event i τ (changes k) in

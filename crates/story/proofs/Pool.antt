@@ -15,7 +15,9 @@ use Rattle.rules.specs.Search.{howMany, total}
 use Rattle.rules.proofs.Tests.{decide}
 use Rattle.rules.proofs.Search
 use Rattle.story.specs.Life.{isActive, droppedAt, isHeld}
-use Rattle.story.specs.Story.{Act, opens, changes, closes, Event, event, Life, unopened, tickLength, tickIn, turn, lifeAfter, lifeOf, latestOf, lastTime, upTo, isHeldIn, heldIn, heldOver, answerTo, Accepted, none, more}
+use Rattle.story.specs.Story.{Act, opens, changes, closes, Event, event, Life, unopened, tickLength, tickIn, turn}
+use Rattle.story.specs.Story.{lifeAfter, lifeOf, latestOf, lastTime, upTo, isHeldIn, heldIn, heldOver, answerTo}
+use Rattle.story.specs.Story.{Accepted, none, more}
 use Rattle.story.proofs.Clock.{tick-mono}
 use Rattle.story.proofs.Held.{dropped-le, held-active, held-sending, held-falls, owes-local, dropped-local}
 use Rattle.story.proofs.Turn.{turn-before, turn-from}
@@ -46,7 +48,8 @@ empty-none : (τ : ℕ) → heldOver [] τ ≡ 0
 unfolding heldOver lifeOf heldIn howMany total
 empty-none τ = refl
 
-pub over-falls : (lanes : ℕ) (es : List Event) → lanes ≤ poolMax → Accepted lanes es → (τ υ : ℕ) → lastTime es ≤ τ → τ ≤ υ → heldOver es υ ≤ heldOver es τ
+pub over-falls : (lanes : ℕ) (es : List Event) → lanes ≤ poolMax → Accepted lanes es → (τ υ : ℕ) → lastTime es ≤ τ →
+    τ ≤ υ → heldOver es υ ≤ heldOver es τ
 unfolding heldOver
 over-falls lanes es high acc τ υ from le =
     Search.total-le (λ i. heldIn (lifeOf es i) υ) (λ i. heldIn (lifeOf es i) τ) titlesMax
@@ -89,13 +92,15 @@ upTo-all τ [] le = refl
 upTo-all τ (e ∷ es) le = rw (le-leb (e .time) τ le) refl
 
 -- at the moment of an accepted event the pool is large enough, if it was before
-at-event : (lanes : ℕ) (es : List Event) (i τ : ℕ) (a : Act) → answerTo lanes es (event i τ a) (lifeOf es i) a ≡ 0 → heldOver es τ ≤ lanes → heldOver (event i τ a ∷ es) τ ≤ lanes
+at-event : (lanes : ℕ) (es : List Event) (i τ : ℕ) (a : Act) → answerTo lanes es (event i τ a) (lifeOf es i) a ≡ 0 →
+    heldOver es τ ≤ lanes → heldOver (event i τ a ∷ es) τ ≤ lanes
 at-event lanes es i τ (opens D A K k) h before = opening lanes es i τ D A K k h .room
 at-event lanes es i τ (changes k) h before = changing lanes es i τ k h .1
 at-event lanes es i τ closes h before = omega (arith, close-lowers es i τ)
 
 -- demand 3: at every moment the lanes held, counted from the sequence, are at most the pool
-pub never-exceeded : (lanes : ℕ) (es : List Event) → lanes ≤ poolMax → Accepted lanes es → (τ : ℕ) → heldOver (upTo τ es) τ ≤ lanes
+pub never-exceeded : (lanes : ℕ) (es : List Event) → lanes ≤ poolMax → Accepted lanes es → (τ : ℕ) →
+    heldOver (upTo τ es) τ ≤ lanes
 unfolding upTo
 never-exceeded lanes es high none τ = rw (empty-none τ) (omega arith)
 never-exceeded lanes es high (more {e = e} {es = es′} acc h) τ =

@@ -19,7 +19,8 @@ use Rattle.story.specs.declared.State.{State}
 use Rattle.story.specs.Life.{isActive, droppedAt, reach, owes, cell, isHeld}
 use Rattle.story.specs.Kept.{titleAt, stateOk, tickAt, shows}
 use Rattle.story.specs.Calls.{laneHeld, laneAnswer, laneShows, statusAnswer, statusCount, statusHeld}
-use Rattle.story.specs.Story.{Event, Life, unopened, lifeOf, latestOf, lastTime, tickIn, countIn, airIn, isHeldIn, heldIn, laneRulesTo, laneAnswerTo, statusAnswerTo}
+use Rattle.story.specs.Story.{Event, Life, unopened, lifeOf, latestOf, lastTime, tickIn, countIn, airIn, isHeldIn}
+use Rattle.story.specs.Story.{heldIn, laneRulesTo, laneAnswerTo, statusAnswerTo}
 use Rattle.story.proofs.Held.{held-sending}
 use Rattle.story.proofs.Kept.{later, held-kept, shows-kept, mode-some}
 use Rattle.story.proofs.Tells.{TellsTitle, absent, present, owes-none, count-told, held-told}
@@ -39,7 +40,8 @@ last-told L m t (absent e f g) = ap (λ (x : Title). x .last) g ∙ sym f
 last-told L m t (present r e f p) = sym f
 
 -- whether a lane is held
-pub lane-held-told : (L : Life) (m : ℕ) (t : Title) (l τ : ℕ) → TellsTitle L m t → m ≤ τ → laneHeld t l τ ≡ isHeldIn L l τ
+pub lane-held-told : (L : Life) (m : ℕ) (t : Title) (l τ : ℕ) → TellsTitle L m t → m ≤ τ →
+    laneHeld t l τ ≡ isHeldIn L l τ
 unfolding tickIn tickAt
 lane-held-told L m t l τ (absent e f g) le =
     rw g (sym (rw e (no-lane 0 0 (λ u. 0) l (tickIn unopened τ) (λ u. omega arith))))
@@ -51,7 +53,8 @@ lane-held-told L m t l τ (present r e f p) le =
     (decide (ltb l (t .cap))))
 
 -- what it shows
-pub lane-shows-told : (L : Life) (m : ℕ) (t : Title) (l τ : ℕ) → TellsTitle L m t → m ≤ τ → isHeldIn L l τ ≡ true → airIn L l τ ≡ cell (shows t l (tickAt t τ))
+pub lane-shows-told : (L : Life) (m : ℕ) (t : Title) (l τ : ℕ) → TellsTitle L m t → m ≤ τ → isHeldIn L l τ ≡ true →
+    airIn L l τ ≡ cell (shows t l (tickAt t τ))
 unfolding tickIn tickAt
 lane-shows-told L m t l τ (absent e f g) le h =
     absurd (false≢true (sym (no-lane 0 0 (λ u. 0) l (tickIn unopened τ) (λ u. omega arith)) ∙ rw e at h))

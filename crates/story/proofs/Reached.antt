@@ -17,7 +17,8 @@ use Rattle.story.specs.declared.State.{State}
 use Rattle.story.specs.Life.{Air, cell, isCell, isHeld}
 use Rattle.story.specs.Next.{callNext}
 use Rattle.story.specs.Calls.{laneAnswer, laneShows}
-use Rattle.story.specs.Story.{Event, Life, lifeOf, latestOf, lastTime, upTo, answer, taking, accepted, Accepted, none, more, laneRulesTo, laneAnswerTo, lifeAt, airAt, Quiet, nothing-new, elsewhere}
+use Rattle.story.specs.Story.{Event, Life, lifeOf, latestOf, lastTime, upTo, answer, taking, accepted, Accepted}
+use Rattle.story.specs.Story.{none, more, laneRulesTo, laneAnswerTo, lifeAt, airAt, Quiet, nothing-new, elsewhere}
 use Rattle.story.specs.Runs.{answered, called, stateAfter, lanesOf, Reached}
 use Rattle.story.proofs.Runs.{Told, lanes-limit, told, told-answer}
 use Rattle.story.proofs.Questions.{lane-answer-told, lane-cell-told}
@@ -58,7 +59,8 @@ upTo-late τ (e ∷ es) =
     ⊎-elim (λ x. rw x (leb-true (e .time) τ x)) (λ x. rw x (upTo-late τ es)) (decide (leb (e .time) τ))
 
 -- a refused call leaves the state, so the accepted events alone leave the same
-called-kept : (lanes : ℕ) (es : List Event) (e : Event) (s t : State) (pool : ℕ) → t ≡ stateAfter pool es → s ≡ t → answered s e ≡ answer lanes es e → called s e ≡ stateAfter pool (taking lanes es e)
+called-kept : (lanes : ℕ) (es : List Event) (e : Event) (s t : State) (pool : ℕ) → t ≡ stateAfter pool es → s ≡ t →
+    answered s e ≡ answer lanes es e → called s e ≡ stateAfter pool (taking lanes es e)
 unfolding stateAfter
 called-kept lanes es e s t pool is same told =
     ⊎-elim
@@ -93,7 +95,8 @@ module _ (pool : ℕ) (es : List Event) (s : State) (run : Reached pool es s) wh
   run-state = run .state ∙ kept-alone pool (run .calls) ∙ ap (stateAfter pool) (sym (run .events))
 
   -- one accepted event more
-  pub run-more : (e : Event) → answer (lanesOf pool) es e ≡ 0 → Reached pool (e ∷ es) (callNext s (e .title) (e .time) (e .act))
+  pub run-more : (e : Event) → answer (lanesOf pool) es e ≡ 0 →
+      Reached pool (e ∷ es) (callNext s (e .title) (e .time) (e .act))
   unfolding accepted stateAfter
   run-more e h =
       let says : answered s e ≡ 0 = told-answer (lanesOf pool) (lanes-limit pool) es s run-told e ∙ h in
@@ -111,7 +114,8 @@ same-cell : (a b : ℕ) → cell a ≡ cell b → a ≡ b
 same-cell a b e = cc
 
 -- what is on air at a moment is what a lane question asked then is answered
-module _ (pool : ℕ) (es : List Event) (acc : Accepted (lanesOf pool) es) (i l τ c : ℕ) (id : i ≤ idMax) (lane : l ≤ laneMax) (time : τ ≤ askedMax) (air : airAt es i l τ ≡ cell c) where
+module _ (pool : ℕ) (es : List Event) (acc : Accepted (lanesOf pool) es) (i l τ c : ℕ) (id : i ≤ idMax)
+    (lane : l ≤ laneMax) (time : τ ≤ askedMax) (air : airAt es i l τ ≡ cell c) where
   then-accepted : Accepted (lanesOf pool) (upTo τ es)
   then-accepted = upTo-accepted (lanesOf pool) τ es acc
 
@@ -140,7 +144,8 @@ module _ (pool : ℕ) (es : List Event) (acc : Accepted (lanesOf pool) es) (i l 
       (sym (lane-cell-told (lanesOf pool) (lanes-limit pool) (upTo τ es) (stateAfter pool (upTo τ es)) then-told i l τ asked-done) ∙ air)
 
 -- a lane below the cap of an accepted life is one that may be asked for
-pub lane-limit : (lanes : ℕ) (es : List Event) → lanes ≤ poolMax → Accepted lanes es → (i l : ℕ) → i < titlesMax → l < lifeOf es i .cap → l ≤ laneMax
+pub lane-limit : (lanes : ℕ) (es : List Event) → lanes ≤ poolMax → Accepted lanes es → (i l : ℕ) → i < titlesMax →
+    l < lifeOf es i .cap → l ≤ laneMax
 lane-limit lanes es high acc i l id b =
     ⊎-elim (λ e. let z : lifeOf es i .cap ≡ 0 = ap (λ (L : Life). L .cap) e in absurd (omega arith))
     (λ w. omega (arith, w .cap-high))
@@ -160,7 +165,8 @@ as-it-stands (e ∷ es) i τ le =
     (decide (leb (e .time) τ))
 
 -- one more event that is not of the title, or later
-stays-more : (lanes : ℕ) (e : Event) (es : List Event) → answer lanes es e ≡ 0 → (i τ : ℕ) → (e .title ≡ i → τ < e .time) → {L : Life} → lifeAt es i τ ≡ L → lifeAt (e ∷ es) i τ ≡ L
+stays-more : (lanes : ℕ) (e : Event) (es : List Event) → answer lanes es e ≡ 0 → (i τ : ℕ) →
+    (e .title ≡ i → τ < e .time) → {L : Life} → lifeAt es i τ ≡ L → lifeAt (e ∷ es) i τ ≡ L
 unfolding upTo lifeOf
 stays-more lanes e es h i τ f {L} before =
     ⊎-elim
@@ -173,7 +179,8 @@ stays-more lanes e es h i τ f {L} before =
     (λ x. rw x before)
     (decide (leb (e .time) τ))
 
-pub life-stays : (lanes : ℕ) (new es : List Event) → Accepted lanes (new ++ es) → (i τ : ℕ) → Quiet i τ new → lifeAt (new ++ es) i τ ≡ lifeAt es i τ
+pub life-stays : (lanes : ℕ) (new es : List Event) → Accepted lanes (new ++ es) → (i τ : ℕ) → Quiet i τ new →
+    lifeAt (new ++ es) i τ ≡ lifeAt es i τ
 life-stays lanes [] es acc i τ q = refl
 life-stays lanes (e ∷ new) es (more acc h) i τ (elsewhere f q) =
     stays-more lanes e (new ++ es) h i τ f (life-stays lanes new es acc i τ q)

@@ -38,7 +38,8 @@ module _ (p : ℕ → Bool) (f : ℕ → ℕ) (row : List ℕ) where
   filled-length (suc i) =
       ⊎-elim (λ x. rw x (length-set (filled p f row i) i (f i) ∙ filled-length i)) (λ x. rw x (filled-length i)) (decide (p i))
 
-  pub filled-high : (b : ℕ) → ((j : ℕ) → f j ≤ b) → ((j : ℕ) → getD row j 0 ≤ b) → (i j : ℕ) → getD (filled p f row i) j 0 ≤ b
+  pub filled-high : (b : ℕ) → ((j : ℕ) → f j ≤ b) → ((j : ℕ) → getD row j 0 ≤ b) → (i j : ℕ) →
+      getD (filled p f row i) j 0 ≤ b
   unfolding filled
   filled-high b hf hr zero j = hr j
   filled-high b hf hr (suc i) j =
@@ -84,13 +85,17 @@ abbrev pub isDropped : Title → ℕ → ℕ → Bool
 isDropped t k l = both (leb k l) (ltb l (t .count))
 
 -- one lane's turn
-drop-step : (t s : Title) (n i : ℕ) (d o : List ℕ) (b : Bool) → s ≡ withRows t d o → pick b (dropLane s n i) s ≡ withRows t (pick b (set d i n) d) (pick b (set o i (keptWithin t i n (reach (t .cap)))) o)
+drop-step : (t s : Title) (n i : ℕ) (d o : List ℕ) (b : Bool) → s ≡ withRows t d o →
+    pick b (dropLane s n i) s
+    ≡ withRows t (pick b (set d i n) d) (pick b (set o i (keptWithin t i n (reach (t .cap)))) o)
 unfolding keptWithin keptOwed wants wantsFrom
 drop-step t s n i d o true e = ap (λ x. dropLane x n i) e
 drop-step t s n i d o false e = e
 
 -- dropping lanes changes the two rows alone, each at the dropped lanes
-pub drop-rows : (t : Title) (n k i : ℕ) → dropLanes t n k i ≡ withRows t (filled (isDropped t k) (λ l. n) (t .dropped) i) (filled (isDropped t k) (λ l. keptWithin t l n (reach (t .cap))) (t .owed) i)
+pub drop-rows : (t : Title) (n k i : ℕ) →
+    dropLanes t n k i
+    ≡ withRows t (filled (isDropped t k) (λ l. n) (t .dropped) i) (filled (isDropped t k) (λ l. keptWithin t l n (reach (t .cap))) (t .owed) i)
 unfolding dropLanes filled
 drop-rows t n k zero = refl
 drop-rows t n k (suc i) =

@@ -28,7 +28,8 @@ unfoldable pub lastEnd : (ℕ → ℕ) → ℕ → ℕ → ℕ
 lastEnd r c T = after (isRuling r c) T
 
 -- the ruling count at an admission, and that it is a slot start
-pub admitted : (A K : ℕ) (r : ℕ → ℕ) → Ruled A K r → (a : ℕ) → isAdmission K r a ≡ true → (0 < r a) × (A ≤ r a) × (isSlotStart K (r a) a ≡ true)
+pub admitted : (A K : ℕ) (r : ℕ → ℕ) → Ruled A K r → (a : ℕ) → isAdmission K r a ≡ true →
+    (0 < r a) × (A ≤ r a) × (isSlotStart K (r a) a ≡ true)
 unfolding isAdmission
 admitted A K r ruled a h =
     let on : 0 < r a = ltb-true 0 (r a) (both-l (ltb 0 (r a)) (isSlotStart K (r a) a) h) in

@@ -18,7 +18,8 @@ use Rattle.story.specs.declared.State.{State}
 use Rattle.story.specs.Life.{isActive}
 use Rattle.story.specs.Kept.{noTitle, stateOk}
 use Rattle.story.specs.Calls.{blankTitle, emptyPool}
-use Rattle.story.specs.Story.{Act, opens, changes, closes, Event, event, Life, unopened, lifeOf, latestOf, isHeldIn, heldIn, heldOver, isThereIn, answerTo, answer, taking, accepted}
+use Rattle.story.specs.Story.{Act, opens, changes, closes, Event, event, Life, unopened, lifeOf, latestOf}
+use Rattle.story.specs.Story.{isHeldIn, heldIn, heldOver, isThereIn, answerTo, answer, taking, accepted}
 use Rattle.story.specs.Next.{callNext}
 use Rattle.story.specs.Runs.{answered, called, stateAfter, lanesOf}
 use Rattle.story.proofs.Held.{held-active}
@@ -51,7 +52,8 @@ unfolding heldIn howMany
 away τ = refl
 
 -- an opening holds a lane at its moment
-opened-holds : (es : List Event) (i τ D A K k : ℕ) → i < titlesMax → 0 < k → k ≤ K → 0 < heldOver (event i τ (opens D A K k) ∷ es) τ
+opened-holds : (es : List Event) (i τ D A K k : ℕ) → i < titlesMax → 0 < k → k ≤ K →
+    0 < heldOver (event i τ (opens D A K k) ∷ es) τ
 unfolding heldOver lifeOf heldIn isActive
 opened-holds es i τ D A K k id pos high =
     let e : Event = event i τ (opens D A K k) in
@@ -66,7 +68,8 @@ unfolding lifeOf
 nobody-there es i τ e h = false≢true (sym (away τ) ∙ sym (ap (λ x. isThereIn (lifeOf x i) τ) e) ∙ h)
 
 -- who accepts an event has a lane
-funded-next : (lanes : ℕ) (es : List Event) (i τ : ℕ) (a : Act) → Funded lanes es → answerTo lanes es (event i τ a) (lifeOf es i) a ≡ 0 → 0 < lanes
+funded-next : (lanes : ℕ) (es : List Event) (i τ : ℕ) (a : Act) → Funded lanes es →
+    answerTo lanes es (event i τ a) (lifeOf es i) a ≡ 0 → 0 < lanes
 funded-next lanes es i τ a (inl p) h = p
 funded-next lanes es i τ (opens D A K k) (inr e) h =
     let o = opening lanes es i τ D A K k h in
@@ -80,7 +83,8 @@ pub record Told (lanes : ℕ) (es : List Event) (s : State) : Type 0 where
   pub funded : Funded lanes es
 
 -- where both answers are the same number, both choices go the same way
-chosen : (lanes : ℕ) (es₁ es₀ : List Event) (s₁ s₀ : State) (n m : ℕ) → n ≡ m → (m ≡ 0 → Told lanes es₁ s₁) → Told lanes es₀ s₀ → Told lanes (pick (eqb m 0) es₁ es₀) (pick (eqb n 0) s₁ s₀)
+chosen : (lanes : ℕ) (es₁ es₀ : List Event) (s₁ s₀ : State) (n m : ℕ) → n ≡ m → (m ≡ 0 → Told lanes es₁ s₁) →
+    Told lanes es₀ s₀ → Told lanes (pick (eqb m 0) es₁ es₀) (pick (eqb n 0) s₁ s₀)
 chosen lanes es₁ es₀ s₁ s₀ n m e taken left =
     rw e (⊎-elim (λ x. rw x (taken (eqb-true m 0 x))) (λ x. rw x left) (decide (eqb m 0)))
 

@@ -76,7 +76,8 @@ module _ (A K : ℕ) (r : ℕ → ℕ) (legal : Legal A K r) (c : ℕ) (low : A 
       omega arith
 
   -- a count that rules at the end of one of its slots rules in the whole slot
-  pub whole-slot : (m j : ℕ) → isSlotStart K c (suc m) ≡ true → r m ≡ c → j < slot K c → slot K c ≤ suc m → r (m - j) ≡ c
+  pub whole-slot : (m j : ℕ) → isSlotStart K c (suc m) ≡ true → r m ≡ c → j < slot K c → slot K c ≤ suc m →
+      r (m - j) ≡ c
   whole-slot m zero s h b w = let e : m - 0 ≡ m = omega arith in rw e h
   whole-slot m (suc j) s h b w =
       let before : r (m - j) ≡ c = whole-slot m j s h (omega arith) w in
@@ -110,9 +111,11 @@ unfolding lastEnd
 lastEnd-above r c T a b e = Search.after-above (isRuling r c) T a b (eq-eqb (r a) c e)
 
 -- a lane l that is not active at T, the tick of its drop
-module _ (A K : ℕ) (r : ℕ → ℕ) (ruled : Ruled A K r) (legal : Legal A K r) (l T u : ℕ) (lane : l < K) (off : r T ≤ l) (from : T ≤ u) where
+module _ (A K : ℕ) (r : ℕ → ℕ) (ruled : Ruled A K r) (legal : Legal A K r) (l T u : ℕ) (lane : l < K) (off : r T ≤ l)
+    (from : T ≤ u) where
   -- an admission that awaits the lane's cell had the lane, and its slot ends by the end of its count's rule
-  pub awaited-end : (a : ℕ) → a < T → isAdmission K r a ≡ true → inPlan A K (r a) a (laneCell A K l u) u ≡ true → (l < r a) × (a + slot K (r a) ≤ lastEnd r (r a) T)
+  pub awaited-end : (a : ℕ) → a < T → isAdmission K r a ≡ true → inPlan A K (r a) a (laneCell A K l u) u ≡ true →
+      (l < r a) × (a + slot K (r a) ≤ lastEnd r (r a) T)
   awaited-end a b ad pl =
       let k = admitted A K r ruled a ad in
       let t = taken-out A K (r a) a (laneCell A K l u) u pl in
@@ -130,7 +133,8 @@ module _ (A K : ℕ) (r : ℕ → ℕ) (ruled : Ruled A K r) (legal : Legal A K 
       )
 
   -- the other way round, a slot before the end of a count's rule there is an admission
-  pub end-admission : (c : ℕ) → l < c → A ≤ c → 0 < lastEnd r c T → (a : ℕ) × (a < T) × (a + slot K c ≡ lastEnd r c T) × (r a ≡ c) × (isAdmission K r a ≡ true)
+  pub end-admission : (c : ℕ) → l < c → A ≤ c → 0 < lastEnd r c T →
+      (a : ℕ) × (a < T) × (a + slot K c ≡ lastEnd r c T) × (r a ≡ c) × (isAdmission K r a ≡ true)
   unfolding isAdmission
   end-admission c had low some =
       let e : ℕ = lastEnd r c T in
@@ -156,7 +160,8 @@ abbrev pub EndsAt : Title → (ℕ → ℕ) → ℕ → ℕ → Type 0
 EndsAt t r l T = (c : ℕ) → l < c → t .floor ≤ c → c ≤ t .cap → getD (t .ends) c 0 ≡ lastEnd r c T
 
 -- what the stored ends say is owed is what 01 says is owed
-pub kept-owed : (t : Title) (r : ℕ → ℕ) (l T u : ℕ) → Ruled (t .floor) (t .cap) r → Legal (t .floor) (t .cap) r → l < t .cap → r T ≤ l → T ≤ u → EndsAt t r l T → isOwed (t .floor) (t .cap) r l T u ≡ keptOwed t l u
+pub kept-owed : (t : Title) (r : ℕ → ℕ) (l T u : ℕ) → Ruled (t .floor) (t .cap) r → Legal (t .floor) (t .cap) r →
+    l < t .cap → r T ≤ l → T ≤ u → EndsAt t r l T → isOwed (t .floor) (t .cap) r l T u ≡ keptOwed t l u
 unfolding keptOwed wants wantsFrom
 kept-owed t r l T u ruled legal lane off from ends = same (isOwed A K r l T u) (some test (suc K)) there back
   where

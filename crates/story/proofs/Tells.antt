@@ -11,7 +11,8 @@ use lib.Dec.{ltb, eqb}
 use lib.ListN.{getD, set, length, replicate, length-set}
 use lib.Seq.{getD-set-same, getD-set-other}
 use borrow.Author.Tests.{lt-ltb, eqb-true, eqb-false, ne-eqb}
-use Rattle.rules.specs.Limits.{either, eventTimeMax, lengthMin, lengthMax, floorMin, floorMax, countMax, titlesMax, countPlaces, lanePlaces}
+use Rattle.rules.specs.Limits.{either, eventTimeMax, lengthMin, lengthMax, floorMin, floorMax, countMax, titlesMax}
+use Rattle.rules.specs.Limits.{countPlaces, lanePlaces}
 use Rattle.rules.specs.Refusals.{pick}
 use Rattle.rules.specs.Search.{some, howMany, after}
 use Rattle.rules.proofs.Tests.{decide}
@@ -24,7 +25,8 @@ use Rattle.story.proofs.Ruled.{lastEnd}
 use Rattle.story.specs.Kept.{titleAt, tickAt, ruling, titleHeld, lanesHeld, isThere}
 use Rattle.story.specs.Next.{openedTitle, withTitle}
 use Rattle.story.specs.Calls.{blankTitle}
-use Rattle.story.specs.Story.{Life, Event, unopened, lifeAfter, lifeOf, latestOf, lastTime, tickIn, countIn, heldIn, heldOver, isThereIn}
+use Rattle.story.specs.Story.{Life, Event, unopened, lifeAfter, lifeOf, latestOf, lastTime, tickIn, countIn}
+use Rattle.story.specs.Story.{heldIn, heldOver, isThereIn}
 use Rattle.story.proofs.Kept.{lifeIn, Present, title-held-kept, later}
 use Rattle.story.proofs.Turn.{open-ruling}
 
@@ -41,7 +43,8 @@ owes-none A K r l zero = refl
 owes-none A K r l (suc n) = rw (owes-none A K r l n) refl
 
 -- a title just opened
-pub opened-present : (τ D A K k : ℕ) → τ ≤ eventTimeMax → lengthMin ≤ D → D ≤ lengthMax → floorMin ≤ A → A ≤ floorMax → K ≤ countMax → A ≤ k → k ≤ K → Present (openedTitle τ D A K k) (λ t. k)
+pub opened-present : (τ D A K k : ℕ) → τ ≤ eventTimeMax → lengthMin ≤ D → D ≤ lengthMax → floorMin ≤ A → A ≤ floorMax →
+    K ≤ countMax → A ≤ k → k ≤ K → Present (openedTitle τ D A K k) (λ t. k)
 unfolding tickAt ruling lastEnd after droppedAt owes
 opened-present τ D A K k late d d′ a a′ K′ low high =
     let start : (τ - τ) / tickOf D A K ≡ 0 = rw sub-self (zero-div (tickOf D A K)) in
@@ -126,7 +129,8 @@ unfolding isThere titleHeld
 blank-away τ = refl
 
 -- a title that is there is closing where no count rules
-pub closing-told : (L : Life) (m : ℕ) (t : Title) (τ : ℕ) → TellsTitle L m t → m ≤ τ → isThere t τ ≡ true → eqb (t .mode) 2 ≡ eqb (countIn L τ) 0
+pub closing-told : (L : Life) (m : ℕ) (t : Title) (τ : ℕ) → TellsTitle L m t → m ≤ τ → isThere t τ ≡ true →
+    eqb (t .mode) 2 ≡ eqb (countIn L τ) 0
 closing-told L m t τ w le here = rw (count-told L m t τ w le) (go w)
   where
     go : TellsTitle L m t → eqb (t .mode) 2 ≡ eqb (ruling t) 0
@@ -138,14 +142,18 @@ closing-told L m t τ w le here = rw (count-told L m t τ w le) (go w)
         (p .mode)
 
 -- how many lanes are held over all titles, from the last event on
-pub lanes-told : (pool : ℕ) (es : List Event) (s : State) (τ : ℕ) → Tells pool es s → lastTime es ≤ τ → heldOver es τ ≡ lanesHeld s τ
+pub lanes-told : (pool : ℕ) (es : List Event) (s : State) (τ : ℕ) → Tells pool es s → lastTime es ≤ τ →
+    heldOver es τ ≡ lanesHeld s τ
 unfolding heldOver lanesHeld
 lanes-told pool es s τ w le =
     Search.total-ext (λ i. heldIn (lifeOf es i) τ) (λ i. titleHeld (titleAt s i) τ) titlesMax
     (λ i b. held-told (lifeOf es i) (latestOf es i) (titleAt s i) τ (w .title i b) (omega (arith, w .newest i)))
 
 -- an event of one title moves that title alone
-pub told-with : (pool : ℕ) (es : List Event) (s : State) (e : Event) (t : Title) → Tells pool es s → e .title < titlesMax → lastTime es ≤ e .time → e .time ≤ eventTimeMax → TellsTitle (lifeAfter (lifeOf es (e .title)) (e .time) (e .act)) (e .time) t → Tells pool (e ∷ es) (withTitle s (e .title) t (e .time))
+pub told-with : (pool : ℕ) (es : List Event) (s : State) (e : Event) (t : Title) → Tells pool es s →
+    e .title < titlesMax → lastTime es ≤ e .time → e .time ≤ eventTimeMax →
+    TellsTitle (lifeAfter (lifeOf es (e .title)) (e .time) (e .act)) (e .time) t →
+    Tells pool (e ∷ es) (withTitle s (e .title) t (e .time))
 unfolding lifeOf latestOf
 told-with pool es s e t w fits le limit tells =
     record {

@@ -28,7 +28,8 @@ use Rattle.story.proofs.Clock.{later-tick}
 use Rattle.story.proofs.Held.{dropped-le, owes-local}
 use Rattle.story.proofs.Stored.{kept-owed, EndsAt}
 use Rattle.story.proofs.Kept.{Sized, Present, tick-some}
-use Rattle.story.proofs.Rows.{filled, set-high, filled-length, filled-high, filled-in, filled-out, withRows, isDropped, drop-rows}
+use Rattle.story.proofs.Rows.{filled, set-high, filled-length, filled-high, filled-in, filled-out, withRows}
+use Rattle.story.proofs.Rows.{isDropped, drop-rows}
 
 -- an open title turns to q lanes at τ; its stored mode and count become m and c
 pub record Turning (t : Title) (r : ℕ → ℕ) (τ q m c : ℕ) : Type 0 where
@@ -123,7 +124,8 @@ module _ (t : Title) (r : ℕ → ℕ) (τ q m c : ℕ) (h : Turning t r τ q m 
           rw (e, e′, g) (h .at-slot)
 
   -- of every other count the stored end is where it last stopped ruling
-  turn-ends : (d : ℕ) → t .floor ≤ d → d ≤ t .cap → (q ≡ d → ⊥) → getD (set (t .ends) (t .count) (tickAt t τ)) d 0 ≡ lastEnd (turn r (tickAt t τ) q) d (tickAt t τ)
+  turn-ends : (d : ℕ) → t .floor ≤ d → d ≤ t .cap → (q ≡ d → ⊥) →
+      getD (set (t .ends) (t .count) (tickAt t τ)) d 0 ≡ lastEnd (turn r (tickAt t τ) q) d (tickAt t τ)
   unfolding lastEnd
   turn-ends d lo hi other = ⊎-elim old another (decide (eqb d (t .count)))
     where
@@ -155,13 +157,15 @@ module _ (t : Title) (r : ℕ → ℕ) (τ q m c : ℕ) (h : Turning t r τ q m 
           ∙ Search.after-ext (isRuling r d) p n agree
 
   -- a lane that is off after the turn was dropped by it, or was off before
-  lane-cases : (l : ℕ) → q ≤ l → ((l < t .count) × (isDropped t q l ≡ true)) ⊎ ((t .count ≤ l) × (isDropped t q l ≡ false))
+  lane-cases : (l : ℕ) → q ≤ l →
+      ((l < t .count) × (isDropped t q l ≡ true)) ⊎ ((t .count ≤ l) × (isDropped t q l ≡ false))
   lane-cases l off =
       ⊎-elim (λ x. inl (ltb-true l (t .count) x, both-in (leb q l) (ltb l (t .count)) (le-leb q l off) x))
       (λ x. inr (ltb-false l (t .count) x, rw (x, le-leb q l off) refl))
       (decide (ltb l (t .count)))
 
-  turn-drops : (l : ℕ) → l < t .cap → q ≤ l → getD (droppedRow t (tickAt t τ) q) l 0 ≡ droppedAt (turn r (tickAt t τ) q) l (tickAt t τ)
+  turn-drops : (l : ℕ) → l < t .cap → q ≤ l →
+      getD (droppedRow t (tickAt t τ) q) l 0 ≡ droppedAt (turn r (tickAt t τ) q) l (tickAt t τ)
   unfolding droppedAt isActive
   turn-drops l lane off = ⊎-elim now before (lane-cases l off)
     where
@@ -189,7 +193,9 @@ module _ (t : Title) (r : ℕ → ℕ) (τ q m c : ℕ) (h : Turning t r τ q m 
           ∙ Search.after-ext (isActive r l) p n (λ i b. ap (λ x. ltb l x) (sym (turn-before r n q i b)))
 
   -- the number owed is counted at the drop, from the ends stored then
-  turn-owing : (l : ℕ) → l < t .cap → q ≤ l → getD (owedRow t (tickAt t τ) q) l 0 ≡ owes (t .floor) (t .cap) (turn r (tickAt t τ) q) l (getD (droppedRow t (tickAt t τ) q) l 0)
+  turn-owing : (l : ℕ) → l < t .cap → q ≤ l →
+      getD (owedRow t (tickAt t τ) q) l 0
+      ≡ owes (t .floor) (t .cap) (turn r (tickAt t τ) q) l (getD (droppedRow t (tickAt t τ) q) l 0)
   unfolding owes owedWithin keptWithin
   turn-owing l lane off = ⊎-elim now before (lane-cases l off)
     where
@@ -217,14 +223,16 @@ module _ (t : Title) (r : ℕ → ℕ) (τ q m c : ℕ) (h : Turning t r τ q m 
       ends : EndsAt (ended t n) r′ l n
       ends d had lo hi = turn-ends d lo hi (λ e. omega arith)
 
-      now : (l < t .count) × (isDropped t q l ≡ true) → getD (owedRow t n q) l 0 ≡ owes A K r′ l (getD (droppedRow t n q) l 0)
+      now : (l < t .count) × (isDropped t q l ≡ true) →
+          getD (owedRow t n q) l 0 ≡ owes A K r′ l (getD (droppedRow t n q) l 0)
       now w =
           filled-in (isDropped t q) count (t .owed) (t .count) l (w .0) long′ (w .1)
           ∙ rw (filled-in (isDropped t q) (λ l. n) (t .dropped) (t .count) l (w .0) long (w .1))
           (Search.howMany-ext (λ o. keptOwed (ended t n) l (n + o)) (λ o. isOwed A K r′ l n (n + o)) (reach K)
           (λ o b. sym (kept-owed (ended t n) r′ l n (n + o) turn-ruled turn-legal lane (rw (turn-from r n q n (omega arith)) off) (omega arith) ends)))
 
-      before : (t .count ≤ l) × (isDropped t q l ≡ false) → getD (owedRow t n q) l 0 ≡ owes A K r′ l (getD (droppedRow t n q) l 0)
+      before : (t .count ≤ l) × (isDropped t q l ≡ false) →
+          getD (owedRow t n q) l 0 ≡ owes A K r′ l (getD (droppedRow t n q) l 0)
       before w =
           let quiet : ruling t ≤ l = rw (open-ruling t (h .is-open)) (w .0) in
           let d : getD (t .dropped) l 0 ≡ droppedAt r l (tickAt t (t .last)) = h .here .drops l lane quiet in

@@ -16,7 +16,10 @@ use Rattle.rules.proofs.Tests.{decide, both-l, either-false-l, either-false-r}
 use Rattle.rules.proofs.Search
 use Rattle.grid.specs.Ticks.{isSlotStart}
 use Rattle.story.specs.Life.{isAdmission, isActive, cell, onAir, isHeld}
-use Rattle.story.specs.Story.{Act, opens, changes, closes, Event, event, Life, tickLength, tickIn, momentOf, turn, underRule, lifeAfter, lifeOf, latestOf, lastTime, upTo, countIn, isHeldIn, heldIn, isThereIn, answerTo, answer, Accepted, none, more, lifeAt, filmAt, admitsAt, airOn, airAt, InTick, Received, Begins}
+use Rattle.story.specs.Story.{Act, opens, changes, closes, Event, event, Life, tickLength, tickIn, momentOf, turn}
+use Rattle.story.specs.Story.{underRule, lifeAfter, lifeOf, latestOf, lastTime, upTo, countIn, isHeldIn, heldIn}
+use Rattle.story.specs.Story.{isThereIn, answerTo, answer, Accepted, none, more, lifeAt, filmAt, admitsAt, airOn}
+use Rattle.story.specs.Story.{airAt, InTick, Received, Begins}
 use Rattle.story.proofs.Clock.{tick-mono, in-tick, begun, on-its-tick}
 use Rattle.story.proofs.InTime.{film-in-time}
 use Rattle.story.proofs.Held.{air-local, held-falls}
@@ -31,7 +34,8 @@ pub record Stood (L M : Life) (τ : ℕ) : Type 0 where
   pub agree : (u : ℕ) → momentOf L u ≤ τ → rule u ≡ L .rule u
 
 -- an event of a title turns no tick that began before it
-earlier-tick : (L : Life) (τ υ u : ℕ) → 0 < tickLength L → L .opened ≤ υ → (υ - L .opened) % tickLength L ≡ 0 → τ < υ → momentOf L u ≤ τ → u < tickIn L υ
+earlier-tick : (L : Life) (τ υ u : ℕ) → 0 < tickLength L → L .opened ≤ υ → (υ - L .opened) % tickLength L ≡ 0 → τ < υ →
+    momentOf L u ≤ τ → u < tickIn L υ
 unfolding tickIn
 earlier-tick L τ υ u pos since on lt le =
     let p : ℕ = tickLength L in
@@ -41,7 +45,8 @@ earlier-tick L τ υ u pos since on lt le =
     (decide (ltb u ((υ - L .opened) / p)))
 
 -- a title that an accepted change or close names is lively
-turned-lively : (lanes : ℕ) (es : List Event) → lanes ≤ poolMax → Accepted lanes es → (i τ : ℕ) → Turned es i τ → Lively (lifeOf es i) (latestOf es i)
+turned-lively : (lanes : ℕ) (es : List Event) → lanes ≤ poolMax → Accepted lanes es → (i τ : ℕ) → Turned es i τ →
+    Lively (lifeOf es i) (latestOf es i)
 turned-lively lanes es high acc i τ w =
     ⊎-elim
     (λ e. let z : countIn (lifeOf es i) τ ≡ 0 = ap (λ L. countIn L τ) e in absurd (omega (arith, w .some)))
@@ -49,7 +54,8 @@ turned-lively lanes es high acc i τ w =
     (lively lanes es high acc i (omega (arith, w .timely .id)))
 
 -- a turn after a moment leaves what stood at it
-turn-stood : (L M : Life) (τ υ k : ℕ) → 0 < tickLength L → L .opened ≤ υ → (υ - L .opened) % tickLength L ≡ 0 → τ < υ → Stood L M τ → Stood (underRule L (turn (L .rule) (tickIn L υ) k)) M τ
+turn-stood : (L M : Life) (τ υ k : ℕ) → 0 < tickLength L → L .opened ≤ υ → (υ - L .opened) % tickLength L ≡ 0 → τ < υ →
+    Stood L M τ → Stood (underRule L (turn (L .rule) (tickIn L υ) k)) M τ
 turn-stood L M τ υ k pos since on lt w =
     record {
       rule = w .rule;
@@ -58,7 +64,10 @@ turn-stood L M τ υ k pos since on lt w =
     }
 
 -- one event of the title itself
-event-stood : (lanes : ℕ) (es : List Event) → lanes ≤ poolMax → Accepted lanes es → (i υ : ℕ) (a : Act) → answerTo lanes es (event i υ a) (lifeOf es i) a ≡ 0 → (M : Life) (τ : ℕ) → τ < υ → lifeAfter (lifeOf es i) υ a .opened ≤ τ → (lifeOf es i .opened ≤ τ → Stood (lifeOf es i) M τ) → Stood (lifeAfter (lifeOf es i) υ a) M τ
+event-stood : (lanes : ℕ) (es : List Event) → lanes ≤ poolMax → Accepted lanes es → (i υ : ℕ) (a : Act) →
+    answerTo lanes es (event i υ a) (lifeOf es i) a ≡ 0 → (M : Life) (τ : ℕ) → τ < υ →
+    lifeAfter (lifeOf es i) υ a .opened ≤ τ → (lifeOf es i .opened ≤ τ → Stood (lifeOf es i) M τ) →
+    Stood (lifeAfter (lifeOf es i) υ a) M τ
 event-stood lanes es high acc i υ (opens D A K k) h M τ lt since w = absurd (omega arith)
 event-stood lanes es high acc i υ (changes k) h M τ lt since w =
     let t = changing lanes es i υ k h .0 in
@@ -70,7 +79,10 @@ event-stood lanes es high acc i υ closes h M τ lt since w =
     turn-stood (lifeOf es i) M τ υ 0 (l .tick-some) (omega arith) (t .on-tick) lt (w since)
 
 -- one more event of any title
-stood-more : (lanes : ℕ) (e : Event) (es : List Event) → lanes ≤ poolMax → Accepted lanes es → answer lanes es e ≡ 0 → (i τ : ℕ) → lifeOf (e ∷ es) i .opened ≤ τ → ((j : ℕ) → lifeOf es j .opened ≤ τ → Stood (lifeOf es j) (lifeAt es j τ) τ) → Stood (lifeOf (e ∷ es) i) (lifeAt (e ∷ es) i τ) τ
+stood-more : (lanes : ℕ) (e : Event) (es : List Event) → lanes ≤ poolMax → Accepted lanes es → answer lanes es e ≡ 0 →
+    (i τ : ℕ) → lifeOf (e ∷ es) i .opened ≤ τ →
+    ((j : ℕ) → lifeOf es j .opened ≤ τ → Stood (lifeOf es j) (lifeAt es j τ) τ) →
+    Stood (lifeOf (e ∷ es) i) (lifeAt (e ∷ es) i τ) τ
 unfolding upTo lifeOf
 stood-more lanes e es high acc h i τ since was =
     ⊎-elim
@@ -89,14 +101,16 @@ stood-more lanes e es high acc h i τ since was =
     (decide (leb (e .time) τ))
 
 -- what a life says of the ticks up to a moment is what stood then
-pub stood : (lanes : ℕ) (es : List Event) → lanes ≤ poolMax → Accepted lanes es → (i τ : ℕ) → lifeOf es i .opened ≤ τ → Stood (lifeOf es i) (lifeAt es i τ) τ
+pub stood : (lanes : ℕ) (es : List Event) → lanes ≤ poolMax → Accepted lanes es → (i τ : ℕ) → lifeOf es i .opened ≤ τ →
+    Stood (lifeOf es i) (lifeAt es i τ) τ
 unfolding upTo lifeOf
 stood lanes es high none i τ since = record { rule = λ u. 0; life = refl; agree = λ u le. refl }
 stood lanes es high (more {e = e} {es = es′} acc h) i τ since =
     stood-more lanes e es′ high acc h i τ since (λ j was. stood lanes es′ high acc j τ was)
 
 -- what a life says of a tick is what was on air at every moment of the tick
-pub air-stood : (lanes : ℕ) (es : List Event) → lanes ≤ poolMax → Accepted lanes es → (i l t τ : ℕ) → 0 < tickLength (lifeOf es i) → InTick (lifeOf es i) t τ → airAt es i l τ ≡ airOn (lifeOf es i) l t
+pub air-stood : (lanes : ℕ) (es : List Event) → lanes ≤ poolMax → Accepted lanes es → (i l t τ : ℕ) →
+    0 < tickLength (lifeOf es i) → InTick (lifeOf es i) t τ → airAt es i l τ ≡ airOn (lifeOf es i) l t
 unfolding tickIn
 air-stood lanes es high acc i l t τ pos h =
     let L : Life = lifeOf es i in
@@ -109,14 +123,16 @@ air-stood lanes es high acc i l t τ pos h =
 -- every cell of the film has been received before the last event
 data Watched (es : List Event) (i : ℕ) (L : Life) (a : ℕ) : Type 0 where
   current : (r : ℕ → ℕ) → lifeOf es i ≡ underRule L r → ((u : ℕ) → u ≤ a → r u ≡ L .rule u) → Watched es i L a
-  over : ((c : ℕ) → filmAt L c ≡ true → (f : Received es i L a c) × (momentOf L (suc (f .tick)) ≤ lastTime es)) → Watched es i L a
+  over : ((c : ℕ) → filmAt L c ≡ true → (f : Received es i L a c) × (momentOf L (suc (f .tick)) ≤ lastTime es)) →
+      Watched es i L a
 
 -- events after a moment don't count at it
 upTo-skip : (τ : ℕ) (e : Event) (es : List Event) → τ < e .time → upTo τ (e ∷ es) ≡ upTo τ es
 unfolding upTo
 upTo-skip τ e es lt = rw (lt-leb (e .time) τ lt) refl
 
-received-skip : (e : Event) (es : List Event) (i : ℕ) (L : Life) (a c : ℕ) (f : Received es i L a c) → momentOf L (suc (f .tick)) ≤ e .time → Received (e ∷ es) i L a c
+received-skip : (e : Event) (es : List Event) (i : ℕ) (L : Life) (a c : ℕ) (f : Received es i L a c) →
+    momentOf L (suc (f .tick)) ≤ e .time → Received (e ∷ es) i L a c
 received-skip e es i L a c f le =
     record {
       lane = f .lane;
@@ -141,7 +157,9 @@ nobody : (K : ℕ) (r : ℕ → ℕ) (a : ℕ) → r a ≡ 0 → isAdmission K r
 unfolding isAdmission
 nobody K r a e h = false≢true (sym (rw e refl) ∙ both-l (ltb 0 (r a)) (isSlotStart K (r a) a) h)
 
-module _ (lanes : ℕ) (es : List Event) (high : lanes ≤ poolMax) (acc : Accepted lanes es) (i : ℕ) (id : i < titlesMax) (L : Life) (a : ℕ) (adm : admitsAt L a ≡ true) (r : ℕ → ℕ) (life : lifeOf es i ≡ underRule L r) (agree : (u : ℕ) → u ≤ a → r u ≡ L .rule u) where
+module _ (lanes : ℕ) (es : List Event) (high : lanes ≤ poolMax) (acc : Accepted lanes es) (i : ℕ) (id : i < titlesMax)
+    (L : Life) (a : ℕ) (adm : admitsAt L a ≡ true) (r : ℕ → ℕ) (life : lifeOf es i ≡ underRule L r)
+    (agree : (u : ℕ) → u ≤ a → r u ≡ L .rule u) where
   still-admitted : isAdmission (L .cap) r a ≡ true
   unfolding isAdmission
   still-admitted = rw (agree a (omega arith)) adm
@@ -177,7 +195,8 @@ module _ (lanes : ℕ) (es : List Event) (high : lanes ≤ poolMax) (acc : Accep
       }
 
   -- where the id may open again, the cell was seen before
-  seen-before : (c τ : ℕ) → lastTime es ≤ τ → isThereIn (lifeOf es i) τ ≡ false → (g : Sight L r a c) → momentOf L (suc (g .tick)) ≤ τ
+  seen-before : (c τ : ℕ) → lastTime es ≤ τ → isThereIn (lifeOf es i) τ ≡ false → (g : Sight L r a c) →
+      momentOf L (suc (g .tick)) ≤ τ
   unfolding isHeld isActive tickIn heldIn
   seen-before c τ late away g =
       let X : Life = underRule L r in
@@ -201,7 +220,10 @@ module _ (lanes : ℕ) (es : List Event) (high : lanes ≤ poolMax) (acc : Accep
       (decide (ltb (g .tick) n))
 
 -- a change or a close after the box's start turns only later ticks
-own-turn : (lanes : ℕ) (es : List Event) → lanes ≤ poolMax → Accepted lanes es → (i τ k : ℕ) → Turned es i τ → (L : Life) (a : ℕ) → momentOf L a < τ → (r : ℕ → ℕ) → lifeOf es i ≡ underRule L r → ((u : ℕ) → u ≤ a → r u ≡ L .rule u) → (b : Act) → ((X : Life) → lifeAfter X τ b ≡ underRule X (turn (X .rule) (tickIn X τ) k)) → Watched (event i τ b ∷ es) i L a
+own-turn : (lanes : ℕ) (es : List Event) → lanes ≤ poolMax → Accepted lanes es → (i τ k : ℕ) → Turned es i τ →
+    (L : Life) (a : ℕ) → momentOf L a < τ → (r : ℕ → ℕ) → lifeOf es i ≡ underRule L r →
+    ((u : ℕ) → u ≤ a → r u ≡ L .rule u) → (b : Act) →
+    ((X : Life) → lifeAfter X τ b ≡ underRule X (turn (X .rule) (tickIn X τ) k)) → Watched (event i τ b ∷ es) i L a
 unfolding lifeOf
 own-turn lanes es high acc i τ k w L a lt r life agree b turns =
     let X : Life = underRule L r in
@@ -217,7 +239,9 @@ own-turn lanes es high acc i τ k w L a lt r life agree b turns =
     ∙ agree u le)
 
 -- one more event of the box's own title
-own-event : (lanes : ℕ) (es : List Event) → lanes ≤ poolMax → Accepted lanes es → (i τ : ℕ) (b : Act) → answerTo lanes es (event i τ b) (lifeOf es i) b ≡ 0 → (L : Life) (a : ℕ) → admitsAt L a ≡ true → momentOf L a < τ → (r : ℕ → ℕ) → lifeOf es i ≡ underRule L r → ((u : ℕ) → u ≤ a → r u ≡ L .rule u) → Watched (event i τ b ∷ es) i L a
+own-event : (lanes : ℕ) (es : List Event) → lanes ≤ poolMax → Accepted lanes es → (i τ : ℕ) (b : Act) →
+    answerTo lanes es (event i τ b) (lifeOf es i) b ≡ 0 → (L : Life) (a : ℕ) → admitsAt L a ≡ true → momentOf L a < τ →
+    (r : ℕ → ℕ) → lifeOf es i ≡ underRule L r → ((u : ℕ) → u ≤ a → r u ≡ L .rule u) → Watched (event i τ b ∷ es) i L a
 unfolding lifeOf sight-received received-skip
 own-event lanes es high acc i τ (opens D A K k) h L a adm lt r life agree =
     let o = opening lanes es i τ D A K k h in
@@ -233,7 +257,9 @@ own-event lanes es high acc i τ closes h L a adm lt r life agree =
     own-turn lanes es high acc i τ 0 (closing lanes es i τ h) L a lt r life agree closes (λ X. refl)
 
 -- one more event of any title, after the box's start
-follow-more : (lanes : ℕ) (e : Event) (es : List Event) → lanes ≤ poolMax → Accepted lanes es → answer lanes es e ≡ 0 → (i : ℕ) (L : Life) (a : ℕ) → admitsAt L a ≡ true → momentOf L a < e .time → Watched es i L a → Watched (e ∷ es) i L a
+follow-more : (lanes : ℕ) (e : Event) (es : List Event) → lanes ≤ poolMax → Accepted lanes es → answer lanes es e ≡ 0 →
+    (i : ℕ) (L : Life) (a : ℕ) → admitsAt L a ≡ true → momentOf L a < e .time → Watched es i L a →
+    Watched (e ∷ es) i L a
 unfolding lifeOf received-skip
 follow-more lanes e es high acc h i L a adm lt (over f) =
     let late : lastTime es ≤ e .time = in-order lanes es (e .title) (e .time) (e .act) h .late in
@@ -249,7 +275,9 @@ follow-more lanes e es high acc h i L a adm lt (current r life agree) =
     (λ y. current r (rw y life) agree)
     (decide (eqb (e .title) i))
 
-begun-or-more : (lanes : ℕ) (e : Event) (es : List Event) → lanes ≤ poolMax → Accepted lanes es → answer lanes es e ≡ 0 → (i τ a : ℕ) → Begins (e ∷ es) i τ a → (Begins es i τ a → Watched es i (lifeAt es i τ) a) → Watched (e ∷ es) i (lifeAt (e ∷ es) i τ) a
+begun-or-more : (lanes : ℕ) (e : Event) (es : List Event) → lanes ≤ poolMax → Accepted lanes es →
+    answer lanes es e ≡ 0 → (i τ a : ℕ) → Begins (e ∷ es) i τ a → (Begins es i τ a → Watched es i (lifeAt es i τ) a) →
+    Watched (e ∷ es) i (lifeAt (e ∷ es) i τ) a
 unfolding upTo
 begun-or-more lanes e es high acc h i τ a b was =
     ⊎-elim
@@ -263,14 +291,16 @@ begun-or-more lanes e es high acc h i τ a b was =
     (decide (leb (e .time) τ))
 
 -- from the box's start on, the sequence follows its life
-follows : (lanes : ℕ) (es : List Event) → lanes ≤ poolMax → Accepted lanes es → (i τ a : ℕ) → Begins es i τ a → Watched es i (lifeAt es i τ) a
+follows : (lanes : ℕ) (es : List Event) → lanes ≤ poolMax → Accepted lanes es → (i τ a : ℕ) → Begins es i τ a →
+    Watched es i (lifeAt es i τ) a
 unfolding upTo lifeOf
 follows lanes es high none i τ a b = current (λ u. 0) refl (λ u le. refl)
 follows lanes es high (more {e = e} {es = es′} acc h) i τ a b = begun-or-more lanes e es′ high acc h i τ a b (follows lanes es′ high acc i τ a)
 
 -- demand 3: whatever accepted events follow, a box that begins at an admission finds every cell that holds film on a lane
 -- of its title, at or after its start and no later than the cell's turn
-pub no-box-runs-dry : (lanes : ℕ) (es : List Event) → lanes ≤ poolMax → Accepted lanes es → (i τ a c : ℕ) → i < titlesMax → Begins es i τ a → filmAt (lifeAt es i τ) c ≡ true → Received es i (lifeAt es i τ) a c
+pub no-box-runs-dry : (lanes : ℕ) (es : List Event) → lanes ≤ poolMax → Accepted lanes es → (i τ a c : ℕ) →
+    i < titlesMax → Begins es i τ a → filmAt (lifeAt es i τ) c ≡ true → Received es i (lifeAt es i τ) a c
 no-box-runs-dry lanes es high acc i τ a c id b film =
     go (follows lanes es high acc i τ a b)
   where

@@ -4,7 +4,8 @@ use mathlib.Core.Bool.{Bool, not}
 use mathlib.Core.List.{List, [], _∷_}
 use lib.Dec.{leb, ltb, eqb}
 use lib.ListN.{getD, length, replicate}
-use Rattle.rules.specs.Limits.{both, within, poolMin, poolMax, idMax, eventTimeMax, askedMax, laneMax, countPlaces, lanePlaces, titlesMax}
+use Rattle.rules.specs.Limits.{both, within, poolMin, poolMax, idMax, eventTimeMax, askedMax, laneMax, countPlaces}
+use Rattle.rules.specs.Limits.{lanePlaces, titlesMax}
 use Rattle.rules.specs.Refusals.{pick, Rule, refuse, firstHit, outsideLimits}
 use Rattle.rules.specs.Search.{every}
 use Rattle.grid.specs.Ticks.{isSlotStart}
@@ -12,7 +13,8 @@ use Rattle.story.specs.declared.Title.{Title}
 use Rattle.story.specs.declared.State.{State}
 use Rattle.story.specs.Orders.{Tests, laneOrder, statusOrder}
 use Rattle.story.specs.Story.{Act, opens, changes, closes, actLimits, countWrong, permitted, orderOf}
-use Rattle.story.specs.Kept.{absentMode, closingMode, titleAt, stateOk, tickAt, atTickStart, ruling, keptHeld, titleHeld, lanesHeld, isThere, shows}
+use Rattle.story.specs.Kept.{absentMode, closingMode, titleAt, stateOk, tickAt, atTickStart, ruling, keptHeld}
+use Rattle.story.specs.Kept.{titleHeld, lanesHeld, isThere, shows}
 use Rattle.story.specs.Next.{callNext}
 
 -- the slot of an id that no event has named

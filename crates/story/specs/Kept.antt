@@ -5,7 +5,8 @@ use mathlib.Core.Bool.{Bool}
 use mathlib.Core.List.{List, []}
 use lib.Dec.{leb, ltb, eqb}
 use lib.ListN.{getD}
-use Rattle.rules.specs.Limits.{both, either, within, poolMin, poolMax, floorMin, floorMax, countMax, lengthMin, lengthMax, askedMax, titlesMax, countPlaces, lanePlaces}
+use Rattle.rules.specs.Limits.{both, either, within, poolMin, poolMax, floorMin, floorMax, countMax, lengthMin}
+use Rattle.rules.specs.Limits.{lengthMax, askedMax, titlesMax, countPlaces, lanePlaces}
 use Rattle.rules.specs.Refusals.{pick}
 use Rattle.rules.specs.Search.{some, every, first, howMany, total}
 use Rattle.grid.specs.Ticks.{tickOf, slot}

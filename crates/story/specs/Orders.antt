@@ -2,7 +2,8 @@
 -- is handed in by name: the story reads it off the sequence of events, the calls read it off the state.
 use mathlib.Core.Bool.{Bool, not}
 use mathlib.Core.List.{List, [], _∷_}
-use Rattle.rules.specs.Refusals.{Rule, refuse, outsideLimits, tooEarly, notThere, idTaken, isClosing, wrongCount, secondEvent, notAtSlot, noLanes, wrongRows}
+use Rattle.rules.specs.Refusals.{Rule, refuse, outsideLimits, tooEarly, notThere, idTaken, isClosing, wrongCount}
+use Rattle.rules.specs.Refusals.{secondEvent, notAtSlot, noLanes, wrongRows}
 
 -- what the refusals of an event ask
 pub record Tests : Type 0 where

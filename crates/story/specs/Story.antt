@@ -6,7 +6,8 @@ use mathlib.Core.Bool.{Bool, true, false, not}
 use mathlib.Core.List.{List, [], _∷_}
 use lib.Dec.{leb, ltb, eqb}
 use lib.ListN.{getD, length}
-use Rattle.rules.specs.Limits.{both, either, within, idMax, floorMin, floorMax, countMin, countMax, lengthMin, lengthMax, eventTimeMax, askedMax, laneMax, titlesMax}
+use Rattle.rules.specs.Limits.{both, either, within, idMax, floorMin, floorMax, countMin, countMax, lengthMin}
+use Rattle.rules.specs.Limits.{lengthMax, eventTimeMax, askedMax, laneMax, titlesMax}
 use Rattle.rules.specs.Refusals.{pick, Rule, firstHit}
 use Rattle.rules.specs.Search.{every, howMany, total}
 use Rattle.grid.specs.Ticks.{tickOf, holdsFilm, isSlotStart}

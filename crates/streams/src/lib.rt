@@ -1,6 +1,6 @@
-// Standard input and standard output, with what went wrong told apart from the end. A read or a write that fails is said in a
-// line on standard error, in the system's words, before the call answers: the caller has nothing left to do but to stop.
-// No public function has a `requires`, and no contract can say which bytes are read or written.
+// Standard input and standard output, with what went wrong told apart from the end. A read or a write that fails is
+// said in a line on standard error, in the system's words, before the call answers: the caller has nothing left to do
+// but to stop. No public function has a `requires`, and no contract can say which bytes are read or written.
 
 use libc::STDIN_FILENO;
 use libc::STDOUT_FILENO;
@@ -33,7 +33,8 @@ pub fn read_some(room: &mut [u8]) -> Got
     Got::Bytes(n)
 }
 
-// Writes all the bytes and answers true, or false where that failed and standard error says why; some may be written then.
+// Writes all the bytes and answers true, or false where that failed and standard error says why; some may be written
+// then.
 pub fn write_all(bytes: &[u8]) -> bool {
     if io::write_all(STDOUT_FILENO, bytes) {
         return true;

@@ -16,7 +16,8 @@ use Rattle.text.specs.Digits.{letterOf, hexText, hexOf, hexBytes}
 -- writing a byte as two letters
 module _ (p : Page) (s : List ℕ) (i : ℕ) where
   pub hex-on : i < length s
-      → puts (put (put p (letterOf (getD s i 0 / 16))) (letterOf (getD s i 0 % 16))) (hexText (drop (i + 1) s)) ≡ puts p (hexText (drop i s))
+      → puts (put (put p (letterOf (getD s i 0 / 16))) (letterOf (getD s i 0 % 16))) (hexText (drop (i + 1) s))
+      ≡ puts p (hexText (drop i s))
   unfolding puts hexText
   hex-on h = rw (add-one, drop-cons s i 0 h)
 
@@ -35,7 +36,8 @@ short (a ∷ (b ∷ s)) h = absurd (none h) where
 -- reading two letters as a byte
 module _ (p : Page) (s : List ℕ) (i : ℕ) where
   pub decode-on : i < length s / 2
-      → puts (put p (16 * hexOf (getD s (2 * i) 0) + hexOf (getD s (2 * i + 1) 0))) (hexBytes (drop (2 * (i + 1)) s)) ≡ puts p (hexBytes (drop (2 * i) s))
+      → puts (put p (16 * hexOf (getD s (2 * i) 0) + hexOf (getD s (2 * i + 1) 0))) (hexBytes (drop (2 * (i + 1)) s))
+      ≡ puts p (hexBytes (drop (2 * i) s))
   unfolding puts hexBytes
   decode-on h =
       let first : 2 * i < length s = omega arith in

@@ -6,4 +6,4 @@ pub mod Runs
 pub mod Spelling
 pub mod Tables
 pub mod Moving
-pub mod Settled
+pub mod Unique

@@ -1,4 +1,5 @@
--- Laws of moving a part to the front, byte by byte from the left: a byte that is still to be read has not been written over.
+-- Laws of moving a part to the front, byte by byte from the left: a byte that is still to be read has not been written
+-- over.
 use Prim.Native.Nat.{ℕ, suc, _+_, _-_, _<_, _≤_}
 use mathlib.Core.Path.{_≡_, sym, _∙_, ap}
 use mathlib.Core.List.{List, _++_}
@@ -31,7 +32,8 @@ module _ (l : List ℕ) (from i : ℕ) where
       ∙ getD-drop i l from 0
       ∙ ap (λ (k : ℕ). getD l k 0) swap
 
-  pub front-on : from + i < length l → set (front l from i) i (getD (front l from i) (from + i) 0) ≡ front l from (i + 1)
+  pub front-on : from + i < length l
+      → set (front l from i) i (getD (front l from i) (from + i) 0) ≡ front l from (i + 1)
   unfolding front
   front-on h =
       let s = drop from l in

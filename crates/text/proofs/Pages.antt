@@ -1,5 +1,5 @@
--- Laws of a page: what is written in turn is written as one, the row keeps its length, and where there is room the bytes stand in
--- the row one behind the other.
+-- Laws of a page: what is written in turn is written as one, the row keeps its length, and where there is room the
+-- bytes stand in the row one behind the other.
 use Prim.Native.Nat.{ℕ, suc, _+_, _<_, _≤_}
 use mathlib.Core.Path.{_≡_, refl, sym, _∙_, ap}
 use mathlib.Core.Bool.{Bool, true, false}
@@ -28,7 +28,9 @@ pick-length false p q e = refl
 
 pub put-length : (p : Page) (b : ℕ) → length ((put p b) .row) ≡ length (p .row)
 unfolding put
-put-length p b = pick-length (ltb (p .at) (length (p .row))) (page (set (p .row) (p .at) b) (p .at + 1)) p (length-set (p .row) (p .at) b)
+put-length p b =
+    pick-length (ltb (p .at) (length (p .row))) (page (set (p .row) (p .at) b) (p .at + 1)) p
+    (length-set (p .row) (p .at) b)
 
 -- the row keeps its length
 pub puts-length : (s : List ℕ) (p : Page) → length ((puts p s) .row) ≡ length (p .row)
@@ -50,7 +52,8 @@ pub puts-then : (p : Page) {q r : Page} (s t : List ℕ) → q ≡ puts p s → 
 puts-then p {q} {r} s t e f = f ∙ ap (λ (o : Page). puts o t) e ∙ sym (puts-append s t p)
 
 -- a turn of the writing loop, and its end
-pub puts-on : (p : Page) (s : List ℕ) (i : ℕ) → i < length s → puts (put p (getD s i 0)) (drop (i + 1) s) ≡ puts p (drop i s)
+pub puts-on : (p : Page) (s : List ℕ) (i : ℕ) → i < length s
+    → puts (put p (getD s i 0)) (drop (i + 1) s) ≡ puts p (drop i s)
 unfolding puts
 puts-on p s i h = rw (add-one, drop-cons s i 0 h)
 
@@ -59,7 +62,8 @@ unfolding puts
 puts-end p s i h = rw (drop-of-length-le s h)
 
 -- where there is room
-puts-sets : (s : List ℕ) (row : List ℕ) (at : ℕ) → at + length s ≤ length row → puts (page row at) s ≡ page (sets row at s) (at + length s)
+puts-sets : (s : List ℕ) (row : List ℕ) (at : ℕ) → at + length s ≤ length row
+    → puts (page row at) s ≡ page (sets row at s) (at + length s)
 unfolding puts
 puts-sets [] row at h = ap (page row) (omega arith)
 puts-sets (b ∷ s) row at h =

@@ -1,4 +1,5 @@
--- Laws of digits: the store of a digit before those already there, and that digits read back as the number they were made from.
+-- Laws of digits: the store of a digit before those already there, and that digits read back as the number they were
+-- made from.
 use Prim.Native.Nat.{ℕ, zero, suc, _+_, _*_, _/_, _%_, _^_, _<_, _≤_, min}
 use mathlib.Core.Path.{_≡_, refl, _∙_, ap}
 use mathlib.Core.Bool.{Bool, true, false}

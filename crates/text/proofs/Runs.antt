@@ -11,7 +11,8 @@ use Rattle.rules.specs.Refusals.{pick}
 use Rattle.text.specs.declared.bytes.Sort.{Sort}
 use Rattle.text.specs.Bytes.{isSort, run, reach}
 
-pub reach-on : (k : Sort) (s : List ℕ) (i : ℕ) → i < length s → isSort k (getD s i 0) ≡ true → reach k s (i + 1) ≡ reach k s i
+pub reach-on : (k : Sort) (s : List ℕ) (i : ℕ) → i < length s → isSort k (getD s i 0) ≡ true
+    → reach k s (i + 1) ≡ reach k s i
 unfolding reach run
 reach-on k s i h e = rw (drop-cons s i 0 h, e, add-one i) (omega arith)
 

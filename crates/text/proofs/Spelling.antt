@@ -16,14 +16,16 @@ use Rattle.text.specs.Bytes.{digit, digitOf}
 use Rattle.text.specs.Numbers.{top, amount, capped, grow}
 
 -- the two ways out of `grow`
-pub grow-over : (n : Number) (b d : ℕ) → d ≡ digitOf b → d < 256 → (top - d) / 10 < n .value → record { value = top; over = true } ≡ grow n b
+pub grow-over : (n : Number) (b d : ℕ) → d ≡ digitOf b → d < 256 → (top - d) / 10 < n .value
+    → record { value = top; over = true } ≡ grow n b
 unfolding grow
 grow-over n b d e h l =
     let full : top < 10 * n .value + digitOf b = omega arith in
     let held : min (10 * n .value + digitOf b) top ≡ top = omega arith in
     rw (held, lt-ltb _ _ full)
 
-pub grow-in : (n : Number) (b d : ℕ) → d ≡ digitOf b → d < 256 → n .value ≤ (top - d) / 10 → record { value = 10 * n .value + d; over = n .over } ≡ grow n b
+pub grow-in : (n : Number) (b d : ℕ) → d ≡ digitOf b → d < 256 → n .value ≤ (top - d) / 10
+    → record { value = 10 * n .value + d; over = n .over } ≡ grow n b
 unfolding grow
 grow-in n b d e h l =
     let fits : 10 * n .value + digitOf b ≤ top = omega arith in
@@ -35,7 +37,8 @@ unfoldable pub spell : Number → List ℕ → Number
 spell n [] = n
 spell n (b ∷ s) = pick (digit b) (spell (grow n b) s) n
 
-same-number : {a b : ℕ} {o p : Bool} → a ≡ b → o ≡ p → _≡_ {A = Number} (record { value = a; over = o }) (record { value = b; over = p })
+same-number : {a b : ℕ} {o p : Bool} → a ≡ b → o ≡ p
+    → _≡_ {A = Number} (record { value = a; over = o }) (record { value = b; over = p })
 same-number e f = rw (e, f)
 
 pick-itself : (t : Bool) → pick t true false ≡ t
@@ -71,7 +74,8 @@ spells v (b ∷ s) = after-digit v b s (digit b) (spells (10 * v + digitOf b) s)
 
 -- a turn of the reading loop, and its two ways out
 module _ (n : Number) (s : List ℕ) (i : ℕ) where
-  pub spell-on : i < length s → digit (getD s i 0) ≡ true → spell (grow n (getD s i 0)) (drop (i + 1) s) ≡ spell n (drop i s)
+  pub spell-on : i < length s → digit (getD s i 0) ≡ true
+      → spell (grow n (getD s i 0)) (drop (i + 1) s) ≡ spell n (drop i s)
   unfolding spell
   spell-on h e = rw (drop-cons s i 0 h, e, add-one)
 

@@ -1,4 +1,5 @@
--- Laws of tables and of rows of bytes: a computed test over a whole table bounds each entry, and `same` tells equal rows.
+-- Laws of tables and of rows of bytes: a computed test over a whole table bounds each entry, and `same` tells equal
+-- rows.
 use Prim.Native.Nat.{ℕ, zero, suc, _≤_}
 use mathlib.Core.Path.{_≡_, refl, sym}
 use mathlib.Core.Bool.{Bool, true, false}

@@ -56,7 +56,8 @@ pub fn is_sort(sort: Sort, b: u8) -> bool
     }
 }
 
-// The place past the run of such bytes that begins at from; from itself where none stands there, or past the line's end.
+// The place past the run of such bytes that begins at from; from itself where none stands there, or past the line's
+// end.
 pub fn reach(s: &[u8], from: usize, sort: Sort) -> usize
     ensures { λ r. ⌜ r ≡ reached sort (now (s .entry)) from ⌝ }
 {

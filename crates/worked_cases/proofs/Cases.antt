@@ -15,7 +15,8 @@ use Rattle.grid.specs.Ticks.{tickOf, holdsFilm, roundedUp, slot, isSlotStart, c
 use Rattle.grid.specs.Channels.{floorRem, shift, segment, channelCell}
 use Rattle.grid.specs.Lanes.{isInG, isAdded, addedChannel, laneCell}
 use Rattle.grid.specs.Plan.{takenFrom, inPlan, takenAfter, planAt}
-use Rattle.story.specs.Life.{isAdmission, isActive, droppedAt, isAwaited, isOwed, reach, owedWithin, isNth, nthOwed, sends, onAir, isHeld}
+use Rattle.story.specs.Life.{isAdmission, isActive, droppedAt, isAwaited, isOwed, reach, owedWithin, isNth, nthOwed}
+use Rattle.story.specs.Life.{sends, onAir, isHeld}
 use Rattle.story.specs.Story.{tickIn, lifeOf, latestOf, upTo, heldIn, heldOver, answerTo, accepted}
 use Rattle.sharing.specs.Titles as Rows
 use Rattle.sharing.specs.Term.{term}
@@ -39,7 +40,8 @@ same-row (x ∷ xs) (y ∷ ys) h =
     λ i. p i ∷ q i
 
 -- from the whole table to each entry
-at : (cs : List Case) → agree cs ≡ true → (j : ℕ) → j < length cs → getD cs j (case 0 [] []) .given ≡ getD cs j (case 0 [] []) .printed
+at : (cs : List Case) → agree cs ≡ true → (j : ℕ) → j < length cs →
+    getD cs j (case 0 [] []) .given ≡ getD cs j (case 0 [] []) .printed
 unfolding agree
 at [] h j b = absurd (omega arith)
 at (c ∷ cs) h zero b = same-row (c .given) (c .printed) (both-l (sameRow (c .given) (c .printed)) (agree cs) h)

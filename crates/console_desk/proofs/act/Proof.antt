@@ -24,7 +24,9 @@ returns c =
     let f = at-follow .follow .ensures in
     record {
       agent = f .1;
-      row = acts-fresh (x .line) (x .s .now) (page (x .out .now) (x .at)) _ (x .agent) _ (at-if1 .if1 .taken) (f .0) (at-put-done .put-done .ensures);
+      row =
+          acts-fresh (x .line) (x .s .now) (page (x .out .now) (x .at)) _ (x .agent) _ (at-if1 .if1 .taken) (f .0)
+          (at-put-done .put-done .ensures);
     }
 
 put-followed-requires : tie.Need-put-followed-requires
@@ -43,7 +45,9 @@ returns-2 c =
     let f = at-follow .follow .ensures in
     record {
       agent = f .1;
-      row = acts-other (x .line) (x .s .now) (page (x .out .now) (x .at)) _ (x .agent) _ _ (at-if1 .if1 .left) (f .0) (f .1) (at-put-followed .put-followed .ensures);
+      row =
+          acts-other (x .line) (x .s .now) (page (x .out .now) (x .at)) _ (x .agent) _ _ (at-if1 .if1 .left) (f .0)
+          (f .1) (at-put-followed .put-followed .ensures);
     }
 
 pub act-spec : {M : Type 1} → statement M

@@ -11,7 +11,9 @@ parse-requires : tie.Need-parse-requires
 parse-requires c κs = search needs
 
 whole-requires : tie.Need-whole-requires
-whole-requires c κs = readable (c .before .before .before .before .before .args .s .now) (sym (ap (λ (l : Line). l .fault) (c .before .before .parse .ensures)) ∙ c .before .if1 .taken)
+whole-requires c κs =
+    readable (c .before .before .before .before .before .args .s .now)
+    (sym (ap (λ (l : Line). l .fault) (c .before .before .parse .ensures)) ∙ c .before .if1 .taken)
 
 same-length : tie.Need-same-length
 same-length c = search needs
@@ -24,7 +26,8 @@ returns c =
     let at-start = at-parse .before .before .before in
     let x = at-start .args in
     let p = page (x .out .now) (x .at) in
-    it-is-whole (x .agent) (x .s .now) _ (at-parse .parse .ensures) p (at-if1 .if1 .taken) _ _ (at-whole .whole .ensures)
+    it-is-whole (x .agent) (x .s .now) _ (at-parse .parse .ensures) p (at-if1 .if1 .taken) _ _
+    (at-whole .whole .ensures)
 
 put-fault-requires : tie.Need-put-fault-requires
 put-fault-requires c κs = search needs
@@ -47,7 +50,8 @@ returns-2 c =
     let at-start = at-parse .before .before .before in
     let x = at-start .args in
     let p = page (x .out .now) (x .at) in
-    it-is-faulty (x .agent) (x .s .now) _ (at-parse .parse .ensures) p (at-if1 .if1 .left) _ _ (at-put-fault .put-fault .ensures) (at-put .put .ensures)
+    it-is-faulty (x .agent) (x .s .now) _ (at-parse .parse .ensures) p (at-if1 .if1 .left) _ _
+    (at-put-fault .put-fault .ensures) (at-put .put .ensures)
 
 pub answer-spec : {M : Type 1} → statement M
 answer-spec =

@@ -43,7 +43,8 @@ returns-2 c =
     let at-start = at-if1 .before .before .before .before in
     let x = at-start .args in
     let p = page (x .out .now) (x .at) in
-    asks-status (x .line) (x .s .now) p _ (x .state) (at-if1 .if1 .left) (at-if2 .if2 .taken) (at-put-status .put-status .ensures)
+    asks-status (x .line) (x .s .now) p _ (x .state) (at-if1 .if1 .left) (at-if2 .if2 .taken)
+    (at-put-status .put-status .ensures)
 
 put-share-requires : tie.Need-put-share-requires
 put-share-requires c κs = search needs
@@ -60,7 +61,8 @@ returns-3 c =
     let at-start = at-if1 .before .before .before .before in
     let x = at-start .args in
     let p = page (x .out .now) (x .at) in
-    asks-share (x .line) (x .s .now) p _ (x .state) (at-if1 .if1 .left) (at-if2 .if2 .left) (at-if3 .if3 .taken) (at-put-share .put-share .ensures)
+    asks-share (x .line) (x .s .now) p _ (x .state) (at-if1 .if1 .left) (at-if2 .if2 .left) (at-if3 .if3 .taken)
+    (at-put-share .put-share .ensures)
 
 array-read-put-plan : tie.Need-array-read-put-plan
 array-read-put-plan c = search needs
@@ -94,7 +96,8 @@ returns-4 c =
     let at-start = at-if1 .before .before .before .before in
     let x = at-start .args in
     let p = page (x .out .now) (x .at) in
-    asks-plan (x .line) (x .s .now) p _ (x .state) (at-if1 .if1 .left) (at-if2 .if2 .left) (at-if3 .if3 .left) _ (at-if4 .if4 .taken) (at-places-of .places-of .ensures) (at-put-plan .put-plan .ensures)
+    asks-plan (x .line) (x .s .now) p _ (x .state) (at-if1 .if1 .left) (at-if2 .if2 .left) (at-if3 .if3 .left) _
+    (at-if4 .if4 .taken) (at-places-of .places-of .ensures) (at-put-plan .put-plan .ensures)
 
 tell-requires : tie.Need-tell-requires
 tell-requires c κs = search needs
@@ -112,7 +115,8 @@ returns-5 c =
     let at-start = at-if1 .before .before .before .before in
     let x = at-start .args in
     let p = page (x .out .now) (x .at) in
-    asks-else (x .line) (x .s .now) p _ (x .state) (at-if1 .if1 .left) (at-if2 .if2 .left) (at-if3 .if3 .left) (at-if4 .if4 .left) (at-tell .tell .ensures)
+    asks-else (x .line) (x .s .now) p _ (x .state) (at-if1 .if1 .left) (at-if2 .if2 .left) (at-if3 .if3 .left)
+    (at-if4 .if4 .left) (at-tell .tell .ensures)
 
 pub ask-spec : {M : Type 1} → statement M
 ask-spec =

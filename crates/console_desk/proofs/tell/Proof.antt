@@ -13,7 +13,8 @@ same-length c = search needs
 
 returns : tie.Need-returns
 returns c = let x = c .before .before .before .before .before .before .before .args in
-    tells-help (x .line) (x .s .now) (page (x .out .now) (x .at)) _ (c .before .before .before .before .if1 .taken) (c .before .before .put-help .ensures)
+    tells-help (x .line) (x .s .now) (page (x .out .now) (x .at)) _ (c .before .before .before .before .if1 .taken)
+    (c .before .before .put-help .ensures)
 
 array-read-reading : tie.Need-array-read-reading
 array-read-reading c = search needs
@@ -38,7 +39,8 @@ returns-2 c =
     let at-if1 = at-if2 .before .before in
     let at-start = at-if1 .before .before .before in
     let x = at-start .args in
-    tells-reading (x .line) (x .s .now) (page (x .out .now) (x .at)) _ _ (at-if1 .if1 .left) (at-if2 .if2 .taken) (at-reading .reading .ensures) (at-put-reading .put-reading .ensures)
+    tells-reading (x .line) (x .s .now) (page (x .out .now) (x .at)) _ _ (at-if1 .if1 .left) (at-if2 .if2 .taken)
+    (at-reading .reading .ensures) (at-put-reading .put-reading .ensures)
 
 notice-of-requires : tie.Need-notice-of-requires
 notice-of-requires c κs = search needs
@@ -57,7 +59,8 @@ returns-3 c =
     let at-if1 = at-if2 .before .before in
     let at-start = at-if1 .before .before .before in
     let x = at-start .args in
-    tells-bytes (x .line) (x .s .now) (page (x .out .now) (x .at)) _ _ (at-if1 .if1 .left) (at-if2 .if2 .left) (at-notice-of .notice-of .ensures) (at-put-bytes .put-bytes .ensures)
+    tells-bytes (x .line) (x .s .now) (page (x .out .now) (x .at)) _ _ (at-if1 .if1 .left) (at-if2 .if2 .left)
+    (at-notice-of .notice-of .ensures) (at-put-bytes .put-bytes .ensures)
 
 pub tell-spec : {M : Type 1} → statement M
 tell-spec =

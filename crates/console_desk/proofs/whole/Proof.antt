@@ -34,7 +34,8 @@ returns-2 c =
     let at-start = at-if1 .before .before .before in
     let x = at-start .args in
     let p = page (x .out .now) (x .at) in
-    it-acts (x .agent) (x .line) (x .s .now) p (at-if1 .if1 .left) _ (at-may-change .may-change .ensures) _ _ _ (at-if2 .if2 .taken) (at-act .act .ensures) (at-put .put .ensures)
+    it-acts (x .agent) (x .line) (x .s .now) p (at-if1 .if1 .left) _ (at-may-change .may-change .ensures) _ _ _
+    (at-if2 .if2 .taken) (at-act .act .ensures) (at-put .put .ensures)
 
 ask-requires : tie.Need-ask-requires
 ask-requires c κs = search needs
@@ -58,7 +59,8 @@ returns-3 c =
     let at-start = at-if1 .before .before .before in
     let x = at-start .args in
     let p = page (x .out .now) (x .at) in
-    it-asks (x .agent) (x .line) (x .s .now) p (at-if1 .if1 .left) _ (at-may-change .may-change .ensures) (x .agent) _ _ (at-if2 .if2 .left) (at-ask .ask .ensures) (at-put2 .put2 .ensures)
+    it-asks (x .agent) (x .line) (x .s .now) p (at-if1 .if1 .left) _ (at-may-change .may-change .ensures) (x .agent) _ _
+    (at-if2 .if2 .left) (at-ask .ask .ensures) (at-put2 .put2 .ensures)
 
 pub whole-spec : {M : Type 1} → statement M
 whole-spec =

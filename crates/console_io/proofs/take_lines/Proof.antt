@@ -22,10 +22,22 @@ reach-requires : tie.Need-reach-requires Inv-loop μ-loop
 reach-requires c κs = search needs
 
 sub-take-line : tie.Need-sub-take-line Inv-loop μ-loop
-sub-take-line c = omega (arith, reach-low Line (c .before .before .before .before .before .before .args .block .now) (c .before .before .before .loop .from), c .before .reach .ensures)
+sub-take-line c =
+    omega (
+      arith,
+      reach-low Line (c .before .before .before .before .before .before .args .block .now)
+          (c .before .before .before .loop .from),
+      c .before .reach .ensures,
+    )
 
 part-take-line-start : tie.Need-part-take-line-start Inv-loop μ-loop
-part-take-line-start c = omega (arith, reach-low Line (c .before .before .before .before .before .before .args .block .now) (c .before .before .before .loop .from), c .before .reach .ensures)
+part-take-line-start c =
+    omega (
+      arith,
+      reach-low Line (c .before .before .before .before .before .before .args .block .now)
+          (c .before .before .before .loop .from),
+      c .before .reach .ensures,
+    )
 
 part-take-line-end : tie.Need-part-take-line-end Inv-loop μ-loop
 part-take-line-end c = omega arith
@@ -48,8 +60,10 @@ loop-again c =
     let at-take-line = c .before .before in
     let at-reach = at-take-line .before .before .before .before in
     let at-loop = at-reach .before .before in
-    let at-start = at-loop .before .before .before in
-    (omega (arith, reach-low Line (at-start .args .block .now) (at-loop .loop .from), at-reach .reach .ensures), at-take-line .take-line .kept .1 .1 .0 ∙ at-loop .loop .inv .1)
+    let at-start = at-loop .before .before .before in (
+      omega (arith, reach-low Line (at-start .args .block .now) (at-loop .loop .from), at-reach .reach .ensures),
+      at-take-line .take-line .kept .1 .1 .0 ∙ at-loop .loop .inv .1,
+    )
 
 same-length : tie.Need-same-length Inv-loop μ-loop
 same-length c = c .before .before .before .loop .inv .1

@@ -31,7 +31,8 @@ module _ (p : ℕ → Bool) (f d g : ℕ) (inv : f ≡ firstOf p d) where
   kept l h n = (omega arith, rw (add-one d, ← inv, lt-ltb f d (omega arith)) n)
 
 -- the test on a channel, from what the callees answer
-added-test : (A K l t d x : ℕ) (r b : Bool) → x ≡ channelCell A K (l + 1) d t → r ≡ isInG A K l t x → r ≡ b → isAdded A K l t d ≡ not b
+added-test : (A K l t d x : ℕ) (r b : Bool) → x ≡ channelCell A K (l + 1) d t → r ≡ isInG A K l t x → r ≡ b →
+    isAdded A K l t d ≡ not b
 unfolding isAdded
 added-test A K l t d x r b e f g =
     ap not (ap (isInG A K l t) (ap (λ n. channelCell A K n d t) (sym (add-one l)) ∙ sym e) ∙ sym f ∙ g)

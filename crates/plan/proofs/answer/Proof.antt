@@ -3,7 +3,8 @@
 use mathlib.Core.Path.{sym, _∙_}
 use native.Mathlib.Omega.{arith}
 use borrow.Author.Needs.{needs}
-use Rattle.plan.proofs.Refusals.{refused-limits, refused-cap, refused-count, refused-slot, refused-rows, accepted, counted}
+use Rattle.plan.proofs.Refusals.{refused-limits, refused-cap, refused-count, refused-slot, refused-rows}
+use Rattle.plan.proofs.Refusals.{accepted, counted}
 use Rattle.plan.proofs.answer.Statement.{statement}
 use Rattle.plan.proofs.answer.Tie as tie
 

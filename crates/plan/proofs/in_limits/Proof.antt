@@ -11,10 +11,12 @@ use Rattle.plan.proofs.in_limits.Statement.{statement}
 use Rattle.plan.proofs.in_limits.Tie as tie
 
 module _ (A K k a : ℕ) where
-  last : within floorMin floorMax A ≡ true → within countMin countMax K ≡ true → within countMin countMax k ≡ true → leb a askedMax ≡ planLimits A K k a
+  last : within floorMin floorMax A ≡ true → within countMin countMax K ≡ true → within countMin countMax k ≡ true →
+      leb a askedMax ≡ planLimits A K k a
   last p q r = rw (p, q, r) refl
 
-  third : within floorMin floorMax A ≡ true → within countMin countMax K ≡ true → within countMin countMax k ≡ false → false ≡ planLimits A K k a
+  third : within floorMin floorMax A ≡ true → within countMin countMax K ≡ true → within countMin countMax k ≡ false →
+      false ≡ planLimits A K k a
   third p q r = rw (p, q, r) refl
 
   second : within floorMin floorMax A ≡ true → within countMin countMax K ≡ false → false ≡ planLimits A K k a

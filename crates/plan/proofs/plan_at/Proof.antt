@@ -29,7 +29,8 @@ add-channel : tie.Need-add-channel
 add-channel c = search needs
 
 -- the channel that carries the cell
-carrying : (c : tie.Then1) → Top (c .before .before .before .args .count) (c .before .before .before .args .cell / c .before .before .slot .result + 1) (leadingZeros 64 (c .before .before .before .args .cell / c .before .before .slot .result + 1))
+carrying : (c : tie.Then1) →
+    Top (c .before .before .before .args .count) (c .before .before .before .args .cell / c .before .before .slot .result + 1) (leadingZeros 64 (c .before .before .before .args .cell / c .before .before .slot .result + 1))
 carrying c =
     let p = c .before .before .before .pre .0 in
     top (c .before .before .before .args .count) (c .before .before .before .args .cell / c .before .before .slot .result + 1)

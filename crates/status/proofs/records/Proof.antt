@@ -23,9 +23,12 @@ use prog.Wp.{Heap, Out, Env, afterSeq, afterBlock, afterTurn, Calls, Loops, Wp, 
 use ghost.Atoms.{Atoms, sem}
 use contract.Monad.{Fun, fact}
 use contract.Running.{givenOf, tables, tablesOf}
-use types.Kit.{Given, Item, ‵, raw, _⊛_, some, later, ⋆, anyQ, atRet, _$_, _∵_, !, qed, by, move, keep, use1, drop, split, join, pick, rewrite, fsplit, fjoin, suffices, frame, await, done}
+use types.Kit.{Given, Item, ‵, raw, _⊛_, some, later, ⋆, anyQ, atRet, _$_, _∵_, !, qed, by, move, keep, use1, drop}
+use types.Kit.{split, join, pick, rewrite, fsplit, fjoin, suffices, frame, await, done}
 use types.Part.{whole, sub, look-in}
-use types.Run.{look, look-raw, store, store-raw, init, forget, stop, hop, fld, from, load, lit, true-lit, of-opd, bin, assigns, assigns-last, stays, leaves-loop, first, branches, blocks, skips, returns, enter, alloc1, alloc0, params1, pass1, pass0, free1, free0, exec, and-then, no-more, land}
+use types.Run.{look, look-raw, store, store-raw, init, forget, stop, hop, fld, from, load, lit, true-lit, of-opd, bin}
+use types.Run.{assigns, assigns-last, stays, leaves-loop, first, branches, blocks, skips, returns, enter, alloc1}
+use types.Run.{alloc0, params1, pass1, pass0, free1, free0, exec, and-then, no-more, land}
 use sound.Loop.{loop-rule}
 use sound.WpLaws.{fmOf, WpFn-mono}
 use denote.Exit.{yes}
@@ -47,7 +50,8 @@ use denote.Triple.Spec.{Meets, tripleOf}
 use denote.Triple.Table.{entered, cited}
 use denote.Triple.Clauses.{ensured, lasts}
 use denote.Triple.Entry.{Vals, onEntry}
-use denote.Triple.Walked.{says, Stays, stay-slice, stay-none, walkOf, Walks, ends-at, walked, goes-slice, goes-none, walk-meets}
+use denote.Triple.Walked.{says, Stays, stay-slice, stay-none, walkOf, Walks, ends-at, walked, goes-slice, goes-none}
+use denote.Triple.Walked.{walk-meets}
 use Rattle.rules.specs.Limits.{both, idMax}
 use Rattle.rules.specs.Search.{every}
 use Rattle.rules.specs.Refusals as Refusals
@@ -100,11 +104,13 @@ rec r = LL.val Rec.the-type Rec′.the-laws r
 abbrev Tested : List Record → ℕ → ℕ → Bool → Type 0
 Tested xs t i ok = (i + t ≡ length xs) × (ok ≡ recordIdsOk xs i)
 
-tested-more : (xs : List Record) (t i : ℕ) (ok c : Bool) → Tested xs (suc t) i ok → c ≡ both (leb (getD xs i noRecord .id) idMax) ok → Tested xs t (suc i) c
+tested-more : (xs : List Record) (t i : ℕ) (ok c : Bool) → Tested xs (suc t) i ok →
+    c ≡ both (leb (getD xs i noRecord .id) idMax) ok → Tested xs t (suc i) c
 unfolding recordIdsOk every
 tested-more xs t i ok c h e = (omega (arith, h .0), e ∙ ap (both (leb (getD xs i noRecord .id) idMax)) (h .1))
 
-answer-is : (s : State) (τ : ℕ) (xs : List Record) (c : Bool) (a : ℕ) → c ≡ recordIdsOk xs (length xs) → a ≡ askedAnswer s τ c → a ≡ recordsAnswer s τ xs
+answer-is : (s : State) (τ : ℕ) (xs : List Record) (c : Bool) (a : ℕ) → c ≡ recordIdsOk xs (length xs) →
+    a ≡ askedAnswer s τ c → a ≡ recordsAnswer s τ xs
 unfolding recordsAnswer
 answer-is s τ xs c a e f = f ∙ ap (askedAnswer s τ) e
 
@@ -117,13 +123,15 @@ fails : (b : Bool) → T (not b) → b ≡ false
 fails true t = absurd t
 fails false t = refl
 
-filled-row : (s : State) (τ : ℕ) (xs ls : List Record) (a : ℕ) → a ≡ 0 → a ≡ recordsAnswer s τ xs → length ls ≡ length xs
+filled-row : (s : State) (τ : ℕ) (xs ls : List Record) (a : ℕ) → a ≡ 0 → a ≡ recordsAnswer s τ xs →
+    length ls ≡ length xs
     → ((k : ℕ) → k < length xs → getD ls k noRecord ≡ recordFor s τ (getD xs k noRecord))
     → ls ≡ Refusals.pick (eqb a 0) (map (λ r. filledRecord s τ r) xs) xs
 filled-row s τ xs ls a done-is e len each = rw done-is (records-filled s τ xs ls (sym e ∙ done-is) len each)
 
 -- ---- the locals of the function, whatever the types of a state, a row and a record are: allocated, and the parameters stored
-module _ {M : Type 1} (𝓤 : URA M) (H : Heap 𝓤) (A : Atoms 𝓤) (W : Given 𝓤 H A) (σ ς ρ : Ty) (body : Body) (C : Calls 𝓤 H) (Λ : Loops 𝓤 H) (Q : Val → SProp 𝓤) (P₁ P₂ : Item 𝓤) (v₁ v₂ v₃ : Val) where
+module _ {M : Type 1} (𝓤 : URA M) (H : Heap 𝓤) (A : Atoms 𝓤) (W : Given 𝓤 H A) (σ ς ρ : Ty) (body : Body)
+    (C : Calls 𝓤 H) (Λ : Loops 𝓤 H) (Q : Val → SProp 𝓤) (P₁ P₂ : Item 𝓤) (v₁ v₂ v₃ : Val) where
   abbrev shape : Fn
   shape = record {
     lifetimes = 1;
@@ -148,7 +156,8 @@ module _ {M : Type 1} (𝓤 : URA M) (H : Heap 𝓤) (A : Atoms 𝓤) (W : Given
       alloc1 ! (λ l₀. alloc1 ! (λ l₁. alloc1 ! (λ l₂. alloc1 ! (λ l₃. alloc1 ! (λ l₄. alloc1 ! (λ l₅. alloc1 ! (λ l₆. alloc1 ! (λ l₇. alloc1 ! (λ l₈. alloc1 ! (λ l₉. alloc1 ! (λ l₁₀. alloc1 ! (λ l₁₁. alloc1 ! (λ l₁₂. alloc1 ! (λ l₁₃. alloc1 ! (λ l₁₄. alloc1 ! (λ l₁₅. alloc1 ! (λ l₁₆. alloc1 ! (λ l₁₇. alloc1 ! (λ l₁₈. alloc1 ! (λ l₁₉. alloc0 ! $ params1 ! $
       pass1 ! (init ! 36 refl t₁) $ pass1 ! (init ! 34 refl t₂) $ pass1 ! (init ! 32 refl t₃) $ pass0 ! $ by ! (k l₀ l₁ l₂ l₃ l₄ l₅ l₆ l₇ l₈ l₉ l₁₀ l₁₁ l₁₂ l₁₃ l₁₄ l₁₅ l₁₆ l₁₇ l₁₈ l₁₉)))))))))))))))))))))
 
-module _ {M : Type 1} (𝓤 : URA M) (H : Heap 𝓤) (A : Atoms 𝓤) (W : Given 𝓤 H A) (mem : Memory → SProp 𝓤) (run : Routine → Fun 𝓤) where
+module _ {M : Type 1} (𝓤 : URA M) (H : Heap 𝓤) (A : Atoms 𝓤) (W : Given 𝓤 H A) (mem : Memory → SProp 𝓤)
+    (run : Routine → Fun 𝓤) where
   abbrev Id : Contract 𝓤
   Id = tripleOf 𝓤 H A id′.signature (id′.spec 𝓤 H A mem run)
 
@@ -158,16 +167,20 @@ module _ {M : Type 1} (𝓤 : URA M) (H : Heap 𝓤) (A : Atoms 𝓤) (W : Given
   abbrev Row : Contract 𝓤
   Row = tripleOf 𝓤 H A row′.signature (row′.spec 𝓤 H A mem run)
 
-  id-of : (r : Record) (ok c : Bool) → ent 𝓤 (ensured 𝓤 H A id′.ended (id′.clauses 𝓤 H A mem run) tt (r, (ok, tt)) tt c) (fact 𝓤 (c ≡ both (leb (r .id) idMax) ok))
+  id-of : (r : Record) (ok c : Bool) →
+      ent 𝓤 (ensured 𝓤 H A id′.ended (id′.clauses 𝓤 H A mem run) tt (r, (ok, tt)) tt c) (fact 𝓤 (c ≡ both (leb (r .id) idMax) ok))
   id-of r ok c = exE 𝓤 _ (λ ws. snd∗ 𝓤 (sem 𝓤 H A (lasts id′.ended tt (r, (ok, tt)) ws)) (fact 𝓤 (c ≡ both (leb (r .id) idMax) ok)))
 
-  verdict-of : (s : State) (τ : ℕ) (ok : Bool) (a : ℕ) → ent 𝓤 (ensured 𝓤 H A verdict′.ended (verdict′.clauses 𝓤 H A mem run) tt (s, (τ, (ok, tt))) tt a) (fact 𝓤 (a ≡ askedAnswer s τ ok))
+  verdict-of : (s : State) (τ : ℕ) (ok : Bool) (a : ℕ) →
+      ent 𝓤 (ensured 𝓤 H A verdict′.ended (verdict′.clauses 𝓤 H A mem run) tt (s, (τ, (ok, tt))) tt a) (fact 𝓤 (a ≡ askedAnswer s τ ok))
   verdict-of s τ ok a = exE 𝓤 _ (λ ws. snd∗ 𝓤 (sem 𝓤 H A (lasts verdict′.ended tt (s, (τ, (ok, tt))) ws)) (fact 𝓤 (a ≡ askedAnswer s τ ok)))
 
-  row-of : (s : State) (τ : ℕ) (r z : Record) → ent 𝓤 (ensured 𝓤 H A row′.ended (row′.clauses 𝓤 H A mem run) tt (s, (τ, (r, tt))) tt z) (fact 𝓤 (z ≡ recordFor s τ r))
+  row-of : (s : State) (τ : ℕ) (r z : Record) →
+      ent 𝓤 (ensured 𝓤 H A row′.ended (row′.clauses 𝓤 H A mem run) tt (s, (τ, (r, tt))) tt z) (fact 𝓤 (z ≡ recordFor s τ r))
   row-of s τ r z = exE 𝓤 _ (λ ws. snd∗ 𝓤 (sem 𝓤 H A (lasts row′.ended tt (s, (τ, (r, tt))) ws)) (fact 𝓤 (z ≡ recordFor s τ r)))
 
-module _ {M : Type 1} (𝓤 : URA M) (H : Heap 𝓤) (A : Atoms 𝓤) (W : Given 𝓤 H A) (mem : Memory → SProp 𝓤) (run : Routine → Fun 𝓤) (κ : Lft) (q : Share) (b o : ℕ) (γ : GName) (xs : List Record) (s : State) (τ : ℕ) where
+module _ {M : Type 1} (𝓤 : URA M) (H : Heap 𝓤) (A : Atoms 𝓤) (W : Given 𝓤 H A) (mem : Memory → SProp 𝓤)
+    (run : Routine → Fun 𝓤) (κ : Lft) (q : Share) (b o : ℕ) (γ : GName) (xs : List Record) (s : State) (τ : ℕ) where
   abbrev n : ℕ
   n = length xs
 
@@ -194,7 +207,8 @@ module _ {M : Type 1} (𝓤 : URA M) (H : Heap 𝓤) (A : Atoms 𝓤) (W : Given
 
   module _ (is-s : Is S.the-row s (sv ∷ [])) (gt : τ < 2 ^ 64) (g : Room R n) where
     -- the row has its last list, and what is passed by value is owned as it was
-    exits : (a : ℕ) (zs : List Record) → a < 2 ^ 8 → length zs ≡ n → (a ≡ recordsAnswer s τ xs) × (zs ≡ Refusals.pick (eqb a 0) (map (λ r. filledRecord s τ r) xs) xs)
+    exits : (a : ℕ) (zs : List Record) → a < 2 ^ 8 → length zs ≡ n →
+        (a ≡ recordsAnswer s τ xs) × (zs ≡ Refusals.pick (eqb a 0) (map (λ r. filledRecord s τ r) xs) xs)
         → ent 𝓤 (⋆ 𝓤 H A (‵ (fobs γ (codedHoleys R .code (heres R zs))) ∷ ‵ (fbor κ (Held R (length zs) b o γ)) ∷ ‵ (flft κ q) ∷ [])) (Post (vint w8 a))
     exits a zs ga len e =
         qed W (‵ (fobs γ (codedHoleys R .code (heres R zs))) ∷ ‵ (fbor κ (Held R (length zs) b o γ)) ∷ ‵ (flft κ q) ∷ []) ∵
@@ -205,7 +219,10 @@ module _ {M : Type 1} (𝓤 : URA M) (H : Heap 𝓤) (A : Atoms 𝓤) (W : Given
         owned ! S.the-row (Is S.the-row) (LL.makes S.the-type S′.the-plain 𝓤 H A) s _ is-s $ fjoin ! $ frame ! $
         owned ! u8 (Is u8) (uint-makes 𝓤 H A W w8) a _ (refl, ga) $ done !
 
-    module _ (𝓣 : Tables 𝓤 H) (known-id : Triple 𝓤 (𝓣 .C #id-ok) (Id 𝓤 H A W mem run)) (known-verdict : Triple 𝓤 (𝓣 .C #verdict) (Verdict 𝓤 H A W mem run)) (known-row : Triple 𝓤 (𝓣 .C #row-for) (Row 𝓤 H A W mem run)) (l₀ l₁ l₂ l₃ l₄ l₅ l₆ l₇ l₈ l₉ l₁₀ l₁₁ l₁₂ l₁₃ l₁₄ l₁₅ l₁₆ l₁₇ l₁₈ l₁₉ : ℕ) where
+    module _ (𝓣 : Tables 𝓤 H) (known-id : Triple 𝓤 (𝓣 .C #id-ok) (Id 𝓤 H A W mem run))
+        (known-verdict : Triple 𝓤 (𝓣 .C #verdict) (Verdict 𝓤 H A W mem run))
+        (known-row : Triple 𝓤 (𝓣 .C #row-for) (Row 𝓤 H A W mem run))
+        (l₀ l₁ l₂ l₃ l₄ l₅ l₆ l₇ l₈ l₉ l₁₀ l₁₁ l₁₂ l₁₃ l₁₄ l₁₅ l₁₆ l₁₇ l₁₈ l₁₉ : ℕ) where
       abbrev C : Calls 𝓤 H
       C = 𝓣 .C
 
@@ -251,7 +268,9 @@ module _ {M : Type 1} (𝓤 : URA M) (H : Heap 𝓤) (A : Atoms 𝓤) (W : Given
         abbrev Left₂ : Out → SProp 𝓤
         Left₂ = afterBlock 𝓤 H (afterSeq 𝓤 H (Wp 𝓤 H C Λ En mir′.t-7 (atReturn 𝓤 H En Post)) (atReturn 𝓤 H En Post))
 
-        more₂ : (i : ℕ) (ls : List Record) (X : SProp 𝓤) → i < length ls → length ls ≡ n → ((r : Record) → r ≡ f (getD ls i noRecord) → ent 𝓤 (⋆ 𝓤 H A (At₂ (suc i) (set ls i r))) X) → ent 𝓤 (⋆ 𝓤 H A (At₂ i ls)) (Wp 𝓤 H C Λ En mir′.turn-2 (afterTurn 𝓤 H X Left₂))
+        more₂ : (i : ℕ) (ls : List Record) (X : SProp 𝓤) → i < length ls → length ls ≡ n →
+            ((r : Record) → r ≡ f (getD ls i noRecord) → ent 𝓤 (⋆ 𝓤 H A (At₂ (suc i) (set ls i r))) X) →
+            ent 𝓤 (⋆ 𝓤 H A (At₂ i ls)) (Wp 𝓤 H C Λ En mir′.turn-2 (afterTurn 𝓤 H X Left₂))
         unfolding afterTurn
         more₂ i ls X small len k =
             qed W (At₂ i ls) ∵ exec ! C Λ En mir′.turn-2 (anyQ (afterTurn 𝓤 H X Left₂)) $
@@ -286,7 +305,9 @@ module _ {M : Type 1} (𝓤 : URA M) (H : Heap 𝓤) (A : Atoms 𝓤) (W : Given
             next-fits = omega (arith, g .0, small, len)
 
         -- the row is closed, the answer is returned and every local is freed
-        leaves : (ls : List Record) → length ls ≡ n → ls ≡ Refusals.pick (eqb a 0) (map (λ r. filledRecord s τ r) xs) xs → ent 𝓤 (⋆ 𝓤 H A (Ending ls)) (Wp 𝓤 H C Λ En mir′.t-7 (atReturn 𝓤 H En Post))
+        leaves : (ls : List Record) → length ls ≡ n →
+            ls ≡ Refusals.pick (eqb a 0) (map (λ r. filledRecord s τ r) xs) xs →
+            ent 𝓤 (⋆ 𝓤 H A (Ending ls)) (Wp 𝓤 H C Λ En mir′.t-7 (atReturn 𝓤 H En Post))
         leaves ls len e =
             qed W (Ending ls) ∵ exec ! C Λ En mir′.t-7 (atRet En Post) $
             assigns ! (of-opd ! (load ! (from ! (stop !)) (look ! 2 refl))) (from ! (stop !)) (init ! 19 refl (tt, record { fits = ga })) $
@@ -296,7 +317,9 @@ module _ {M : Type 1} (𝓤 : URA M) (H : Heap 𝓤) (A : Atoms 𝓤) (W : Given
             by ! (exits a ls ga len (is-a, e))
 
         -- the turn that leaves the second loop
-        ends₂ : a ≡ 0 → (ls : List Record) → length ls ≡ n → ((k : ℕ) → k < n → getD ls k noRecord ≡ f (getD xs k noRecord)) → (X : SProp 𝓤) → ent 𝓤 (⋆ 𝓤 H A (At₂ n ls)) (Wp 𝓤 H C Λ En mir′.turn-2 (afterTurn 𝓤 H X Left₂))
+        ends₂ : a ≡ 0 → (ls : List Record) → length ls ≡ n →
+            ((k : ℕ) → k < n → getD ls k noRecord ≡ f (getD xs k noRecord)) → (X : SProp 𝓤) →
+            ent 𝓤 (⋆ 𝓤 H A (At₂ n ls)) (Wp 𝓤 H C Λ En mir′.turn-2 (afterTurn 𝓤 H X Left₂))
         unfolding afterTurn
         ends₂ done-is ls len each X =
             qed W (At₂ n ls) ∵ exec ! C Λ En mir′.turn-2 (anyQ (afterTurn 𝓤 H X Left₂)) $
@@ -312,7 +335,8 @@ module _ {M : Type 1} (𝓤 : URA M) (H : Heap 𝓤) (A : Atoms 𝓤) (W : Given
             (via 𝓤 (ex 𝓤 (λ (ws : List Record). guard 𝓤 (Filling f xs t i ws) (⋆ 𝓤 H A (At₂ i ws)))) (exI 𝓤 (λ (ws : List Record). guard 𝓤 (Filling f xs t i ws) (⋆ 𝓤 H A (At₂ i ws))) ls)
             (exI 𝓤 (λ (j : ℕ). ex 𝓤 (λ (ws : List Record). guard 𝓤 (Filling f xs t j ws) (⋆ 𝓤 H A (At₂ j ws)))) i))
 
-        turn₂ : a ≡ 0 → (t i : ℕ) (ls : List Record) → Filling f xs t i ls → ent 𝓤 (⋆ 𝓤 H A (At₂ i ls)) (Wp 𝓤 H C Λ En mir′.turn-2 (afterTurn 𝓤 H (Below₂ t) Left₂))
+        turn₂ : a ≡ 0 → (t i : ℕ) (ls : List Record) → Filling f xs t i ls →
+            ent 𝓤 (⋆ 𝓤 H A (At₂ i ls)) (Wp 𝓤 H C Λ En mir′.turn-2 (afterTurn 𝓤 H (Below₂ t) Left₂))
         turn₂ done-is zero i ls h =
             let at-end : n ≡ i = omega (arith, h .0) in
             subst (λ (j : ℕ). ent 𝓤 (⋆ 𝓤 H A (At₂ j ls)) (Wp 𝓤 H C Λ En mir′.turn-2 (afterTurn 𝓤 H (Below₂ zero) Left₂))) at-end
@@ -335,13 +359,15 @@ module _ {M : Type 1} (𝓤 : URA M) (H : Heap 𝓤) (A : Atoms 𝓤) (W : Given
       abbrev to-id : Record → Bool → Id 𝓤 H A W mem run .Ghost
       to-id r c = ((tt, tt, tt, (r, (c, tt)), (rec r ∷ [], (vbool c ∷ [], tt))), tt)
 
-      goes-id : (r : Record) (c : Bool) → ent 𝓤 (sem 𝓤 H A (R .own r (rec r ∷ []))) (Id 𝓤 H A W mem run .pre (to-id r c))
+      goes-id : (r : Record) (c : Bool) →
+          ent 𝓤 (sem 𝓤 H A (R .own r (rec r ∷ []))) (Id 𝓤 H A W mem run .pre (to-id r c))
       goes-id r c = qed W (‵ (R .own r (rec r ∷ [])) ∷ []) ∵ nothing ! $ owned ! bool (Is bool) (bool-makes 𝓤 H A W) c _ refl $ join ! $ move ! (1 ∷ 0 ∷ []) $ join ! $ nothing ! $ join ! $ frame ! $ done !
 
       abbrev to-verdict : Bool → Verdict 𝓤 H A W mem run .Ghost
       to-verdict c = ((tt, tt, tt, (s, (τ, (c, tt))), (sv ∷ [], (vint w64 τ ∷ [], (vbool c ∷ [], tt)))), tt)
 
-      goes-verdict : (c : Bool) → ent 𝓤 (sem 𝓤 H A (S.the-row .own s (sv ∷ []))) (Verdict 𝓤 H A W mem run .pre (to-verdict c))
+      goes-verdict : (c : Bool) →
+          ent 𝓤 (sem 𝓤 H A (S.the-row .own s (sv ∷ []))) (Verdict 𝓤 H A W mem run .pre (to-verdict c))
       goes-verdict c = qed W (‵ (S.the-row .own s (sv ∷ [])) ∷ []) ∵ nothing ! $ owned ! bool (Is bool) (bool-makes 𝓤 H A W) c _ refl $ join ! $ owned ! u64 (Is u64) (uint-makes 𝓤 H A W w64) τ _ (refl, gt) $ join ! $ move ! (1 ∷ 0 ∷ []) $ join ! $ nothing ! $ join ! $ frame ! $ done !
 
       -- [the row; _5; _4; _6; _7; _8; _9; _10; _11; _12; _13; _14; _15; _16; _17; _18; _1; _2; _3; _0; ..]
@@ -357,7 +383,9 @@ module _ {M : Type 1} (𝓤 : URA M) (H : Heap 𝓤) (A : Atoms 𝓤) (W : Given
       abbrev Left₁ : Out → SProp 𝓤
       Left₁ = afterBlock 𝓤 H (afterSeq 𝓤 H (Wp 𝓤 H C Λ En mir′.t-4 (atReturn 𝓤 H En Post)) (atReturn 𝓤 H En Post))
 
-      more₁ : (i : ℕ) (c : Bool) (X : SProp 𝓤) → i < n → ((z : Bool) → z ≡ both (leb (getD xs i noRecord .id) idMax) c → ent 𝓤 (⋆ 𝓤 H A (At₁ (suc i) z)) X) → ent 𝓤 (⋆ 𝓤 H A (At₁ i c)) (Wp 𝓤 H C Λ En mir′.turn-1 (afterTurn 𝓤 H X Left₁))
+      more₁ : (i : ℕ) (c : Bool) (X : SProp 𝓤) → i < n →
+          ((z : Bool) → z ≡ both (leb (getD xs i noRecord .id) idMax) c → ent 𝓤 (⋆ 𝓤 H A (At₁ (suc i) z)) X) →
+          ent 𝓤 (⋆ 𝓤 H A (At₁ i c)) (Wp 𝓤 H C Λ En mir′.turn-1 (afterTurn 𝓤 H X Left₁))
       unfolding afterTurn
       more₁ i c X small k =
           qed W (At₁ i c) ∵ exec ! C Λ En mir′.turn-1 (anyQ (afterTurn 𝓤 H X Left₁)) $
@@ -390,7 +418,8 @@ module _ {M : Type 1} (𝓤 : URA M) (H : Heap 𝓤) (A : Atoms 𝓤) (W : Given
           next-fits = omega (arith, g .0, small)
 
       -- the turn that leaves the first loop: the verdict answers, and the second loop begins
-      ends₁ : (c : Bool) → c ≡ recordIdsOk xs n → (X : SProp 𝓤) → ent 𝓤 (⋆ 𝓤 H A (At₁ n c)) (Wp 𝓤 H C Λ En mir′.turn-1 (afterTurn 𝓤 H X Left₁))
+      ends₁ : (c : Bool) → c ≡ recordIdsOk xs n → (X : SProp 𝓤) →
+          ent 𝓤 (⋆ 𝓤 H A (At₁ n c)) (Wp 𝓤 H C Λ En mir′.turn-1 (afterTurn 𝓤 H X Left₁))
       unfolding afterTurn
       ends₁ c is-c X =
           qed W (At₁ n c) ∵ exec ! C Λ En mir′.turn-1 (anyQ (afterTurn 𝓤 H X Left₁)) $
@@ -424,7 +453,8 @@ module _ {M : Type 1} (𝓤 : URA M) (H : Heap 𝓤) (A : Atoms 𝓤) (W : Given
           (via 𝓤 (ex 𝓤 (λ (z : Bool). guard 𝓤 (Tested xs t i z) (⋆ 𝓤 H A (At₁ i z)))) (exI 𝓤 (λ (z : Bool). guard 𝓤 (Tested xs t i z) (⋆ 𝓤 H A (At₁ i z))) c)
           (exI 𝓤 (λ (j : ℕ). ex 𝓤 (λ (z : Bool). guard 𝓤 (Tested xs t j z) (⋆ 𝓤 H A (At₁ j z)))) i))
 
-      turn₁ : (t i : ℕ) (c : Bool) → Tested xs t i c → ent 𝓤 (⋆ 𝓤 H A (At₁ i c)) (Wp 𝓤 H C Λ En mir′.turn-1 (afterTurn 𝓤 H (Below₁ t) Left₁))
+      turn₁ : (t i : ℕ) (c : Bool) → Tested xs t i c →
+          ent 𝓤 (⋆ 𝓤 H A (At₁ i c)) (Wp 𝓤 H C Λ En mir′.turn-1 (afterTurn 𝓤 H (Below₁ t) Left₁))
       turn₁ zero i c h =
           let at-end : n ≡ i = omega (arith, h .0) in
           subst (λ (j : ℕ). c ≡ recordIdsOk xs j → ent 𝓤 (⋆ 𝓤 H A (At₁ j c)) (Wp 𝓤 H C Λ En mir′.turn-1 (afterTurn 𝓤 H (Below₁ zero) Left₁))) at-end (λ e. ends₁ c e (Below₁ zero)) (h .1)
@@ -467,14 +497,18 @@ module _ {M : Type 1} (𝓤 : URA M) (H : Heap 𝓤) (A : Atoms 𝓤) (W : Given
           by ! (via 𝓤 _ arranges loop₁)
 
     -- the parameters are stored
-    walk : (𝓣 : Tables 𝓤 H) → Triple 𝓤 (𝓣 .C #id-ok) (Id 𝓤 H A W mem run) → Triple 𝓤 (𝓣 .C #verdict) (Verdict 𝓤 H A W mem run) → Triple 𝓤 (𝓣 .C #row-for) (Row 𝓤 H A W mem run)
+    walk : (𝓣 : Tables 𝓤 H) → Triple 𝓤 (𝓣 .C #id-ok) (Id 𝓤 H A W mem run) →
+        Triple 𝓤 (𝓣 .C #verdict) (Verdict 𝓤 H A W mem run) → Triple 𝓤 (𝓣 .C #row-for) (Row 𝓤 H A W mem run)
         → ent 𝓤 (onEntry 𝓤 H A records′.signature (κ, tt) (q, tt) x at) (WpFn 𝓤 H (𝓣 .C) (𝓣 .Λ) code.function (sv ∷ vint w64 τ ∷ sliceVal (b, o) n ∷ []) Post)
     walk 𝓣 known-id known-verdict known-row =
         enters 𝓤 H A W S′.mir slice Rec′.mir mir′.t-1 (𝓣 .C) (𝓣 .Λ) Post (‵ (flft κ q) ⊛ ‵ ftrue) (‵ (owns (S.the-row ∷ u64 ∷ MutSlice (named 0) κ R ∷ []) x at)) sv (vint w64 τ) (sliceVal (b, o) n)
         (LL.lawful S.the-type S′.the-laws 𝓤 H A W .typed s _ is-s .0) (tt, record { fits = gt }) (tt, (tt, (record { fits = g .0 }, tt)))
         (begins 𝓣 known-id known-verdict known-row)
 
-module _ {M : Type 1} (𝓤 : URA M) (H : Heap 𝓤) (A : Atoms 𝓤) (W : Given 𝓤 H A) (mem : Memory → SProp 𝓤) (run : Routine → Fun 𝓤) (𝓣 : Tables 𝓤 H) (known-id : Triple 𝓤 (𝓣 .C #id-ok) (Id 𝓤 H A W mem run)) (known-verdict : Triple 𝓤 (𝓣 .C #verdict) (Verdict 𝓤 H A W mem run)) (known-row : Triple 𝓤 (𝓣 .C #row-for) (Row 𝓤 H A W mem run)) where
+module _ {M : Type 1} (𝓤 : URA M) (H : Heap 𝓤) (A : Atoms 𝓤) (W : Given 𝓤 H A) (mem : Memory → SProp 𝓤)
+    (run : Routine → Fun 𝓤) (𝓣 : Tables 𝓤 H) (known-id : Triple 𝓤 (𝓣 .C #id-ok) (Id 𝓤 H A W mem run))
+    (known-verdict : Triple 𝓤 (𝓣 .C #verdict) (Verdict 𝓤 H A W mem run))
+    (known-row : Triple 𝓤 (𝓣 .C #row-for) (Row 𝓤 H A W mem run)) where
   records-walks : Walks 𝓤 H A records′.ended stayed (WpFn 𝓤 H (𝓣 .C) (𝓣 .Λ) code.function) (records′.clauses 𝓤 H A mem run)
   records-walks = walked 𝓤 H A records′.ended stayed (records′.clauses 𝓤 H A mem run) (WpFn 𝓤 H (𝓣 .C) (𝓣 .Λ) code.function) (λ κs. (LL.vals S.the-type S′.the-laws, (uint-vals w64, (slice-vals, tt)))) (λ κs. (LL.tells S.the-type S′.the-laws, (uint-tells w64, (mut-slice-tells (named 0) (κs .0) R, tt))))
       (λ κs qs bounds a g are. via 𝓤 _ (fst∗ 𝓤 _ (emp 𝓤)) (walk 𝓤 H A W mem run (κs .0) (qs .0) (a .1 .1 .0 .ptr .0) (a .1 .1 .0 .ptr .1) (a .1 .1 .0 .name) (a .1 .1 .0 .now) (a .0) (a .1 .0) (are .0) (are .1 .0 .1) (are .1 .1 .0 .0 .1) 𝓣 known-id known-verdict known-row))

@@ -13,7 +13,8 @@ use Rattle.console_answers.proofs.entries.put_cells.Statement.{statemen
 use Rattle.console_answers.proofs.entries.put_cells.Tie as tie
 
 abbrev Inv-loop : tie.InvT-loop
-Inv-loop out₀ at row n place₀ i₀ out place i = (i ≤ n) × (page out place ≡ puts (page out₀ at) (cellsText row i)) × (length out ≡ length out₀)
+Inv-loop out₀ at row n place₀ i₀ out place i =
+    (i ≤ n) × (page out place ≡ puts (page out₀ at) (cellsText row i)) × (length out ≡ length out₀)
 
 abbrev μ-loop : tie.MeasureT-loop
 μ-loop out₀ at row n place₀ i₀ out place i = n - i
@@ -45,7 +46,8 @@ loop-again c =
     let l = at-loop .loop in
     let x = at-start .args in
     let f : ℕ → List ℕ = λ i. cellEntry (getD (x .row .now) i 0) in
-    let w = written-on f (page (x .out .now) (x .at)) (l .i) _ (l .inv .1) (l .inv .2) (at-put-cell .put-cell .ensures) in
+    let w = written-on f (page (x .out .now) (x .at)) (l .i) _ (l .inv .1) (l .inv .2)
+    (at-put-cell .put-cell .ensures) in
     (omega arith, w .0, w .1)
 
 same-length : tie.Need-same-length Inv-loop μ-loop

@@ -1,4 +1,5 @@
--- `console_answers::entries::put_numbers` meets its contract: a row of numbers, of which the entries passed are written.
+-- `console_answers::entries::put_numbers` meets its contract: a row of numbers, of which the entries passed are
+-- written.
 use Prim.Native.Nat.{ℕ, _-_, _≤_}
 use mathlib.Core.Path.{_≡_, refl}
 use mathlib.Core.List.{List}
@@ -13,7 +14,8 @@ use Rattle.console_answers.proofs.entries.put_numbers.Statement.{statem
 use Rattle.console_answers.proofs.entries.put_numbers.Tie as tie
 
 abbrev Inv-loop : tie.InvT-loop
-Inv-loop out₀ at row place₀ i₀ out place i = (i ≤ length row) × (page out place ≡ puts (page out₀ at) (numbersText row i)) × (length out ≡ length out₀)
+Inv-loop out₀ at row place₀ i₀ out place i =
+    (i ≤ length row) × (page out place ≡ puts (page out₀ at) (numbersText row i)) × (length out ≡ length out₀)
 
 abbrev μ-loop : tie.MeasureT-loop
 μ-loop out₀ at row place₀ i₀ out place i = length row - i
@@ -45,7 +47,8 @@ loop-again c =
     let l = at-loop .loop in
     let x = at-start .args in
     let f : ℕ → List ℕ = λ i. entry (getD (x .row .now) i 0) in
-    let w = written-on f (page (x .out .now) (x .at)) (l .i) _ (l .inv .1) (l .inv .2) (at-put-entry .put-entry .ensures) in
+    let w = written-on f (page (x .out .now) (x .at)) (l .i) _ (l .inv .1) (l .inv .2)
+    (at-put-entry .put-entry .ensures) in
     (omega arith, w .0, w .1)
 
 same-length : tie.Need-same-length Inv-loop μ-loop

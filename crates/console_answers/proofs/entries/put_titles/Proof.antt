@@ -13,7 +13,9 @@ use Rattle.console_answers.proofs.entries.put_titles.Statement.{stateme
 use Rattle.console_answers.proofs.entries.put_titles.Tie as tie
 
 abbrev Inv-loop : tie.InvT-loop
-Inv-loop out₀ at ids counts held place₀ i₀ out place i = (i ≤ length ids) × (page out place ≡ puts (page out₀ at) (titlesText ids counts held i)) × (length out ≡ length out₀)
+Inv-loop out₀ at ids counts held place₀ i₀ out place i =
+    (i ≤ length ids) × (page out place ≡ puts (page out₀ at)
+    (titlesText ids counts held i)) × (length out ≡ length out₀)
 
 abbrev μ-loop : tie.MeasureT-loop
 μ-loop out₀ at ids counts held place₀ i₀ out place i = length ids - i
@@ -56,8 +58,10 @@ loop-again c =
     let at-start = at-loop .before .before .before .before .before in
     let l = at-loop .loop in
     let x = at-start .args in
-    let f : ℕ → List ℕ = λ i. titleEntry (getD (x .ids .now) i 0) (getD (x .counts .now) i 0) (getD (x .held .now) i 0) in
-    let w = written-on f (page (x .out .now) (x .at)) (l .i) _ (l .inv .1) (l .inv .2) (at-put-title .put-title .ensures) in
+    let f : ℕ → List ℕ = λ i. titleEntry (getD (x .ids .now) i 0) (getD (x .counts .now) i 0)
+    (getD (x .held .now) i 0) in
+    let w = written-on f (page (x .out .now) (x .at)) (l .i) _ (l .inv .1) (l .inv .2)
+    (at-put-title .put-title .ensures) in
     (omega arith, w .0, w .1)
 
 same-length : tie.Need-same-length Inv-loop μ-loop

@@ -17,7 +17,8 @@ same-length c = search needs
 returns : tie.Need-returns
 returns c = let x = c .before .before .before .before .before .before .args in
     let p = page (x .out .now) (x .at) in
-    lane-told p p _ (x .s) (x .id) (x .lane) (x .time) _ _ (c .before .before .before .before .lane .ensures .0) (c .before .before .before .before .lane .ensures .1) (c .before .before .put-value .ensures)
+    lane-told p p _ (x .s) (x .id) (x .lane) (x .time) _ _ (c .before .before .before .before .lane .ensures .0)
+    (c .before .before .before .before .lane .ensures .1) (c .before .before .put-value .ensures)
 
 pub put-lane-spec : {M : Type 1} → statement M
 put-lane-spec = tie.close (tie.spec lane-requires put-value-requires same-length returns)

@@ -60,21 +60,26 @@ same-length c = search needs
 
 returns : tie.Need-returns
 unfolding text
-returns c = rw (c .before .before .before .before .before .before .before .kind .given .1) (c .before .before .put-event .ensures)
+returns c =
+    rw (c .before .before .before .before .before .before .before .kind .given .1)
+    (c .before .before .put-event .ensures)
 
 same-length-2 : tie.Need-same-length-2
 same-length-2 c = search needs
 
 returns-2 : tie.Need-returns-2
 unfolding text
-returns-2 c = rw (c .before .before .before .before .before .before .before .kind2 .given .1) (c .before .before .put-event2 .ensures)
+returns-2 c =
+    rw (c .before .before .before .before .before .before .before .kind2 .given .1)
+    (c .before .before .put-event2 .ensures)
 
 same-length-3 : tie.Need-same-length-3
 same-length-3 c = search needs
 
 returns-3 : tie.Need-returns-3
 unfolding text
-returns-3 c = rw (c .before .before .before .before .before .before .enum-told .given .1) (c .before .before .put-event3 .ensures)
+returns-3 c =
+    rw (c .before .before .before .before .before .before .enum-told .given .1) (c .before .before .put-event3 .ensures)
 
 pub put-kind-spec : {M : Type 1} → statement M
 put-kind-spec =

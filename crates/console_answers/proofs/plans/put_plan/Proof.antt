@@ -17,7 +17,9 @@ array-borrow-prefix-row : tie.Need-array-borrow-prefix-row
 array-borrow-prefix-row c = search needs
 
 slice-aggregate-put-row : tie.Need-slice-aggregate-put-row
-slice-aggregate-put-row c = counted _ placesMost (c .before .before .blank-row .result) (c .before .before .blank-row .ensures .1) (omega (arith, c .before .before .before .places-of .ensures))
+slice-aggregate-put-row c =
+    counted _ placesMost (c .before .before .blank-row .result) (c .before .before .blank-row .ensures .1)
+    (omega (arith, c .before .before .before .places-of .ensures))
 
 put-row-requires : tie.Need-put-row-requires
 put-row-requires c κs = search needs
@@ -27,7 +29,12 @@ same-length c = search needs
 
 returns : tie.Need-returns
 unfolding roomOf
-returns c = rw (← c .before .before .before .before .before .before .before .places-of .ensures, ← c .before .before .before .before .before .before .blank-row .ensures .0) (c .before .before .before .put-row .ensures)
+returns c =
+    rw (
+      ← c .before .before .before .before .before .before .before .places-of .ensures,
+      ← c .before .before .before .before .before .before .blank-row .ensures .0,
+    )
+    (c .before .before .before .put-row .ensures)
 
 pub put-plan-spec : {M : Type 1} → statement M
 put-plan-spec =

@@ -22,7 +22,8 @@ pow2-requires c κs =
     let at-start = at-plan .before .before .before .before in
     let x = at-start .args in
     let e = at-plan .plan .ensures in
-    (accepted-only (x .floor) (x .cap) (x .count) (x .arrival) (length (x .row .now)) (sym (e .answer) ∙ at-if1 .if1 .taken)) .count .high
+    (accepted-only (x .floor) (x .cap) (x .count) (x .arrival) (length (x .row .now))
+    (sym (e .answer) ∙ at-if1 .if1 .taken)) .count .high
 
 put-cells-requires : tie.Need-put-cells-requires
 put-cells-requires c κs =
@@ -31,7 +32,8 @@ put-cells-requires c κs =
     let at-start = at-plan .before .before .before .before in
     let x = at-start .args in
     let e = at-plan .plan .ensures in
-    let t = accepted-only (x .floor) (x .cap) (x .count) (x .arrival) (length (x .row .now)) (sym (e .answer) ∙ at-if1 .if1 .taken) in
+    let t = accepted-only (x .floor) (x .cap) (x .count) (x .arrival) (length (x .row .now))
+    (sym (e .answer) ∙ at-if1 .if1 .taken) in
     omega (arith, t .room, c .pow2 .ensures .is, at-plan .plan .kept)
 
 same-length : tie.Need-same-length
@@ -50,7 +52,9 @@ returns c =
     let at-start = at-plan .before .before .before .before in
     let x = at-start .args in
     let p = page (x .out .now) (x .at) in
-    plan-told p _ _ (x .floor) (x .cap) (x .count) (x .arrival) _ (x .row .now) _ (at-plan .plan .ensures) (at-put-done .put-done .ensures) (at-if1 .if1 .taken) (rw (at-pow2 .pow2 .ensures .is) at (at-put-cells .put-cells .ensures))
+    plan-told p _ _ (x .floor) (x .cap) (x .count) (x .arrival) _ (x .row .now) _ (at-plan .plan .ensures)
+    (at-put-done .put-done .ensures) (at-if1 .if1 .taken)
+    (rw (at-pow2 .pow2 .ensures .is) at (at-put-cells .put-cells .ensures))
 
 same-length-3 : tie.Need-same-length-3
 same-length-3 c = search needs
@@ -65,7 +69,8 @@ returns-2 c =
     let at-start = at-plan .before .before .before .before in
     let x = at-start .args in
     let p = page (x .out .now) (x .at) in
-    plan-refused p _ p (x .floor) (x .cap) (x .count) (x .arrival) _ (x .row .now) _ (at-plan .plan .ensures) (at-put-done .put-done .ensures) (c .if1 .left)
+    plan-refused p _ p (x .floor) (x .cap) (x .count) (x .arrival) _ (x .row .now) _ (at-plan .plan .ensures)
+    (at-put-done .put-done .ensures) (c .if1 .left)
 
 pub put-row-spec : {M : Type 1} → statement M
 put-row-spec =

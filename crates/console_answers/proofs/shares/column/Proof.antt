@@ -55,9 +55,13 @@ loop-again c = (omega arith, rw add-one (cc))
 
 returns : tie.Need-returns Inv-loop μ-loop
 returns c =
-    let whole : c .before .loop .c ≡ column (c .before .before .args .row .now) (c .before .before .args .first) titlesMost =
-    cc (le-antisymm (c .before .loop .inv .0) (c .loop-test .left)) in
-    (whole, ap length whole ∙ column-length (c .before .before .args .row .now) (c .before .before .args .first) titlesMost)
+    let whole : c .before .loop .c ≡ column (c .before .before .args .row .now)
+    (c .before .before .args .first) titlesMost =
+    cc (le-antisymm (c .before .loop .inv .0) (c .loop-test .left)) in (
+      whole,
+      ap length whole ∙ column-length (c .before .before .args .row .now)
+          (c .before .before .args .first) titlesMost,
+    )
 
 pub column-spec : {M : Type 1} → statement M
 column-spec =

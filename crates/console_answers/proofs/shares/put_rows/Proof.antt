@@ -29,7 +29,9 @@ returns c =
     let at-start = at-share .before .before .before .before .before .before .before .before in
     let x = at-start .args in
     let p = page (x .out .now) (x .at) in
-    share-told p _ _ (x .pool) _ (x .rates .now) (x .lengths .now) (x .floors .now) (x .caps .now) (x .counts .now) _ (at-share .share .ensures) (at-put-done .put-done .ensures) (at-if1 .if1 .taken) (search needs) (at-put-shares .put-shares .ensures)
+    share-told p _ _ (x .pool) _ (x .rates .now) (x .lengths .now) (x .floors .now) (x .caps .now) (x .counts .now) _
+    (at-share .share .ensures) (at-put-done .put-done .ensures) (at-if1 .if1 .taken) (search needs)
+    (at-put-shares .put-shares .ensures)
 
 same-length-3 : tie.Need-same-length-3
 same-length-3 c = search needs
@@ -44,7 +46,8 @@ returns-2 c =
     let at-start = at-share .before .before .before .before .before .before .before .before in
     let x = at-start .args in
     let p = page (x .out .now) (x .at) in
-    share-refused p _ p (x .pool) _ (x .rates .now) (x .lengths .now) (x .floors .now) (x .caps .now) (x .counts .now) _ (at-share .share .ensures) (at-put-done .put-done .ensures) (c .if1 .left)
+    share-refused p _ p (x .pool) _ (x .rates .now) (x .lengths .now) (x .floors .now) (x .caps .now) (x .counts .now) _
+    (at-share .share .ensures) (at-put-done .put-done .ensures) (c .if1 .left)
 
 pub put-rows-spec : {M : Type 1} → statement M
 put-rows-spec =

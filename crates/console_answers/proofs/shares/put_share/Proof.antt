@@ -33,7 +33,8 @@ slice-aggregate-put-rows : tie.Need-slice-aggregate-put-rows
 slice-aggregate-put-rows c =
     let at-column = c .before .before .before .before .before .before .before .before in
     let at-titles-of = at-column .before .before in
-    counted _ titlesMost (at-column .column .result) (at-column .column .ensures .1) (at-titles-of .titles-of .ensures .1)
+    counted _ titlesMost (at-column .column .result) (at-column .column .ensures .1)
+    (at-titles-of .titles-of .ensures .1)
 
 array-share-prefix-lengths : tie.Need-array-share-prefix-lengths
 array-share-prefix-lengths c = search needs
@@ -42,7 +43,8 @@ slice-aggregate-put-rows-2 : tie.Need-slice-aggregate-put-rows-2
 slice-aggregate-put-rows-2 c =
     let at-column2 = c .before .before .before .before .before .before .before in
     let at-titles-of = at-column2 .before .before .before .before in
-    counted _ titlesMost (at-column2 .column2 .result) (at-column2 .column2 .ensures .1) (at-titles-of .titles-of .ensures .1)
+    counted _ titlesMost (at-column2 .column2 .result) (at-column2 .column2 .ensures .1)
+    (at-titles-of .titles-of .ensures .1)
 
 array-share-prefix-floors : tie.Need-array-share-prefix-floors
 array-share-prefix-floors c = search needs
@@ -51,7 +53,8 @@ slice-aggregate-put-rows-3 : tie.Need-slice-aggregate-put-rows-3
 slice-aggregate-put-rows-3 c =
     let at-column3 = c .before .before .before .before .before .before in
     let at-titles-of = at-column3 .before .before .before .before .before .before in
-    counted _ titlesMost (at-column3 .column3 .result) (at-column3 .column3 .ensures .1) (at-titles-of .titles-of .ensures .1)
+    counted _ titlesMost (at-column3 .column3 .result) (at-column3 .column3 .ensures .1)
+    (at-titles-of .titles-of .ensures .1)
 
 array-share-prefix-caps : tie.Need-array-share-prefix-caps
 array-share-prefix-caps c = search needs
@@ -60,7 +63,8 @@ slice-aggregate-put-rows-4 : tie.Need-slice-aggregate-put-rows-4
 slice-aggregate-put-rows-4 c =
     let at-column4 = c .before .before .before .before .before in
     let at-titles-of = at-column4 .before .before .before .before .before .before .before .before in
-    counted _ titlesMost (at-column4 .column4 .result) (at-column4 .column4 .ensures .1) (at-titles-of .titles-of .ensures .1)
+    counted _ titlesMost (at-column4 .column4 .result) (at-column4 .column4 .ensures .1)
+    (at-titles-of .titles-of .ensures .1)
 
 array-borrow-prefix-counts : tie.Need-array-borrow-prefix-counts
 array-borrow-prefix-counts c = search needs
@@ -85,7 +89,13 @@ returns c =
     let at-column2 = at-column3 .before .before in
     let at-column = at-column2 .before .before in
     let at-titles-of = at-column .before .before in
-    rw (← at-titles-of .titles-of .ensures .0, ← at-column .column .ensures .0, ← at-column2 .column2 .ensures .0, ← at-column3 .column3 .ensures .0, ← at-column4 .column4 .ensures .0)
+    rw (
+      ← at-titles-of .titles-of .ensures .0,
+      ← at-column .column .ensures .0,
+      ← at-column2 .column2 .ensures .0,
+      ← at-column3 .column3 .ensures .0,
+      ← at-column4 .column4 .ensures .0,
+    )
     (at-put-rows .put-rows .ensures)
 
 pub put-share-spec : {M : Type 1} → statement M

@@ -24,11 +24,20 @@ same-length-3 : tie.Need-same-length-3
 same-length-3 c = search needs
 
 returns : tie.Need-returns
-returns c = let x = c .before .before .before .before .before .before .before .before .before .before .before .before .before .before .before .before .before .before .before .before .before .before .args in
-    let h = c .before .before .before .before .before .before .before .before .before .before .before .before .before .before .before .before .before .before .before .before .before .before .pre in
+returns c =
+    let at-put-titles = c .before .before in
+    let at-if1 = at-put-titles .before .before .before .before in
+    let at-put-done = at-if1 .before .before .before in
+    let at-status = at-put-done .before .before .before .before .before .before in
+    let at-start = at-status .before .before .before .before .before .before .before in
+    let x = at-start .args in
+    let h = at-start .pre in
     let p = page (x .out .now) (x .at) in
-    let asked = c .before .before .before .before .before .before .before .before .before .before .before .before .before .before .before .status .ensures in
-    status-told p _ _ (x .s) (x .time) _ (x .ids .now) (x .counts .now) (x .held .now) (h .0) (h .1) (asked .0) (c .before .before .before .before .before .before .before .before .before .put-done .ensures) _ _ (asked .1 .0) (asked .1 .1) (c .before .before .before .before .before .before .if1 .taken) (c .before .before .put-titles .ensures)
+    let asked = at-status .status .ensures in
+    status-told p _ _ (x .s) (x .time) _ (x .ids .now) (x .counts .now) (x .held .now) (h .0) (h .1) (asked .0)
+    (at-put-done .put-done .ensures) _ _ (asked .1 .0)
+    (asked .1 .1) (at-if1 .if1 .taken)
+    (at-put-titles .put-titles .ensures)
 
 same-length-4 : tie.Need-same-length-4
 same-length-4 c = search needs
@@ -40,11 +49,16 @@ same-length-6 : tie.Need-same-length-6
 same-length-6 c = search needs
 
 returns-2 : tie.Need-returns-2
-returns-2 c = let x = c .before .before .before .before .before .before .before .before .before .before .before .before .before .before .before .before .args in
-    let h = c .before .before .before .before .before .before .before .before .before .before .before .before .before .before .before .before .pre in
+returns-2 c =
+    let at-put-done = c .before .before .before in
+    let at-status = at-put-done .before .before .before .before .before .before in
+    let at-start = at-status .before .before .before .before .before .before .before in
+    let x = at-start .args in
+    let h = at-start .pre in
     let p = page (x .out .now) (x .at) in
-    let asked = c .before .before .before .before .before .before .before .before .before .status .ensures in
-    status-refused p _ p (x .s) (x .time) _ (x .ids .now) (x .counts .now) (x .held .now) (h .0) (h .1) (asked .0) (c .before .before .before .put-done .ensures) (c .if1 .left)
+    let asked = at-status .status .ensures in
+    status-refused p _ p (x .s) (x .time) _ (x .ids .now) (x .counts .now) (x .held .now) (h .0) (h .1) (asked .0)
+    (at-put-done .put-done .ensures) (c .if1 .left)
 
 pub put-rows-spec : {M : Type 1} → statement M
 put-rows-spec =

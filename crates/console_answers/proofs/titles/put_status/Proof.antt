@@ -36,7 +36,8 @@ array-borrow-prefix-held : tie.Need-array-borrow-prefix-held
 array-borrow-prefix-held c = search needs
 
 slice-aggregate-put-rows-2 : tie.Need-slice-aggregate-put-rows-2
-slice-aggregate-put-rows-2 c = rw length-take (omega (arith, c .before .before .before .before .before .ids-of .ensures .1))
+slice-aggregate-put-rows-2 c =
+    rw length-take (omega (arith, c .before .before .before .before .before .ids-of .ensures .1))
 
 put-rows-requires : tie.Need-put-rows-requires
 put-rows-requires c κs =

@@ -48,8 +48,11 @@ returns c =
     let o = page (x .out .now) (x .at) in
     puts-then o ((text "? " ++ faultWords (x .fault)) ++ text " at byte ") (decimal (fromOne (x .place)))
     (puts-then o (text "? " ++ faultWords (x .fault)) (text " at byte ")
-    (puts-then o (text "? ") (faultWords (x .fault)) (at-put .put .ensures) (at-fault-words .fault-words .ensures)) (at-put2 .put2 .ensures))
-    (at-put-number .put-number .ensures ∙ ap (λ (v : ℕ). puts (page (at-put2 .put2 .last .0) (at-put2 .put2 .result)) (decimal v)) (at-from-one .from-one .ensures))
+    (puts-then o (text "? ") (faultWords (x .fault)) (at-put .put .ensures) (at-fault-words .fault-words .ensures))
+    (at-put2 .put2 .ensures))
+    (at-put-number .put-number .ensures ∙ ap
+    (λ (v : ℕ). puts (page (at-put2 .put2 .last .0) (at-put2 .put2 .result)) (decimal v))
+    (at-from-one .from-one .ensures))
 
 pub put-fault-spec : {M : Type 1} → statement M
 put-fault-spec =

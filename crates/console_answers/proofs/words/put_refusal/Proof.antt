@@ -39,9 +39,11 @@ returns c =
     let at-start = at-put-number .before .before .before in
     let x = at-start .args in
     rw (eq-eqb _ _ (at-if1 .if1 .taken))
-    (puts-then (page (x .out .now) (x .at)) ((decimal (x .number) ++ text " ") ++ refusalWords (x .number)) (decimal (x .expected))
+    (puts-then (page (x .out .now) (x .at)) ((decimal (x .number) ++ text " ") ++ refusalWords (x .number))
+    (decimal (x .expected))
     (puts-then (page (x .out .now) (x .at)) (decimal (x .number) ++ text " ") (refusalWords (x .number))
-    (puts-then (page (x .out .now) (x .at)) (decimal (x .number)) (text " ") (at-put-number .put-number .ensures) (at-put .put .ensures)) (at-refusal-words .refusal-words .ensures)) (at-put-number2 .put-number2 .ensures))
+    (puts-then (page (x .out .now) (x .at)) (decimal (x .number)) (text " ") (at-put-number .put-number .ensures)
+    (at-put .put .ensures)) (at-refusal-words .refusal-words .ensures)) (at-put-number2 .put-number2 .ensures))
 
 same-length-2 : tie.Need-same-length-2
 same-length-2 c = search needs
@@ -56,7 +58,8 @@ returns-2 c =
     let x = at-start .args in
     rw (ne-eqb _ _ (c .if1 .left), append-nil)
     (puts-then (page (x .out .now) (x .at)) (decimal (x .number) ++ text " ") (refusalWords (x .number))
-    (puts-then (page (x .out .now) (x .at)) (decimal (x .number)) (text " ") (at-put-number .put-number .ensures) (at-put .put .ensures)) (at-refusal-words .refusal-words .ensures))
+    (puts-then (page (x .out .now) (x .at)) (decimal (x .number)) (text " ") (at-put-number .put-number .ensures)
+    (at-put .put .ensures)) (at-refusal-words .refusal-words .ensures))
 
 pub put-refusal-spec : {M : Type 1} → statement M
 put-refusal-spec =

@@ -1,4 +1,5 @@
--- `console_answers::words::refusal_words` meets its contract: each text is the part of the row that the table gives, by one computed test.
+-- `console_answers::words::refusal_words` meets its contract: each text is the part of the row that the table gives, by
+-- one computed test.
 use Prim.Native.Nat.{ℕ, _<_}
 use mathlib.Core.Path.{refl, _∙_, ap}
 use Rattle.text.specs.Texts.{text, same}

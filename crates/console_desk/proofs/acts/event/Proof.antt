@@ -8,7 +8,11 @@ happen-requires : tie.Need-happen-requires
 happen-requires c κs = search needs
 
 returns : tie.Need-returns
-returns c = (c .before .happen .ensures .0, moves (c .before .before .before .args .agent) (c .before .before .before .args .line) _ (c .before .happen .ensures .1))
+returns c = (
+  c .before .happen .ensures .0,
+  moves (c .before .before .before .args .agent)
+      (c .before .before .before .args .line) _ (c .before .happen .ensures .1),
+)
 
 pub event-spec : {M : Type 1} → statement M
 event-spec = tie.close (tie.spec happen-requires returns)

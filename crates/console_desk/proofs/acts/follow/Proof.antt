@@ -25,14 +25,16 @@ taken-requires c κs = search needs
 
 returns-2 : tie.Need-returns-2
 returns-2 c = let x = c .before .before .before .before .before .args in
-    follows-notice (x .agent) (x .line) (x .s .now) _ _ (c .before .before .if1 .left) (c .before .if2 .taken) (c .taken .ensures)
+    follows-notice (x .agent) (x .line) (x .s .now) _ _ (c .before .before .if1 .left) (c .before .if2 .taken)
+    (c .taken .ensures)
 
 event-requires : tie.Need-event-requires
 event-requires c κs = search needs
 
 returns-3 : tie.Need-returns-3
 returns-3 c = let x = c .before .before .before .before .before .args in
-    follows-event (x .agent) (x .line) (x .s .now) _ _ (c .before .before .if1 .left) (c .before .if2 .left) (c .event .ensures)
+    follows-event (x .agent) (x .line) (x .s .now) _ _ (c .before .before .if1 .left) (c .before .if2 .left)
+    (c .event .ensures)
 
 pub follow-spec : {M : Type 1} → statement M
 follow-spec =

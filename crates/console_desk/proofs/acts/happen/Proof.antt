@@ -26,7 +26,9 @@ open-requires : tie.Need-open-requires
 open-requires c κs = search needs
 
 returns : tie.Need-returns
-returns c = happened _ (c .before .before .before .args .line) _ _ _ (is-open _ (c .before .if1 .taken)) (c .«open» .ensures .0) (c .«open» .ensures .1)
+returns c =
+    happened _ (c .before .before .before .args .line) _ _ _ (is-open _ (c .before .if1 .taken)) (c .«open» .ensures .0)
+    (c .«open» .ensures .1)
 
 array-read-change : tie.Need-array-read-change
 array-read-change c = search needs
@@ -41,7 +43,9 @@ change-requires : tie.Need-change-requires
 change-requires c κs = search needs
 
 returns-2 : tie.Need-returns-2
-returns-2 c = happened _ (c .before .before .before .before .args .line) _ _ _ (is-change _ (c .before .before .if1 .left) (c .before .if2 .taken)) (c .change .ensures .0) (c .change .ensures .1)
+returns-2 c =
+    happened _ (c .before .before .before .before .args .line) _ _ _
+    (is-change _ (c .before .before .if1 .left) (c .before .if2 .taken)) (c .change .ensures .0) (c .change .ensures .1)
 
 array-read-close : tie.Need-array-read-close
 array-read-close c = search needs
@@ -53,7 +57,9 @@ close-requires : tie.Need-close-requires
 close-requires c κs = search needs
 
 returns-3 : tie.Need-returns-3
-returns-3 c = happened _ (c .before .before .before .before .args .line) _ _ _ (is-close _ (c .before .before .if1 .left) (c .before .if2 .left)) (c .close .ensures .0) (c .close .ensures .1)
+returns-3 c =
+    happened _ (c .before .before .before .before .args .line) _ _ _
+    (is-close _ (c .before .before .if1 .left) (c .before .if2 .left)) (c .close .ensures .0) (c .close .ensures .1)
 
 pub happen-spec : {M : Type 1} → statement M
 happen-spec =

@@ -27,8 +27,16 @@ same-length : tie.Need-same-length
 same-length c = search needs
 
 returns-3 : tie.Need-returns-3
-returns-3 c = let x = c .before .before .before .before .before .before .before .before .before .args in
-    spelt (x .s .now) (x .from) (x .to) (x .room .now) _ _ (c .before .before .before .before .before .before .if1 .left) (c .before .before .before .before .before .before .before .before .before .pre .0) (c .before .before .before .before .before .before .before .before .before .pre .1) (c .before .before .decode .ensures)
+returns-3 c =
+    let at-decode = c .before .before in
+    let at-if1 = at-decode .before .before .before .before in
+    let at-start = at-if1 .before .before .before in
+    let x = at-start .args in
+    spelt (x .s .now) (x .from) (x .to) (x .room .now) _ _
+    (at-if1 .if1 .left)
+    (at-start .pre .0)
+    (at-start .pre .1)
+    (at-decode .decode .ensures)
 
 pub spell-spec : {M : Type 1} → statement M
 spell-spec =

@@ -29,7 +29,10 @@ as-byte-requires-3 : tie.Need-as-byte-requires-3
 as-byte-requires-3 c κs = search needs
 
 returns : tie.Need-returns
-returns c = kind-open (c .before .before .before .before .before .before .args .line) _ _ _ _ (c .before .before .before .before .if1 .taken) (c .before .before .before .as-four-bytes .ensures) (c .before .before .as-byte .ensures) (c .before .as-byte2 .ensures) (c .as-byte3 .ensures)
+returns c =
+    kind-open (c .before .before .before .before .before .before .args .line) _ _ _ _
+    (c .before .before .before .before .if1 .taken) (c .before .before .before .as-four-bytes .ensures)
+    (c .before .before .as-byte .ensures) (c .before .as-byte2 .ensures) (c .as-byte3 .ensures)
 
 array-read-as-byte-4 : tie.Need-array-read-as-byte-4
 array-read-as-byte-4 c = search needs
@@ -38,7 +41,9 @@ as-byte-requires-4 : tie.Need-as-byte-requires-4
 as-byte-requires-4 c κs = search needs
 
 returns-2 : tie.Need-returns-2
-returns-2 c = kind-change (c .before .before .before .before .args .line) _ (c .before .before .if1 .left) (c .before .if2 .taken) (c .as-byte4 .ensures)
+returns-2 c =
+    kind-change (c .before .before .before .before .args .line) _ (c .before .before .if1 .left) (c .before .if2 .taken)
+    (c .as-byte4 .ensures)
 
 returns-3 : tie.Need-returns-3
 returns-3 c = kind-close (c .before .before .before .args .line) (c .before .if1 .left) (c .if2 .left)

@@ -23,7 +23,9 @@ array-read-t14 : tie.Need-array-read-t14
 array-read-t14 c = search needs
 
 returns : tie.Need-returns
-returns c = notice-made (c .before .before .before .before .args .line) _ _ _ (c .before .as-four-bytes .ensures) (c .as-byte .ensures) (c .before .before .kind-of .ensures)
+returns c =
+    notice-made (c .before .before .before .before .args .line) _ _ _ (c .before .as-four-bytes .ensures)
+    (c .as-byte .ensures) (c .before .before .kind-of .ensures)
 
 pub notice-of-spec : {M : Type 1} → statement M
 notice-of-spec =

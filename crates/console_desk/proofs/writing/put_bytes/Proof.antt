@@ -16,10 +16,13 @@ size-requires : tie.Need-size-requires
 size-requires c κs = search needs
 
 array-share-prefix-room : tie.Need-array-share-prefix-room
-array-share-prefix-room c = omega (arith, short (c .before .before .before .before .before .before .args .n), c .before .size .ensures)
+array-share-prefix-room c =
+    omega (arith, short (c .before .before .before .before .before .before .args .n), c .before .size .ensures)
 
 slice-aggregate-put-hex : tie.Need-slice-aggregate-put-hex
-slice-aggregate-put-hex c = counted (c .before .before .before .before .before .before .before .args .n) _ _ _ _ (c .before .before .before .before .write .ensures) refl (c .before .before .size .ensures)
+slice-aggregate-put-hex c =
+    counted (c .before .before .before .before .before .before .before .args .n) _ _ _ _
+    (c .before .before .before .before .write .ensures) refl (c .before .before .size .ensures)
 
 put-hex-requires : tie.Need-put-hex-requires
 put-hex-requires c κs = search needs
@@ -33,7 +36,8 @@ returns c =
     let at-size = at-put-hex .before .before .before in
     let at-write = at-size .before .before in
     let at-start = at-write .before .before .before in
-    rw (first (at-start .args .n) _ _ _ _ (at-write .write .ensures) refl (at-size .size .ensures)) at (at-put-hex .put-hex .ensures)
+    rw (first (at-start .args .n) _ _ _ _ (at-write .write .ensures) refl (at-size .size .ensures)) at
+    (at-put-hex .put-hex .ensures)
 
 pub put-bytes-spec : {M : Type 1} → statement M
 put-bytes-spec =

@@ -1,4 +1,5 @@
--- `console_lines::commands::crowded_fault` meets its contract: the tests that led to each way out say which fault it is.
+-- `console_lines::commands::crowded_fault` meets its contract: the tests that led to each way out say which fault it
+-- is.
 use borrow.Author.Tests.{eq-eqb, ne-eqb}
 use Rattle.console_lines.specs.Commands.{crowded}
 use Rattle.console_lines.proofs.commands.crowded_fault.Statement.{statement}

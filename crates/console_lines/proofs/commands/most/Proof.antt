@@ -1,4 +1,5 @@
--- `console_lines::commands::most` meets its contract: an entry of the table, and 0 past its end; one computed test bounds every entry.
+-- `console_lines::commands::most` meets its contract: an entry of the table, and 0 past its end; one computed test
+-- bounds every entry.
 use mathlib.Core.Path.{refl, sym}
 use native.Mathlib.Omega.{arith}
 use lib.ListN.{List·getD-eq-default}

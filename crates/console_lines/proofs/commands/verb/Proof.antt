@@ -1,6 +1,20 @@
 -- `console_lines::commands::verb` meets its contract: each call is one choice of the definition.
 use Rattle.text.specs.Texts.{text, same}
-use Rattle.console_lines.specs.Commands.{verbOf, doFresh, doOpen, doChange, doClose, doLane, doStatus, doPlan, doShare, doRead, doNotice, doWrite, doHelp}
+use Rattle.console_lines.specs.Commands.{
+  verbOf,
+  doFresh,
+  doOpen,
+  doChange,
+  doClose,
+  doLane,
+  doStatus,
+  doPlan,
+  doShare,
+  doRead,
+  doNotice,
+  doWrite,
+  doHelp,
+}
 use Prim.Native.Nat.{ℕ}
 use mathlib.Core.Path.{_≡_, refl}
 use mathlib.Core.List.{List}

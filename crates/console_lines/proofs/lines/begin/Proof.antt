@@ -1,4 +1,5 @@
--- `console_lines::lines::begin` meets its contract: its tests are those of the definition, and a word stays within the line.
+-- `console_lines::lines::begin` meets its contract: its tests are those of the definition, and a word stays within the
+-- line.
 use Prim.Native.Nat.{ℕ}
 use mathlib.Core.Path.{_∙_, ap}
 use native.Mathlib.Omega.{arith}
@@ -21,7 +22,8 @@ faulted-requires c κs = search needs
 returns : tie.Need-returns
 returns c =
     let x = c .before .before .before .before .args in
-    c .faulted .ensures ∙ ap (λ (l : Line). withFault l tooLong longest) (c .before .empty .ensures) ∙ begun-long (x .s .now) (c .before .before .if1 .taken)
+    c .faulted .ensures ∙ ap (λ (l : Line). withFault l tooLong longest) (c .before .empty .ensures) ∙ begun-long
+    (x .s .now) (c .before .before .if1 .taken)
 
 reach-requires : tie.Need-reach-requires
 reach-requires c κs = search needs
@@ -35,7 +37,8 @@ empty-requires-2 c κs = search needs
 returns-2 : tie.Need-returns-2
 returns-2 c =
     let x = c .before .before .before .before .before .before .before .args in
-    c .empty2 .ensures ∙ begun-hash (x .s .now) (c .before .before .before .before .before .if1 .left) _ (c .before .before .before .before .reach .ensures) (c .before .before .before .if2 .taken) (c .before .if3 .taken)
+    c .empty2 .ensures ∙ begun-hash (x .s .now) (c .before .before .before .before .before .if1 .left) _
+    (c .before .before .before .before .reach .ensures) (c .before .before .before .if2 .taken) (c .before .if3 .taken)
 
 reach-requires-2 : tie.Need-reach-requires-2
 reach-requires-2 c κs = search needs
@@ -43,17 +46,32 @@ reach-requires-2 c κs = search needs
 sub-verb : tie.Need-sub-verb
 sub-verb c =
     let x = c .before .before .before .before .before .before .before .args in
-    omega (arith, c .reach2 .ensures, reach-low Word (x .s .now) (c .before .before .before .before .reach .result), reach-high Word (x .s .now) (c .before .before .before .before .reach .result) (omega arith))
+    omega (
+      arith,
+      c .reach2 .ensures,
+      reach-low Word (x .s .now) (c .before .before .before .before .reach .result),
+      reach-high Word (x .s .now) (c .before .before .before .before .reach .result) (omega arith),
+    )
 
 part-verb-start : tie.Need-part-verb-start
 part-verb-start c =
     let x = c .before .before .before .before .before .before .before .args in
-    omega (arith, c .reach2 .ensures, reach-low Word (x .s .now) (c .before .before .before .before .reach .result), reach-high Word (x .s .now) (c .before .before .before .before .reach .result) (omega arith))
+    omega (
+      arith,
+      c .reach2 .ensures,
+      reach-low Word (x .s .now) (c .before .before .before .before .reach .result),
+      reach-high Word (x .s .now) (c .before .before .before .before .reach .result) (omega arith),
+    )
 
 part-verb-end : tie.Need-part-verb-end
 part-verb-end c =
     let x = c .before .before .before .before .before .before .before .args in
-    omega (arith, c .reach2 .ensures, reach-low Word (x .s .now) (c .before .before .before .before .reach .result), reach-high Word (x .s .now) (c .before .before .before .before .reach .result) (omega arith))
+    omega (
+      arith,
+      c .reach2 .ensures,
+      reach-low Word (x .s .now) (c .before .before .before .before .reach .result),
+      reach-high Word (x .s .now) (c .before .before .before .before .reach .result) (omega arith),
+    )
 
 verb-requires : tie.Need-verb-requires
 verb-requires c κs = search needs
@@ -70,8 +88,10 @@ returns-3 c =
     let at-if1 = at-reach .before in
     let at-start = at-if1 .before .before in
     let x = at-start .args in
-    c .take-verb .ensures ∙ ap (λ (v : ℕ). withVerb v (at-reach .reach .result) (at-reach2 .reach2 .result)) (c .before .verb .ensures)
-    ∙ begun-verb (x .s .now) (at-if1 .if1 .left) _ (at-reach .reach .ensures) (at-if2 .if2 .taken) (at-if3 .if3 .left) _ (at-reach2 .reach2 .ensures)
+    c .take-verb .ensures ∙ ap (λ (v : ℕ). withVerb v (at-reach .reach .result) (at-reach2 .reach2 .result))
+    (c .before .verb .ensures)
+    ∙ begun-verb (x .s .now) (at-if1 .if1 .left) _ (at-reach .reach .ensures) (at-if2 .if2 .taken) (at-if3 .if3 .left) _
+    (at-reach2 .reach2 .ensures)
 
 empty-requires-3 : tie.Need-empty-requires-3
 empty-requires-3 c κs = search needs
@@ -79,7 +99,8 @@ empty-requires-3 c κs = search needs
 returns-4 : tie.Need-returns-4
 returns-4 c =
     let x = c .before .before .before .before .before .args in
-    c .empty3 .ensures ∙ begun-blank (x .s .now) (c .before .before .before .if1 .left) _ (c .before .before .reach .ensures) (c .before .if2 .left)
+    c .empty3 .ensures ∙ begun-blank (x .s .now) (c .before .before .before .if1 .left) _
+    (c .before .before .reach .ensures) (c .before .if2 .left)
 
 pub begin-spec : {M : Type 1} → statement M
 begin-spec =

@@ -14,7 +14,8 @@ take-word-requires c κs = search needs
 returns : tie.Need-returns
 returns c =
     let x = c .before .before .before .before .args in
-    c .take-word .ensures ∙ step-word (x .s .now) (x .line) _ (c .before .before .reach .ensures) (c .before .if1 .taken)
+    c .take-word .ensures ∙ step-word (x .s .now) (x .line) _ (c .before .before .reach .ensures)
+    (c .before .if1 .taken)
 
 end-requires : tie.Need-end-requires
 end-requires c κs = search needs

@@ -14,7 +14,8 @@ faulted-requires c κs = search needs
 returns : tie.Need-returns
 returns c =
     let x = c .before .before .before .before .args in
-    c .faulted .ensures ∙ hex-bad (x .s .now) (x .line) (x .a) (x .e) _ (c .before .before .reach .ensures) (c .before .if1 .taken)
+    c .faulted .ensures ∙ hex-bad (x .s .now) (x .line) (x .a) (x .e) _ (c .before .before .reach .ensures)
+    (c .before .if1 .taken)
 
 sub-if2 : tie.Need-sub-if2
 sub-if2 c = search needs
@@ -25,7 +26,8 @@ faulted-requires-2 c κs = search needs
 returns-2 : tie.Need-returns-2
 returns-2 c =
     let x = c .before .before .before .before .before .args in
-    c .faulted2 .ensures ∙ hex-odd (x .s .now) (x .line) (x .a) (x .e) _ (c .before .before .before .reach .ensures) (c .before .before .if1 .left) (c .before .if2 .taken)
+    c .faulted2 .ensures ∙ hex-odd (x .s .now) (x .line) (x .a) (x .e) _ (c .before .before .before .reach .ensures)
+    (c .before .before .if1 .left) (c .before .if2 .taken)
 
 element-write-l : tie.Need-element-write-l
 element-write-l c = search needs
@@ -36,7 +38,8 @@ element-write-l-2 c = search needs
 returns-3 : tie.Need-returns-3
 returns-3 c =
     let x = c .before .before .before .before .args in
-    hex-whole (x .s .now) (x .line) (x .a) (x .e) _ (c .before .before .reach .ensures) (c .before .if1 .left) (c .if2 .left)
+    hex-whole (x .s .now) (x .line) (x .a) (x .e) _ (c .before .before .reach .ensures) (c .before .if1 .left)
+    (c .if2 .left)
 
 pub take-hex-spec : {M : Type 1} → statement M
 take-hex-spec =

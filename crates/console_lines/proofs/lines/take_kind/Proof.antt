@@ -14,7 +14,8 @@ faulted-requires c κs = search needs
 returns : tie.Need-returns
 returns c =
     let x = c .before .before .before .before .args in
-    c .faulted .ensures ∙ kind-low (x .word .now) (x .line) (x .a) (x .e) _ (c .before .before .verb .ensures) (c .before .if1 .taken)
+    c .faulted .ensures ∙ kind-low (x .word .now) (x .line) (x .a) (x .e) _ (c .before .before .verb .ensures)
+    (c .before .if1 .taken)
 
 faulted-requires-2 : tie.Need-faulted-requires-2
 faulted-requires-2 c κs = search needs
@@ -22,7 +23,8 @@ faulted-requires-2 c κs = search needs
 returns-2 : tie.Need-returns-2
 returns-2 c =
     let x = c .before .before .before .before .before .args in
-    c .faulted2 .ensures ∙ kind-high (x .word .now) (x .line) (x .a) (x .e) _ (c .before .before .before .verb .ensures) (c .before .before .if1 .left) (c .before .if2 .taken)
+    c .faulted2 .ensures ∙ kind-high (x .word .now) (x .line) (x .a) (x .e) _ (c .before .before .before .verb .ensures)
+    (c .before .before .if1 .left) (c .before .if2 .taken)
 
 add-l : tie.Need-add-l
 add-l c = search needs
@@ -30,7 +32,8 @@ add-l c = search needs
 returns-3 : tie.Need-returns-3
 returns-3 c =
     let x = c .before .before .before .before .args in
-    kind-told (x .word .now) (x .line) (x .a) (x .e) _ (c .before .before .verb .ensures) (c .before .if1 .left) (c .if2 .left)
+    kind-told (x .word .now) (x .line) (x .a) (x .e) _ (c .before .before .verb .ensures) (c .before .if1 .left)
+    (c .if2 .left)
 
 pub take-kind-spec : {M : Type 1} → statement M
 take-kind-spec =

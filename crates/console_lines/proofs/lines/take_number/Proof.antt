@@ -1,5 +1,5 @@
--- `console_lines::lines::take_number` meets its contract: its tests are those of the definition, and a number that is held
--- at most at the top is above a limit when the number itself is.
+-- `console_lines::lines::take_number` meets its contract: its tests are those of the definition, and a number that is
+-- held at most at the top is above a limit when the number itself is.
 use Prim.Native.Nat.{ℕ}
 use mathlib.Core.Path.{_∙_, ap}
 use native.Mathlib.Omega.{arith}
@@ -19,7 +19,8 @@ faulted-requires c κs = search needs
 returns : tie.Need-returns
 returns c =
     let x = c .before .before .before .before .args in
-    c .faulted .ensures ∙ number-bad (x .s .now) (x .line) (x .a) (x .e) _ (c .before .before .reach .ensures) (c .before .if1 .taken)
+    c .faulted .ensures ∙ number-bad (x .s .now) (x .line) (x .a) (x .e) _ (c .before .before .reach .ensures)
+    (c .before .if1 .taken)
 
 spelt-requires : tie.Need-spelt-requires
 spelt-requires c κs = search needs
@@ -47,7 +48,8 @@ returns-2 c =
     let at-start = at-reach .before .before in
     let x = at-start .args in
     c .faulted2 .ensures ∙ ap (λ (f : ℕ). withFault (x .line) f (x .a)) (c .before .oversized-fault .ensures)
-    ∙ number-large (x .s .now) (x .line) (x .a) (x .e) _ (at-reach .reach .ensures) (at-if1 .if1 .left) _ (at-limit .limit .ensures) (omega arith) _
+    ∙ number-large (x .s .now) (x .line) (x .a) (x .e) _ (at-reach .reach .ensures) (at-if1 .if1 .left) _
+    (at-limit .limit .ensures) (omega arith) _
     (at-above .above .ensures ∙ ap (above (at-limit .limit .result)) (at-spelt .spelt .ensures))
     (at-if2 .if2 .taken)
 
@@ -65,8 +67,10 @@ unfolding goOn capped
 returns-3 c =
     let x = c .before .before .before .before .before .before .before .args in
     rw (c .before .before .before .spelt .ensures)
-    (number-whole (x .s .now) (x .line) (x .a) (x .e) _ (c .before .before .before .before .before .reach .ensures) (c .before .before .before .before .if1 .left) _ (c .before .before .limit .ensures) (omega arith) _
-    (c .before .above .ensures ∙ ap (above (c .before .before .limit .result)) (c .before .before .before .spelt .ensures))
+    (number-whole (x .s .now) (x .line) (x .a) (x .e) _ (c .before .before .before .before .before .reach .ensures)
+    (c .before .before .before .before .if1 .left) _ (c .before .before .limit .ensures) (omega arith) _
+    (c .before .above .ensures ∙ ap (above (c .before .before .limit .result))
+    (c .before .before .before .spelt .ensures))
     (c .if2 .left))
 
 pub take-number-spec : {M : Type 1} → statement M

@@ -1,4 +1,5 @@
--- `console_lines::lines::take_word` meets its contract: its tests are those of the definition, and a word stays within the line.
+-- `console_lines::lines::take_word` meets its contract: its tests are those of the definition, and a word stays within
+-- the line.
 use Prim.Native.Nat.{ℕ}
 use mathlib.Core.Path.{_∙_, ap}
 use native.Mathlib.Omega.{arith}
@@ -23,7 +24,8 @@ returns : tie.Need-returns
 returns c =
     let x = c .before .before .before .before .before .args in
     c .faulted .ensures ∙ ap (λ (f : ℕ). withFault (x .line) f (x .a)) (c .before .crowded-fault .ensures)
-    ∙ word-crowded (x .s .now) (x .line) (x .a) _ (c .before .before .before .most .ensures .0) (c .before .before .if1 .taken)
+    ∙ word-crowded (x .s .now) (x .line) (x .a) _ (c .before .before .before .most .ensures .0)
+    (c .before .before .if1 .taken)
 
 reach-requires : tie.Need-reach-requires
 reach-requires c κs = search needs
@@ -34,12 +36,20 @@ takes-hex-requires c κs = search needs
 take-hex-requires : tie.Need-take-hex-requires
 take-hex-requires c κs =
     let x = c .before .before .before .before .before .before .args in
-    omega (arith, c .before .before .reach .ensures, reach-low Word (x .s .now) (x .a), reach-high Word (x .s .now) (x .a) (omega arith))
+    omega (
+      arith,
+      c .before .before .reach .ensures,
+      reach-low Word (x .s .now) (x .a),
+      reach-high Word (x .s .now)
+          (x .a) (omega arith),
+    )
 
 returns-2 : tie.Need-returns-2
 returns-2 c =
     let x = c .before .before .before .before .before .before .before .args in
-    c .take-hex .ensures ∙ word-hex (x .s .now) (x .line) (x .a) _ (c .before .before .before .before .before .most .ensures .0) (c .before .before .before .before .if1 .left) _ (c .before .before .takes-hex .ensures) _ (c .before .before .before .reach .ensures) (c .before .if2 .taken)
+    c .take-hex .ensures ∙ word-hex (x .s .now) (x .line) (x .a) _
+    (c .before .before .before .before .before .most .ensures .0) (c .before .before .before .before .if1 .left) _
+    (c .before .before .takes-hex .ensures) _ (c .before .before .before .reach .ensures) (c .before .if2 .taken)
 
 takes-kind-requires : tie.Need-takes-kind-requires
 takes-kind-requires c κs = search needs
@@ -49,21 +59,39 @@ sub-take-kind c =
     let at-reach = c .before .before .before .before in
     let at-start = at-reach .before .before .before .before in
     let x = at-start .args in
-    omega (arith, at-reach .reach .ensures, reach-low Word (x .s .now) (x .a), reach-high Word (x .s .now) (x .a) (omega arith))
+    omega (
+      arith,
+      at-reach .reach .ensures,
+      reach-low Word (x .s .now) (x .a),
+      reach-high Word (x .s .now) (x .a)
+          (omega arith),
+    )
 
 part-take-kind-start : tie.Need-part-take-kind-start
 part-take-kind-start c =
     let at-reach = c .before .before .before .before in
     let at-start = at-reach .before .before .before .before in
     let x = at-start .args in
-    omega (arith, at-reach .reach .ensures, reach-low Word (x .s .now) (x .a), reach-high Word (x .s .now) (x .a) (omega arith))
+    omega (
+      arith,
+      at-reach .reach .ensures,
+      reach-low Word (x .s .now) (x .a),
+      reach-high Word (x .s .now) (x .a)
+          (omega arith),
+    )
 
 part-take-kind-end : tie.Need-part-take-kind-end
 part-take-kind-end c =
     let at-reach = c .before .before .before .before in
     let at-start = at-reach .before .before .before .before in
     let x = at-start .args in
-    omega (arith, at-reach .reach .ensures, reach-low Word (x .s .now) (x .a), reach-high Word (x .s .now) (x .a) (omega arith))
+    omega (
+      arith,
+      at-reach .reach .ensures,
+      reach-low Word (x .s .now) (x .a),
+      reach-high Word (x .s .now) (x .a)
+          (omega arith),
+    )
 
 take-kind-requires : tie.Need-take-kind-requires
 take-kind-requires c κs = search needs
@@ -79,7 +107,9 @@ returns-3 c =
     let at-most = at-if1 .before in
     let at-start = at-most .before .before in
     let x = at-start .args in
-    c .take-kind .ensures ∙ word-kind (x .s .now) (x .line) (x .a) _ (at-most .most .ensures .0) (at-if1 .if1 .left) _ (at-takes-hex .takes-hex .ensures) _ (at-reach .reach .ensures) (at-if2 .if2 .left) _ (at-takes-kind .takes-kind .ensures) (at-if3 .if3 .taken)
+    c .take-kind .ensures ∙ word-kind (x .s .now) (x .line) (x .a) _ (at-most .most .ensures .0) (at-if1 .if1 .left) _
+    (at-takes-hex .takes-hex .ensures) _ (at-reach .reach .ensures) (at-if2 .if2 .left) _
+    (at-takes-kind .takes-kind .ensures) (at-if3 .if3 .taken)
 
 take-number-requires : tie.Need-take-number-requires
 take-number-requires c κs = search needs
@@ -94,7 +124,9 @@ returns-4 c =
     let at-most = at-if1 .before in
     let at-start = at-most .before .before in
     let x = at-start .args in
-    c .take-number .ensures ∙ word-number (x .s .now) (x .line) (x .a) _ (at-most .most .ensures .0) (at-if1 .if1 .left) _ (at-takes-hex .takes-hex .ensures) _ (at-reach .reach .ensures) (at-if2 .if2 .left) _ (at-takes-kind .takes-kind .ensures) (c .before .if3 .left)
+    c .take-number .ensures ∙ word-number (x .s .now) (x .line) (x .a) _ (at-most .most .ensures .0)
+    (at-if1 .if1 .left) _ (at-takes-hex .takes-hex .ensures) _ (at-reach .reach .ensures) (at-if2 .if2 .left) _
+    (at-takes-kind .takes-kind .ensures) (c .before .if3 .left)
 
 pub take-word-spec : {M : Type 1} → statement M
 take-word-spec =

@@ -19,7 +19,8 @@ lane-requires c κs = search needs
 add-result : tie.Need-add-result
 add-result c = search needs
 
-run : (c : tie.After-lane) → Run (c .before .before .before .before .args .count) (c .before .before .before .fresh .result .state) (c .before .before .«open» .result .state) (c .before .change .result .state)
+run : (c : tie.After-lane) →
+    Run (c .before .before .before .before .args .count) (c .before .before .before .fresh .result .state) (c .before .before .«open» .result .state) (c .before .change .result .state)
 run c =
     record {
       first = c .before .before .before .fresh .ensures .1;

@@ -13,13 +13,26 @@ within-requires : tie.Need-within-requires
 within-requires c κs = search needs
 
 returns-2 : tie.Need-returns-2
-returns-2 c = simp (← c .before .before .before .is-digit .ensures, c .before .before .if1 .left, ← c .before .within .ensures, c .if2 .taken)
+returns-2 c =
+    simp (
+      ← c .before .before .before .is-digit .ensures,
+      c .before .before .if1 .left,
+      ← c .before .within .ensures,
+      c .if2 .taken,
+    )
 
 within-requires-2 : tie.Need-within-requires-2
 within-requires-2 c κs = search needs
 
 returns-3 : tie.Need-returns-3
-returns-3 c = simp (← c .before .before .before .before .is-digit .ensures, c .before .before .before .if1 .left, ← c .before .before .within .ensures, c .before .if2 .left, ← c .within2 .ensures)
+returns-3 c =
+    simp (
+      ← c .before .before .before .before .is-digit .ensures,
+      c .before .before .before .if1 .left,
+      ← c .before .before .within .ensures,
+      c .before .if2 .left,
+      ← c .within2 .ensures,
+    )
 
 pub is-hex-spec : {M : Type 1} → statement M
 is-hex-spec =

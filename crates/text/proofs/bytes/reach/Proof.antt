@@ -1,4 +1,5 @@
--- `text::bytes::reach` meets its contract: what is left of the run, from each place passed, ends where the whole run ends.
+-- `text::bytes::reach` meets its contract: what is left of the run, from each place passed, ends where the whole run
+-- ends.
 use Prim.Native.Nat.{_-_}
 use mathlib.Core.Path.{_≡_, sym, _∙_}
 use native.Mathlib.Omega.{arith}

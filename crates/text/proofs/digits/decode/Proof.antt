@@ -12,7 +12,9 @@ use Rattle.text.proofs.digits.decode.Statement.{statement}
 use Rattle.text.proofs.digits.decode.Tie as tie
 
 abbrev Inv-loop : tie.InvT-loop
-Inv-loop out₀ hex place₀ i₀ out place i = (puts (page out place) (hexBytes (drop (2 * i) hex)) ≡ puts (page out₀ 0) (hexBytes hex)) × (length out ≡ length out₀)
+Inv-loop out₀ hex place₀ i₀ out place i =
+    (puts (page out place) (hexBytes (drop (2 * i) hex)) ≡ puts (page out₀ 0)
+    (hexBytes hex)) × (length out ≡ length out₀)
 
 abbrev μ-loop : tie.MeasureT-loop
 μ-loop out₀ hex place₀ i₀ out place i = length hex - i
@@ -84,7 +86,8 @@ loop-again c =
     let h : at-hex-of .hex-of .result ≡ high = at-hex-of .hex-of .ensures .0 in
     let k : at-hex-of2 .hex-of2 .result ≡ low = at-hex-of2 .hex-of2 .ensures .0 in
     let e : page (at-put-byte .put-byte .last .0) (at-put-byte .put-byte .result) ≡ put p (16 * high + low) =
-    at-put-byte .put-byte .ensures ∙ ap (put p) (ap (λ (v : ℕ). 16 * v + at-hex-of2 .hex-of2 .result) h ∙ ap (λ (v : ℕ). 16 * high + v) k) in (
+    at-put-byte .put-byte .ensures ∙ ap (put p)
+    (ap (λ (v : ℕ). 16 * v + at-hex-of2 .hex-of2 .result) h ∙ ap (λ (v : ℕ). 16 * high + v) k) in (
       ap (λ (r : Page). puts r (hexBytes (drop (2 * (l .i + 1)) s))) e ∙ decode-on p s (l .i) (omega arith) ∙ l .inv .0,
       ap (λ (r : Page). length (r .row)) e ∙ put-length p (16 * high + low) ∙ l .inv .1,
     )
@@ -96,7 +99,8 @@ same-length c =
 returns : tie.Need-returns Inv-loop μ-loop
 returns c =
     let l = c .before .loop in
-    decode-end (page (l .out) (l .place)) (c .before .before .before .before .args .hex .now) (l .i) (omega arith) ∙ l .inv .0
+    decode-end (page (l .out) (l .place)) (c .before .before .before .before .args .hex .now) (l .i) (omega arith)
+    ∙ l .inv .0
 
 pub decode-spec : {M : Type 1} → statement M
 decode-spec =

@@ -12,7 +12,8 @@ use Rattle.text.proofs.digits.put_hex.Statement.{statement}
 use Rattle.text.proofs.digits.put_hex.Tie as tie
 
 abbrev Inv-loop : tie.InvT-loop
-Inv-loop out₀ at bytes place₀ i₀ out place i = (puts (page out place) (hexText (drop i bytes)) ≡ puts (page out₀ at) (hexText bytes)) × (length out ≡ length out₀)
+Inv-loop out₀ at bytes place₀ i₀ out place i =
+    (puts (page out place) (hexText (drop i bytes)) ≡ puts (page out₀ at) (hexText bytes)) × (length out ≡ length out₀)
 
 abbrev μ-loop : tie.MeasureT-loop
 μ-loop out₀ at bytes place₀ i₀ out place i = length bytes - i
@@ -80,7 +81,8 @@ same-length c =
 returns : tie.Need-returns Inv-loop μ-loop
 returns c =
     let l = c .before .loop in
-    hex-end (page (l .out) (l .place)) (c .before .before .before .before .args .bytes .now) (l .i) (omega arith) ∙ l .inv .0
+    hex-end (page (l .out) (l .place)) (c .before .before .before .before .args .bytes .now) (l .i) (omega arith)
+    ∙ l .inv .0
 
 pub put-hex-spec : {M : Type 1} → statement M
 put-hex-spec =

@@ -37,7 +37,8 @@ returns c =
     let d = at-decimal .decimal .result in
     let e = at-decimal .decimal .ensures in
     let most : length (drop (d .from) (d .row)) ≤ digitsMost - d .from = rw (length-drop, e .size) (omega arith) in
-    at-put .put .ensures ∙ ap (puts (page (x .out .now) (x .at))) (take-all (digitsMost - d .from) (drop (d .from) (d .row)) most ∙ e .text)
+    at-put .put .ensures ∙ ap (puts (page (x .out .now) (x .at)))
+    (take-all (digitsMost - d .from) (drop (d .from) (d .row)) most ∙ e .text)
 
 pub put-number-spec : {M : Type 1} → statement M
 put-number-spec =

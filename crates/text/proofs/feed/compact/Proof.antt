@@ -51,7 +51,8 @@ loop-again : tie.Need-loop-again Inv-loop μ-loop
 loop-again c =
     let x = c .before .before .before .before .before .args in
     let l = c .before .before .loop in (
-      ap (λ (r : List ℕ). set r (l .i) (getD r (x .from + l .i) 0)) (l .inv .0) ∙ front-on (x .buffer .now) (x .from) (l .i) (omega arith),
+      ap (λ (r : List ℕ). set r (l .i) (getD r (x .from + l .i) 0)) (l .inv .0) ∙ front-on (x .buffer .now) (x .from)
+          (l .i) (omega arith),
       omega arith,
       length-set (l .buffer) (l .i) _ ∙ l .inv .2,
     )
@@ -64,7 +65,8 @@ returns-3 : tie.Need-returns-3 Inv-loop μ-loop
 returns-3 c =
     let x = c .before .before .before .before .args in
     let l = c .before .loop in
-    rw (l .inv .0) (moved-all (x .buffer .now) (x .from) (x .to) (c .before .before .before .if1 .left) (l .i) (omega arith))
+    rw (l .inv .0) (moved-all (x .buffer .now) (x .from) (x .to) (c .before .before .before .if1 .left) (l .i)
+    (omega arith))
 
 pub compact-spec : {M : Type 1} → statement M
 compact-spec =

@@ -1,4 +1,5 @@
--- `text::numbers::grow` meets its contract: the test before the product decides whether the grown number passes the top.
+-- `text::numbers::grow` meets its contract: the test before the product decides whether the grown number passes the
+-- top.
 use Rattle.text.proofs.Spelling.{grow-over, grow-in}
 use borrow.Author.Needs.{needs}
 use Rattle.text.proofs.numbers.grow.Statement.{statement}

@@ -10,7 +10,8 @@ use Rattle.text.proofs.output.put.Statement.{statement}
 use Rattle.text.proofs.output.put.Tie as tie
 
 abbrev Inv-loop : tie.InvT-loop
-Inv-loop out₀ at bytes place₀ i₀ out place i = (puts (page out place) (drop i bytes) ≡ puts (page out₀ at) bytes) × (length out ≡ length out₀)
+Inv-loop out₀ at bytes place₀ i₀ out place i =
+    (puts (page out place) (drop i bytes) ≡ puts (page out₀ at) bytes) × (length out ≡ length out₀)
 
 abbrev μ-loop : tie.MeasureT-loop
 μ-loop out₀ at bytes place₀ i₀ out place i = length bytes - i
@@ -38,7 +39,8 @@ loop-again c =
     let s = at-start .args .bytes .now in
     let l = at-loop .loop in
     let e = at-put-byte .put-byte .ensures in (
-      ap (λ (p : Page). puts p (drop (l .i + 1) s)) e ∙ puts-on (page (l .out) (l .place)) s (l .i) (omega arith) ∙ l .inv .0,
+      ap (λ (p : Page). puts p (drop (l .i + 1) s)) e ∙ puts-on (page (l .out) (l .place)) s (l .i) (omega arith)
+          ∙ l .inv .0,
       ap (λ (p : Page). length (p .row)) e ∙ put-length (page (l .out) (l .place)) (getD s (l .i) 0) ∙ l .inv .1,
     )
 
@@ -48,7 +50,8 @@ same-length c = c .before .loop .inv .1
 returns : tie.Need-returns Inv-loop μ-loop
 returns c =
     let l = c .before .loop in
-    puts-end (page (l .out) (l .place)) (c .before .before .before .before .args .bytes .now) (l .i) (omega arith) ∙ l .inv .0
+    puts-end (page (l .out) (l .place)) (c .before .before .before .before .args .bytes .now) (l .i) (omega arith)
+    ∙ l .inv .0
 
 pub put-spec : {M : Type 1} → statement M
 put-spec =

@@ -16,5 +16,6 @@ pub follow-one-outcome : (g : Agent) (l : Line) (s : List ℕ) (m n : ℕ) (a b 
 follow-one-outcome g l s m n a b e f = (e .0 ∙ sym (f .0), e .1 ∙ sym (f .1))
 
 -- of `answer`: the agent, the row and the place
-pub answer-one-outcome : (g : Agent) (p : Page) (a b : Agent) (q r : Page) → Left g p a q → Left g p b r → (a ≡ b) × (q ≡ r)
+pub answer-one-outcome : (g : Agent) (p : Page) (a b : Agent) (q r : Page) → Left g p a q → Left g p b r
+    → (a ≡ b) × (q ≡ r)
 answer-one-outcome g p a b q r d e = (d .agent ∙ sym (e .agent), d .row ∙ sym (e .row))
