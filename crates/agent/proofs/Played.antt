@@ -9,13 +9,15 @@ use Rattle.notice.specs.declared.Reading.the-variants as reading
 use Rattle.notice.specs.declared.Found.{Found}
 use Rattle.notice.specs.declared.Found.the-variants as found
 use Rattle.notice.specs.Encode.{bytesOf}
-use Rattle.notice.specs.Decode.{readAt}
+use Rattle.notice.specs.Decode.{readAt, readOf}
 use Rattle.notice.specs.Log.{Bytes, placeTo, withFound, noticesTo, noticesOf}
 use Rattle.notice.proofs.ReadBack.{read-alone}
 use Rattle.agent.specs.declared.Agent.{Agent}
 use Rattle.agent.specs.Turns.{freshAgent, noticed}
-use Rattle.agent.specs.Series.{agentAfter}
-use Rattle.agent.specs.Played.{agentTold, agentPlayed, ReadAs, none-read, one-read}
+use Rattle.story.specs.Runs.{lanesOf}
+use Rattle.agent.specs.Series.{agentAfter, hearing, heard, Hearing}
+use Rattle.agent.specs.Played.{agentTold, agentPlayed, heardOf, ReadAs, none-read, one-read}
+use Rattle.agent.proofs.Order.{follows}
 
 -- one read more of a log is one more notice told, or none
 pub told-more : (g : Agent) (ns : List Notice) (f : Found)
@@ -52,3 +54,16 @@ log-series bs small (suc n) =
 pub played : (pool : ℕ) (log : List ℕ) → Bytes log
     → agentPlayed pool log ≡ agentAfter pool (map bytesOf (noticesOf log))
 played pool log small = told-series pool _ _ (log-series log small _)
+
+-- notices and the bytes that read as them are heard alike
+heard-alike : (lanes : ℕ) (bss : List (List ℕ)) (ns : List Notice) → ReadAs bss ns → heard lanes bss ≡ heardOf lanes ns
+unfolding heard heardOf
+heard-alike lanes [] [] none-read = refl
+heard-alike lanes (bs ∷ bss) (n ∷ ns) (one-read is rest) =
+    ap (λ hs. hearing lanes hs (readOf bs)) (heard-alike lanes bss ns rest) ∙ ap (hearing lanes (heardOf lanes ns)) is
+
+-- an agent that was told notices follows those that count
+pub told-follows : (pool : ℕ) (bss : List (List ℕ)) (ns : List Notice) → ReadAs bss ns →
+    Hearing pool (heardOf (lanesOf pool) ns) (agentTold (freshAgent pool) ns)
+told-follows pool bss ns r =
+    rw (told-series pool bss ns r, ← heard-alike (lanesOf pool) bss ns r) (follows pool bss)

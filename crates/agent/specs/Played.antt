@@ -1,13 +1,15 @@
 -- An agent that is told notices one after the other, and a log played into a fresh agent (01, "Notices").
 use Prim.Native.Nat.{ℕ}
 use mathlib.Core.Path.{_≡_}
-use mathlib.Core.List.{List, [], _∷_}
+use mathlib.Core.List.{List, [], _∷_, map}
 use Rattle.notice.specs.declared.Notice.{Notice}
 use Rattle.notice.specs.declared.Reading.the-variants as reading
 use Rattle.notice.specs.Decode.{readOf}
 use Rattle.notice.specs.Log.{noticesOf}
 use Rattle.agent.specs.declared.Agent.{Agent}
-use Rattle.agent.specs.Turns.{freshAgent, noticed}
+use Rattle.story.specs.Story.{Event}
+use Rattle.agent.specs.Turns.{eventOf, freshAgent, noticed}
+use Rattle.agent.specs.Series.{hearing}
 
 -- the agent after notices, newest first; it stays as it is at each that it refuses
 unfoldable pub agentTold : Agent → List Notice → Agent
@@ -17,6 +19,15 @@ agentTold g (n ∷ ns) = noticed (agentTold g ns) (reading.Whole n)
 -- a log played into a fresh agent of a pool
 abbrev pub agentPlayed : ℕ → List ℕ → Agent
 agentPlayed pool log = agentTold (freshAgent pool) (noticesOf log)
+
+-- of notices that are told one after the other, newest first, those that count: the next in turn, with an accepted event
+unfoldable pub heardOf : ℕ → List Notice → List Notice
+heardOf lanes [] = []
+heardOf lanes (n ∷ ns) = hearing lanes (heardOf lanes ns) (reading.Whole n)
+
+-- the accepted events of a log, as a fresh agent of a pool takes them
+abbrev pub eventsPlayed : ℕ → List ℕ → List Event
+eventsPlayed pool log = map eventOf (heardOf pool (noticesOf log))
 
 -- byte strings that read as these notices, one for one
 pub data ReadAs : List (List ℕ) → List Notice → Type 0 where

@@ -1,0 +1,24 @@
+-- `admissions::stretch_of` meets its contract: a slot's ticks times the tick's ms.
+use native.Mathlib.Omega.{arith}
+use Rattle.admissions.proofs.Slots.{slot-ms, stretch-spaced}
+use borrow.Author.Needs.{needs}
+use Rattle.admissions.proofs.stretch_of.Statement.{statement}
+use Rattle.admissions.proofs.stretch_of.Tie as tie
+
+slot-requires : tie.Need-slot-requires
+slot-requires c κs = search needs
+
+tick-requires : tie.Need-tick-requires
+tick-requires c κs = search needs
+
+mul-slot : tie.Need-mul-slot
+mul-slot c =
+    let slot = c .before .slot .ensures in
+    let tick = c .tick .ensures in
+    record { fits = omega (arith, slot-ms _ _ _ (slot .low) (slot .high) (tick .low) (tick .high) (c .before .before .pre .sized .high) .1) }
+
+returns : tie.Need-returns
+returns c = stretch-spaced _ _ _ (c .before .before .pre) (c .before .slot .ensures) (c .tick .ensures)
+
+pub stretch-of-spec : {M : Type 1} → statement M
+stretch-of-spec = tie.close (tie.spec slot-requires tick-requires mul-slot returns)

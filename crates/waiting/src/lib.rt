@@ -1,0 +1,234 @@
+// How long people waited (02, request 1): for the latest opening of one title in a log of notices, how many arrivals got in, the
+// longest wait and the exact sum of waits. No public function has a `requires`: any pool, bytes, title and row have an answer.
+
+use admissions::Tally;
+use admissions::Waits;
+use admissions::ended;
+use admissions::endless;
+use admissions::opened;
+use agent::Agent;
+use agent::fresh_agent;
+use agent::turn;
+use notice::Found;
+use notice::Kind;
+use notice::Notice;
+use notice::next_in;
+use rules::ASKED_MAX;
+use rules::DONE;
+use rules::ID_MAX;
+use rules::MALFORMED;
+use rules::OUTSIDE_LIMITS;
+use rules::POOL_MAX;
+use rules::POOL_MIN;
+use rules::WRONG_ROWS;
+use rules::within;
+use story::Title;
+ghost use Prim.Native.Nat.{_≤_};
+ghost use mathlib.Core.Path.{_≡_};
+ghost use lib.ListN.{length};
+ghost use Rattle.rules.specs.Limits.{eventTimeMax, idMax};
+ghost use Rattle.notice.specs.Decode.{readAt};
+ghost use Rattle.admissions.specs.Waits.{rowMax};
+ghost use Rattle.admissions.specs.Stretches.{Playing, Few};
+ghost use Rattle.waiting.specs.Steps.{eventTally, Ready, Hears, stepped, Plays, rowAnswer};
+ghost use Rattle.waiting.specs.Report.{rowInLimits, refusedWith, Reports};
+
+// The most arrivals of a row.
+pub const ROW_MAX: usize = 4_096;
+
+// The report. Beside a refusal the other numbers are 0.
+pub struct Report {
+    pub answer: u8,
+    pub arrivals: u64,
+    pub waits: Waits,
+}
+
+// A log as far as it was played: the agent, the tally of the title, the place of the next notice, and whether one may follow.
+struct Played {
+    agent: Agent,
+    tally: Tally,
+    place: usize,
+    more: bool,
+}
+
+// What a notice leaves.
+struct Heard {
+    agent: Agent,
+    tally: Tally,
+}
+
+// An accepted event of the title, which was t before it.
+fn count_event(t: Title, n: Notice, arrivals: &[u64], tally: Tally) -> Tally
+    requires { ⌜ (t .mode ≡ 1 → Playing t) ⌝ }
+    requires { ⌜ n .time ≤ eventTimeMax ⌝ }
+    requires { ⌜ Few (length (now arrivals)) (tally .waits) ⌝ }
+    ensures { λ r. ⌜ r ≡ eventTally t (n .time) (n .kind) (now (arrivals .entry)) tally ⌝ }
+{
+    let time = n.time;
+    let kind = n.kind;
+    match kind {
+        Kind::Open {
+            length: _,
+            floor: _,
+            cap: _,
+            count: _,
+        } => opened(time),
+        Kind::Change { count: _ } => ended(t, time, arrivals, tally),
+        Kind::Close => ended(t, time, arrivals, tally),
+    }
+}
+
+// A notice, put to the agent; only an accepted one of the title counts.
+fn hear(agent: Agent, tally: Tally, n: Notice, title: u64, arrivals: &[u64]) -> Heard
+    requires { ⌜ Ready agent title (now arrivals) tally ⌝ }
+    ensures { λ r. ⌜ Hears agent title (now (arrivals .entry)) n tally r ⌝ }
+{
+    let s = agent.state;
+    let t = s.titles[title as usize];
+    let id = n.title;
+    let followed = turn(agent, n);
+    let answer = followed.answer;
+    let next = followed.agent;
+    if answer == DONE {
+        if id as u64 == title {
+            return Heard {
+                agent: next,
+                tally: count_event(t, n, arrivals, tally),
+            };
+        }
+    }
+    Heard {
+        agent: next,
+        tally: tally,
+    }
+}
+
+// One read more: past a notice, and no further at the log's end or where bytes are no notice.
+fn step(played: Played, log: &[u8], title: u64, arrivals: &[u64]) -> Played
+    requires { ⌜ Ready (played .agent) title (now arrivals) (played .tally) ⌝ }
+    ensures { λ r. ⌜ r ≡ stepped played title (now (arrivals .entry)) (readAt (now (log .entry)) (played .place)) ⌝ }
+{
+    let agent = played.agent;
+    let tally = played.tally;
+    let place = played.place;
+    let found = next_in(log, place);
+    match found {
+        Found::At(n, end) => {
+            let heard = hear(agent, tally, n, title, arrivals);
+            let next = heard.agent;
+            let counted = heard.tally;
+            Played {
+                agent: next,
+                tally: counted,
+                place: end,
+                more: true,
+            }
+        }
+        Found::End => Played {
+            agent: agent,
+            tally: tally,
+            place: place,
+            more: false,
+        },
+        Found::Malformed => Played {
+            agent: agent,
+            tally: tally,
+            place: place,
+            more: false,
+        },
+    }
+}
+
+// A log, played into a fresh agent up to where its reading stops.
+fn play(pool: u64, log: &[u8], title: u64, arrivals: &[u64]) -> Played
+    requires { ⌜ title ≤ idMax ⌝ }
+    requires { ⌜ length (now arrivals) ≤ rowMax ⌝ }
+    ensures { λ r. ⌜ Plays pool (now (log .entry)) title (now (arrivals .entry)) r ⌝ }
+{
+    let started = fresh_agent(pool);
+    let agent = started.agent;
+    let tally = opened(0);
+    let mut played = Played {
+        agent: agent,
+        tally: tally,
+        place: 0,
+        more: true,
+    };
+    while played.more {
+        played = step(played, log, title, arrivals);
+    }
+    played
+}
+
+// Whether every arrival of a row is a moment that can be asked about.
+fn row_ok(arrivals: &[u64]) -> bool
+    ensures { λ r. ⌜ r ≡ rowInLimits (now (arrivals .entry)) ⌝ }
+{
+    let mut i = 0;
+    while i < arrivals.len() {
+        if arrivals[i] > ASKED_MAX {
+            return false;
+        }
+        i += 1;
+    }
+    true
+}
+
+// The refusals that do not hang on the log, in their order.
+fn refusal(pool: u64, title: u64, arrivals: &[u64]) -> u8
+    ensures { λ r. ⌜ r ≡ rowAnswer pool title (now (arrivals .entry)) ⌝ }
+{
+    if within(POOL_MIN, POOL_MAX, pool) {
+        if title <= ID_MAX {
+            if row_ok(arrivals) {
+                if arrivals.len() > ROW_MAX {
+                    return WRONG_ROWS;
+                }
+                return DONE;
+            }
+        }
+    }
+    OUTSIDE_LIMITS
+}
+
+// A refusal, beside which the other numbers are 0.
+fn refused(answer: u8) -> Report
+    ensures { λ r. ⌜ r ≡ refusedWith answer ⌝ }
+{
+    let waits = Waits {
+        admitted: 0,
+        longest: 0,
+        sum: 0,
+    };
+    Report {
+        answer: answer,
+        arrivals: 0,
+        waits: waits,
+    }
+}
+
+// The waits for the latest opening of a title in a log that is played into a fresh agent of a pool, over a row of arrivals in
+// ms. Refusals, in this order: 1 for a pool, a title or an arrival outside its limits, 10 for a row that is too long, 11 for a log
+// with a malformed or cut notice in it.
+pub fn report_of(pool: u64, log: &[u8], title: u64, arrivals: &[u64]) -> Report
+    ensures { λ r. ⌜ Reports pool (now (log .entry)) title (now (arrivals .entry)) r ⌝ }
+{
+    let answer = refusal(pool, title, arrivals);
+    if answer != DONE {
+        return refused(answer);
+    }
+    let played = play(pool, log, title, arrivals);
+    if played.place < log.len() {
+        return refused(MALFORMED);
+    }
+    let agent = played.agent;
+    let tally = played.tally;
+    let s = agent.state;
+    let t = s.titles[title as usize];
+    let waits = endless(t, arrivals, tally);
+    Report {
+        answer: DONE,
+        arrivals: arrivals.len() as u64,
+        waits: waits,
+    }
+}

@@ -1,0 +1,3 @@
+-- What holds of the program's texts.
+pub mod Taking
+pub mod Mean

@@ -1,0 +1,47 @@
+-- `waits_io::arrivals::take_byte` meets its contract: a digit, a gap, or neither.
+use mathlib.Core.Path.{sym, _∙_}
+use Rattle.waits_io.proofs.Taking.{takes-none, takes-digit, takes-gap, takes-other}
+use borrow.Author.Needs.{needs}
+use Rattle.waits_io.proofs.arrivals.take_byte.Statement.{statement}
+use Rattle.waits_io.proofs.arrivals.take_byte.Tie as tie
+
+is-digit-requires : tie.Need-is-digit-requires
+is-digit-requires c κs = search needs
+
+grow-requires : tie.Need-grow-requires
+grow-requires c κs = search needs
+
+returns : tie.Need-returns
+returns c = takes-digit _ _ _ _ (c .before .before .before .if1 .taken) _ (sym (c .before .before .is-digit .ensures) ∙ c .before .if2 .taken) (c .grow .ensures)
+
+is-gap-requires : tie.Need-is-gap-requires
+is-gap-requires c κs = search needs
+
+end-number-requires : tie.Need-end-number-requires
+end-number-requires c κs = search needs
+
+same-length : tie.Need-same-length
+same-length c = search needs
+
+returns-2 : tie.Need-returns-2
+returns-2 c = takes-gap _ _ _ _ (c .before .before .before .before .before .before .before .before .if1 .taken) _ _ (sym (c .before .before .before .before .before .before .before .is-digit .ensures) ∙ c .before .before .before .before .before .before .if2 .left) (sym (c .before .before .before .before .before .is-gap .ensures) ∙ c .before .before .before .before .if3 .taken) (c .before .before .end-number .ensures)
+
+returns-3 : tie.Need-returns-3
+returns-3 c = takes-other _ _ _ _ (c .before .before .before .before .if1 .taken) (sym (c .before .before .before .is-digit .ensures) ∙ c .before .before .if2 .left) (sym (c .before .is-gap .ensures) ∙ c .if3 .left)
+
+returns-4 : tie.Need-returns-4
+returns-4 c = takes-none _ _ _ _ (c .if1 .left)
+
+pub take-byte-spec : {M : Type 1} → statement M
+take-byte-spec =
+    tie.close
+    (tie.spec
+    is-digit-requires
+    grow-requires
+    returns
+    is-gap-requires
+    end-number-requires
+    same-length
+    returns-2
+    returns-3
+    returns-4)

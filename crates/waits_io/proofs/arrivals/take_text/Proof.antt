@@ -1,0 +1,77 @@
+-- `waits_io::arrivals::take_text` meets its contract: byte by byte, and the last word's end.
+use mathlib.Core.Path.{_≡_, refl, ap, _∙_}
+use Prim.Native.Nat.{suc, _+_, _≤_, _-_}
+use native.Mathlib.Nat.{le-antisymm}
+use native.Mathlib.Numerals.{add-one}
+use native.Mathlib.Omega.{arith}
+use borrow.Author.Needs.{needs}
+use lib.ListN.{length, getD}
+use Rattle.waits_io.specs.Arrivals.{SoFar, soFar, taking, takenTo, ending}
+use Rattle.waits_io.proofs.Taking.{ending-length, taking-length}
+use Rattle.waits_io.proofs.arrivals.take_text.Statement.{statement}
+use Rattle.waits_io.proofs.arrivals.take_text.Tie as tie
+
+abbrev Inv-loop : tie.InvT-loop
+Inv-loop text row₀ scan₀ i₀ row scan i = (i ≤ length text) × (soFar row scan ≡ takenTo text row₀ i) × (length row ≡ length row₀)
+
+abbrev μ-loop : tie.MeasureT-loop
+μ-loop text row₀ scan₀ i₀ row scan i = length text - i
+
+loop-holds : tie.Need-loop-holds Inv-loop μ-loop
+unfolding takenTo
+loop-holds c = (omega arith, refl, refl)
+
+shared-slice-read-b : tie.Need-shared-slice-read-b Inv-loop μ-loop
+shared-slice-read-b c = search needs
+
+add-i : tie.Need-add-i Inv-loop μ-loop
+add-i c = search needs
+
+take-byte-requires : tie.Need-take-byte-requires Inv-loop μ-loop
+take-byte-requires c κs = search needs
+
+loop-less : tie.Need-loop-less Inv-loop μ-loop
+loop-less c = search needs
+
+loop-again : tie.Need-loop-again Inv-loop μ-loop
+unfolding takenTo
+loop-again c =
+    let x = c .before .before .before .before .before .before .before .before .before .args in
+    let l = c .before .before .before .before .before .before .loop in
+    let e = c .before .before .take-byte .ensures in
+    let b = getD (x .text .now) (l .i) 0 in (
+      omega arith,
+      e ∙ rw add-one (ap (λ s. taking s (suc (l .i)) b) (l .inv .1)),
+      ap (λ (s : SoFar). length (s .row)) e ∙ taking-length (soFar (l .row) (l .scan)) (l .i + 1) b ∙ l .inv .2,
+    )
+
+end-number-requires : tie.Need-end-number-requires Inv-loop μ-loop
+end-number-requires c κs = search needs
+
+same-length : tie.Need-same-length Inv-loop μ-loop
+same-length c =
+    let l = c .before .before .before .before .before .loop in
+    ap (λ (s : SoFar). length (s .row)) (c .before .before .end-number .ensures) ∙ ending-length (soFar (l .row) (l .scan)) ∙ l .inv .2
+
+returns : tie.Need-returns Inv-loop μ-loop
+returns c =
+    let l = c .before .before .before .before .before .loop in
+    let all = le-antisymm (l .inv .0) (c .before .before .before .before .loop-test .left) in
+    let x = c .before .before .before .before .before .before .before .before .args in
+    c .before .before .end-number .ensures ∙ ap ending (l .inv .1 ∙ ap (takenTo (x .text .now) (x .row .now)) all)
+
+pub take-text-spec : {M : Type 1} → statement M
+take-text-spec =
+    tie.close
+    (tie.spec
+    Inv-loop
+    μ-loop
+    loop-holds
+    shared-slice-read-b
+    add-i
+    take-byte-requires
+    loop-less
+    loop-again
+    end-number-requires
+    same-length
+    returns)

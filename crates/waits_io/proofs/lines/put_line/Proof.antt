@@ -1,0 +1,37 @@
+-- `waits_io::lines::put_line` meets its contract: its parts are written one behind the other.
+use mathlib.Core.List.{_++_}
+use Rattle.text.specs.Digits.{decimal}
+use Rattle.text.specs.Output.{page}
+use Rattle.text.proofs.Pages.{puts-then}
+use Rattle.waits_io.specs.Lines.{lineOf}
+use borrow.Author.Needs.{needs}
+use Rattle.waits_io.proofs.lines.put_line.Statement.{statement}
+use Rattle.waits_io.proofs.lines.put_line.Tie as tie
+
+put-requires : tie.Need-put-requires
+put-requires c κs = search needs
+
+put-number-requires : tie.Need-put-number-requires
+put-number-requires c κs = search needs
+
+put-requires-2 : tie.Need-put-requires-2
+put-requires-2 c κs = search needs
+
+same-length : tie.Need-same-length
+same-length c = search needs
+
+returns : tie.Need-returns
+unfolding lineOf
+returns c =
+    let ending = c .before .before in
+    let number = ending .before .before .before .before in
+    let name = number .before .before .before .before in
+    let x = name .before .before .before .before .before .args in
+    let room = page (x .out .now) (x .at) in
+    puts-then room (x .name .now ++ decimal (x .n)) (x .end .now)
+    (puts-then room (x .name .now) (decimal (x .n)) (name .put .ensures) (number .put-number .ensures))
+    (ending .put2 .ensures)
+
+pub put-line-spec : {M : Type 1} → statement M
+put-line-spec =
+    tie.close (tie.spec put-requires put-number-requires put-requires-2 same-length returns)

@@ -1,0 +1,120 @@
+// Arrivals in a text: decimal numbers with spaces, tabs, carriage returns or newlines between.
+
+use text::bytes::is_digit;
+use text::bytes::is_separator;
+use text::numbers::Number;
+use text::numbers::grow;
+ghost use mathlib.Core.Path.{_≡_};
+ghost use lib.ListN.{length};
+ghost use Rattle.text.specs.Output.{page, put as laid};
+ghost use Rattle.waits_io.specs.Arrivals.{isGap, soFar, ending, taking, allTaken};
+
+// A text as far as it was read: how many numbers of it are in the row; the number being spelt, and whether one is; and whether
+// every byte was in a number or between two, otherwise which byte was the first that was not, counted from 1.
+pub struct Scan {
+    pub count: usize,
+    pub value: u64,
+    pub inside: bool,
+    pub ok: bool,
+    pub place: usize,
+}
+
+fn is_gap(b: u8) -> bool
+    ensures { λ r. ⌜ r ≡ isGap b ⌝ }
+{
+    if b == b'\n' {
+        return true;
+    }
+    is_separator(b)
+}
+
+// A number into the row, where there is room for it.
+fn put_value(row: &mut [u64], at: usize, value: u64) -> usize
+    ensures { λ r. ⌜ page (now (row .exit)) r ≡ laid (page (now (row .entry)) at) value ⌝ }
+{
+    if at < row.len() {
+        row[at] = value;
+        return at + 1;
+    }
+    at
+}
+
+// A word ends: the number that was being spelt, if one was, goes into the row.
+fn end_number(scan: Scan, row: &mut [u64]) -> Scan
+    ensures { λ r. ⌜ soFar (now (row .exit)) r ≡ ending (soFar (now (row .entry)) scan) ⌝ }
+{
+    let inside = scan.inside;
+    let value = scan.value;
+    let count = scan.count;
+    let ok = scan.ok;
+    let place = scan.place;
+    if inside {
+        let next = put_value(row, count, value);
+        return Scan {
+            count: next,
+            value: 0,
+            inside: false,
+            ok: ok,
+            place: place,
+        };
+    }
+    scan
+}
+
+// One byte more, which stands at a place of the text.
+fn take_byte(scan: Scan, place: usize, b: u8, row: &mut [u64]) -> Scan
+    ensures { λ r. ⌜ soFar (now (row .exit)) r ≡ taking (soFar (now (row .entry)) scan) place b ⌝ }
+{
+    let ok = scan.ok;
+    let count = scan.count;
+    let value = scan.value;
+    let inside = scan.inside;
+    let at = scan.place;
+    if ok {
+        if is_digit(b) {
+            let n = Number {
+                value: value,
+                over: false,
+            };
+            let longer = grow(n, b);
+            return Scan {
+                count: count,
+                value: longer.value,
+                inside: true,
+                ok: true,
+                place: at,
+            };
+        }
+        if is_gap(b) {
+            return end_number(scan, row);
+        }
+        return Scan {
+            count: count,
+            value: value,
+            inside: inside,
+            ok: false,
+            place: place,
+        };
+    }
+    scan
+}
+
+// All of a text, its numbers into the start of a row.
+pub fn take_text(text: &[u8], row: &mut [u64]) -> Scan
+    ensures { λ r. ⌜ soFar (now (row .exit)) r ≡ allTaken (now (text .entry)) (now (row .entry)) ⌝ }
+{
+    let mut scan = Scan {
+        count: 0,
+        value: 0,
+        inside: false,
+        ok: true,
+        place: 0,
+    };
+    let mut i = 0;
+    while i < text.len() {
+        let b = text[i];
+        i += 1;
+        scan = take_byte(scan, i, b, row);
+    }
+    end_number(scan, row)
+}
