@@ -1,6 +1,7 @@
--- The theorem of the sharing: counts at which every lane given was worth at least as much as every lane withheld are the choice to be
--- preferred to all (source 000, Theorem 2, ties included). A choice that differs takes too much, or is bettered by moving or adding a lane.
--- Rests on the laws of a title's part of the sum (proofs/term/Laws) and of one changed count (proofs/Sums).
+-- The theorem of the sharing: counts at which every lane given was worth at least as much as every lane withheld are
+-- the choice to be preferred to all (source 000, Theorem 2, ties included). A choice that differs takes too much, or is
+-- bettered by moving or adding a lane. Rests on the laws of a title's part of the sum (proofs/term/Laws) and of one
+-- changed count (proofs/Sums).
 use mathlib.Core.Path.{_≡_, sym, _∙_}
 use mathlib.Core.Bool.{true, false, true≢false}
 use mathlib.Core.List.{List}
@@ -10,27 +11,29 @@ use native.Mathlib.Omega.{arith}
 use lib.ListN.{length, getD, set, length-set}
 use lib.Seq.{getD-set-same, getD-set-other, ext-getD}
 use Rattle.sharing.specs.declared.titles.Title.{Title}
-use Rattle.sharing.specs.Titles.{titleAt, total}
+use Rattle.sharing.specs.Titles.{titleAt, rowTotal}
 use Rattle.sharing.specs.Term.{fall}
 use Rattle.sharing.specs.Choice.{sumOf, atLeast, prefers, Way, Choice, Shared}
 use Rattle.sharing.specs.Giving.{AllWeighable}
-use Rattle.sharing.proofs.Tests.{side}
-use Rattle.sharing.proofs.Order.{Trio, less, same, more, trio, or-view}
+use Rattle.sharing.proofs.Order.{side, Trio, less, same, more, trio, or-view}
 use Rattle.sharing.proofs.Sums.{total-set, sum-set, raised, way-set, ranks}
 use Rattle.sharing.proofs.term.Laws.{falls, fall-rest}
 
--- a lane given to title i at count a was worth at least as much as one withheld from title j at count b, and more where j comes first
+-- a lane given to title i at count a was worth at least as much as one withheld from title j at count b, and more where
+-- j comes first
 pub record Given (ts : List Title) (c : List ℕ) : Type 0 where
-  pub worth-it : (i j a b : ℕ) → i < length ts → j < length ts → titleAt ts i .floor ≤ a → a < getD c i 0 → getD c j 0 ≤ b → b < titleAt ts j .cap
+  pub worth-it : (i j a b : ℕ) → i < length ts → j < length ts → titleAt ts i .floor ≤ a → a < getD c i 0
+      → getD c j 0 ≤ b → b < titleAt ts j .cap
       → fall (titleAt ts j) b ≤ fall (titleAt ts i) a
-  pub first-served : (i j a b : ℕ) → i < length ts → j < i → titleAt ts i .floor ≤ a → a < getD c i 0 → getD c j 0 ≤ b → b < titleAt ts j .cap
+  pub first-served : (i j a b : ℕ) → i < length ts → j < i → titleAt ts i .floor ≤ a → a < getD c i 0 → getD c j 0 ≤ b
+      → b < titleAt ts j .cap
       → fall (titleAt ts j) b < fall (titleAt ts i) a
 
 -- counts so given, until the pool is used or every title is at its cap
 pub record Settled (pool : ℕ) (ts : List Title) (c : List ℕ) : Type 0 where
   pub choice : Choice pool ts c
   pub given : Given ts c
-  pub full : (total c ≡ pool) ⊎ ((j : ℕ) → j < length ts → titleAt ts j .cap ≤ getD c j 0)
+  pub full : (rowTotal c ≡ pool) ⊎ ((j : ℕ) → j < length ts → titleAt ts j .cap ≤ getD c j 0)
 
 -- a place below n where the first row is less
 record Gap (n : ℕ) (p q : List ℕ) : Type 0 where
@@ -56,7 +59,8 @@ gap (suc n) p q = go (gap n p q) (side (getD p n 0) (getD q n 0))
             by (same e) = rw e s
             by (more g) = absurd (omega arith)
 
-module _ (pool : ℕ) (ts : List Title) (ok : AllWeighable ts) (c x : List ℕ) (s : Settled pool ts c) (h : Shared pool ts x) where
+module _ (pool : ℕ) (ts : List Title) (ok : AllWeighable ts) (c x : List ℕ)
+    (s : Settled pool ts c) (h : Shared pool ts x) where
   -- no choice has a lesser sum, nor the same sum and a better rank
   no-lesser : (y : List ℕ) → Choice pool ts y → sumOf ts y < sumOf ts x → ⊥
   unfolding prefers
@@ -81,10 +85,10 @@ module _ (pool : ℕ) (ts : List Title) (ok : AllWeighable ts) (c x : List ℕ) 
       place : i < length c
       place = omega (arith, s .choice .way .places)
 
-      above : total (set c i (suc (getD c i 0))) ≤ total x
+      above : rowTotal (set c i (suc (getD c i 0))) ≤ rowTotal x
       above = raised (length ts) c x (s .choice .way .places) (h .choice .way .places) i l g up
 
-      go : (total c ≡ pool) ⊎ ((j : ℕ) → j < length ts → titleAt ts j .cap ≤ getD c j 0) → ⊥
+      go : (rowTotal c ≡ pool) ⊎ ((j : ℕ) → j < length ts → titleAt ts j .cap ≤ getD c j 0) → ⊥
       go (inl e) = omega (arith, total-set c i (suc (getD c i 0)) place, above, h .choice .room)
       go (inr f) = omega (arith, f i l, h .choice .way .high i l)
 
@@ -96,9 +100,11 @@ module _ (pool : ℕ) (ts : List Title) (ok : AllWeighable ts) (c x : List ℕ) 
       y = set x j (suc (getD x j 0))
 
       way : Way ts y
-      way = way-set ts x (h .choice .way) j (suc (getD x j 0)) l (omega (arith, h .choice .way .low j l)) (omega (arith, s .choice .way .high j l))
+      way =
+          way-set ts x (h .choice .way) j (suc (getD x j 0)) l (omega (arith, h .choice .way .low j l))
+          (omega (arith, s .choice .way .high j l))
 
-      under : total y ≤ total c
+      under : rowTotal y ≤ rowTotal c
       under = raised (length ts) x c (h .choice .way .places) (s .choice .way .places) j l g up
 
       lesser : sumOf ts y < sumOf ts x
@@ -106,11 +112,13 @@ module _ (pool : ℕ) (ts : List Title) (ok : AllWeighable ts) (c x : List ℕ) 
           omega (
             arith,
             sum-set ts x j (suc (getD x j 0)) l (h .choice .way .places),
-            falls (titleAt ts j) (ok .each j l) (getD x j 0) (omega (arith, ok .each j l .floor-low, h .choice .way .low j l))
+            falls (titleAt ts j) (ok .each j l) (getD x j 0)
+                (omega (arith, ok .each j l .floor-low, h .choice .way .low j l))
                 (omega (arith, s .choice .way .high j l)),
           )
 
-  -- more than c has at i and less at j: a lane moved from i to j is no greater a sum, and a better rank where it is the same
+  -- more than c has at i and less at j: a lane moved from i to j is no greater a sum, and a better rank where it is the
+  -- same
   misplaced : (i j : ℕ) → i < length ts → j < length ts → getD c i 0 < getD x i 0 → getD x j 0 < getD c j 0 → ⊥
   misplaced i j li lj gi gj = go (trio i j)
     where
@@ -133,10 +141,14 @@ module _ (pool : ℕ) (ts : List Title) (ok : AllWeighable ts) (c x : List ℕ) 
       kept = getD-set-other x i j p 0 apart
 
       z-way : Way ts z
-      z-way = way-set ts x (h .choice .way) i p li (omega (arith, s .choice .way .low i li)) (omega (arith, h .choice .way .high i li))
+      z-way =
+          way-set ts x (h .choice .way) i p li (omega (arith, s .choice .way .low i li))
+          (omega (arith, h .choice .way .high i li))
 
       y-way : Way ts y
-      y-way = way-set ts z z-way j (suc (getD x j 0)) lj (omega (arith, h .choice .way .low j lj)) (omega (arith, s .choice .way .high j lj))
+      y-way =
+          way-set ts z z-way j (suc (getD x j 0)) lj (omega (arith, h .choice .way .low j lj))
+          (omega (arith, s .choice .way .high j lj))
 
       y-choice : Choice pool ts y
       y-choice =
@@ -157,14 +169,19 @@ module _ (pool : ℕ) (ts : List Title) (ok : AllWeighable ts) (c x : List ℕ) 
             arith,
             sum-set ts x i p li (h .choice .way .places),
             rw kept at (sum-set ts z j (suc (getD x j 0)) lj (z-way .places)),
-            rw last at (fall-rest (titleAt ts i) (ok .each i li) p (omega (arith, ok .each i li .floor-low, s .choice .way .low i li))
+            rw last at
+                (fall-rest (titleAt ts i) (ok .each i li) p
+                (omega (arith, ok .each i li .floor-low, s .choice .way .low i li))
                 (omega (arith, h .choice .way .high i li))),
-            fall-rest (titleAt ts j) (ok .each j lj) (getD x j 0) (omega (arith, ok .each j lj .floor-low, h .choice .way .low j lj))
+            fall-rest (titleAt ts j) (ok .each j lj) (getD x j 0)
+                (omega (arith, ok .each j lj .floor-low, h .choice .way .low j lj))
                 (omega (arith, s .choice .way .high j lj)),
           )
 
       worth-it : fall (titleAt ts i) p ≤ fall (titleAt ts j) (getD x j 0)
-      worth-it = s .given .worth-it j i (getD x j 0) p lj li (h .choice .way .low j lj) gj (omega arith) (omega (arith, h .choice .way .high i li))
+      worth-it =
+          s .given .worth-it j i (getD x j 0) p lj li (h .choice .way .low j lj) gj (omega arith)
+          (omega (arith, h .choice .way .high i li))
 
       earlier : j < i → atLeast x y ≡ false
       earlier b =
@@ -179,7 +196,12 @@ module _ (pool : ℕ) (ts : List Title) (ok : AllWeighable ts) (c x : List ℕ) 
       go : Trio i j → ⊥
       go (less b) =
           no-lesser y y-choice
-          (omega (arith, sums, s .given .first-served j i (getD x j 0) p lj b (h .choice .way .low j lj) gj (omega arith) (omega (arith, h .choice .way .high i li))))
+          (omega (
+            arith,
+            sums,
+            s .given .first-served j i (getD x j 0) p lj b (h .choice .way .low j lj) gj (omega arith)
+                (omega (arith, h .choice .way .high i li)),
+          ))
       go (same e) = apart (sym e)
       go (more b) = equal b (side (sumOf ts y) (sumOf ts x))
 

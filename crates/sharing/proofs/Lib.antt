@@ -1,5 +1,5 @@
--- The laws on which the proofs of the functions rest, a file to a subject, each above what it cites; then what callers may rely on.
-mod Tests
+-- The laws on which the proofs of the functions rest, a file to a subject, each above what it cites; then what callers
+-- may rely on.
 mod Order
 pub mod Search
 mod Sums

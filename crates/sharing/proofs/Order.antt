@@ -1,16 +1,24 @@
--- The order of preference among choices: of two one is preferred, what is preferred to the preferred is preferred, and two choices that
--- are each preferred to the other are the same. Rests on the order of numbers.
+-- The order of preference among choices: of two one is preferred, what is preferred to the preferred is preferred, and
+-- two choices that are each preferred to the other are the same. Rests on the order of numbers.
 use mathlib.Core.Path.{_≡_, refl, sym, ap₂, _∙_}
 use mathlib.Core.Bool.{Bool, true, false, false≢true}
 use mathlib.Core.List.{List, [], _∷_}
 use mathlib.Core.Logic.{_⊎_, inl, inr}
 use Prim.Native.Nat.{ℕ, _≤_, _<_}
 use native.Mathlib.Omega.{arith}
+use native.Mathlib.Decide.{decLt}
 use lib.ListN.{length}
 use borrow.Author.Tests.{lt-ltb, le-ltb, eq-eqb, ne-eqb}
 use Rattle.sharing.specs.declared.titles.Title.{Title}
 use Rattle.sharing.specs.Choice.{lessOr, atLeast, prefers, sumOf}
-use Rattle.sharing.proofs.Tests.{side}
+
+-- of two numbers the first is less, or it is not
+pub side : (m n : ℕ) → (m < n) ⊎ (n ≤ m)
+side m n = go (decLt m n)
+  where
+    go : Dec (m < n) → (m < n) ⊎ (n ≤ m)
+    go (yes l) = inl l
+    go (no g) = inr (omega arith)
 
 -- two numbers: the first is less, they are equal, or it is more
 pub data Trio (a b : ℕ) : Type 0 where
@@ -61,7 +69,8 @@ or-total a b r s t = go (trio a b) t
     go (same e) (inr p) = inr (or-same s (sym e) p)
     go (more g) u = inr (or-less s g)
 
-or-trans : (a b c : ℕ) {r s q : Bool} → (r ≡ true → s ≡ true → q ≡ true) → lessOr a b r ≡ true → lessOr b c s ≡ true → lessOr a c q ≡ true
+or-trans : (a b c : ℕ) {r s q : Bool} → (r ≡ true → s ≡ true → q ≡ true) → lessOr a b r ≡ true → lessOr b c s ≡ true
+    → lessOr a c q ≡ true
 or-trans a b c {r} {s} {q} f h k = go (or-view a b r h) (or-view b c s k)
   where
     go : (a < b) ⊎ ((a ≡ b) × (r ≡ true)) → (b < c) ⊎ ((b ≡ c) × (s ≡ true)) → lessOr a c q ≡ true
@@ -85,7 +94,8 @@ least-total [] y = inl refl
 least-total (a ∷ x) [] = inl refl
 least-total (a ∷ x) (b ∷ y) = or-total b a (atLeast x y) (atLeast y x) (least-total x y)
 
-least-trans : (x y z : List ℕ) → length x ≡ length y → length y ≡ length z → atLeast x y ≡ true → atLeast y z ≡ true → atLeast x z ≡ true
+least-trans : (x y z : List ℕ) → length x ≡ length y → length y ≡ length z → atLeast x y ≡ true → atLeast y z ≡ true
+    → atLeast x z ≡ true
 unfolding atLeast
 least-trans [] y z p q h k = refl
 least-trans (a ∷ x) y [] p q h k = refl
@@ -113,7 +123,8 @@ module _ (ts : List Title) (x y : List ℕ) where
       let e = or-antisym (sumOf ts x) (sumOf ts y) (atLeast x y) (atLeast y x) h k in
       least-antisym x y p (e .1) (e .2)
 
-  pub prefers-trans : (z : List ℕ) → length x ≡ length y → length y ≡ length z → prefers ts x y ≡ true → prefers ts y z ≡ true
+  pub prefers-trans : (z : List ℕ) → length x ≡ length y → length y ≡ length z → prefers ts x y ≡ true
+      → prefers ts y z ≡ true
       → prefers ts x z ≡ true
   unfolding prefers
   prefers-trans z p q h k = or-trans (sumOf ts x) (sumOf ts y) (sumOf ts z) (λ r s. least-trans x y z p q r s) h k

@@ -1,6 +1,6 @@
--- What a caller may rely on beyond the contract's equations: two outcomes that it admits are the same; the counts written are a choice to
--- be preferred to every choice, with the least sum, and no other choice is; later places stay, and a refusal writes nothing.
--- Rests on the search (proofs/Search).
+-- What a caller may rely on beyond the contract's equations: two outcomes that it admits are the same; the counts
+-- written are a choice to be preferred to every choice, with the least sum, and no other choice is; later places stay,
+-- and a refusal writes nothing. Rests on the search (proofs/Search).
 use mathlib.Core.Path.{_≡_, refl, sym, ap, _∙_}
 use mathlib.Core.Bool.{true}
 use mathlib.Core.List.{List}
@@ -15,7 +15,7 @@ use Rattle.sharing.specs.Titles.{titles}
 use Rattle.sharing.specs.Choice.{Choice, Shared, prefers, sumOf, atLeast, shared}
 use Rattle.sharing.specs.Verdict.{verdictOf, rowAfter, Answered}
 use Rattle.sharing.proofs.Order.{or-view}
-use Rattle.sharing.proofs.Search.{found, only-one}
+use Rattle.sharing.proofs.Search.{search-finds, only-one}
 use Rattle.sharing.proofs.titles.Laws.{titles-length, titles-floors}
 use Rattle.sharing.proofs.verdict.Laws.{ready, row-done, row-refused}
 
@@ -30,7 +30,8 @@ least pool ts x y s c = go (or-view (sumOf ts x) (sumOf ts y) (atLeast x y) (s .
 
 module _ (pool : ℕ) (rates lengths floors caps row : List ℕ) where
   -- the contract settles answer and row
-  pub one-outcome : {r s : ℕ} {a b : List ℕ} → Answered pool rates lengths floors caps row r a → Answered pool rates lengths floors caps row s b
+  pub one-outcome : {r s : ℕ} {a b : List ℕ} → Answered pool rates lengths floors caps row r a
+      → Answered pool rates lengths floors caps row s b
       → (r ≡ s) × (a ≡ b)
   one-outcome p q = (p .answer ∙ sym (q .answer), p .counts ∙ sym (q .counts))
 
@@ -39,19 +40,24 @@ module _ (pool : ℕ) (rates lengths floors caps row : List ℕ) where
     pub is-shared : Shared pool (titles rates lengths floors caps) (shared pool (titles rates lengths floors caps))
     is-shared =
         let r = ready pool rates lengths floors caps row ok in
-        found pool (titles rates lengths floors caps) (λ i h. r .sound .weighable .each i h .floor-cap)
+        search-finds pool (titles rates lengths floors caps) (λ i h. r .sound .weighable .each i h .floor-cap)
         (rw (titles-floors rates lengths floors caps (r .sound .even)) (r .room))
 
     -- and no others are
-    pub only-shared : (x : List ℕ) → Shared pool (titles rates lengths floors caps) x → x ≡ shared pool (titles rates lengths floors caps)
+    pub only-shared : (x : List ℕ) → Shared pool (titles rates lengths floors caps) x
+        → x ≡ shared pool (titles rates lengths floors caps)
     only-shared x s = only-one pool (titles rates lengths floors caps) x _ s is-shared
 
     -- as many counts as titles
     pub places : length (shared pool (titles rates lengths floors caps)) ≡ length rates
-    places = is-shared .choice .way .places ∙ titles-length rates lengths floors caps (ready pool rates lengths floors caps row ok .sound .even)
+    places =
+        is-shared .choice .way .places
+        ∙ titles-length rates lengths floors caps (ready pool rates lengths floors caps row ok .sound .even)
 
     -- the first places hold the counts, and the later places stay
-    pub first-places : take (length rates) (rowAfter pool rates lengths floors caps row) ≡ shared pool (titles rates lengths floors caps)
+    pub first-places :
+        take (length rates) (rowAfter pool rates lengths floors caps row)
+        ≡ shared pool (titles rates lengths floors caps)
     first-places =
         ap (take (length rates)) (sym (row-done pool rates lengths floors caps row ok refl))
         ∙ take-at (shared pool (titles rates lengths floors caps)) _ (length rates) places
@@ -62,5 +68,6 @@ module _ (pool : ℕ) (rates lengths floors caps row : List ℕ) where
         ∙ drop-at (shared pool (titles rates lengths floors caps)) _ (length rates) places
 
   -- a refusal writes nothing
-  pub refusal-writes-nothing : (verdictOf pool rates lengths floors caps (length row) ≡ done → ⊥) → rowAfter pool rates lengths floors caps row ≡ row
+  pub refusal-writes-nothing : (verdictOf pool rates lengths floors caps (length row) ≡ done → ⊥)
+      → rowAfter pool rates lengths floors caps row ≡ row
   refusal-writes-nothing no-ok = sym (row-refused pool rates lengths floors caps row no-ok)

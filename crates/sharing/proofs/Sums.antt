@@ -8,19 +8,20 @@ use native.Mathlib.Omega.{arith}
 use lib.ListN.{length, getD, set, length-set}
 use lib.Seq.{getD-set-same, getD-set-other}
 use Rattle.sharing.specs.declared.titles.Title.{Title}
-use Rattle.sharing.specs.Titles.{titleAt, total}
+use Rattle.sharing.specs.Titles.{titleAt, rowTotal}
 use Rattle.sharing.specs.Term.{term}
 use Rattle.sharing.specs.Choice.{sumOf, atLeast, Way}
 use Rattle.sharing.proofs.Order.{Trio, less, same, more, trio, or-is, or-more}
 
-pub total-set : (x : List ℕ) (i v : ℕ) → i < length x → total (set x i v) + getD x i 0 ≡ total x + v
-unfolding total
+pub total-set : (x : List ℕ) (i v : ℕ) → i < length x → rowTotal (set x i v) + getD x i 0 ≡ rowTotal x + v
+unfolding rowTotal
 total-set [] i v h = absurd (omega arith)
 total-set (k ∷ x) zero v h = omega arith
 total-set (k ∷ x) (suc i) v h = omega (arith, total-set x i v (omega arith))
 
-pub total-mono : (x y : List ℕ) → length x ≡ length y → ((i : ℕ) → i < length x → getD x i 0 ≤ getD y i 0) → total x ≤ total y
-unfolding total
+pub total-mono : (x y : List ℕ) → length x ≡ length y → ((i : ℕ) → i < length x → getD x i 0 ≤ getD y i 0)
+    → rowTotal x ≤ rowTotal y
+unfolding rowTotal
 total-mono [] y e h = omega arith
 total-mono (k ∷ x) [] e h = absurd (omega arith)
 total-mono (k ∷ x) (l ∷ y) e h =
@@ -49,7 +50,7 @@ at-set P x i v l p q j = go (trio j i)
 
 -- one more at a place where the second row has more: still no more than the second row in all
 pub raised : (n : ℕ) (p q : List ℕ) → length p ≡ n → length q ≡ n → (i : ℕ) → i < n → getD p i 0 < getD q i 0
-    → ((j : ℕ) → j < n → getD p j 0 ≤ getD q j 0) → total (set p i (suc (getD p i 0))) ≤ total q
+    → ((j : ℕ) → j < n → getD p j 0 ≤ getD q j 0) → rowTotal (set p i (suc (getD p i 0))) ≤ rowTotal q
 raised n p q a b i l g up =
     total-mono (set p i (suc (getD p i 0))) q (length-set p i _ ∙ a ∙ sym b)
     (λ j m.
@@ -57,17 +58,20 @@ raised n p q a b i l g up =
     (omega (arith, length-set p i (suc (getD p i 0)))))
 
 -- a count set within floor and cap leaves a way a way
-pub way-set : (ts : List Title) (x : List ℕ) → Way ts x → (i v : ℕ) → i < length ts → titleAt ts i .floor ≤ v → v ≤ titleAt ts i .cap
+pub way-set : (ts : List Title) (x : List ℕ) → Way ts x → (i v : ℕ) → i < length ts → titleAt ts i .floor ≤ v
+    → v ≤ titleAt ts i .cap
     → Way ts (set x i v)
 way-set ts x w i v l f c =
     record {
       places = length-set x i v ∙ w .places;
       low =
           λ j h.
-          at-set (λ m k. m < length ts → titleAt ts m .floor ≤ k) x i v (omega (arith, w .places)) (λ _. f) (λ m n g. w .low m g) j h;
+          at-set (λ m k. m < length ts → titleAt ts m .floor ≤ k) x i v (omega (arith, w .places)) (λ _. f)
+          (λ m n g. w .low m g) j h;
       high =
           λ j h.
-          at-set (λ m k. m < length ts → k ≤ titleAt ts m .cap) x i v (omega (arith, w .places)) (λ _. c) (λ m n g. w .high m g) j h;
+          at-set (λ m k. m < length ts → k ≤ titleAt ts m .cap) x i v (omega (arith, w .places)) (λ _. c)
+          (λ m n g. w .high m g) j h;
     }
 
 -- less at the first place where they differ: not at least
@@ -78,4 +82,5 @@ ranks [] y j e l s h = absurd (omega arith)
 ranks (k ∷ x) [] j e l s h = absurd (omega arith)
 ranks (k ∷ x) (m ∷ y) zero e l s h = or-more (atLeast x y) h
 ranks (k ∷ x) (m ∷ y) (suc j) e l s h =
-    or-is (atLeast x y) (sym (s 0 (omega arith))) ∙ ranks x y j (omega arith) (omega arith) (λ i g. s (suc i) (omega arith)) h
+    or-is (atLeast x y) (sym (s 0 (omega arith)))
+    ∙ ranks x y j (omega arith) (omega arith) (λ i g. s (suc i) (omega arith)) h

@@ -1,3 +1,2 @@
 -- Of a title's part of the sum.
 pub mod Laws
-mod Table

@@ -8,7 +8,7 @@ use lib.ListN.{length, getD}
 use Rattle.rules.specs.Limits.{both, either}
 use Rattle.rules.specs.Refusals.{pick}
 use Rattle.sharing.specs.declared.titles.Title.{Title}
-use Rattle.sharing.specs.Titles.{titleAt, total}
+use Rattle.sharing.specs.Titles.{titleAt, rowTotal}
 use Rattle.sharing.specs.Term.{term}
 
 -- the sum that is to be least (01, "Sharing"), over all titles, one count to a title
@@ -27,7 +27,8 @@ atLeast [] ys = true
 atLeast (x ∷ xs) [] = true
 atLeast (x ∷ xs) (y ∷ ys) = lessOr y x (atLeast xs ys)
 
--- the first choice is to be taken rather than the second, or is the second: a lesser sum, or among equals more for earlier titles
+-- the first choice is to be taken rather than the second, or is the second: a lesser sum, or among equals more for
+-- earlier titles
 unfoldable pub prefers : List Title → List ℕ → List ℕ → Bool
 prefers ts x y = lessOr (sumOf ts x) (sumOf ts y) (atLeast x y)
 
@@ -40,7 +41,7 @@ pub record Way (ts : List Title) (x : List ℕ) : Type 0 where
 -- a choice (01, "Sharing"): counts within floors and caps, their total at most the pool
 pub record Choice (pool : ℕ) (ts : List Title) (x : List ℕ) : Type 0 where
   pub way : Way ts x
-  pub room : total x ≤ pool
+  pub room : rowTotal x ≤ pool
 
 -- the choice that the sharing takes (01, "Sharing"): it is to be preferred to every choice
 pub record Shared (pool : ℕ) (ts : List Title) (x : List ℕ) : Type 0 where
@@ -59,14 +60,14 @@ ways (t ∷ ts) = flatMap (λ k. map (λ x. k ∷ x) (ways ts)) (from (t .floor)
 
 -- the one of two to be preferred, where the second's total is at most the pool
 unfoldable pub better : ℕ → List Title → List ℕ → List ℕ → List ℕ
-better pool ts x y = pick (both (leb (total y) pool) (prefers ts y x)) y x
+better pool ts x y = pick (both (leb (rowTotal y) pool) (prefers ts y x)) y x
 
 -- the one to be preferred among x and a list
 unfoldable pub bestOf : ℕ → List Title → List ℕ → List (List ℕ) → List ℕ
 bestOf pool ts x [] = x
 bestOf pool ts x (y ∷ ys) = bestOf pool ts (better pool ts x y) ys
 
--- the counts that the sharing gives where the floors fit the pool: the best of the floors and of all ways. It is the one `Shared` choice
--- (proofs/Promise: `is-shared`, `only-shared`), found by trying all
+-- the counts that the sharing gives where the floors fit the pool: the best of the floors and of all ways. It is the
+-- one `Shared` choice (proofs/Promise: `is-shared`, `only-shared`), found by trying all
 unfoldable pub shared : ℕ → List Title → List ℕ
 shared pool ts = bestOf pool ts (map (λ t. t .floor) ts) (ways ts)

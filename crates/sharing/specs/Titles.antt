@@ -27,6 +27,6 @@ pub record Even (rates lengths floors caps : List ℕ) : Type 0 where
   pub fourth : length caps ≡ length rates
 
 -- the numbers of a row together
-unfoldable pub total : List ℕ → ℕ
-total [] = 0
-total (x ∷ xs) = x + total xs
+unfoldable pub rowTotal : List ℕ → ℕ
+rowTotal [] = 0
+rowTotal (x ∷ xs) = x + rowTotal xs

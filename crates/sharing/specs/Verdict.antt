@@ -5,11 +5,12 @@ use mathlib.Core.List.{List, [], _∷_, _++_}
 use Prim.Native.Nat.{ℕ}
 use lib.Dec.{leb, ltb, eqb}
 use lib.ListN.{length, drop}
-use Rattle.rules.specs.Limits.{within, both, poolMin, poolMax, rateMin, rateMax, lengthMin, lengthMax, floorMin, floorMax, countMin, countMax, titlesMax}
+use Rattle.rules.specs.Limits.{within, both, poolMin, poolMax, rateMin, rateMax, lengthMin, lengthMax}
+use Rattle.rules.specs.Limits.{floorMin, floorMax, countMin, countMax, titlesMax}
 use Rattle.rules.specs.Refusals.{pick, refuse, firstHit, done, outsideLimits, wrongCount, noLanes, wrongRows}
 use Rattle.sharing.specs.declared.titles.Title.{Title}
 use Rattle.sharing.specs.declared.verdict.Tally.{Tally}
-use Rattle.sharing.specs.Titles.{titles, total}
+use Rattle.sharing.specs.Titles.{titles, rowTotal}
 use Rattle.sharing.specs.Choice.{shared}
 
 -- the four rows are of one length, at most sixteen, and the counts have room (01, "Sharing")
@@ -32,26 +33,29 @@ unfoldable pub ordered : Title → Bool
 ordered t = leb (t .floor) (t .cap)
 
 -- every title passes a test
-unfoldable pub every : (Title → Bool) → List Title → Bool
-every p [] = true
-every p (t ∷ ts) = both (p t) (every p ts)
+unfoldable pub eachTitle : (Title → Bool) → List Title → Bool
+eachTitle p [] = true
+eachTitle p (t ∷ ts) = both (p t) (eachTitle p ts)
 
 -- what the code's one look at every title tells
-pub record Told (ts : List Title) (r : Tally) : Type 0 where
-  pub limits : r .allowed ≡ every allowed ts
-  pub order : r .ordered ≡ every ordered ts
+pub record Tallied (ts : List Title) (r : Tally) : Type 0 where
+  pub limits : r .allowed ≡ eachTitle allowed ts
+  pub order : r .ordered ≡ eachTitle ordered ts
 
--- the answer for titles in rows, with room for so many counts: 01, "Numbers that calls give back", has the order 10 1 6 9
+-- the answer for titles in rows, with room for so many counts, by the order of 01, "Numbers that calls give back":
+-- 10 1 6 9
 unfoldable pub verdictOf : ℕ → List ℕ → List ℕ → List ℕ → List ℕ → ℕ → ℕ
 verdictOf pool rates lengths floors caps room =
     firstHit
     (refuse wrongRows (not (rowsFit rates lengths floors caps room))
-    ∷ refuse outsideLimits (not (both (within poolMin poolMax pool) (every allowed (titles rates lengths floors caps))))
-    ∷ refuse wrongCount (not (every ordered (titles rates lengths floors caps)))
-    ∷ refuse noLanes (ltb pool (total floors))
+    ∷ refuse outsideLimits
+    (not (both (within poolMin poolMax pool) (eachTitle allowed (titles rates lengths floors caps))))
+    ∷ refuse wrongCount (not (eachTitle ordered (titles rates lengths floors caps)))
+    ∷ refuse noLanes (ltb pool (rowTotal floors))
     ∷ [])
 
--- the lent row afterwards (01, "Sharing"): the counts in its first places, later places as they were; after a refusal, all of it as it was
+-- the lent row afterwards (01, "Sharing"): the counts in its first places, later places as they were; after a refusal,
+-- all of it as it was
 unfoldable pub rowAfter : ℕ → List ℕ → List ℕ → List ℕ → List ℕ → List ℕ → List ℕ
 rowAfter pool rates lengths floors caps row =
     pick (eqb (verdictOf pool rates lengths floors caps (length row)) done)

@@ -2,7 +2,7 @@
 ghost use mathlib.Core.Path.{_≡_};
 ghost use Prim.Native.Nat.{_+_};
 ghost use lib.ListN.{length};
-ghost use Rattle.sharing.specs.Titles.{titles, total};
+ghost use Rattle.sharing.specs.Titles.{titles, rowTotal};
 ghost use Rattle.sharing.specs.Choice.{Way, shared};
 ghost use Rattle.sharing.specs.Giving.{Sound, Fillable, Neediest};
 use super::term::gain;
@@ -13,7 +13,8 @@ use super::titles::title_at;
 fn next_title(rates: &[u32], lengths: &[u32], floors: &[u32], caps: &[u32], counts: &[u32]) -> usize
     requires { ⌜ Sound (now rates) (now lengths) (now floors) (now caps) ⌝ }
     requires { ⌜ Way (titles (now rates) (now lengths) (now floors) (now caps)) (now counts) ⌝ }
-    ensures { λ r. ⌜ Neediest (titles (now (rates .entry)) (now (lengths .entry)) (now (floors .entry)) (now (caps .entry))) (now (counts .entry)) r ⌝ }
+    ensures { λ r. ⌜ Neediest
+        (titles (now (rates .entry)) (now (lengths .entry)) (now (floors .entry)) (now (caps .entry))) (now (counts .entry)) r ⌝ }
 {
     let n = rates.len();
     let mut best = n;
@@ -43,7 +44,8 @@ fn give(
 )
     requires { ⌜ Sound (now rates) (now lengths) (now floors) (now caps) ⌝ }
     requires { ⌜ now counts ≡ now floors ⌝ }
-    ensures { λ r. ⌜ now (counts .exit) ≡ shared (total (now (floors .entry)) + spare) (titles (now (rates .entry)) (now (lengths .entry)) (now (floors .entry)) (now (caps .entry))) ⌝ }
+    ensures { λ r. ⌜ now (counts .exit) ≡ shared (rowTotal (now (floors .entry)) + spare)
+        (titles (now (rates .entry)) (now (lengths .entry)) (now (floors .entry)) (now (caps .entry))) ⌝ }
 {
     let mut given: u64 = 0;
     while given < spare {
@@ -77,7 +79,8 @@ pub fn fill(
     counts: &mut [u32],
 )
     requires { ⌜ Fillable pool (now rates) (now lengths) (now floors) (now caps) (now counts) ⌝ }
-    ensures { λ r. ⌜ now (counts .exit) ≡ shared pool (titles (now (rates .entry)) (now (lengths .entry)) (now (floors .entry)) (now (caps .entry))) ⌝ }
+    ensures { λ r. ⌜ now (counts .exit) ≡ shared pool
+        (titles (now (rates .entry)) (now (lengths .entry)) (now (floors .entry)) (now (caps .entry))) ⌝ }
 {
     copy(floors, counts);
     let spare = pool - floor_total(floors);

@@ -1,8 +1,9 @@
-// The sharing of lanes among titles (01, "Sharing"): the counts with the least sum of rate x D / (2^k - 1), compared exactly.
+// The sharing of lanes among titles (01, "Sharing"; the sum by 02, request 2): the counts with the least sum of
+// rate x tick x 2^(K-k), in whole numbers.
 //
-// `share` is the one call. It has no `requires`: its contract settles the answer and the whole lent row for all inputs, by definitions in
-// specs/Choice and specs/Verdict that say "least over all choices" and say nothing of how the code gets there. The code gives the lanes
-// out one at a time, so its work grows with lanes times titles.
+// `share` is the one call. It has no `requires`: its contract settles the answer and the whole lent row for all inputs,
+// by definitions in specs/Choice and specs/Verdict that say "least over all choices" and say nothing of how the code
+// gets there. The code gives the lanes out one at a time, so its work grows with lanes times titles.
 ghost use Rattle.sharing.specs.Verdict.{Answered};
 
 mod giving;
@@ -10,10 +11,11 @@ mod term;
 mod titles;
 mod verdict;
 
-// Shares a pool of lanes among the titles whose rates, lengths, floors and caps stand in four rows: the counts go into the first places of
-// `counts`, later places stay. The answer is 0, or the first that hits of 10 (rows of different length, no room for the counts, more than
-// sixteen titles), 1 (a number outside its limits, the pool's included), 6 (a floor above its cap) and 9 (the floors exceed the pool); a
-// refusal writes nothing. No titles is done, with nothing written, where the pool is within its limits.
+// Shares a pool of lanes among the titles whose rates, lengths, floors and caps stand in four rows: the counts go into
+// the first places of `counts`, later places stay. The answer is 0, or the first that hits of 10 (rows of different
+// length, no room for the counts, more than sixteen titles), 1 (a number outside its limits, the pool's included), 6 (a
+// floor above its cap) and 9 (the floors exceed the pool); a refusal writes nothing. No titles is done, with nothing
+// written, where the pool is within its limits.
 pub fn share(
     pool: u64,
     rates: &[u32],
@@ -22,7 +24,8 @@ pub fn share(
     caps: &[u32],
     counts: &mut [u32],
 ) -> u8
-    ensures { λ r. ⌜ Answered pool (now (rates .entry)) (now (lengths .entry)) (now (floors .entry)) (now (caps .entry)) (now (counts .entry)) r (now (counts .exit)) ⌝ }
+    ensures { λ r. ⌜ Answered pool (now (rates .entry)) (now (lengths .entry)) (now (floors .entry)) (now (caps .entry))
+        (now (counts .entry)) r (now (counts .exit)) ⌝ }
 {
     let answer = verdict::verdict(pool, rates, lengths, floors, caps, counts.len());
     if answer == rules::DONE {

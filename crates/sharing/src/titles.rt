@@ -3,7 +3,7 @@ ghost use mathlib.Core.Path.{_≡_};
 ghost use Prim.Native.Nat.{_≤_, _<_};
 ghost use lib.ListN.{length};
 ghost use Rattle.rules.specs.Limits.{titlesMax};
-ghost use Rattle.sharing.specs.Titles.{titleAt, titles, total, Even};
+ghost use Rattle.sharing.specs.Titles.{titleAt, titles, rowTotal, Even};
 
 // What the sharing knows of a title.
 pub struct Title {
@@ -17,7 +17,8 @@ pub struct Title {
 pub fn title_at(rates: &[u32], lengths: &[u32], floors: &[u32], caps: &[u32], i: usize) -> Title
     requires { ⌜ Even (now rates) (now lengths) (now floors) (now caps) ⌝ }
     requires { ⌜ i < length (now rates) ⌝ }
-    ensures { λ r. ⌜ r ≡ titleAt (titles (now (rates .entry)) (now (lengths .entry)) (now (floors .entry)) (now (caps .entry))) i ⌝ }
+    ensures { λ r. ⌜ r
+        ≡ titleAt (titles (now (rates .entry)) (now (lengths .entry)) (now (floors .entry)) (now (caps .entry))) i ⌝ }
 {
     Title {
         rate: rates[i],
@@ -30,7 +31,7 @@ pub fn title_at(rates: &[u32], lengths: &[u32], floors: &[u32], caps: &[u32], i:
 // The floors together: what any choice takes at least.
 pub fn floor_total(floors: &[u32]) -> u64
     requires { ⌜ length (now floors) ≤ titlesMax ⌝ }
-    ensures { λ r. ⌜ r ≡ total (now (floors .entry)) ⌝ }
+    ensures { λ r. ⌜ r ≡ rowTotal (now (floors .entry)) ⌝ }
 {
     let mut sum: u64 = 0;
     let mut i = 0;

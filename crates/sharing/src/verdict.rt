@@ -2,7 +2,7 @@
 ghost use mathlib.Core.Path.{_≡_};
 ghost use Rattle.rules.specs.Limits.{both};
 ghost use Rattle.sharing.specs.Titles.{titles, Even};
-ghost use Rattle.sharing.specs.Verdict.{rowsFit, allowed as allowedOf, Told, verdictOf};
+ghost use Rattle.sharing.specs.Verdict.{rowsFit, allowed as allowedOf, Tallied, verdictOf};
 use super::titles::Title;
 use super::titles::floor_total;
 use super::titles::title_at;
@@ -25,7 +25,8 @@ fn also(a: bool, b: bool) -> bool
 
 // Four rows of one length, at most sixteen titles, and room for their counts.
 fn rows_fit(rates: &[u32], lengths: &[u32], floors: &[u32], caps: &[u32], room: usize) -> bool
-    ensures { λ r. ⌜ r ≡ rowsFit (now (rates .entry)) (now (lengths .entry)) (now (floors .entry)) (now (caps .entry)) room ⌝ }
+    ensures { λ r. ⌜ r
+        ≡ rowsFit (now (rates .entry)) (now (lengths .entry)) (now (floors .entry)) (now (caps .entry)) room ⌝ }
 {
     let n = rates.len();
     let rooms = also(n <= rules::TITLES_MAX, n <= room);
@@ -49,7 +50,8 @@ fn allowed(t: Title) -> bool
 // One look at every title.
 fn examine(rates: &[u32], lengths: &[u32], floors: &[u32], caps: &[u32]) -> Tally
     requires { ⌜ Even (now rates) (now lengths) (now floors) (now caps) ⌝ }
-    ensures { λ r. ⌜ Told (titles (now (rates .entry)) (now (lengths .entry)) (now (floors .entry)) (now (caps .entry))) r ⌝ }
+    ensures { λ r. ⌜ Tallied
+        (titles (now (rates .entry)) (now (lengths .entry)) (now (floors .entry)) (now (caps .entry))) r ⌝ }
 {
     let mut good = true;
     let mut kept = true;
@@ -75,7 +77,8 @@ pub fn verdict(
     caps: &[u32],
     room: usize,
 ) -> u8
-    ensures { λ r. ⌜ r ≡ verdictOf pool (now (rates .entry)) (now (lengths .entry)) (now (floors .entry)) (now (caps .entry)) room ⌝ }
+    ensures { λ r. ⌜ r
+        ≡ verdictOf pool (now (rates .entry)) (now (lengths .entry)) (now (floors .entry)) (now (caps .entry)) room ⌝ }
 {
     if rows_fit(rates, lengths, floors, caps, room) {
         let t = examine(rates, lengths, floors, caps);

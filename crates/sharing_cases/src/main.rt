@@ -1,5 +1,6 @@
-// Runs sharings whose answers were worked out apart from the code, by trying all choices, and writes each answer and the whole lent row.
-// The row has 17 places that start as 77, so that a line shows which places stay.
+// Runs sharings whose answers were worked out apart from the code, by trying all choices (expected.py, beside src/,
+// which writes `stdout`), and writes each answer and the whole lent row. The row has 17 places that start as 77, so
+// that a line shows which places stay.
 
 // A blank, then a number.
 fn number(n: u64) {
@@ -28,10 +29,8 @@ fn run(pool: u64, rates: &[u32], lengths: &[u32], floors: &[u32], caps: &[u32]) 
     line(answer, &row);
 }
 
-// 01's case 11: D 210 twice, floor 2, cap 4.
-fn worked(pool: u64, first: u32, second: u32) {
-    let rates = [first, second];
-    let lengths = [210u32, 210];
+// Two titles with floor 2 and cap 4, by their rates and lengths.
+fn two(pool: u64, rates: [u32; 2], lengths: [u32; 2]) {
     let floors = [2u32, 2];
     let caps = [4u32, 4];
     run(pool, &rates, &lengths, &floors, &caps);
@@ -46,10 +45,15 @@ fn three(pool: u64, a: u32, b: u32, c: u32) {
     run(pool, &rates, &lengths, &floors, &caps);
 }
 
-// Two titles whose falls from 2 and from 3 lanes differ in the tenth digit.
+// 01's case 11: D 210 twice.
+fn worked(pool: u64, first: u32, second: u32) {
+    two(pool, [first, second], [210, 210]);
+}
+
+// Two titles: the first one's fall from 3 lanes and the second one's from 2 differ by one part in 18 million.
 fn near(pool: u64, rate: u32, length: u32, first: u32) {
     let rates = [first, rate];
-    let lengths = [14_399_999u32, length];
+    let lengths = [14_399_000u32, length];
     let floors = [2u32, 2];
     let caps = [10u32, 10];
     run(pool, &rates, &lengths, &floors, &caps);
@@ -142,6 +146,10 @@ fn main() {
     worked(7, 1, 2);
     worked(3, 1, 2);
     worked(5, 1, 1);
+    // the slots that boxes wait for, not the plain scheme's segments
+    two(6, [4, 9], [12, 12]);
+    // a tick of 13 ms / 12 is 2 ms
+    two(5, [3, 2], [12, 13]);
     three(7, 1, 1, 1);
     three(8, 1, 1, 1);
     three(10, 1, 1, 1);
@@ -149,8 +157,8 @@ fn main() {
     three(9, 2, 5, 2);
     three(10, 2, 5, 2);
     three(64, 2, 5, 2);
-    near(6, 996, 5_777_349, 999);
-    near(6, 964, 5_957_178, 997);
+    near(6, 973, 7_391_500, 999);
+    near(6, 916, 7_820_000, 995);
     largest(64);
     largest(47);
     largest(31);

@@ -1,5 +1,6 @@
--- 01, "Numbers worked through": the starred cases as one table, what the definitions give beside what 01 prints. All but
--- 10 and 11 are of a film with floor 2, cap 4 and D 12, opened at 0; number 0 is what 01 says of that film beforehand.
+-- 01, "Numbers worked through": the starred cases as one table, what the definitions give beside what 01 prints; case 11
+-- by the sum of 02's request 2, with the example given there. All but 10 and 11 are of a film with floor 2, cap 4 and D 12,
+-- opened at 0; number 0 is what 01 says of that film beforehand.
 use Prim.Native.Nat.{ℕ, zero, suc}
 use mathlib.Core.Bool.{Bool, true, false, not}
 use mathlib.Core.List.{List, [], _∷_, _++_}
@@ -78,10 +79,10 @@ answerAfter cs e = answer pool (accepted pool cs) e
 abbrev pub lane : List Event → ℕ → ℕ → ℕ → List ℕ
 lane cs l t n = along (λ τ. shown (airAt (accepted pool cs) 0 l τ)) t n
 
--- two titles of D 210 with floor 2 and cap 4: the answer, then the row, which has a place more than there are titles
-abbrev pub share : ℕ → List ℕ → List ℕ
-share lanes rates =
-    let lengths : List ℕ = 210 ∷ 210 ∷ [] in
+-- two titles of length D with floor 2 and cap 4: the answer, then the row, which has a place more than there are titles
+abbrev pub share : ℕ → ℕ → List ℕ → List ℕ
+share D lanes rates =
+    let lengths : List ℕ = D ∷ D ∷ [] in
     let floors : List ℕ = floor ∷ floor ∷ [] in
     let caps : List ℕ = cap ∷ cap ∷ [] in
     let row : List ℕ = 0 ∷ 0 ∷ 7 ∷ [] in
@@ -112,12 +113,13 @@ table =
     ∷ [])
     (wrongCount ∷ wrongCount ∷ outsideLimits ∷ [])
     ∷ case 10 (tickOf 1 floor cap ∷ tickOf 13 floor cap ∷ []) (1 ∷ 2 ∷ [])
-    ∷ case 11 (share 4 (1 ∷ 2 ∷ [])) (done ∷ 2 ∷ 2 ∷ 7 ∷ [])
-    ∷ case 11 (share 5 (1 ∷ 2 ∷ [])) (done ∷ 2 ∷ 3 ∷ 7 ∷ [])
-    ∷ case 11 (share 6 (1 ∷ 2 ∷ [])) (done ∷ 3 ∷ 3 ∷ 7 ∷ [])
-    ∷ case 11 (share 7 (1 ∷ 2 ∷ [])) (done ∷ 3 ∷ 4 ∷ 7 ∷ [])
-    ∷ case 11 (share 3 (1 ∷ 2 ∷ [])) (noLanes ∷ 0 ∷ 0 ∷ 7 ∷ [])
-    ∷ case 11 (share 5 (1 ∷ 1 ∷ [])) (done ∷ 3 ∷ 2 ∷ 7 ∷ [])
+    ∷ case 11 (share 210 4 (1 ∷ 2 ∷ [])) (done ∷ 2 ∷ 2 ∷ 7 ∷ [])
+    ∷ case 11 (share 210 5 (1 ∷ 2 ∷ [])) (done ∷ 2 ∷ 3 ∷ 7 ∷ [])
+    ∷ case 11 (share 210 6 (1 ∷ 2 ∷ [])) (done ∷ 3 ∷ 3 ∷ 7 ∷ [])
+    ∷ case 11 (share 210 7 (1 ∷ 2 ∷ [])) (done ∷ 3 ∷ 4 ∷ 7 ∷ [])
+    ∷ case 11 (share 210 3 (1 ∷ 2 ∷ [])) (noLanes ∷ 0 ∷ 0 ∷ 7 ∷ [])
+    ∷ case 11 (share 210 5 (1 ∷ 1 ∷ [])) (done ∷ 3 ∷ 2 ∷ 7 ∷ [])
+    ∷ case 11 (share length 6 (4 ∷ 9 ∷ [])) (done ∷ 2 ∷ 4 ∷ 7 ∷ [])
     ∷ []
 
 -- two rows are the same

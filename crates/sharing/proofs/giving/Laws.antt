@@ -1,22 +1,22 @@
 -- Lanes given one at a time, each to the title to which it is worth most, end in settled counts (proofs/Exchange).
--- Rests on the laws of a title's part of the sum: a lane below the cap is worth something, and no lane is worth more than the one before.
+-- Rests on the laws of a title's part of the sum: a lane below the cap is worth something, and no lane is worth more
+-- than the one before.
 use mathlib.Core.Path.{_≡_, refl, sym}
 use mathlib.Core.List.{List, map}
 use mathlib.Core.Logic.{_⊎_, inl, inr}
-use Prim.Native.Nat.{ℕ, suc, _+_, _*_, _≤_, _<_}
+use Prim.Native.Nat.{ℕ, suc, _+_, _≤_, _<_}
 use native.Mathlib.Omega.{arith}
 use native.Mathlib.Numerals.{add-one}
 use lib.ListN.{length, getD, set, List·getD-map}
 use borrow.Author.Tests.{lt-ltb, le-ltb}
 use Rattle.rules.specs.Limits.{countMin}
 use Rattle.sharing.specs.declared.titles.Title.{Title}
-use Rattle.sharing.specs.Titles.{titleAt, nobody, total}
-use Rattle.sharing.specs.Term.{fall, worth, unit}
+use Rattle.sharing.specs.Titles.{titleAt, nobody, rowTotal}
+use Rattle.sharing.specs.Term.{fall, worth}
 use Rattle.sharing.specs.Choice.{Way, shared}
 use Rattle.sharing.specs.Giving.{Weighable, AllWeighable, Neediest}
-use Rattle.sharing.proofs.Tests.{side}
-use Rattle.sharing.proofs.Order.{Trio, less, same, more, trio}
-use Rattle.sharing.proofs.Search.{found, floors-way}
+use Rattle.sharing.proofs.Order.{side, Trio, less, same, more, trio}
+use Rattle.sharing.proofs.Search.{search-finds, floors-way}
 use Rattle.sharing.proofs.Sums.{total-set, at-set, way-set}
 use Rattle.sharing.proofs.Exchange.{Given, settled-is-shared}
 use Rattle.sharing.proofs.term.Laws.{falls, fall-rest, shrinks-on}
@@ -34,15 +34,15 @@ pub worth-some : (t : Title) → Weighable t → (k : ℕ) → countMin ≤ k �
 worth-some t w k l h =
     omega (arith, worth-below t k h, fall-rest t w k l h, falls t w k l h)
 
--- the title that leads among the first i, with what a lane is worth to it in units; r is the number of titles while none leads
+-- the title that leads among the first i, with what a lane is worth to it; r is the number of titles while none leads
 pub record Leading (ts : List Title) (ks : List ℕ) (i r m : ℕ) : Type 0 where
-  pub reach : i ≤ length ts
+  pub passed : i ≤ length ts
   pub bound : r ≤ length ts
-  pub all : (j : ℕ) → j < i → worth (titleAt ts j) (getD ks j 0) ≤ unit * m
+  pub all : (j : ℕ) → j < i → worth (titleAt ts j) (getD ks j 0) ≤ m
   pub none : r ≡ length ts → m ≡ 0
   pub some : r < length ts → (0 < m) × (r < i)
-  pub here : r < length ts → worth (titleAt ts r) (getD ks r 0) ≡ unit * m
-  pub first : r < length ts → (j : ℕ) → j < r → worth (titleAt ts j) (getD ks j 0) < unit * m
+  pub here : r < length ts → worth (titleAt ts r) (getD ks r 0) ≡ m
+  pub first : r < length ts → (j : ℕ) → j < r → worth (titleAt ts j) (getD ks j 0) < m
 
 module _ (ts : List Title) (ks : List ℕ) where
   -- what holds of the first i and of the i-th holds of the first i + 1
@@ -57,7 +57,7 @@ module _ (ts : List Title) (ks : List ℕ) where
   pub leads-none : Leading ts ks 0 (length ts) 0
   leads-none =
       record {
-        reach = omega arith;
+        passed = omega arith;
         bound = omega arith;
         all = λ j h. absurd (omega arith);
         none = λ e. refl;
@@ -66,13 +66,14 @@ module _ (ts : List Title) (ks : List ℕ) where
         first = λ h. absurd (omega arith);
       }
 
-  module _ {i r m g : ℕ} (l : Leading ts ks i r m) (h : i < length ts) (e : unit * g ≡ worth (titleAt ts i) (getD ks i 0)) where
+  module _ {i r m g : ℕ} (l : Leading ts ks i r m)
+      (h : i < length ts) (e : g ≡ worth (titleAt ts i) (getD ks i 0)) where
     leads-new : m < g → Leading ts ks (suc i) i g
     leads-new b =
         record {
-          reach = h;
+          passed = h;
           bound = omega arith;
-          all = upto (λ j. worth (titleAt ts j) (getD ks j 0) ≤ unit * g) i (λ j d. omega (arith, l .all j d)) (omega arith);
+          all = upto (λ j. worth (titleAt ts j) (getD ks j 0) ≤ g) i (λ j d. omega (arith, l .all j d)) (omega arith);
           none = λ z. absurd (omega arith);
           some = λ _. (omega arith, omega arith);
           here = λ _. sym e;
@@ -82,9 +83,9 @@ module _ (ts : List Title) (ks : List ℕ) where
     leads-on : g ≤ m → Leading ts ks (suc i) r m
     leads-on b =
         record {
-          reach = h;
+          passed = h;
           bound = l .bound;
-          all = upto (λ j. worth (titleAt ts j) (getD ks j 0) ≤ unit * m) i (l .all) (omega arith);
+          all = upto (λ j. worth (titleAt ts j) (getD ks j 0) ≤ m) i (l .all) (omega arith);
           none = l .none;
           some = λ d. (l .some d .0, omega (arith, l .some d .1));
           here = l .here;
@@ -92,7 +93,8 @@ module _ (ts : List Title) (ks : List ℕ) where
         }
 
     -- one title further, as the code goes
-    pub leads-next : {r′ m′ : ℕ} → ((m < g) × (r′ ≡ i) × (m′ ≡ g)) ⊎ ((g ≤ m) × (r′ ≡ r) × (m′ ≡ m)) → Leading ts ks (i + 1) r′ m′
+    pub leads-next : {r′ m′ : ℕ} → ((m < g) × (r′ ≡ i) × (m′ ≡ g)) ⊎ ((g ≤ m) × (r′ ≡ r) × (m′ ≡ m))
+        → Leading ts ks (i + 1) r′ m′
     leads-next (inl w) = rw (add-one, w .1, w .2) (leads-new (w .0))
     leads-next (inr w) = rw (add-one, w .1, w .2) (leads-on (w .0))
 
@@ -110,8 +112,9 @@ module _ (ts : List Title) (ks : List ℕ) where
 pub record Progress (ts : List Title) (s : ℕ) (c : List ℕ) : Type 0 where
   pub way : Way ts c
   pub given : Given ts c
-  pub within : total c ≤ total (map (λ t. t .floor) ts) + s
-  pub used : (total c ≡ total (map (λ t. t .floor) ts) + s) ⊎ ((j : ℕ) → j < length ts → titleAt ts j .cap ≤ getD c j 0)
+  pub within : rowTotal c ≤ rowTotal (map (λ t. t .floor) ts) + s
+  pub used :
+      (rowTotal c ≡ rowTotal (map (λ t. t .floor) ts) + s) ⊎ ((j : ℕ) → j < length ts → titleAt ts j .cap ≤ getD c j 0)
 
 module _ (ts : List Title) (ok : AllWeighable ts) where
   pub begins : Progress ts 0 (map (λ t. t .floor) ts)
@@ -144,7 +147,8 @@ module _ (ts : List Title) (ok : AllWeighable ts) where
                 (omega (
                   arith,
                   n .nothing (omega (arith, n .bound)) j l,
-                  worth-some (titleAt ts j) (ok .each j l) (getD c j 0) (omega (arith, ok .each j l .floor-low, p .way .low j l)) b,
+                  worth-some (titleAt ts j) (ok .each j l) (getD c j 0)
+                      (omega (arith, ok .each j l .floor-low, p .way .low j l)) b,
                 ))
             go (inr b) = b
 
@@ -165,7 +169,8 @@ module _ (ts : List Title) (ok : AllWeighable ts) where
           at-set (λ m k. a < k → (a < getD c m 0) ⊎ ((m ≡ r) × (a ≡ getD c r 0))) c r (suc (getD c r 0)) place
           (λ b. new b (side a (getD c r 0))) (λ j _ b. inl b) i
         where
-          new : a < suc (getD c r 0) → (a < getD c r 0) ⊎ (getD c r 0 ≤ a) → (a < getD c r 0) ⊎ ((r ≡ r) × (a ≡ getD c r 0))
+          new : a < suc (getD c r 0) → (a < getD c r 0) ⊎ (getD c r 0 ≤ a)
+              → (a < getD c r 0) ⊎ ((r ≡ r) × (a ≡ getD c r 0))
           new b (inl d) = inl d
           new b (inr d) = inr (refl, omega arith)
 
@@ -173,12 +178,14 @@ module _ (ts : List Title) (ok : AllWeighable ts) where
       grown j = at-set (λ m k. getD c m 0 ≤ k) c r (suc (getD c r 0)) place (omega arith) (λ m _. omega arith) j
 
       -- a lane still withheld is worth no more than the next one of its title
-      later : (j b : ℕ) → j < length ts → getD c j 0 ≤ b → b < titleAt ts j .cap → fall (titleAt ts j) b ≤ worth (titleAt ts j) (getD c j 0)
+      later : (j b : ℕ) → j < length ts → getD c j 0 ≤ b → b < titleAt ts j .cap
+          → fall (titleAt ts j) b ≤ worth (titleAt ts j) (getD c j 0)
       later j b l d e =
           omega (
             arith,
             worth-below (titleAt ts j) (getD c j 0) (omega arith),
-            shrinks-on (titleAt ts j) (ok .each j l) (getD c j 0) b (omega (arith, ok .each j l .floor-low, p .way .low j l)) d e,
+            shrinks-on (titleAt ts j) (ok .each j l) (getD c j 0) b
+                (omega (arith, ok .each j l .floor-low, p .way .low j l)) d e,
           )
 
       worth-here : worth (titleAt ts r) (getD c r 0) ≡ fall (titleAt ts r) (getD c r 0)
@@ -191,18 +198,25 @@ module _ (ts : List Title) (ok : AllWeighable ts) where
             first-served = λ i j a b li lj f g d e. serve i j a b li lj f d e (lane i a g);
           }
         where
-          weigh : (i j a b : ℕ) → i < length ts → j < length ts → titleAt ts i .floor ≤ a → getD (set c r (suc (getD c r 0))) j 0 ≤ b → b < titleAt ts j .cap
+          weigh : (i j a b : ℕ) → i < length ts → j < length ts → titleAt ts i .floor ≤ a
+              → getD (set c r (suc (getD c r 0))) j 0 ≤ b → b < titleAt ts j .cap
               → (a < getD c i 0) ⊎ ((i ≡ r) × (a ≡ getD c r 0)) → fall (titleAt ts j) b ≤ fall (titleAt ts i) a
           weigh i j a b li lj f d e (inl o) = p .given .worth-it i j a b li lj f o (omega (arith, grown j)) e
           weigh i j a b li lj f d e (inr o) =
               rw (o .0, o .1) (omega (arith, later j b lj (omega (arith, grown j)) e, n .most h j lj, worth-here))
 
-          serve : (i j a b : ℕ) → i < length ts → j < i → titleAt ts i .floor ≤ a → getD (set c r (suc (getD c r 0))) j 0 ≤ b → b < titleAt ts j .cap
+          serve : (i j a b : ℕ) → i < length ts → j < i → titleAt ts i .floor ≤ a
+              → getD (set c r (suc (getD c r 0))) j 0 ≤ b → b < titleAt ts j .cap
               → (a < getD c i 0) ⊎ ((i ≡ r) × (a ≡ getD c r 0)) → fall (titleAt ts j) b < fall (titleAt ts i) a
           serve i j a b li lj f d e (inl o) = p .given .first-served i j a b li lj f o (omega (arith, grown j)) e
           serve i j a b li lj f d e (inr o) =
               rw (o .0, o .1)
-              (omega (arith, later j b (omega arith) (omega (arith, grown j)) e, n .first h j (omega (arith, o .0)), worth-here))
+              (omega (
+                arith,
+                later j b (omega arith) (omega (arith, grown j)) e,
+                n .first h j (omega (arith, o .0)),
+                worth-here,
+              ))
 
       -- one lane more for the title that needs it most
       serves : Progress ts (suc s) (set c r (suc (getD c r 0)))
@@ -214,21 +228,25 @@ module _ (ts : List Title) (ok : AllWeighable ts) where
             used = spent (p .used);
           }
         where
-          spent : (total c ≡ total (map (λ t. t .floor) ts) + s) ⊎ ((j : ℕ) → j < length ts → titleAt ts j .cap ≤ getD c j 0)
-              → (total (set c r (suc (getD c r 0))) ≡ total (map (λ t. t .floor) ts) + suc s)
+          spent :
+              (rowTotal c ≡ rowTotal (map (λ t. t .floor) ts) + s)
+              ⊎ ((j : ℕ) → j < length ts → titleAt ts j .cap ≤ getD c j 0)
+              → (rowTotal (set c r (suc (getD c r 0))) ≡ rowTotal (map (λ t. t .floor) ts) + suc s)
               ⊎ ((j : ℕ) → j < length ts → titleAt ts j .cap ≤ getD (set c r (suc (getD c r 0))) j 0)
           spent (inl e) = inl (omega (arith, total-set c r (suc (getD c r 0)) place))
           spent (inr f) = absurd (omega (arith, f r h, open-at))
 
     -- one lane further, as the code goes
-    pub goes-on : {c′ : List ℕ} → ((r < length ts) × (c′ ≡ set c r (getD c r 0 + 1))) ⊎ ((length ts ≤ r) × (c′ ≡ c)) → Progress ts (s + 1) c′
+    pub goes-on : {c′ : List ℕ} → ((r < length ts) × (c′ ≡ set c r (getD c r 0 + 1))) ⊎ ((length ts ≤ r) × (c′ ≡ c))
+        → Progress ts (s + 1) c′
     goes-on (inl w) = rw (add-one s, w .1, add-one (getD c r 0)) (serves (w .0))
     goes-on (inr w) = rw (add-one s, w .1) (stays (w .0))
 
   -- when all spare lanes were offered, the counts are the shared ones
-  pub ends : (s : ℕ) (c : List ℕ) → Progress ts s c → c ≡ shared (total (map (λ t. t .floor) ts) + s) ts
+  pub ends : (s : ℕ) (c : List ℕ) → Progress ts s c → c ≡ shared (rowTotal (map (λ t. t .floor) ts) + s) ts
   ends s c p =
       sym
-      (settled-is-shared (total (map (λ t. t .floor) ts) + s) ts ok c (shared (total (map (λ t. t .floor) ts) + s) ts)
+      (settled-is-shared (rowTotal (map (λ t. t .floor) ts) + s) ts ok c
+      (shared (rowTotal (map (λ t. t .floor) ts) + s) ts)
       (record { choice = record { way = p .way; room = p .within }; given = p .given; full = p .used })
-      (found (total (map (λ t. t .floor) ts) + s) ts (λ i h. ok .each i h .floor-cap) (omega arith)))
+      (search-finds (rowTotal (map (λ t. t .floor) ts) + s) ts (λ i h. ok .each i h .floor-cap) (omega arith)))

@@ -1,4 +1,5 @@
--- `sharing::share` meets its contract: where nothing is refused the first places get the shared counts, otherwise the row stays.
+-- `sharing::share` meets its contract: where nothing is refused the first places get the shared counts, otherwise the
+-- row stays.
 use mathlib.Core.Path.{sym, _∙_}
 use lib.Seq.{length-take-le}
 use borrow.Author.Needs.{needs}
@@ -34,7 +35,8 @@ returns c =
     let v = c .before .before .before .before in
     record {
       answer = v .before .verdict .ensures;
-      counts = row-done _ _ _ _ _ _ (sym (v .before .verdict .ensures) ∙ v .if1 .taken) (c .before .before .fill .ensures);
+      counts =
+          row-done _ _ _ _ _ _ (sym (v .before .verdict .ensures) ∙ v .if1 .taken) (c .before .before .fill .ensures);
     }
 
 returns-2 : tie.Need-returns-2

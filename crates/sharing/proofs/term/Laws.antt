@@ -1,54 +1,55 @@
--- What the theorem of the sharing asks of a title's part of the sum, and no more: it is never nothing, and up to the cap one lane more at
--- least halves it; so it falls with each lane, and each fall is below the one before. And that the common factor makes every part whole.
--- Rests on the laws of quotients; the rule of the common factor is computed at each count.
-use mathlib.Core.Path.{_≡_, refl, ap, subst}
-use mathlib.Core.Bool.{Bool}
-use Prim.Native.Nat.{ℕ, suc, _+_, _*_, _-_, _/_, _^_, _≤_, _<_}
+-- What the theorem of the sharing asks of a title's part of the sum, and no more: it is never nothing, and up to the
+-- cap one lane more at least halves it; so it falls with each lane, and each fall is below the one before. And that the
+-- code's products fit 64 bits. Rests on the laws of ticks and slots (grid proofs/Ticks).
+use mathlib.Core.Path.{_≡_, refl, ap}
+use Prim.Native.Nat.{ℕ, suc, _+_, _*_, _^_, _≤_, _<_}
 use native.Mathlib.Omega.{arith}
-use native.Mathlib.Nat.{le-div-iff-mul-le, div-mul-le-self, mul-le-mul-left, mul-pos, le-refl}
+use native.Mathlib.Nat.{mul-le-mul, mul-pos, le-refl}
 use native.Mathlib.Decide.{le-ind}
-use lib.Pow.{pow-mono}
-use lib.Dec.{eqb}
-use borrow.Author.Tests.{eqb-true}
-use Rattle.rules.specs.Limits.{countMin, countMax}
+use native.Mathlib.Numerals.{add-one}
+use Rattle.rules.specs.Limits.{countMin, countMax, lengthMax, rateMax}
+use Rattle.grid.specs.Ticks.{tickOf, slot}
+use Rattle.grid.proofs.Ticks.{slot-pos, slot-half, tick-exactly}
 use Rattle.sharing.specs.declared.titles.Title.{Title}
-use Rattle.sharing.specs.Term.{common, term, fall}
+use Rattle.sharing.specs.Term.{term, fall}
 use Rattle.sharing.specs.Giving.{Weighable}
-use Rattle.sharing.proofs.Tests.{at-all}
 
-half-quotient : (n a b : ℕ) → 0 < a → 2 * a ≤ b → 2 * (n / b) ≤ n / a
-half-quotient n a b pos h =
-    le-div-iff-mul-le {k = a} {x = 2 * (n / b)} {y = n} pos .1 (omega (arith, div-mul-le-self n b, mul-le-mul-left (n / b) h))
+-- a lane more halves the slot, and the part with it
+twice : (r m K k : ℕ) → k < K → r * (m * slot K k) ≡ 2 * (r * (m * slot K (suc k)))
+twice r m K k h = omega (arith, ap (λ (w : ℕ). r * (m * w)) (slot-half K k h))
 
--- the divisor of the next count is more than twice this one's
-divisors : (k : ℕ) → 1 ≤ k → (0 < 2 ^ k - 1) × (2 * (2 ^ k - 1) ≤ 2 ^ suc k - 1)
-divisors k h = (omega (arith, pow-mono {i = 1} {j = k} h), omega arith)
-
--- from here to `whole` the laws hold of this `term`; the ones after rest on `halves` and `positive` alone
-pub halves : (t : Title) → Weighable t → (k : ℕ) → countMin ≤ k → k < t .cap → 2 * term t (suc k) ≤ term t k
+doubled : (t : Title) (k : ℕ) → k < t .cap → term t k ≡ 2 * term t (suc k)
 unfolding term
-halves t w k l h =
-    let d = divisors k (omega arith) in
-    omega (arith, mul-le-mul-left (t .rate * t .length) (half-quotient common (2 ^ k - 1) (2 ^ suc k - 1) (d .0) (d .1)))
+doubled t k h = twice (t .rate) _ (t .cap) k h
+
+tick-some : (t : Title) → Weighable t → 0 < tickOf (t .length) (t .floor) (t .cap)
+tick-some t w =
+    let x =
+    tick-exactly (t .length) (t .floor) (t .cap) _ _ (w .length-low) (omega (arith, w .floor-low))
+    (w .floor-cap) refl refl in
+    omega (arith, x .is, x .low)
+
+-- `halves`, `positive` and `fall-is` are of this `term`; the laws after them rest on the first two alone
+pub halves : (t : Title) → Weighable t → (k : ℕ) → countMin ≤ k → k < t .cap → 2 * term t (suc k) ≤ term t k
+halves t w k l h = omega (arith, doubled t k h)
 
 pub positive : (t : Title) → Weighable t → (k : ℕ) → countMin ≤ k → k ≤ t .cap → 0 < term t k
 unfolding term
-positive t w k l h =
-    mul-pos (mul-pos (w .rate-low) (w .length-low))
-    (le-div-iff-mul-le {k = 2 ^ k - 1} {x = 1} {y = common} (divisors k (omega arith) .0) .1
-    (omega (arith, pow-mono {i = k} {j = countMax} (omega (arith, w .cap-high)))))
+positive t w k l h = mul-pos (w .rate-low) (mul-pos (tick-some t w) (slot-pos (t .cap) k))
 
-wholeAt : ℕ → Bool
-wholeAt j = eqb (common / (2 ^ (2 + j) - 1) * (2 ^ (2 + j) - 1)) common
+-- what falls is as much as is left: rate x tick x the slot of one lane more, as the code has them
+pub fall-is : (t : Title) (k : ℕ) {m w : ℕ} → k < t .cap → m ≡ tickOf (t .length) (t .floor) (t .cap)
+    → w ≡ slot (t .cap) (k + 1) → t .rate * (m * w) ≡ fall t k
+unfolding fall term
+fall-is t k h e f = rw (e, f, add-one) (omega (arith, doubled t k h))
 
--- times its own divisor, a part is rate x D times the common factor: nothing is lost by the quotient
-pub whole : (t : Title) (k : ℕ) → countMin ≤ k → k ≤ countMax → term t k * (2 ^ k - 1) ≡ t .rate * t .length * common
-unfolding term wholeAt
-whole t k l h =
-    let e : 2 + (k - 2) ≡ k = omega arith in
-    let q : common / (2 ^ k - 1) * (2 ^ k - 1) ≡ common =
-    subst (λ (m : ℕ). common / (2 ^ m - 1) * (2 ^ m - 1) ≡ common) e (eqb-true _ _ (at-all wholeAt 9 refl (k - 2) (omega arith))) in
-    omega (arith, ap (λ (m : ℕ). t .rate * t .length * m) q)
+-- a tick and a slot as the code has them, and then the rate: their product is below 2^64
+pub slot-fits : {D m w : ℕ} → m ≤ D → D ≤ lengthMax → w ≤ 2 ^ countMax → m * w ≤ lengthMax * 2 ^ countMax
+slot-fits {D} {m} {w} a b c = mul-le-mul {n₁ = m} {m₁ = w} {n₂ = lengthMax} {m₂ = 2 ^ countMax} (omega arith) c
+
+pub part-fits : {r s : ℕ} → r ≤ rateMax → s ≤ lengthMax * 2 ^ countMax → r * s < 2 ^ 64
+part-fits {r} {s} a b =
+    omega (arith, mul-le-mul {n₁ = r} {m₁ = s} {n₂ = rateMax} {m₂ = lengthMax * 2 ^ countMax} a b)
 
 module _ (t : Title) (w : Weighable t) where
   -- a lane more makes the part less
@@ -64,7 +65,12 @@ module _ (t : Title) (w : Weighable t) where
   pub shrinks : (k : ℕ) → countMin ≤ k → suc k < t .cap → fall t (suc k) < fall t k
   unfolding fall
   shrinks k l h =
-      omega (arith, halves t w k l (omega arith), halves t w (suc k) (omega arith) h, positive t w (suc (suc k)) (omega arith) h)
+      omega (
+        arith,
+        halves t w k l (omega arith),
+        halves t w (suc k) (omega arith) h,
+        positive t w (suc (suc k)) (omega arith) h,
+      )
 
   pub shrinks-on : (k m : ℕ) → countMin ≤ k → k ≤ m → m < t .cap → fall t m ≤ fall t k
   shrinks-on k m l h =

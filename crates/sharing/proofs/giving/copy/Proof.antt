@@ -1,4 +1,5 @@
--- `sharing::giving::copy` meets its contract. The loop's invariant: the rows agree in the places passed, and are of one length.
+-- `sharing::giving::copy` meets its contract. The loop's invariant: the rows agree in the places passed, and are of one
+-- length.
 use mathlib.Core.Path.{_≡_, refl, sym, ap, _∙_}
 use mathlib.Core.List.{List, [], _∷_, _++_}
 use Prim.Native.Nat.{ℕ, _-_}

@@ -2,7 +2,7 @@
 use mathlib.Core.Path.{_≡_, ap, _∙_}
 use Prim.Native.Nat.{ℕ, _+_, _-_}
 use native.Mathlib.Omega.{arith}
-use Rattle.sharing.specs.Titles.{titles, total}
+use Rattle.sharing.specs.Titles.{titles, rowTotal}
 use Rattle.sharing.specs.Choice.{shared}
 use borrow.Author.Needs.{needs}
 use Rattle.sharing.proofs.giving.fill.Statement.{statement}
@@ -25,10 +25,12 @@ same-length c = search needs
 
 returns : tie.Need-returns
 returns c =
-    let s = c .before .before .before .before .before .before .before .before .before .before .before .before .before .before in
+    let s =
+    c .before .before .before .before .before .before .before .before .before .before .before .before .before .before in
     let ts = titles (s .args .rates .now) (s .args .lengths .now) (s .args .floors .now) (s .args .caps .now) in
     let f = c .before .before .before .before .floor-total in
-    let e : total (s .args .floors .now) + (s .args .pool - f .result) ≡ s .args .pool = omega (arith, f .ensures, s .pre .room) in
+    let e : rowTotal (s .args .floors .now) + (s .args .pool - f .result) ≡ s .args .pool =
+    omega (arith, f .ensures, s .pre .room) in
     c .before .before .give .ensures ∙ ap (λ (n : ℕ). shared n ts) e
 
 pub fill-spec : {M : Type 1} → statement M

@@ -1,5 +1,5 @@
--- `sharing::giving::give` meets its contract. The loop's invariant: the counts are those after `given` lanes (proofs/giving/Laws), which
--- after the last one are the shared counts.
+-- `sharing::giving::give` meets its contract. The loop's invariant: the counts are those after `given` lanes
+-- (proofs/giving/Laws), which after the last one are the shared counts.
 use mathlib.Core.Path.{_≡_, sym, ap, ap₂, subst, _∙_}
 use mathlib.Core.List.{List}
 use mathlib.Core.Logic.{inl, inr, ⊎-elim}
@@ -7,7 +7,7 @@ use Prim.Native.Nat.{ℕ, _≤_, _-_, _+_, _<_}
 use native.Mathlib.Omega.{arith}
 use lib.ListN.{length}
 use borrow.Author.Needs.{needs}
-use Rattle.sharing.specs.Titles.{titles, total}
+use Rattle.sharing.specs.Titles.{titles, rowTotal}
 use Rattle.sharing.specs.Choice.{shared}
 use Rattle.sharing.proofs.titles.Laws.{titles-length, titles-floors}
 use Rattle.sharing.proofs.giving.Laws.{Progress, begins, goes-on, ends}
@@ -25,7 +25,8 @@ loop-holds : tie.Need-loop-holds Inv-loop μ-loop
 loop-holds c =
     let s = c .before .before .before .before .before in
     let ts = titles (s .args .rates .now) (s .args .lengths .now) (s .args .floors .now) (s .args .caps .now) in
-    (omega arith, subst (λ (l : List ℕ). Progress ts 0 l) (titles-floors _ _ _ _ (s .pre .0 .even) ∙ sym (s .pre .1)) (begins ts (s .pre .0 .weighable)))
+    let e = titles-floors _ _ _ _ (s .pre .0 .even) ∙ sym (s .pre .1) in
+    (omega arith, subst (λ (l : List ℕ). Progress ts 0 l) e (begins ts (s .pre .0 .weighable)))
 
 next-title-requires : tie.Need-next-title-requires Inv-loop μ-loop
 next-title-requires c κs =
@@ -38,7 +39,8 @@ inside : (c : tie.Then1 Inv-loop μ-loop) →
     (c .before .next-title .result < length ts) × (length (c .before .before .before .before .loop .counts) ≡ length ts)
 inside c =
     let s = c .before .before .before .before .before .before .before .before .before .before in
-    (omega (arith, c .if1 .taken, titles-length _ _ _ _ (s .pre .0 .even)), c .before .before .before .before .loop .inv .1 .way .places)
+    let l = c .before .before .before .before .loop in
+    (omega (arith, c .if1 .taken, titles-length _ _ _ _ (s .pre .0 .even)), l .inv .1 .way .places)
 
 mul-counts : tie.Need-mul-counts Inv-loop μ-loop
 mul-counts c = search needs
@@ -51,7 +53,8 @@ add-counts c =
     let s = c .before .before .before .before .before .before .before .before .before .before .before in
     let at = c .before .before .next-title .result in
     let l = inside (c .before) .0 in
-    omega (arith, c .before .before .before .before .before .loop .inv .1 .way .high at l, s .pre .0 .weighable .each at l .cap-high)
+    let way = c .before .before .before .before .before .loop .inv .1 .way in
+    omega (arith, way .high at l, s .pre .0 .weighable .each at l .cap-high)
 
 mul-counts-2 : tie.Need-mul-counts-2 Inv-loop μ-loop
 mul-counts-2 c = search needs
@@ -69,15 +72,25 @@ loop-again : tie.Need-loop-again Inv-loop μ-loop
 loop-again c =
     let s = c .before .before .before .before .before .before .before .before .before .before in
     let n = titles-length _ _ _ _ (s .pre .0 .even) in
-    let next = goes-on _ (s .pre .0 .weighable) (c .before .before .before .before .loop .inv .1) (c .before .next-title .ensures) in (
+    let next =
+    goes-on _ (s .pre .0 .weighable) (c .before .before .before .before .loop .inv .1)
+    (c .before .next-title .ensures) in (
       omega arith,
-      ⊎-elim (λ w. next (inl (omega (arith, w .0 .taken, n), w .2))) (λ w. next (inr (omega (arith, w .0 .left, n), w .1))) (c .if1 .came),
+      ⊎-elim (λ w. next (inl (omega (arith, w .0 .taken, n), w .2)))
+          (λ w. next (inr (omega (arith, w .0 .left, n), w .1))) (c .if1 .came),
     )
 
 same-length : tie.Need-same-length Inv-loop μ-loop
 same-length c =
     let s = c .before .before .before .before .before .before .before in
-    omega (arith, c .before .loop .inv .1 .way .places, titles-length _ _ _ _ (s .pre .0 .even), s .pre .0 .even .third, ap length (s .pre .1))
+    let even = s .pre .0 .even in
+    omega (
+      arith,
+      c .before .loop .inv .1 .way .places,
+      titles-length _ _ _ _ even,
+      even .third,
+      ap length (s .pre .1),
+    )
 
 returns : tie.Need-returns Inv-loop μ-loop
 returns c =
@@ -85,7 +98,7 @@ returns c =
     let ts = titles (s .args .rates .now) (s .args .lengths .now) (s .args .floors .now) (s .args .caps .now) in
     let e : c .before .loop .given ≡ s .args .spare = omega (arith, c .loop-test .left, c .before .loop .inv .0) in
     ends ts (s .pre .0 .weighable) (c .before .loop .given) (c .before .loop .counts) (c .before .loop .inv .1)
-    ∙ ap₂ (λ (f : List ℕ) (n : ℕ). shared (total f + n) ts) (titles-floors _ _ _ _ (s .pre .0 .even)) e
+    ∙ ap₂ (λ (f : List ℕ) (n : ℕ). shared (rowTotal f + n) ts) (titles-floors _ _ _ _ (s .pre .0 .even)) e
 
 pub give-spec : {M : Type 1} → statement M
 give-spec =

@@ -1,21 +1,23 @@
--- `sharing::giving::next_title` meets its contract. The loop's invariant: `best` leads among the titles passed (proofs/giving/Laws).
+-- `sharing::giving::next_title` meets its contract. The loop's invariant: `best` leads among the titles passed
+-- (proofs/giving/Laws).
 use mathlib.Core.Path.{_≡_, subst, subst⁻¹, _∙_, ap}
 use mathlib.Core.Logic.{inl, inr, ⊎-elim}
-use Prim.Native.Nat.{ℕ, _<_, _-_, _*_}
+use Prim.Native.Nat.{ℕ, _<_, _-_}
 use native.Mathlib.Omega.{arith}
 use lib.ListN.{length, getD}
 use borrow.Author.Needs.{needs}
 use Rattle.sharing.specs.declared.titles.Title.{Title}
 use Rattle.sharing.specs.Titles.{titles, titleAt}
 use Rattle.sharing.specs.Giving.{Weighable}
-use Rattle.sharing.specs.Term.{unit, worth}
+use Rattle.sharing.specs.Term.{worth}
 use Rattle.sharing.proofs.titles.Laws.{titles-length}
 use Rattle.sharing.proofs.giving.Laws.{Leading, leads-none, leads-next, leads-all}
 use Rattle.sharing.proofs.giving.next_title.Statement.{statement}
 use Rattle.sharing.proofs.giving.next_title.Tie as tie
 
 abbrev Inv-loop : tie.InvT-loop
-Inv-loop rates lengths floors caps counts n best₀ most₀ i₀ best most i = Leading (titles rates lengths floors caps) counts i best most
+Inv-loop rates lengths floors caps counts n best₀ most₀ i₀ best most i =
+    Leading (titles rates lengths floors caps) counts i best most
 
 abbrev μ-loop : tie.MeasureT-loop
 μ-loop rates lengths floors caps counts n best₀ most₀ i₀ best most i = n - i
@@ -38,7 +40,8 @@ mul-gain c = search needs
 -- in the loop, i is a title's place
 inside : (c : tie.In-loop Inv-loop μ-loop) →
     let s = c .before .before .before .before .before .before .before in
-    c .before .loop .i < length (titles (s .args .rates .now) (s .args .lengths .now) (s .args .floors .now) (s .args .caps .now))
+    let ts = titles (s .args .rates .now) (s .args .lengths .now) (s .args .floors .now) (s .args .caps .now) in
+    c .before .loop .i < length ts
 inside c =
     let s = c .before .before .before .before .before .before .before in
     omega (arith, c .loop-test .taken, titles-length _ _ _ _ (s .pre .0 .even))
@@ -54,7 +57,7 @@ gain-requires c κs =
     let i = c .before .before .before .loop .i in
     let l = inside (c .before .before) in
     let w = s .pre .0 .weighable .each i l in
-    (subst⁻¹ Weighable (c .before .title-at .ensures) w, omega (arith, w .floor-low, s .pre .1 .low i l))
+    subst⁻¹ Weighable (c .before .title-at .ensures) w
 
 add-i : tie.Need-add-i Inv-loop μ-loop
 add-i c = search needs
@@ -68,10 +71,12 @@ loop-again c =
     let ts = titles (s .args .rates .now) (s .args .lengths .now) (s .args .floors .now) (s .args .caps .now) in
     let ks = s .args .counts .now in
     let l = c .before .before .before .before .before .loop in
-    let e : unit * c .before .gain .result ≡ worth (titleAt ts (l .i)) (getD ks (l .i) 0) =
-    c .before .gain .ensures ∙ ap (λ (t : Title). worth t (getD ks (l .i) 0)) (c .before .before .before .title-at .ensures) in
+    let e : c .before .gain .result ≡ worth (titleAt ts (l .i)) (getD ks (l .i) 0) =
+    c .before .gain .ensures
+    ∙ ap (λ (t : Title). worth t (getD ks (l .i) 0)) (c .before .before .before .title-at .ensures) in
     let next = leads-next ts ks (l .inv) (inside (c .before .before .before .before)) e in
-    ⊎-elim (λ w. next (inl (omega (arith, w .0 .taken), w .1, w .2))) (λ w. next (inr (omega (arith, w .0 .left), w .1, w .2))) (c .if1 .came)
+    ⊎-elim (λ w. next (inl (omega (arith, w .0 .taken), w .1, w .2)))
+    (λ w. next (inr (omega (arith, w .0 .left), w .1, w .2))) (c .if1 .came)
 
 returns : tie.Need-returns Inv-loop μ-loop
 returns c =

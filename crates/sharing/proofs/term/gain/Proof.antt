@@ -1,47 +1,57 @@
--- `sharing::term::gain` meets its contract: below the cap it is the table's fall times the title's weight, and it fits 64 bits (proofs/term/Table).
-use Prim.Native.Nat.{_<_}
+-- `sharing::term::gain` meets its contract: below the cap it is rate x tick x the slot of one lane more, which is as
+-- much as falls, and it fits 64 bits (proofs/term/Laws).
+use Prim.Native.Nat.{_*_, _≤_, _<_, _^_}
 use native.Mathlib.Omega.{arith}
 use borrow.Author.Needs.{needs}
 use borrow.Author.Tests.{lt-ltb, le-ltb}
+use Rattle.rules.specs.Limits.{countMax, lengthMax}
 use Rattle.sharing.specs.Term.{worth}
-use Rattle.sharing.proofs.term.Table.{weight-fits, fall-fits, fall-is}
+use Rattle.sharing.proofs.term.Laws.{fall-is, slot-fits, part-fits}
 use Rattle.sharing.proofs.term.gain.Statement.{statement}
 use Rattle.sharing.proofs.term.gain.Tie as tie
 
-sub-at : tie.Need-sub-at
-sub-at c = search needs
+cast-cap : tie.Need-cast-cap
+cast-cap c = search needs
 
-cast-at : tie.Need-cast-at
-cast-at c = search needs
+cast-tick : tie.Need-cast-tick
+cast-tick c = search needs
 
-cast-weight : tie.Need-cast-weight
-cast-weight c = search needs
+cast-tick-2 : tie.Need-cast-tick-2
+cast-tick-2 c = search needs
 
-cast-weight-2 : tie.Need-cast-weight-2
-cast-weight-2 c = search needs
+tick-requires : tie.Need-tick-requires
+tick-requires c κs = search needs
 
-mul-weight : tie.Need-mul-weight
-mul-weight c =
-    let s = c .before .before .before in
-    omega (arith, weight-fits (s .args .t) (s .pre .0))
+add-slot : tie.Need-add-slot
+add-slot c = search needs
+
+slot-requires : tie.Need-slot-requires
+slot-requires c κs = search needs
+
+-- the ms in a slot of one lane more
+room : (c : tie.After-slot) → c .before .tick .result * c .slot .result ≤ lengthMax * 2 ^ countMax
+room c =
+    let w = c .before .before .before .before .before .before .pre in
+    slot-fits (c .before .tick .ensures .high) (w .length-high) (c .slot .ensures .high)
+
+mul-slot : tie.Need-mul-slot
+mul-slot c = omega (arith, room c)
+
+cast-result : tie.Need-cast-result
+cast-result c = search needs
 
 mul-result : tie.Need-mul-result
-mul-result c = search needs
-
-array-read-result : tie.Need-array-read-result
-array-read-result c = search needs
-
-mul-result-2 : tie.Need-mul-result-2
-mul-result-2 c =
-    let s = c .before .before .before in
-    record { fits = fall-fits (s .args .t) (s .pre .0) (s .args .k) (omega arith) (omega arith) }
+mul-result c =
+    let w = c .before .before .before .before .before .before .before .pre in
+    record { fits = part-fits (w .rate-high) (room (c .before)) }
 
 returns : tie.Need-returns
 unfolding worth
 returns c =
-    let s = c .before .before .before in
-    let below : s .args .k < s .args .t .cap = omega (arith, c .before .before .if1 .taken) in
-    rw (lt-ltb _ _ below) (fall-is (s .args .t) (s .args .k) (omega arith) (omega arith))
+    let s = c .before .before .before .before .before .before .before in
+    let below : s .args .k < s .args .t .cap = c .before .before .before .before .before .if1 .taken in
+    rw (lt-ltb _ _ below)
+    (fall-is (s .args .t) (s .args .k) below (c .before .before .tick .ensures .is) (c .before .slot .ensures .is))
 
 returns-2 : tie.Need-returns-2
 unfolding worth
@@ -51,13 +61,14 @@ pub gain-spec : {M : Type 1} → statement M
 gain-spec =
     tie.close
     (tie.spec
-    sub-at
-    cast-at
-    cast-weight
-    cast-weight-2
-    mul-weight
+    cast-cap
+    cast-tick
+    cast-tick-2
+    tick-requires
+    add-slot
+    slot-requires
+    mul-slot
+    cast-result
     mul-result
-    array-read-result
-    mul-result-2
     returns
     returns-2)

@@ -1,17 +1,18 @@
--- `sharing::titles::floor_total` meets its contract. The loop's invariant: the sum and what the other places add are the total, and the sum is
--- below 2^32 for each place passed, so that sixteen fit 64 bits.
+-- `sharing::titles::floor_total` meets its contract. The loop's invariant: the sum and what the other places add are
+-- the total, and the sum is below 2^32 for each place passed, so that sixteen fit 64 bits.
 use mathlib.Core.Path.{_≡_}
 use Prim.Native.Nat.{_≤_, _+_, _*_, _-_}
 use native.Mathlib.Omega.{arith}
 use lib.ListN.{length, drop}
 use borrow.Author.Needs.{needs}
-use Rattle.sharing.specs.Titles.{total}
+use Rattle.sharing.specs.Titles.{rowTotal}
 use Rattle.sharing.proofs.titles.Laws.{total-next, total-none}
 use Rattle.sharing.proofs.titles.floor_total.Statement.{statement}
 use Rattle.sharing.proofs.titles.floor_total.Tie as tie
 
 abbrev Inv-loop : tie.InvT-loop
-Inv-loop floors sum₀ i₀ sum i = (i ≤ length floors) × (sum ≤ 4_294_967_296 * i) × (sum + total (drop i floors) ≡ total floors)
+Inv-loop floors sum₀ i₀ sum i =
+    (i ≤ length floors) × (sum ≤ 4_294_967_296 * i) × (sum + rowTotal (drop i floors) ≡ rowTotal floors)
 
 abbrev μ-loop : tie.MeasureT-loop
 μ-loop floors sum₀ i₀ sum i = length floors - i

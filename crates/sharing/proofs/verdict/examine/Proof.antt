@@ -1,4 +1,5 @@
--- `sharing::verdict::examine` meets its contract. The loop's invariant: each flag, with what the titles ahead will add, is the test of all.
+-- `sharing::verdict::examine` meets its contract. The loop's invariant: each flag, with what the titles ahead will add,
+-- is the test of all.
 use mathlib.Core.Path.{_≡_, refl, ap, _∙_}
 use Prim.Native.Nat.{_<_, _-_}
 use native.Mathlib.Omega.{arith}
@@ -7,7 +8,7 @@ use borrow.Author.Needs.{needs}
 use Rattle.rules.specs.Limits.{both}
 use Rattle.sharing.specs.declared.titles.Title.{Title}
 use Rattle.sharing.specs.Titles.{titles}
-use Rattle.sharing.specs.Verdict.{allowed, ordered, every}
+use Rattle.sharing.specs.Verdict.{allowed, ordered, eachTitle}
 use Rattle.sharing.proofs.titles.Laws.{titles-length}
 use Rattle.sharing.proofs.verdict.Laws.{passed-next, passed-all}
 use Rattle.sharing.proofs.verdict.examine.Statement.{statement}
@@ -16,7 +17,8 @@ use Rattle.sharing.proofs.verdict.examine.Tie as tie
 abbrev Inv-loop : tie.InvT-loop
 Inv-loop rates lengths floors caps good₀ kept₀ i₀ good kept i =
     let ts = titles rates lengths floors caps in
-    (both good (every allowed (drop i ts)) ≡ every allowed ts) × (both kept (every ordered (drop i ts)) ≡ every ordered ts)
+    (both good (eachTitle allowed (drop i ts)) ≡ eachTitle allowed ts)
+    × (both kept (eachTitle ordered (drop i ts)) ≡ eachTitle ordered ts)
 
 abbrev μ-loop : tie.MeasureT-loop
 μ-loop rates lengths floors caps good₀ kept₀ i₀ good kept i = length rates - i
@@ -48,11 +50,14 @@ loop-again c =
     let s = c .before .before .before .before .before .before .before .before .before .before .before in
     let ts = titles (s .args .rates .now) (s .args .lengths .now) (s .args .floors .now) (s .args .caps .now) in
     let l = c .before .before .before .before .before .before .loop in
-    let h : l .i < length ts = omega (arith, c .before .before .before .before .before .loop-test .taken, titles-length _ _ _ _ (s .pre)) in
+    let h : l .i < length ts =
+    omega (arith, c .before .before .before .before .before .loop-test .taken, titles-length _ _ _ _ (s .pre)) in
     let t = c .before .before .before .before .title-at .ensures in (
       passed-next allowed ts (l .good) _ (l .i) h
-          (c .before .before .also .ensures ∙ ap (both (l .good)) (c .before .before .before .allowed .ensures ∙ ap allowed t)) (l .inv .0),
-      passed-next ordered ts (l .kept) _ (l .i) h (c .also2 .ensures ∙ ap (λ (x : Title). both (l .kept) (ordered x)) t) (l .inv .1),
+          (c .before .before .also .ensures
+          ∙ ap (both (l .good)) (c .before .before .before .allowed .ensures ∙ ap allowed t)) (l .inv .0),
+      passed-next ordered ts (l .kept) _ (l .i) h (c .also2 .ensures ∙ ap (λ (x : Title). both (l .kept) (ordered x)) t)
+          (l .inv .1),
     )
 
 returns : tie.Need-returns Inv-loop μ-loop
@@ -60,8 +65,12 @@ returns c =
     let s = c .before .before .before .before .before .before in
     let n = titles-length _ _ _ _ (s .pre) in
     record {
-      limits = passed-all allowed _ (c .before .loop .good) (c .before .loop .i) (omega (arith, c .loop-test .left, n)) (c .before .loop .inv .0);
-      order = passed-all ordered _ (c .before .loop .kept) (c .before .loop .i) (omega (arith, c .loop-test .left, n)) (c .before .loop .inv .1);
+      limits =
+          passed-all allowed _ (c .before .loop .good) (c .before .loop .i) (omega (arith, c .loop-test .left, n))
+          (c .before .loop .inv .0);
+      order =
+          passed-all ordered _ (c .before .loop .kept) (c .before .loop .i) (omega (arith, c .loop-test .left, n))
+          (c .before .loop .inv .1);
     }
 
 pub examine-spec : {M : Type 1} → statement M

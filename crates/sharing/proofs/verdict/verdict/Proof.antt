@@ -1,12 +1,14 @@
--- `sharing::verdict::verdict` meets its contract: at each way out the tests before it say which refusal is the first (proofs/verdict/Laws).
+-- `sharing::verdict::verdict` meets its contract: at each way out the tests before it say which refusal is the first
+-- (proofs/verdict/Laws).
 use mathlib.Core.Path.{_≡_, sym, ap₂, _∙_}
 use mathlib.Core.Bool.{true}
 use native.Mathlib.Omega.{arith}
 use borrow.Author.Needs.{needs}
 use Rattle.rules.specs.Limits.{both, within, poolMin, poolMax}
 use Rattle.sharing.specs.Titles.{titles}
-use Rattle.sharing.specs.Verdict.{rowsFit, allowed, every}
-use Rattle.sharing.proofs.verdict.Laws.{fit, refused-rows, refused-limits, refused-counts, refused-lanes, accepted}
+use Rattle.sharing.specs.Verdict.{rowsFit, allowed, eachTitle}
+use Rattle.sharing.proofs.verdict.Laws.{fit, accepted}
+use Rattle.sharing.proofs.verdict.Laws.{refused-rows, refused-limits, refused-counts, refused-lanes}
 use Rattle.sharing.proofs.verdict.verdict.Statement.{statement}
 use Rattle.sharing.proofs.verdict.verdict.Tie as tie
 
@@ -22,7 +24,8 @@ fits c = sym (c .before .rows-fit .ensures) ∙ c .if1 .taken
 -- what the second test tests
 inside : (c : tie.After-also) →
     let a = c .before .before .before .before .before .before .before .before .before .args in
-    both (within poolMin poolMax (a .pool)) (every allowed (titles (a .rates .now) (a .lengths .now) (a .floors .now) (a .caps .now)))
+    both (within poolMin poolMax (a .pool))
+    (eachTitle allowed (titles (a .rates .now) (a .lengths .now) (a .floors .now) (a .caps .now)))
     ≡ c .also .result
 inside c = sym (c .also .ensures ∙ ap₂ both (c .before .within .ensures) (c .before .before .examine .ensures .limits))
 
@@ -44,13 +47,15 @@ returns : tie.Need-returns
 returns c =
     let t = c .before .before .before in
     refused-lanes _ _ _ _ _ _ (fits (t .before .before .before .before)) (inside (t .before) ∙ t .if2 .taken)
-    (sym (t .before .before .before .examine .ensures .order) ∙ c .before .before .if3 .taken) (omega (arith, c .if4 .taken, c .before .floor-total .ensures))
+    (sym (t .before .before .before .examine .ensures .order) ∙ c .before .before .if3 .taken)
+    (omega (arith, c .if4 .taken, c .before .floor-total .ensures))
 
 returns-2 : tie.Need-returns-2
 returns-2 c =
     let t = c .before .before .before in
     accepted _ _ _ _ _ _ (fits (t .before .before .before .before)) (inside (t .before) ∙ t .if2 .taken)
-    (sym (t .before .before .before .examine .ensures .order) ∙ c .before .before .if3 .taken) (omega (arith, c .if4 .left, c .before .floor-total .ensures))
+    (sym (t .before .before .before .examine .ensures .order) ∙ c .before .before .if3 .taken)
+    (omega (arith, c .if4 .left, c .before .floor-total .ensures))
 
 returns-3 : tie.Need-returns-3
 returns-3 c =
