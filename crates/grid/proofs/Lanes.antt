@@ -117,15 +117,12 @@ module _ (A K k t : ℕ) (low : A ≤ k) (high : k < K) where
       (λ e. absurd (false≢true (sym (not-true (isInG A K k t c) h) ∙ isInG-in A K k t c (others d l (eqb-false d (spare A K k t) e)))))
       (decide (eqb d (spare A K k t)))
 
-  added-spare : addedChannel A K k t ≡ spare A K k t
+  pub added-spare : addedChannel A K k t ≡ spare A K k t
   unfolding addedChannel
   added-spare =
       let s : first (isAdded A K k t) (suc k) ≤ spare A K k t = first-least (isAdded A K k t) (suc k) (spare A K k t) spare-added in
       let l : first (isAdded A K k t) (suc k) < suc k = omega (arith, spare-le A K k t) in
       added-only (first (isAdded A K k t) (suc k)) l (first-hit (isAdded A K k t) (suc k) l)
-
-  pub added-lt : addedChannel A K k t < suc k
-  added-lt = rw added-spare (omega (arith, spare-le A K k t))
 
   pub lane-spare : laneCell A K k t ≡ channelCell A K (suc k) (spare A K k t) t
   lane-spare = lane-added A K k t low ∙ ap (λ d. channelCell A K (suc k) d t) added-spare

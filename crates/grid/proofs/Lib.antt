@@ -3,6 +3,7 @@ pub mod Numbers
 pub mod Ticks
 pub mod Channels
 pub mod Lanes
+pub mod Zeros
 pub mod Plan
 pub mod Signed
 pub mod Bounds

@@ -6,6 +6,7 @@ use Prim.Native.Nat.{ℕ, zero, suc, _+_, _-_, _*_, _/_, _%_, _^_, _≤_, _<_}
 use native.Mathlib.Omega.{arith}
 use native.Mathlib.Nat.{add-mul-mod-self-left, mod-eq-of-lt, div-add-mod, le-antisymm}
 use lib.Arith.{digits-div}
+use lib.Count.{leadingZeros, leading-top}
 use lib.Dec.{ltb}
 use lib.Pow.{pow-add, pow-pos, pow-mono}
 use borrow.Author.Tests.{ltb-true, ltb-false}
@@ -35,6 +36,18 @@ top-unique i j n a b c d =
     (λ t. ⊎-elim (λ u. let l : j < i = ltb-true j i u in let m : 2 ^ suc j ≤ 2 ^ i = pow-mono l in absurd (omega arith))
     (λ u. le-antisymm (ltb-false j i u) (ltb-false i j t)) (decide (ltb j i)))
     (decide (ltb i j))
+
+-- the place of the highest one-bit of n, as the machine counts the zeros before it
+pub record TopBit (n z : ℕ) : Type 0 where
+  pub zeros : z ≤ 63
+  pub low : 2 ^ (63 - z) ≤ n
+  pub high : n < 2 ^ suc (63 - z)
+
+pub top-bit : (n : ℕ) → 0 < n → n < 2 ^ 64 → TopBit n (leadingZeros 64 n)
+top-bit n p l =
+    let r = leading-top 64 n p l in
+    let e : 63 - leadingZeros 64 n ≡ r .0 = omega (arith, r .1) in
+    record { zeros = omega (arith, r .1); low = rw e (r .2); high = rw e (r .3) }
 
 -- what a higher power divides a lower one divides
 pub divides-lower : (i j n : ℕ) → i ≤ j → n % 2 ^ j ≡ 0 → n % 2 ^ i ≡ 0

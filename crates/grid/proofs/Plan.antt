@@ -1,7 +1,7 @@
 -- Laws of the box plan: every cell but the last w is taken, on the channel that carries it, no later than its turn.
 -- Rest on the laws of the channels.
 use mathlib.Core.Path.{_≡_, refl, sym, ap, _∙_}
-use mathlib.Core.Bool.{Bool, true}
+use mathlib.Core.Bool.{Bool, true, false}
 use Prim.Native.Nat.{ℕ, suc, _+_, _-_, _*_, _/_, _%_, _^_, _≤_, _<_}
 use native.Mathlib.Omega.{arith}
 use native.Mathlib.Nat.{mod-lt, div-add-mod, div-add-mod', mul-le-mul-right, mul-le-mul-left, lt-of-mul-lt-mul-right}
@@ -9,17 +9,19 @@ use native.Mathlib.Nat.{le-div-iff-mul-le, div-lt-iff-lt-mul, mul-sub}
 use lib.Count.{leading-top}
 use lib.Dec.{leb, ltb, eqb}
 use lib.Pow.{pow-pos, pow-mono}
-use borrow.Author.Tests.{ltb-true, leb-true, eqb-true, lt-ltb, le-leb, eq-eqb}
+use borrow.Author.Tests.{ltb-true, leb-true, eqb-true, lt-ltb, le-leb, eq-eqb, ne-eqb}
 use Rattle.rules.specs.Limits.{both}
-use Rattle.rules.specs.Search.{first}
-use Rattle.rules.proofs.Tests.{both-l, both-r, both-in, fails}
-use Rattle.rules.proofs.Search.{some-in, some-out, first-hit, first-least}
+use Rattle.rules.specs.Search.{some, first}
+use Rattle.rules.proofs.Tests.{both-l, both-r, both-in, fails, same}
+use Rattle.rules.proofs.Search.{some-in, some-out, some-none, first-hit, first-least}
 use Rattle.grid.specs.Ticks.{slot, isSlotStart, holdsFilm, tickOf, roundedUp}
 use Rattle.grid.specs.Channels.{channelCell}
+use Rattle.grid.specs.Lanes.{isInG}
+use Rattle.grid.specs.Bounds.{Carrier}
 use Rattle.grid.specs.Plan.{takenFrom, inPlan, takenAfter, planAt, never}
 use Rattle.grid.proofs.Ticks.{slot-pos, all-cells, half-cells, slot-start, rounded-enough}
 use Rattle.grid.proofs.Numbers.{mod-unique, div-unique, top-unique}
-use Rattle.grid.proofs.Channels.{lifted, cell-lifted, lifted-add}
+use Rattle.grid.proofs.Channels.{lifted, cell-lifted, lifted-add, cell-within}
 
 -- a box takes cell c from channel d at tick t
 pub record Taken (A K k a c t d : ℕ) : Type 0 where
@@ -79,10 +81,40 @@ film-taken D A K k c p low high h =
 unfoldable pub wait : ℕ → ℕ → ℕ → ℕ → ℕ → ℕ → ℕ
 wait A K k a c d = (c / slot K k + 1 + (2 ^ d - lifted A k (a / slot K k) % 2 ^ d)) % 2 ^ d
 
--- channel d is the one that carries cell c: the highest power of two within the number of its segment
-pub record Carrier (K k c d : ℕ) : Type 0 where
-  pub low : 2 ^ d ≤ c / slot K k + 1
-  pub high : c / slot K k + 1 < 2 ^ suc d
+-- a channel that has a cell on it is the one that carries it
+pub carries-only : (A K k d t : ℕ) → d ≤ k → Carrier K k (channelCell A K k d t) d
+carries-only A K k d t l =
+    let w : ℕ = slot K k in
+    let x : ℕ = lifted A k (t / w) % 2 ^ d in
+    let b : x < 2 ^ d = mod-lt (lifted A k (t / w)) (pow-pos d) in
+    let q : channelCell A K k d t / w ≡ 2 ^ d - 1 + x =
+    div-unique w (2 ^ d - 1 + x) (t % w) (channelCell A K k d t) (mod-lt t (slot-pos K k)) (cell-lifted A K k d t l) in
+    record { low = omega arith; high = omega arith }
+
+pub carrier-one : (K k c d e : ℕ) → Carrier K k c d → Carrier K k c e → d ≡ e
+carrier-one K k c d e a b = top-unique d e (c / slot K k + 1) (a .low) (a .high) (b .low) (b .high)
+
+-- where only one number can pass, some number passes if that one does
+pub some-one : (p : ℕ → Bool) (n d : ℕ) → ((e : ℕ) → e < n → p e ≡ true → e ≡ d) → some p n ≡ both (ltb d n) (p d)
+some-one p n d only =
+    same (some p n) (both (ltb d n) (p d))
+    (λ h. let r = some-out p n h in
+    let e : r .0 ≡ d = only (r .0) (r .1) (r .2) in
+    both-in (ltb d n) (p d) (lt-ltb d n (omega (arith, r .1))) (rw e at (r .2)))
+    (λ h. some-in p n d (ltb-true d n (both-l (ltb d n) (p d) h)) (both-r (ltb d n) (p d) h))
+
+-- a cell is in G(k, t) where the channel that carries it has it
+pub in-carried : (A K k t c d : ℕ) → Carrier K k c d → isInG A K k t c ≡ both (ltb d k) (eqb (channelCell A K k d t) c)
+unfolding isInG
+in-carried A K k t c d h =
+    some-one (λ e. eqb (channelCell A K k e t) c) k d
+    (λ e l x. carrier-one K k c e d (rw (eqb-true (channelCell A K k e t) c x) at (carries-only A K k e t (omega arith))) h)
+
+pub in-cells : (A K k t c : ℕ) → k ≤ K → 2 ^ K ≤ c → isInG A K k t c ≡ false
+unfolding isInG
+in-cells A K k t c high l =
+    some-none (λ d. eqb (channelCell A K k d t) c) k
+    (λ d b. ne-eqb (channelCell A K k d t) c (λ e. omega (arith, e, cell-within A K k d t high b)))
 
 pub wait-lt : (A K k a c d : ℕ) → wait A K k a c d < 2 ^ d
 unfolding wait

@@ -87,13 +87,11 @@ module _ (j s : ℕ) (a : j < 2 ^ 62) (b : s < 2 ^ 62) where
   diff-read = toZ-ofZ w64 (toZ w64 j -ℤ toZ w64 s) diff-fits ∙ as-signed
 
 -- the floor remainder, from the parts by which code computes it
-pub rest-parts : (A k d j p m r : ℕ) (z : ℤ) → j < 2 ^ 62 → p < 2 ^ 62 → p ≡ 2 ^ (k - A) → z ≡ pos j -ℤ pos (p - 1) →
-    m ≡ 2 ^ d → IsRest (floorRem (toZ w64 (ofZ w64 z)) m) m r →
-    IsRest (floorRem (pos j -ℤ pos (shift A k)) (2 ^ d)) (2 ^ d) r
-unfolding shift
-rest-parts A k d j p m r z a b e f g h =
-    let fits : SFits w64 z = subst (λ z. SFits w64 z) (sym f) (diff-small j (p - 1) a (omega arith)) in
+pub rest-parts : (A k d j s m r : ℕ) (z : ℤ) → j < 2 ^ 62 → s < 2 ^ 62 → s ≡ shift A k → z ≡ pos j -ℤ pos s → m ≡ 2 ^ d
+    → IsRest (floorRem (toZ w64 (ofZ w64 z)) m) m r → IsRest (floorRem (pos j -ℤ pos (shift A k)) (2 ^ d)) (2 ^ d) r
+rest-parts A k d j s m r z a b e f g h =
+    let fits : SFits w64 z = subst (λ z. SFits w64 z) (sym f) (diff-small j s a b) in
     record {
-      is = h .is ∙ ap₂ floorRem (toZ-ofZ w64 z fits ∙ f ∙ ap (λ n. pos j -ℤ pos (n - 1)) e) g;
+      is = h .is ∙ ap₂ floorRem (toZ-ofZ w64 z fits ∙ f ∙ ap (λ n. pos j -ℤ pos n) e) g;
       less = omega (arith, h .less);
     }

@@ -1,7 +1,8 @@
 -- What the functions ask of their arguments and say of their results, each part by its name.
-use Prim.Native.Nat.{ℕ, _^_, _≤_, _<_}
+use Prim.Native.Nat.{ℕ, suc, _+_, _/_, _^_, _≤_, _<_}
 use mathlib.Core.Path.{_≡_}
 use Rattle.rules.specs.Limits.{countMax, lengthMin, lengthMax}
+use Rattle.grid.specs.Ticks.{slot}
 
 -- r is the value v, and lies from lo to hi
 pub record Exactly (v lo hi r : ℕ) : Type 0 where
@@ -49,3 +50,8 @@ pub record IsCell (K v r : ℕ) : Type 0 where
 pub record IsChannel (k v r : ℕ) : Type 0 where
   pub is : r ≡ v
   pub within : r < k
+
+-- channel d of count k is the one on which cell c goes out: the highest power of two within the number of its segment
+pub record Carrier (K k c d : ℕ) : Type 0 where
+  pub low : 2 ^ d ≤ c / slot K k + 1
+  pub high : c / slot K k + 1 < 2 ^ suc d

@@ -4,9 +4,10 @@
 ghost use Prim.Native.Nat.{suc, _+_, _*_, _-_, _^_, _≤_, _<_};
 ghost use mathlib.Core.Path.{_≡_};
 ghost use lib.IntN.{pos, _-ℤ_};
+ghost use lib.Count.{trailingZeros};
 ghost use Rattle.rules.specs.Limits.{countMax};
 ghost use Rattle.grid.specs.Ticks.{slot as slotOf, isSlotStart, tickOf, holdsFilm};
-ghost use Rattle.grid.specs.Channels.{floorRem, shift, channelCell};
+ghost use Rattle.grid.specs.Channels.{floorRem, shift as shiftOf, channelCell};
 ghost use Rattle.grid.specs.Lanes.{isInG, addedChannel, laneCell};
 ghost use Rattle.grid.specs.Bounds.{
   Exactly,
@@ -18,6 +19,7 @@ ghost use Rattle.grid.specs.Bounds.{
   IsRest,
   IsCell,
   IsChannel,
+  Carrier,
 };
 
 // 2 to the power n.
@@ -94,13 +96,22 @@ pub fn floor_rem(x: i64, m: u64) -> u64
     }
 }
 
-// The place, from 0, of the segment that channel `channel` of count `count` carries in slot j among its 2^channel segments.
+// By how many slots the channels of count `count` are shifted.
+fn shift(floor: u64, count: u64) -> u64
+    requires { ⌜ (floor ≤ count) × (count ≤ countMax) ⌝ }
+    ensures { λ r. ⌜ Exactly (shiftOf floor count) 0 (2 ^ countMax) r ⌝ }
+{
+    pow2(count - floor) - 1
+}
+
+// The place, from 0, of the segment that channel `channel` of count `count` carries in slot j among its 2^channel
+// segments.
 pub fn place(floor: u64, count: u64, channel: u64, j: u64) -> u64
     requires { ⌜ (floor ≤ count) × (count ≤ countMax) ⌝ }
     requires { ⌜ (channel ≤ count) × (j ≤ tickMax) ⌝ }
-    ensures { λ r. ⌜ IsRest (floorRem (pos j -ℤ pos (shift floor count)) (2 ^ channel)) (2 ^ channel) r ⌝ }
+    ensures { λ r. ⌜ IsRest (floorRem (pos j -ℤ pos (shiftOf floor count)) (2 ^ channel)) (2 ^ channel) r ⌝ }
 {
-    floor_rem(slot_difference(j, pow2(count - floor) - 1), pow2(channel))
+    floor_rem(slot_difference(j, shift(floor, count)), pow2(channel))
 }
 
 // The cell that channel `channel` of count `count` carries at tick `tick`.
@@ -114,46 +125,61 @@ pub fn channel_cell(floor: u64, cap: u64, count: u64, channel: u64, tick: u64) -
     (segment - 1) * width + tick % width
 }
 
-// Whether cell `cell` is in G(count, tick).
+// The channel of count `count` on which cell `cell` goes out, the place of the highest one-bit of its segment's number;
+// `count` for the cells of the last slot, which no channel carries.
+pub fn carrier(cap: u64, count: u64, cell: u64) -> u64
+    requires { ⌜ CountCap count cap ⌝ }
+    requires { ⌜ cell < 2 ^ cap ⌝ }
+    ensures { λ r. ⌜ Carrier cap count cell r ⌝ }
+{
+    63 - u64::leading_zeros(cell / slot(cap, count) + 1) as u64
+}
+
+// Whether cell `cell` is in G(count, tick): the one channel that may carry it has it.
 pub fn in_g(floor: u64, cap: u64, count: u64, tick: u64, cell: u64) -> bool
     requires { ⌜ Counted floor cap count ⌝ }
     requires { ⌜ tick ≤ tickMax ⌝ }
     ensures { λ r. ⌜ r ≡ isInG floor cap count tick cell ⌝ }
 {
-    let mut found = false;
-    let mut d = 0;
-    while d < count {
-        if channel_cell(floor, cap, count, d, tick) == cell {
-            found = true;
-        }
-        d += 1;
+    if pow2(cap) <= cell {
+        return false;
     }
-    found
+    let channel = carrier(cap, count, cell);
+    if count <= channel {
+        return false;
+    }
+    channel_cell(floor, cap, count, channel, tick) == cell
 }
 
-// The channel of count `lane` + 1 whose cell at tick `tick` is the one not in G(lane, tick).
+// By how much two numbers differ.
+fn apart(a: u64, b: u64) -> u64
+    ensures { λ r. ⌜ r ≡ (a - b) + (b - a) ⌝ }
+{
+    if a < b { b - a } else { a - b }
+}
+
+// The low zeros of x, at most `most`: zero has as many as are asked for.
+fn low_zeros(x: u64, most: u64) -> u64
+    requires { ⌜ most ≤ countMax ⌝ }
+    ensures { λ r. ⌜ r ≡ trailingZeros most x ⌝ }
+{
+    if x == 0 {
+        return most;
+    }
+    let zeros = u64::trailing_zeros(x) as u64;
+    if zeros < most { zeros } else { most }
+}
+
+// The channel of count `lane` + 1 whose cell at tick `tick` is the one not in G(lane, tick): the low zeros of the
+// slot's number, less the shift, plus one. A sum below zero has the low zeros of its distance from it.
 pub fn added_channel(floor: u64, cap: u64, lane: u64, tick: u64) -> u64
     requires { ⌜ Counted floor cap (suc lane) ⌝ }
     requires { ⌜ (floor ≤ lane) × (tick ≤ tickMax) ⌝ }
     ensures { λ r. ⌜ IsChannel (suc lane) (addedChannel floor cap lane tick) r ⌝ }
 {
-    let mut first = 0;
-    let mut d = 0;
-    while d <= lane {
-        if first == d {
-            if in_g(
-                floor,
-                cap,
-                lane,
-                tick,
-                channel_cell(floor, cap, lane + 1, d, tick),
-            ) {
-                first = d + 1;
-            }
-        }
-        d += 1;
-    }
-    first
+    let count = lane + 1;
+    let j = tick / slot(cap, count);
+    low_zeros(apart(j + 1, shift(floor, count)), lane)
 }
 
 // The cell that lane `lane` carries at tick `tick`.

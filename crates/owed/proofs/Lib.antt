@@ -1,2 +1,4 @@
--- Laws of titles that are changed and closed.
+-- Laws of titles that are changed and closed, and of what their boxes want.
 pub mod Fixed
+mod Wanted
+mod Nth

@@ -1,5 +1,6 @@
 // Which ticks a dropped lane owes, over the boxes of every count (01, "Events").
 
+use grid::carrier;
 use grid::channel_cell;
 use grid::lane_cell;
 use grid::pow2;
@@ -7,75 +8,83 @@ use grid::slot;
 use rules::truth::either;
 use rules::truth::one_if;
 use story::Title;
-ghost use Prim.Native.Nat.{ℕ, _+_, _≤_, _<_};
+ghost use Prim.Native.Nat.{_+_, _^_, _≤_, _<_};
 ghost use mathlib.Core.Path.{_≡_};
-ghost use lib.Dec.{ltb, leb};
-ghost use Rattle.rules.specs.Limits.{both};
-ghost use Rattle.grid.specs.Bounds.{Exactly, Counted, tickMax};
-ghost use Rattle.story.specs.Kept.{wantsFrom, wants as wantsOf, keptOwed, keptWithin};
-ghost use Rattle.owed.specs.Owing.{Owing};
+ghost use lib.Dec.{leb};
+ghost use Rattle.rules.specs.Limits.{both, askedMax};
+ghost use Rattle.grid.specs.Bounds.{Exactly, FloorCap, Counted, tickMax};
+ghost use Rattle.story.specs.Kept.{keptOwed, keptWithin};
+ghost use Rattle.owed.specs.Owing.{Owing, takesFrom, takes as takesOf};
 
-// The latest boxes of a count take a cell from one of its channels at a tick.
-fn wants_from(t: Title, cell: u64, tick: u64, count: u64, channel: u64) -> bool
-    requires { ⌜ Owing t ⌝ }
-    requires { ⌜ Counted (t .floor) (t .cap) count ⌝ }
-    requires { ⌜ (channel < count) × (tick ≤ tickMax) ⌝ }
-    ensures { λ r. ⌜ r ≡ wantsFrom t cell tick count channel ⌝ }
+// The latest boxes of a count, whose slot ended at tick `end`, take a cell from one of its channels at a tick.
+fn takes_from(
+    floor: u64,
+    cap: u64,
+    count: u64,
+    end: u64,
+    cell: u64,
+    tick: u64,
+    channel: u64,
+) -> bool
+    requires { ⌜ Counted floor cap count ⌝ }
+    requires { ⌜ (end ≤ askedMax) × ((channel < count) × (tick ≤ tickMax)) ⌝ }
+    ensures { λ r. ⌜ r ≡ takesFrom floor cap count end cell tick channel ⌝ }
 {
-    let width = slot(t.cap, count);
-    let end = t.ends[count as usize];
+    let width = slot(cap, count);
     if tick + width < end + width * pow2(channel) {
-        return channel_cell(t.floor, t.cap, count, channel, tick) == cell;
+        return channel_cell(floor, cap, count, channel, tick) == cell;
     }
     false
 }
 
-// The latest boxes of a count take a cell at a tick. A count that never ruled has none.
-fn wants(t: Title, cell: u64, tick: u64, count: u64) -> bool
-    requires { ⌜ Owing t ⌝ }
-    requires { ⌜ Counted (t .floor) (t .cap) count ⌝ }
-    requires { ⌜ tick ≤ tickMax ⌝ }
-    ensures { λ r. ⌜ r ≡ wantsOf t cell tick count ⌝ }
+// The latest boxes of a count, whose slot ended at tick `end`, take a cell at a tick, from the one channel that carries
+// it. A count that never ruled has none, and boxes that have all ended take nothing.
+fn takes(floor: u64, cap: u64, count: u64, end: u64, cell: u64, tick: u64) -> bool
+    requires { ⌜ FloorCap floor cap ⌝ }
+    requires { ⌜ Counted floor cap count ⌝ }
+    requires { ⌜ (end ≤ askedMax) × ((cell < 2 ^ cap) × (tick ≤ tickMax)) ⌝ }
+    ensures { λ r. ⌜ r ≡ takesOf floor cap count end cell tick ⌝ }
 {
-    if t.ends[count as usize] == 0 {
+    if end == 0 {
         return false;
     }
-    let mut found = false;
-    let mut channel = 0;
-    while channel < count {
-        found = either(wants_from(t, cell, tick, count, channel), found);
-        channel += 1;
+    if end + pow2(cap - 1) <= tick + slot(cap, count) {
+        return false;
     }
-    found
+    let channel = carrier(cap, count, cell);
+    if count <= channel {
+        return false;
+    }
+    takes_from(floor, cap, count, end, cell, tick, channel)
 }
 
-// A cell of a lane at a tick is owed to the boxes of a count that had the lane.
-fn owed_to(t: Title, lane: u64, cell: u64, tick: u64, count: u64) -> bool
-    requires { ⌜ Owing t ⌝ }
-    requires { ⌜ (count ≤ t .cap) × (tick ≤ tickMax) ⌝ }
-    ensures { λ r. ⌜ r ≡ both (ltb lane count) (both (leb (t .floor) count) (wantsOf t cell tick count)) ⌝ }
+// A cell at a tick is owed to the boxes of a count, which is none below the floor.
+fn owed_to(floor: u64, cap: u64, count: u64, end: u64, cell: u64, tick: u64) -> bool
+    requires { ⌜ FloorCap floor cap ⌝ }
+    requires { ⌜ (count ≤ cap) × ((end ≤ askedMax) × ((cell < 2 ^ cap) × (tick ≤ tickMax))) ⌝ }
+    ensures { λ r. ⌜ r ≡ both (leb floor count) (takesOf floor cap count end cell tick) ⌝ }
 {
-    if count <= lane {
+    if count < floor {
         return false;
     }
-    if count < t.floor {
-        return false;
-    }
-    wants(t, cell, tick, count)
+    takes(floor, cap, count, end, cell, tick)
 }
 
-// Of a dropped lane a tick is owed to the boxes of some count.
+// Of a dropped lane a tick is owed to the boxes of some count that had the lane.
 pub fn is_owed(t: Title, lane: u64, tick: u64) -> bool
     requires { ⌜ Owing t ⌝ }
     requires { ⌜ (lane < t .cap) × (tick ≤ tickMax) ⌝ }
     ensures { λ r. ⌜ r ≡ keptOwed t lane tick ⌝ }
 {
     let cap = t.cap;
-    let cell = lane_cell(t.floor, cap, lane, tick);
+    let floor = t.floor;
+    let cell = lane_cell(floor, cap, lane, tick);
     let mut found = false;
-    let mut count = 0;
+    let mut count = lane + 1;
     while count <= cap {
-        found = either(owed_to(t, lane, cell, tick, count), found);
+        // the numbers alone are handed on: a title handed on is copied
+        let end = t.ends[count as usize];
+        found = either(owed_to(floor, cap, count, end, cell, tick), found);
         count += 1;
     }
     found

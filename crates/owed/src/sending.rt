@@ -5,13 +5,11 @@ use grid::lane_cell;
 use grid::pow2;
 use measures::lanes::ruling;
 use measures::ticks::since;
-use rules::truth::also;
-use rules::truth::one_if;
 use story::Title;
-ghost use Prim.Native.Nat.{ℕ, suc, _+_, _-_, _≤_, _<_};
+ghost use Prim.Native.Nat.{_+_, _-_, _≤_, _<_};
 ghost use mathlib.Core.Path.{_≡_};
 ghost use Rattle.rules.specs.Limits.{askedMax};
-ghost use Rattle.rules.specs.Search.{first, keepFirst};
+ghost use Rattle.rules.specs.Search.{first};
 ghost use Rattle.grid.specs.Bounds.{Exactly, tickMax};
 ghost use Rattle.story.specs.Life.{reach as reachOf};
 ghost use Rattle.story.specs.Kept.{keptNth, sendingTick, shows as showsOf};
@@ -25,34 +23,25 @@ pub fn reach(t: Title) -> u64
     pow2(t.cap - 1)
 }
 
-// Where the first of the numbers below n is f, the first below n + 1, by the test of n.
-fn keep_first(f: u64, n: u64, b: bool) -> u64
-    requires { ⌜ n ≤ tickMax ⌝ }
-    ensures { λ r. ⌜ r ≡ keepFirst f n b ⌝ }
-{
-    if f < n {
-        return f;
-    }
-    if b { n } else { n + 1 }
-}
-
-// How far from a tick lies the owed tick that has `nth` owed ticks before it. The count of owed ticks is carried along.
+// How far from a tick lies the owed tick that has `nth` owed ticks before it; the reach where there is none.
 fn nth_owed(t: Title, lane: u64, from: u64, nth: u64) -> u64
     requires { ⌜ Owing t ⌝ }
     requires { ⌜ (lane < t .cap) × (from ≤ askedMax) ⌝ }
     ensures { λ r. ⌜ Exactly (first (keptNth t lane from nth) (reachOf (t .cap))) 0 1024 r ⌝ }
 {
     let end = reach(t);
-    let mut found = 0;
     let mut owed = 0;
     let mut i = 0;
     while i < end {
-        let here = is_owed(t, lane, from + i);
-        found = keep_first(found, i, also(here, owed == nth));
-        owed += one_if(here);
+        if is_owed(t, lane, from + i) {
+            if owed == nth {
+                return i;
+            }
+            owed += 1;
+        }
         i += 1;
     }
-    found
+    i
 }
 
 // The tick whose cell a sending lane shows at a tick.

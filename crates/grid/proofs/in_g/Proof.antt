@@ -1,67 +1,43 @@
--- `grid::in_g` meets its contract. The invariant: what is found is what the search finds among the channels passed.
--- Rests on the laws of the searches.
-use mathlib.Core.Path.{_≡_, refl, sym, _∙_}
-use mathlib.Core.Bool.{Bool, true, false}
-use mathlib.Core.Logic.{⊎-elim}
-use Prim.Native.Nat.{ℕ, _+_, _-_, _≤_}
+-- `grid::in_g` meets its contract: past the cells there is none, and any other goes out on the channel that carries it
+-- alone. Rests on the laws of the plan.
+use mathlib.Core.Path.{refl, sym, _∙_}
+use borrow.Author.Tests.{lt-ltb, le-ltb}
 use native.Mathlib.Omega.{arith}
-use native.Mathlib.Numerals.{add-one}
-use native.Mathlib.Nat.{le-antisymm}
-use lib.Dec.{eqb}
+use Rattle.grid.proofs.Plan.{in-carried, in-cells}
 use borrow.Author.Needs.{needs}
-use borrow.Author.Tests.{eq-eqb, ne-eqb}
-use Rattle.rules.specs.Search.{some}
-use Rattle.grid.specs.Channels.{channelCell}
-use Rattle.grid.specs.Lanes.{isInG}
 use Rattle.grid.proofs.in_g.Statement.{statement}
 use Rattle.grid.proofs.in_g.Tie as tie
 
-some-hit : (p : ℕ → Bool) (n : ℕ) → p n ≡ true → true ≡ some p (n + 1)
-unfolding some
-some-hit p n h = rw (add-one n, h) refl
+pow2-requires : tie.Need-pow2-requires
+pow2-requires c κs = search needs
 
-some-miss : (p : ℕ → Bool) (n : ℕ) (b : Bool) → p n ≡ false → b ≡ some p n → b ≡ some p (n + 1)
-unfolding some
-some-miss p n b h e = rw (add-one n, h) e
+returns : tie.Need-returns
+returns c =
+    let s = c .before .before in
+    sym (in-cells _ _ _ _ _ (s .pre .0 .fit) (omega (arith, c .if1 .taken, c .before .pow2 .ensures .is)))
 
-abbrev Inv-loop : tie.InvT-loop
-Inv-loop floor cap count tick cell found₀ d₀ found d =
-    (d ≤ count) × (found ≡ some (λ e. eqb (channelCell floor cap count e tick) cell) d)
+carrier-requires : tie.Need-carrier-requires
+carrier-requires c κs = search needs
 
-abbrev μ-loop : tie.MeasureT-loop
-μ-loop floor cap count tick cell found₀ d₀ found d = count - d
+returns-2 : tie.Need-returns-2
+returns-2 c =
+    let a = c .before .before .before .before .args in
+    let d = c .before .carrier in
+    sym (in-carried (a .floor) (a .cap) (a .count) (a .tick) (a .cell) (d .result) (d .ensures)
+    ∙ rw (le-ltb _ _ (c .if2 .taken)) refl)
 
-loop-holds : tie.Need-loop-holds Inv-loop μ-loop
-unfolding some
-loop-holds c = search needs
-
-channel-cell-requires : tie.Need-channel-cell-requires Inv-loop μ-loop
+channel-cell-requires : tie.Need-channel-cell-requires
 channel-cell-requires c κs = search needs
 
-add-d : tie.Need-add-d Inv-loop μ-loop
-add-d c = search needs
-
-loop-less : tie.Need-loop-less Inv-loop μ-loop
-loop-less c = omega arith
-
-loop-again : tie.Need-loop-again Inv-loop μ-loop
-loop-again c =
-    let a = c .before .before .before .before .args in
-    let l = c .before .before .before .loop in
-    let x : ℕ = channelCell (a .floor) (a .cap) (a .count) (l .d) (a .tick) in
-    let p : ℕ → Bool = λ e. eqb (channelCell (a .floor) (a .cap) (a .count) e (a .tick)) (a .cell) in
-    let e = c .before .channel-cell .ensures .is in (
-      omega arith,
-      ⊎-elim (λ w. w .1 ∙ some-hit p (l .d) (eq-eqb x (a .cell) (sym e ∙ w .0 .taken)))
-          (λ w. w .1 ∙ some-miss p (l .d) (l .found) (ne-eqb x (a .cell) (λ q. w .0 .left (e ∙ q))) (l .inv .1))
-          (c .if1 .came),
-    )
-
-returns : tie.Need-returns Inv-loop μ-loop
-unfolding isInG
-returns c = cc (le-antisymm (c .before .loop .inv .0) (c .loop-test .left))
+returns-3 : tie.Need-returns-3
+returns-3 c =
+    let a = c .before .before .before .before .before .args in
+    let d = c .before .before .carrier in
+    rw (c .channel-cell .ensures .is)
+    (sym (in-carried (a .floor) (a .cap) (a .count) (a .tick) (a .cell) (d .result) (d .ensures)
+    ∙ rw (lt-ltb _ _ (c .before .if2 .left)) refl))
 
 pub in-g-spec : {M : Type 1} → statement M
 in-g-spec =
     tie.close
-    (tie.spec Inv-loop μ-loop loop-holds channel-cell-requires add-d loop-less loop-again returns)
+    (tie.spec pow2-requires returns carrier-requires returns-2 channel-cell-requires returns-3)
