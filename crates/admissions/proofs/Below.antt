@@ -15,8 +15,8 @@ use Rattle.rules.specs.Refusals.{pick}
 use Rattle.rules.specs.Search.{first}
 use Rattle.rules.proofs.Tests.{decide, fails}
 use Rattle.rules.proofs.Search
-use Rattle.story.specs.Life.{isAdmission}
-use Rattle.story.specs.Story.{Life, momentOf}
+use Rattle.story.specs.Life.{Life, isAdmission}
+use Rattle.story.specs.Story.{momentOf}
 use Rattle.admissions.specs.declared.Waits.{Waits}
 use Rattle.admissions.specs.declared.Stretch.{Stretch}
 use Rattle.admissions.specs.Waits.{letsIn, Next, TurnedAway, nobody, waited, Tallied, none, gets-in, turned-away}
@@ -109,7 +109,7 @@ pub record Settled (L : Life) (n from : ℕ) : Type 0 where
 
 -- the ticks from n up to, not including, m have no admission
 abbrev pub NoneIn : Life → ℕ → ℕ → Type 0
-NoneIn L n m = (b : ℕ) → n ≤ b → b < m → isAdmission (L .cap) (L .rule) b ≡ false
+NoneIn L n m = (b : ℕ) → n ≤ b → b < m → isAdmission L b ≡ false
 
 -- they settle nobody
 pub still-settled : (L : Life) (n m from : ℕ) → n ≤ m → Settled L n from → NoneIn L n m → Settled L m from

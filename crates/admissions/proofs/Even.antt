@@ -13,8 +13,8 @@ use Rattle.rules.specs.Limits.{both}
 use Rattle.rules.proofs.Tests.{decide, both-r, both-in, fails}
 use Rattle.grid.specs.Ticks.{roundedUp, slot, isSlotStart}
 use Rattle.grid.proofs.Ticks.{slot-pos, slot-start, rounded-enough}
-use Rattle.story.specs.Life.{isAdmission}
-use Rattle.story.specs.Story.{Life, tickLength, momentOf}
+use Rattle.story.specs.Life.{Life, isAdmission}
+use Rattle.story.specs.Story.{tickLength, momentOf}
 use Rattle.admissions.specs.declared.Stretch.{Stretch}
 use Rattle.admissions.specs.Waits.{letsIn, Next}
 use Rattle.admissions.specs.Stretches.{nextIn}
@@ -110,7 +110,7 @@ module _ (L : Life) (s : Stretch) (n k : ℕ) (e : Even L s n k) where
 
   -- ---- who gets in
 
-  admission-slot : (b : ℕ) → n ≤ b → L .rule b ≡ k → isAdmission (L .cap) (L .rule) b ≡ true →
+  admission-slot : (b : ℕ) → n ≤ b → L .rule b ≡ k → isAdmission L b ≡ true →
       isSlotStart (L .cap) k b ≡ true
   unfolding isAdmission
   admission-slot b lo rule h = rw rule at (both-r (ltb 0 (L .rule b)) (isSlotStart (L .cap) (L .rule b) b) h)
@@ -123,8 +123,8 @@ module _ (L : Life) (s : Stretch) (n k : ℕ) (e : Even L s n k) where
     reached-next x r late rules =
         record {
           lets-in =
-              both-in (leb (L .opened) x) (both (isAdmission (L .cap) (L .rule) (r .tick)) (leb x (momentOf L (r .tick)))) (le-leb (L .opened) x (omega (arith, here .low)))
-              (both-in (isAdmission (L .cap) (L .rule) (r .tick)) (leb x (momentOf L (r .tick)))
+              both-in (leb (L .opened) x) (both (isAdmission L (r .tick)) (leb x (momentOf L (r .tick)))) (le-leb (L .opened) x (omega (arith, here .low)))
+              (both-in (isAdmission L (r .tick)) (leb x (momentOf L (r .tick)))
               (rw (rules (r .tick) (r .since) (omega arith)) (both-in (ltb 0 k) (isSlotStart (L .cap) k (r .tick)) (lt-ltb 0 k (e .count-some)) (r .at-slot)))
               (le-leb x (momentOf L (r .tick)) (r .in-time)));
           none-before = λ b lt. fails (letsIn L x b) (λ h. too-soon b lt h (let-in L x b h));
@@ -147,7 +147,7 @@ module _ (L : Life) (s : Stretch) (n k : ℕ) (e : Even L s n k) where
       end = reached τ
 
       -- an admission of it is a slot before the first slot start that is not
-      within-stretch : (b : ℕ) → n ≤ b → b < m → isAdmission (L .cap) (L .rule) b ≡ true →
+      within-stretch : (b : ℕ) → n ≤ b → b < m → isAdmission L b ≡ true →
           b + slot (L .cap) k ≤ end .tick
       within-stretch b lo lt h =
           let soon : momentOf L b < momentOf L (end .tick) = omega (arith, ticks-on b m lt, end .in-time) in
@@ -155,7 +155,7 @@ module _ (L : Life) (s : Stretch) (n k : ℕ) (e : Even L s n k) where
 
       -- where no slot of it is whole, it has none
       pub none-within : nextIn s τ < s .start + s .slot → NoneIn L n m
-      none-within short b lo lt = fails (isAdmission (L .cap) (L .rule) b) (λ h. never (within-stretch b lo lt h))
+      none-within short b lo lt = fails (isAdmission L b) (λ h. never (within-stretch b lo lt h))
         where
           never : b + slot (L .cap) k ≤ end .tick → ⊥
           never far =

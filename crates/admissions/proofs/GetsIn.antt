@@ -14,8 +14,8 @@ use Rattle.rules.specs.Limits.{both}
 use Rattle.rules.specs.Search.{first}
 use Rattle.rules.proofs.Tests.{decide, both-l, both-r}
 use Rattle.rules.proofs.Search
-use Rattle.story.specs.Life.{isAdmission}
-use Rattle.story.specs.Story.{Life, momentOf}
+use Rattle.story.specs.Life.{Life, isAdmission}
+use Rattle.story.specs.Story.{momentOf}
 use Rattle.admissions.specs.declared.Waits.{Waits}
 use Rattle.admissions.specs.Waits.{letsIn, Next, TurnedAway, waited, Tallied, none, gets-in, turned-away}
 
@@ -24,17 +24,17 @@ module _ (L : Life) (x : ℕ) where
 
   pub record LetIn (a : ℕ) : Type 0 where
     pub not-early : L .opened ≤ x
-    pub admission : isAdmission (L .cap) (L .rule) a ≡ true
+    pub admission : isAdmission L a ≡ true
     pub in-time : x ≤ momentOf L a
 
   pub let-in : (a : ℕ) → letsIn L x a ≡ true → LetIn a
   unfolding letsIn
   let-in a h =
-      let rest = both-r (leb (L .opened) x) (both (isAdmission (L .cap) (L .rule) a) (leb x (momentOf L a))) h in
+      let rest = both-r (leb (L .opened) x) (both (isAdmission L a) (leb x (momentOf L a))) h in
       record {
-        not-early = leb-true (L .opened) x (both-l (leb (L .opened) x) (both (isAdmission (L .cap) (L .rule) a) (leb x (momentOf L a))) h);
-        admission = both-l (isAdmission (L .cap) (L .rule) a) (leb x (momentOf L a)) rest;
-        in-time = leb-true x (momentOf L a) (both-r (isAdmission (L .cap) (L .rule) a) (leb x (momentOf L a)) rest);
+        not-early = leb-true (L .opened) x (both-l (leb (L .opened) x) (both (isAdmission L a) (leb x (momentOf L a))) h);
+        admission = both-l (isAdmission L a) (leb x (momentOf L a)) rest;
+        in-time = leb-true x (momentOf L a) (both-r (isAdmission L a) (leb x (momentOf L a)) rest);
       }
 
   pub too-early : x < L .opened → TurnedAway L x

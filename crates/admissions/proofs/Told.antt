@@ -17,11 +17,12 @@ use Rattle.rules.proofs.Tests.{decide}
 use Rattle.rules.proofs.Search
 use Rattle.grid.specs.Ticks.{tickOf}
 use Rattle.story.specs.declared.Title.{Title}
-use Rattle.story.specs.Life.{isAdmission}
+use Rattle.story.specs.Life.{Life, underRule, isAdmission}
 use Rattle.story.specs.Kept.{tickAt, ruling}
-use Rattle.story.specs.Story.{Life, unopened, tickLength, tickIn, momentOf, turn, underRule}
+use Rattle.story.specs.Story.{unopened, tickLength, tickIn, momentOf, turn}
 use Rattle.story.proofs.Clock.{on-its-tick}
-use Rattle.story.proofs.Kept.{lifeIn, Present, tick-some, later}
+use Rattle.story.proofs.Stored.{lifeIn}
+use Rattle.story.proofs.Kept.{Present, tick-some, later}
 use Rattle.story.proofs.Turn.{open-ruling}
 use Rattle.story.proofs.Tells.{TellsTitle, absent, present, closed-none, open-some}
 use Rattle.admissions.specs.declared.Tally.{Tally}

@@ -7,13 +7,13 @@ use mathlib.Core.List.{List}
 use lib.Dec.{leb}
 use lib.ListN.{getD}
 use Rattle.rules.specs.Limits.{both}
-use Rattle.story.specs.Life.{isAdmission}
-use Rattle.story.specs.Story.{Life, momentOf}
+use Rattle.story.specs.Life.{Life, isAdmission}
+use Rattle.story.specs.Story.{momentOf}
 use Rattle.admissions.specs.declared.Waits.{Waits}
 
 -- who arrives at x ms, not before the opening, may begin at tick a: an admission at or after the arrival
 unfoldable pub letsIn : Life → ℕ → ℕ → Bool
-letsIn L x a = both (leb (L .opened) x) (both (isAdmission (L .cap) (L .rule) a) (leb x (momentOf L a)))
+letsIn L x a = both (leb (L .opened) x) (both (isAdmission L a) (leb x (momentOf L a)))
 
 -- the next admission: no earlier one lets the arrival in
 pub record Next (L : Life) (x a : ℕ) : Type 0 where

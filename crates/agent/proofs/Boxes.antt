@@ -7,11 +7,11 @@ use mathlib.Core.Bool.{true}
 use mathlib.Core.List.{List}
 use Prim.Native.Nat.{ℕ, _≤_, _<_}
 use Rattle.rules.specs.Limits.{titlesMax, askedMax}
-use Rattle.story.specs.Life.{cell}
+use Rattle.story.specs.Life.{isFilm, cell}
 use Rattle.story.specs.Kept.{lanesHeld}
 use Rattle.story.specs.Calls.{laneAnswer, laneShows, statusAnswer, statusCount, statusHeld}
 use Rattle.story.specs.Story.{Accepted, lifeOf, lifeAt, lastTime, upTo, airAt, countIn, heldIn, heldOver, laneAnswerTo}
-use Rattle.story.specs.Story.{statusAnswerTo, filmAt, InTick, Received, Begins}
+use Rattle.story.specs.Story.{statusAnswerTo, InTick, Received, Begins}
 use Rattle.story.specs.Runs.{stateAfter, lanesOf, Reached}
 use Rattle.story.proofs.Demands.{in-sequence, every-lane, on-air, every-status, every-count, every-held, all-held}
 use Rattle.story.proofs.Demands.{boxes, by-the-calls, the-pool}
@@ -60,7 +60,7 @@ module _ (pool : ℕ) (bss : List (List ℕ)) where
 
   -- no box that begins by the events heard runs dry, by the story and by what the calls say,
   pub heard-boxes : (i τ a c : ℕ) → i < titlesMax → Begins (eventsHeard pool bss) i τ a →
-      filmAt (lifeAt (eventsHeard pool bss) i τ) c ≡ true →
+      isFilm (lifeAt (eventsHeard pool bss) i τ) c ≡ true →
       Received (eventsHeard pool bss) i (lifeAt (eventsHeard pool bss) i τ) a c
   heard-boxes = boxes pool (eventsHeard pool bss) (agentAfter pool bss .state) heard-reached
 

@@ -22,10 +22,12 @@ use Rattle.story.specs.Kept.{openMode, closingMode, titleAt, stateOk, ti
 use Rattle.story.specs.Next.{openedTitle, withTitle, openNext, changedTitle, changeNext, closedTitle, closeNext}
 use Rattle.story.specs.Next.{turnedTitle, callNext}
 use Rattle.story.specs.Calls.{eventOk, tooMany, atSlotStart, testsIn, callAnswer}
-use Rattle.story.specs.Story.{Act, opens, changes, closes, Event, event, Life, lifeAfter, lifeOf, latestOf}
-use Rattle.story.specs.Story.{lastTime, tickIn, countIn, isSlotIn, isThereIn, withinLimits, openLimits, overfull}
-use Rattle.story.specs.Story.{orderOf, answerTo, turn}
-use Rattle.story.proofs.Kept.{lifeIn, Present}
+use Rattle.story.specs.Life.{Life}
+use Rattle.story.specs.Story.{Act, opens, changes, closes, Event, event, lifeAfter, lifeOf, latestOf, lastTime}
+use Rattle.story.specs.Story.{tickIn, countIn, isSlotIn, isThereIn, withinLimits, openLimits, overfull, orderOf}
+use Rattle.story.specs.Story.{answerTo, turn}
+use Rattle.story.proofs.Stored.{lifeIn}
+use Rattle.story.proofs.Kept.{Present}
 use Rattle.story.proofs.Turn.{Turning, turned-laid, turn-present, open-ruling}
 use Rattle.story.proofs.Passed.{within-low, within-high}
 use Rattle.story.proofs.Tells.{TellsTitle, absent, present, Tells, opened-present, count-told, there-told}

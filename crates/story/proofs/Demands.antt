@@ -14,13 +14,12 @@ use Rattle.rules.specs.Refusals.{noLanes}
 use Rattle.rules.specs.Search.{howMany}
 use Rattle.rules.proofs.Refusals.{hitsOf, distinct, isListed, first-hit}
 use Rattle.story.specs.declared.State.{State}
-use Rattle.story.specs.Life.{cell, reach}
+use Rattle.story.specs.Life.{Life, isFilm, isActive, isOwed, reach, owedWithin, owes, cell, isHeld}
 use Rattle.story.specs.Kept.{stateOk, lanesHeld}
 use Rattle.story.specs.Calls.{laneAnswer, laneShows, statusAnswer, statusCount, statusHeld}
-use Rattle.story.specs.Story.{Act, opens, changes, closes, Event, Life, lifeOf, lastTime, upTo, countIn, airAt}
-use Rattle.story.specs.Story.{heldIn, heldOver, testsTo, orderOf, answerTo, answer, accepted, Accepted, more}
-use Rattle.story.specs.Story.{laneAnswerTo, statusAnswerTo, lifeAt, filmAt, isActiveAt, isHeldAt, isOwedAt}
-use Rattle.story.specs.Story.{owedAmong, owesAt, InTick, Received, Begins, Dropped, Quiet}
+use Rattle.story.specs.Story.{Act, opens, changes, closes, Event, lifeOf, lastTime, upTo, countIn, airAt, heldIn}
+use Rattle.story.specs.Story.{heldOver, testsTo, orderOf, answerTo, answer, accepted, Accepted, more}
+use Rattle.story.specs.Story.{laneAnswerTo, statusAnswerTo, lifeAt, InTick, Received, Begins, Dropped, Quiet}
 use Rattle.story.specs.Runs.{answered, stateAfter, lanesOf, Reached}
 use Rattle.story.proofs.Ruled.{Ruled}
 use Rattle.story.proofs.Owed.{owed-reach, owes-all}
@@ -92,7 +91,7 @@ module _ (pool : ℕ) (es : List Event) (s : State) (run : Reached pool es s) wh
 
   -- 2. No box runs dry: one that may begin at a moment receives every cell that holds film in time, whatever accepted
   -- events follow;
-  pub boxes : (i τ a c : ℕ) → i < titlesMax → Begins es i τ a → filmAt (lifeAt es i τ) c ≡ true →
+  pub boxes : (i τ a c : ℕ) → i < titlesMax → Begins es i τ a → isFilm (lifeAt es i τ) c ≡ true →
       Received es i (lifeAt es i τ) a c
   boxes = no-box-runs-dry (lanesOf pool) es (lanes-limit pool) in-sequence
 
@@ -118,19 +117,19 @@ module _ (pool : ℕ) (es : List Event) (s : State) (run : Reached pool es s) wh
   pub the-pool : (τ : ℕ) → heldOver (upTo τ es) τ ≤ lanesOf pool
   the-pool = never-exceeded (lanesOf pool) es (lanes-limit pool) in-sequence
 
-  ruled : (i : ℕ) → i < titlesMax → Ruled (lifeOf es i .floor) (lifeOf es i .cap) (lifeOf es i .rule)
+  ruled : (i : ℕ) → i < titlesMax → Ruled (lifeOf es i)
   ruled i id =
       ⊎-elim (λ e. rw e (record { low = λ t p. absurd (omega arith); high = λ t. omega arith })) (λ w. w .ruled)
       (lively (lanesOf pool) es (lanes-limit pool) in-sequence i id)
 
   -- 4. Held exactly. No tick is owed later than 2^(K-1) ticks after a drop, so what a lane owes is counted in full
   -- however many ticks are looked at;
-  pub owed-soon : (i l T t : ℕ) → i < titlesMax → isOwedAt (lifeOf es i) l T t ≡ true → t < T + reach (lifeOf es i .cap)
-  owed-soon i l T t id h = owed-reach (lifeOf es i .floor) (lifeOf es i .cap) (lifeOf es i .rule) l T (ruled i id) t h
+  pub owed-soon : (i l T t : ℕ) → i < titlesMax → isOwed (lifeOf es i) l T t ≡ true → t < T + reach (lifeOf es i .cap)
+  owed-soon i l T t id h = owed-reach (lifeOf es i) l T (ruled i id) t h
 
   pub owed-in-all : (i l T n : ℕ) → i < titlesMax → reach (lifeOf es i .cap) ≤ n →
-      owedAmong (lifeOf es i) l T n ≡ owesAt (lifeOf es i) l T
-  owed-in-all i l T n id far = owes-all (lifeOf es i .floor) (lifeOf es i .cap) (lifeOf es i .rule) l T (ruled i id) n far
+      owedWithin (lifeOf es i) l T n ≡ owes (lifeOf es i) l T
+  owed-in-all i l T n id far = owes-all (lifeOf es i) l T (ruled i id) n far
 
   -- 5. Refusal 9 is exact: an event that gets it would hold more than the pool at its time, and one that is accepted
   -- holds no more
@@ -149,11 +148,11 @@ module _ (pool : ℕ) (es : List Event) (s : State) (run : Reached pool es s) wh
 
 -- 4., of any life: a lane that is dropped and not raised in the n ticks from then on is held in exactly as many of them as
 -- it owes cells;
-pub exactly : (L : Life) (l s n : ℕ) → Dropped L l s n → owesAt L l (suc s) ≤ n →
-    howMany (λ j. isHeldAt L l (suc s + j)) n ≡ owesAt L l (suc s)
-exactly L l s n d = held-exactly (L .floor) (L .cap) (L .rule) l s n (d .active-before) (d .not-raised)
+pub exactly : (L : Life) (l s n : ℕ) → Dropped L l s n → owes L l (suc s) ≤ n →
+    howMany (λ j. isHeld L l (suc s + j)) n ≡ owes L l (suc s)
+exactly L l s n d = held-exactly L l s n (d .active-before) (d .not-raised)
 
 -- one that is raised again while it still sends is held throughout
-pub throughout : (L : Life) (l s n j : ℕ) → Dropped L l s n → isActiveAt L l (suc s + n) ≡ true →
-    n ≤ owesAt L l (suc s) → j ≤ n → isHeldAt L l (suc s + j) ≡ true
-throughout L l s n j d = held-throughout (L .floor) (L .cap) (L .rule) l s n j (d .active-before) (d .not-raised)
+pub throughout : (L : Life) (l s n j : ℕ) → Dropped L l s n → isActive L l (suc s + n) ≡ true →
+    n ≤ owes L l (suc s) → j ≤ n → isHeld L l (suc s + j) ≡ true
+throughout L l s n j d = held-throughout L l s n j (d .active-before) (d .not-raised)

@@ -14,11 +14,11 @@ use Rattle.grid.specs.Ticks.{tickOf, roundedUp, slot, isSlotStart, cellOf}
 use Rattle.grid.specs.Channels.{floorRem, shift, segment, channelCell}
 use Rattle.grid.specs.Lanes.{isInG, isAdded, addedChannel, laneCell}
 use Rattle.grid.specs.Plan.{takenFrom, inPlan}
-use Rattle.story.specs.Life.{isAdmission, isActive, droppedAt, isAwaited, isOwed, reach, owedWithin, owes, isNth}
-use Rattle.story.specs.Life.{nthOwed, Air, nothing, cell, sends, onAir, isHeld}
-use Rattle.story.specs.Story.{opens, changes, closes, Event, event, Life, tickIn, lifeOf, latestOf, upTo, heldIn}
-use Rattle.story.specs.Story.{heldOver, answerTo, accepted, lifeAt, airAt, isActiveAt, isHeldAt, owesAt, Begins}
-use Rattle.story.specs.Story.{Dropped, Quiet, nothing-new, elsewhere}
+use Rattle.story.specs.Life.{Life, isAdmission, isActive, droppedAt, isAwaited, isOwed, reach, owedWithin, owes}
+use Rattle.story.specs.Life.{isNth, nthOwed, Air, nothing, cell, sends, onAir, isHeld}
+use Rattle.story.specs.Story.{opens, changes, closes, Event, event, tickIn, lifeOf, latestOf, upTo, heldIn}
+use Rattle.story.specs.Story.{heldOver, answerTo, accepted, lifeAt, airAt, Begins, Dropped, Quiet, nothing-new}
+use Rattle.story.specs.Story.{elsewhere}
 use Rattle.story.proofs.Demands.{exactly, throughout}
 
 -- newest first; the change to 4 at 2 is not at a slot start of count 3
@@ -79,14 +79,14 @@ unfolding owes every upTo lifeOf heldOver heldIn tickIn total howMany isHeld onA
 dropped =
     record {
       active-before = refl;
-      not-raised = λ j b. not-true (isActiveAt first-life 3 (8 + j)) (every-out (λ j. not (isActiveAt first-life 3 (8 + j))) 4 j refl b);
+      not-raised = λ j b. not-true (isActive first-life 3 (8 + j)) (every-out (λ j. not (isActive first-life 3 (8 + j))) 4 j refl b);
     }
 
-owes-two : owesAt first-life 3 8 ≡ 2
+owes-two : owes first-life 3 8 ≡ 2
 unfolding owes every upTo lifeOf heldOver heldIn tickIn total howMany isHeld onAir isActive droppedAt after sends nthOwed isNth owedWithin isOwed isAwaited isAdmission reach some first inPlan takenFrom laneCell addedChannel isAdded isInG channelCell segment shift floorRem cellOf slot isSlotStart tickOf roundedUp
 owes-two = refl
 
-held-twice : howMany (λ j. isHeldAt first-life 3 (8 + j)) 4 ≡ 2
+held-twice : howMany (λ j. isHeld first-life 3 (8 + j)) 4 ≡ 2
 held-twice = exactly first-life 3 7 4 dropped (omega (arith, owes-two)) ∙ owes-two
 
 -- opened with 4 lanes, dropped to 3 at 4 and raised again at 6, while lane 3 still owes a cell: held throughout
@@ -98,18 +98,18 @@ unfolding owes every upTo lifeOf heldOver heldIn tickIn total howMany isHeld onA
 dropped-then-raised =
     record {
       active-before = refl;
-      not-raised = λ j b. not-true (isActiveAt raised-life 3 (4 + j)) (every-out (λ j. not (isActiveAt raised-life 3 (4 + j))) 2 j refl b);
+      not-raised = λ j b. not-true (isActive raised-life 3 (4 + j)) (every-out (λ j. not (isActive raised-life 3 (4 + j))) 2 j refl b);
     }
 
-again : isActiveAt raised-life 3 6 ≡ true
+again : isActive raised-life 3 6 ≡ true
 unfolding owes every upTo lifeOf heldOver heldIn tickIn total howMany isHeld onAir isActive droppedAt after sends nthOwed isNth owedWithin isOwed isAwaited isAdmission reach some first inPlan takenFrom laneCell addedChannel isAdded isInG channelCell segment shift floorRem cellOf slot isSlotStart tickOf roundedUp
 again = refl
 
-owes-three : owesAt raised-life 3 4 ≡ 3
+owes-three : owes raised-life 3 4 ≡ 3
 unfolding owes every upTo lifeOf heldOver heldIn tickIn total howMany isHeld onAir isActive droppedAt after sends nthOwed isNth owedWithin isOwed isAwaited isAdmission reach some first inPlan takenFrom laneCell addedChannel isAdded isInG channelCell segment shift floorRem cellOf slot isSlotStart tickOf roundedUp
 owes-three = refl
 
-held-on : (j : ℕ) → j ≤ 2 → isHeldAt raised-life 3 (4 + j) ≡ true
+held-on : (j : ℕ) → j ≤ 2 → isHeld raised-life 3 (4 + j) ≡ true
 held-on j = throughout raised-life 3 3 2 j dropped-then-raised again (omega (arith, owes-three))
 
 -- until the close at 12 the events at 4 and 8 leave what the opening alone says of the ticks before 4

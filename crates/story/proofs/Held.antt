@@ -12,10 +12,8 @@ use Rattle.rules.specs.Limits.{both}
 use Rattle.rules.specs.Search.{howMany, after}
 use Rattle.rules.proofs.Tests.{decide, same}
 use Rattle.rules.proofs.Search
-use Rattle.grid.specs.Plan.{inPlan}
-use Rattle.grid.specs.Lanes.{laneCell}
-use Rattle.story.specs.Life.{isAdmission, isActive, droppedAt, isAwaited, isOwed, reach, owedWithin, owes, isNth}
-use Rattle.story.specs.Life.{nthOwed, sends, onAir, isCell, isHeld}
+use Rattle.story.specs.Life.{Life, underRule, usualCell, isPlanned, isAdmission, isActive, droppedAt, isAwaited}
+use Rattle.story.specs.Life.{isOwed, reach, owedWithin, owes, isNth, nthOwed, sends, onAir, isCell, isHeld}
 use Rattle.story.proofs.Owed.{after-between, sends-while, sends-until, air-sends, air-active}
 
 -- the numbers below k, all below m
@@ -30,32 +28,32 @@ count-below m n h =
     let e : n ≡ m + (n - m) = omega arith in
     rw e (Search.howMany-flat (λ i. ltb i m) m (n - m) (λ i lo. le-ltb i m lo) ∙ count-all m m (omega arith))
 
-pub dropped-le : (r : ℕ → ℕ) (l t : ℕ) → droppedAt r l t ≤ t
+pub dropped-le : (L : Life) (l t : ℕ) → droppedAt L l t ≤ t
 unfolding droppedAt
-dropped-le r l t = Search.after-le (isActive r l) t
+dropped-le L l t = Search.after-le (isActive L l) t
 
-module _ (A K : ℕ) (r : ℕ → ℕ) (l : ℕ) where
-  pub held-active : (t : ℕ) → isActive r l t ≡ true → isHeld A K r l t ≡ true
+module _ (L : Life) (l : ℕ) where
+  pub held-active : (t : ℕ) → isActive L l t ≡ true → isHeld L l t ≡ true
   unfolding isHeld
-  held-active t on = rw (air-active A K r l t on) refl
+  held-active t on = rw (air-active L l t on) refl
 
   -- a lane that is not active is held while fewer ticks have passed since its drop than it owes cells
-  pub held-sending : (t : ℕ) → isActive r l t ≡ false →
-      isHeld A K r l t ≡ ltb (t - droppedAt r l t) (owes A K r l (droppedAt r l t))
+  pub held-sending : (t : ℕ) → isActive L l t ≡ false →
+      isHeld L l t ≡ ltb (t - droppedAt L l t) (owes L l (droppedAt L l t))
   unfolding isHeld
   held-sending t off =
-      let T = droppedAt r l t in
-      rw (air-sends A K r l t off)
-      (same (isCell (sends A K r l T (t - T))) (ltb (t - T) (owes A K r l T))
-      (λ h. lt-ltb (t - T) (owes A K r l T) (sends-until A K r l T (t - T) h))
-      (λ h. sends-while A K r l T (t - T) (ltb-true (t - T) (owes A K r l T) h)))
+      let T = droppedAt L l t in
+      rw (air-sends L l t off)
+      (same (isCell (sends L l T (t - T))) (ltb (t - T) (owes L l T))
+      (λ h. lt-ltb (t - T) (owes L l T) (sends-until L l T (t - T) h))
+      (λ h. sends-while L l T (t - T) (ltb-true (t - T) (owes L l T) h)))
 
   -- seen from a tick up to which it was not raised again, a lane was dropped right after it was last active
-  pub dropped-since : (s n : ℕ) → isActive r l s ≡ true → ((i : ℕ) → i < n → isActive r l (suc s + i) ≡ false) →
-      droppedAt r l (suc s + n) ≡ suc s
+  pub dropped-since : (s n : ℕ) → isActive L l s ≡ true → ((i : ℕ) → i < n → isActive L l (suc s + i) ≡ false) →
+      droppedAt L l (suc s + n) ≡ suc s
   unfolding droppedAt
   dropped-since s n on off =
-      let p : ℕ → Bool = isActive r l in
+      let p : ℕ → Bool = isActive L l in
       le-antisymm
       (⊎-elim
       (λ t.
@@ -70,35 +68,35 @@ module _ (A K : ℕ) (r : ℕ → ℕ) (l : ℕ) where
       (Search.after-above p (suc s + n) s (omega arith) on)
 
   -- dropped at T = s + 1 and not raised up to tick T + i, it is held there while i is less than what it owes
-  pub held-after : (s i : ℕ) → isActive r l s ≡ true → ((j : ℕ) → j < suc i → isActive r l (suc s + j) ≡ false) →
-      isHeld A K r l (suc s + i) ≡ ltb i (owes A K r l (suc s))
+  pub held-after : (s i : ℕ) → isActive L l s ≡ true → ((j : ℕ) → j < suc i → isActive L l (suc s + j) ≡ false) →
+      isHeld L l (suc s + i) ≡ ltb i (owes L l (suc s))
   held-after s i on off =
-      let d : droppedAt r l (suc s + i) ≡ suc s = dropped-since s i on (λ j c. off j (omega arith)) in
+      let d : droppedAt L l (suc s + i) ≡ suc s = dropped-since s i on (λ j c. off j (omega arith)) in
       let gap : suc s + i - suc s ≡ i = omega arith in
       held-sending (suc s + i) (off i (omega arith)) ∙ rw (d, gap) refl
 
   -- demand 3: dropped at T and not raised in the n ticks from then, it is held in just as many of them as it owes cells
-  pub held-exactly : (s n : ℕ) → isActive r l s ≡ true → ((j : ℕ) → j < n → isActive r l (suc s + j) ≡ false) →
-      owes A K r l (suc s) ≤ n → howMany (λ i. isHeld A K r l (suc s + i)) n ≡ owes A K r l (suc s)
+  pub held-exactly : (s n : ℕ) → isActive L l s ≡ true → ((j : ℕ) → j < n → isActive L l (suc s + j) ≡ false) →
+      owes L l (suc s) ≤ n → howMany (λ i. isHeld L l (suc s + i)) n ≡ owes L l (suc s)
   held-exactly s n on off enough =
-      Search.howMany-ext (λ i. isHeld A K r l (suc s + i)) (λ i. ltb i (owes A K r l (suc s))) n
+      Search.howMany-ext (λ i. isHeld L l (suc s + i)) (λ i. ltb i (owes L l (suc s))) n
       (λ i b. held-after s i on (λ j c. off j (omega arith)))
-      ∙ count-below (owes A K r l (suc s)) n enough
+      ∙ count-below (owes L l (suc s)) n enough
 
   -- raised again at T + n while it still sends, it is held throughout
-  pub held-throughout : (s n i : ℕ) → isActive r l s ≡ true → ((j : ℕ) → j < n → isActive r l (suc s + j) ≡ false) →
-      isActive r l (suc s + n) ≡ true → n ≤ owes A K r l (suc s) → i ≤ n → isHeld A K r l (suc s + i) ≡ true
+  pub held-throughout : (s n i : ℕ) → isActive L l s ≡ true → ((j : ℕ) → j < n → isActive L l (suc s + j) ≡ false) →
+      isActive L l (suc s + n) ≡ true → n ≤ owes L l (suc s) → i ≤ n → isHeld L l (suc s + i) ≡ true
   held-throughout s n i on off again sending within =
-      ⊎-elim (λ b. held-after s i on (λ j c. off j (omega arith)) ∙ lt-ltb i (owes A K r l (suc s)) (omega arith))
+      ⊎-elim (λ b. held-after s i on (λ j c. off j (omega arith)) ∙ lt-ltb i (owes L l (suc s)) (omega arith))
       (λ e. rw e (held-active (suc s + n) again))
       (Search.below-suc i n (omega arith))
 
   -- while the lane is not raised it can only be released
-  pub held-falls : (t u : ℕ) → t ≤ u → ((v : ℕ) → t ≤ v → v ≤ u → isActive r l v ≡ false) → isHeld A K r l u ≡ true →
-      isHeld A K r l t ≡ true
+  pub held-falls : (t u : ℕ) → t ≤ u → ((v : ℕ) → t ≤ v → v ≤ u → isActive L l v ≡ false) → isHeld L l u ≡ true →
+      isHeld L l t ≡ true
   unfolding droppedAt
   held-falls t u le off h =
-      let p : ℕ → Bool = isActive r l in
+      let p : ℕ → Bool = isActive L l in
       let T : ℕ = after p u in
       let early : T ≤ t =
       ⊎-elim
@@ -110,47 +108,50 @@ module _ (A K : ℕ) (r : ℕ → ℕ) (l : ℕ) where
       (λ x. ltb-false t T x)
       (decide (ltb t T)) in
       let d : after p t ≡ T = after-between p u t early le in
-      let sending : u - T < owes A K r l T = ltb-true (u - T) (owes A K r l T) (sym (held-sending u (off u le (omega arith))) ∙ h) in
-      held-sending t (off t (omega arith) le) ∙ rw d (lt-ltb (t - T) (owes A K r l T) (omega arith))
+      let sending : u - T < owes L l T = ltb-true (u - T) (owes L l T) (sym (held-sending u (off u le (omega arith))) ∙ h) in
+      held-sending t (off t (omega arith) le) ∙ rw d (lt-ltb (t - T) (owes L l T) (omega arith))
 
--- two rules that agree on every tick below a bound, and what they share
-module _ (A K : ℕ) (r r′ : ℕ → ℕ) (l : ℕ) where
-  pub owed-local : (T t : ℕ) → ((a : ℕ) → a < T → r a ≡ r′ a) → isOwed A K r l T t ≡ isOwed A K r′ l T t
+-- what the same title has in common under a rule that agrees with its own on every tick below a bound
+module _ (L : Life) (r : ℕ → ℕ) (l : ℕ) where
+  pub owed-local : (T t : ℕ) → ((a : ℕ) → a < T → r a ≡ L .rule a) → isOwed (underRule L r) l T t ≡ isOwed L l T t
   unfolding isOwed isAwaited isAdmission
   owed-local T t agree =
-      Search.some-ext (λ a. both (isAdmission K r a) (inPlan A K (r a) a (laneCell A K l t) t))
-      (λ a. both (isAdmission K r′ a) (inPlan A K (r′ a) a (laneCell A K l t) t)) T
+      Search.some-ext (λ a. both (isAdmission (underRule L r) a) (isPlanned (underRule L r) a (usualCell L l t) t))
+      (λ a. both (isAdmission L a) (isPlanned L a (usualCell L l t) t)) T
       (λ a b. rw (agree a b) refl)
 
-  pub within-local : (T n : ℕ) → ((a : ℕ) → a < T → r a ≡ r′ a) → owedWithin A K r l T n ≡ owedWithin A K r′ l T n
+  pub within-local : (T n : ℕ) → ((a : ℕ) → a < T → r a ≡ L .rule a) →
+      owedWithin (underRule L r) l T n ≡ owedWithin L l T n
   unfolding owedWithin
   within-local T n agree =
-      Search.howMany-ext (λ o. isOwed A K r l T (T + o)) (λ o. isOwed A K r′ l T (T + o)) n (λ o b. owed-local T (T + o) agree)
+      Search.howMany-ext (λ o. isOwed (underRule L r) l T (T + o)) (λ o. isOwed L l T (T + o)) n
+      (λ o b. owed-local T (T + o) agree)
 
-  pub owes-local : (T : ℕ) → ((a : ℕ) → a < T → r a ≡ r′ a) → owes A K r l T ≡ owes A K r′ l T
+  pub owes-local : (T : ℕ) → ((a : ℕ) → a < T → r a ≡ L .rule a) → owes (underRule L r) l T ≡ owes L l T
   unfolding owes
-  owes-local T agree = within-local T (reach K) agree
+  owes-local T agree = within-local T (reach (L .cap)) agree
 
-  pub sends-local : (T i : ℕ) → ((a : ℕ) → a < T → r a ≡ r′ a) → sends A K r l T i ≡ sends A K r′ l T i
+  pub sends-local : (T i : ℕ) → ((a : ℕ) → a < T → r a ≡ L .rule a) → sends (underRule L r) l T i ≡ sends L l T i
   unfolding sends nthOwed isNth
   sends-local T i agree =
-      let e : nthOwed A K r l T i ≡ nthOwed A K r′ l T i =
-      Search.first-ext (isNth A K r l T i) (isNth A K r′ l T i) (reach K)
+      let e : nthOwed (underRule L r) l T i ≡ nthOwed L l T i =
+      Search.first-ext (isNth (underRule L r) l T i) (isNth L l T i) (reach (L .cap))
       (λ o b. rw (owed-local T (T + o) agree, within-local T o agree) refl) in
       rw e refl
 
-  pub dropped-local : (t : ℕ) → ((a : ℕ) → a < t → r a ≡ r′ a) → droppedAt r l t ≡ droppedAt r′ l t
+  pub dropped-local : (t : ℕ) → ((a : ℕ) → a < t → r a ≡ L .rule a) → droppedAt (underRule L r) l t ≡ droppedAt L l t
   unfolding droppedAt isActive
-  dropped-local t agree = Search.after-ext (isActive r l) (isActive r′ l) t (λ a b. rw (agree a b) refl)
+  dropped-local t agree = Search.after-ext (isActive (underRule L r) l) (isActive L l) t (λ a b. rw (agree a b) refl)
 
   -- what is on air at a tick depends on the rule up to that tick alone
-  pub air-local : (t : ℕ) → ((a : ℕ) → a ≤ t → r a ≡ r′ a) → onAir A K r l t ≡ onAir A K r′ l t
+  pub air-local : (t : ℕ) → ((a : ℕ) → a ≤ t → r a ≡ L .rule a) → onAir (underRule L r) l t ≡ onAir L l t
   unfolding onAir isActive
   air-local t agree =
-      let d : droppedAt r l t ≡ droppedAt r′ l t = dropped-local t (λ a b. agree a (omega arith)) in
-      let le : droppedAt r′ l t ≤ t = dropped-le r′ l t in
-      rw (d, agree t (omega arith), sends-local (droppedAt r′ l t) (t - droppedAt r′ l t) (λ a b. agree a (omega arith))) refl
+      let T : ℕ = droppedAt L l t in
+      let d : droppedAt (underRule L r) l t ≡ T = dropped-local t (λ a b. agree a (omega arith)) in
+      let le : T ≤ t = dropped-le L l t in
+      rw (d, agree t (omega arith), sends-local T (t - T) (λ a b. agree a (omega arith))) refl
 
-  pub held-local : (t : ℕ) → ((a : ℕ) → a ≤ t → r a ≡ r′ a) → isHeld A K r l t ≡ isHeld A K r′ l t
+  pub held-local : (t : ℕ) → ((a : ℕ) → a ≤ t → r a ≡ L .rule a) → isHeld (underRule L r) l t ≡ isHeld L l t
   unfolding isHeld
   held-local t agree = ap isCell (air-local t agree)

@@ -12,11 +12,10 @@ use borrow.Author.Tests.{ltb-true, ltb-false, lt-ltb}
 use Rattle.rules.specs.Search.{after}
 use Rattle.rules.proofs.Tests.{decide}
 use Rattle.rules.proofs.Search
-use Rattle.grid.specs.Ticks.{holdsFilm}
 use Rattle.grid.specs.Channels.{InG}
 use Rattle.grid.specs.Plan.{inPlan}
-use Rattle.grid.specs.Lanes.{laneCell}
-use Rattle.story.specs.Life.{isAdmission, isActive, droppedAt, isOwed, reach, owedWithin, cell, onAir}
+use Rattle.story.specs.Life.{Life, isFilm, usualCell, isPlanned, isAdmission, isActive, droppedAt, isOwed, reach}
+use Rattle.story.specs.Life.{owedWithin, cell, onAir}
 use Rattle.story.proofs.Ruled.{Ruled, admitted}
 use Rattle.grid.proofs.Lanes.{lane-of-cell}
 use Rattle.grid.proofs.Plan.{in-time, film-taken, taken-out}
@@ -40,61 +39,63 @@ pub silent : (p : ℕ → Bool) (u t : ℕ) → p u ≡ false → after p u ≤ 
 silent p u t off lo hi =
     ⊎-elim (λ b. Search.after-none p u t lo b) (λ e. rw e off) (Search.below-suc t u (omega arith))
 
-pub active-below : (r : ℕ → ℕ) (l t : ℕ) → l < r t → isActive r l t ≡ true
+pub active-below : (L : Life) (l t : ℕ) → l < L .rule t → isActive L l t ≡ true
 unfolding isActive
-active-below r l t b = lt-ltb l (r t) b
+active-below L l t b = lt-ltb l (L .rule t) b
 
-module _ (A K : ℕ) (r : ℕ → ℕ) (ruled : Ruled A K r) where
+module _ (L : Life) (ruled : Ruled L) where
   -- a tick of a plan whose lane has been dropped meanwhile is owed, and its cell goes out by then
-  pub dropped-in-time : (a l u : ℕ) → isAdmission K r a ≡ true → l < r a →
-      inPlan A K (r a) a (laneCell A K l u) u ≡ true → isActive r l u ≡ false →
-      (t : ℕ) × (a ≤ t) × (t ≤ u) × (onAir A K r l t ≡ cell (laneCell A K l u))
+  pub dropped-in-time : (a l u : ℕ) → isAdmission L a ≡ true → l < L .rule a →
+      isPlanned L a (usualCell L l u) u ≡ true → isActive L l u ≡ false →
+      (t : ℕ) × (a ≤ t) × (t ≤ u) × (onAir L l t ≡ cell (usualCell L l u))
   unfolding droppedAt
   dropped-in-time a l u ad b pl off =
-      let p : ℕ → Bool = isActive r l in
+      let p : ℕ → Bool = isActive L l in
       let T : ℕ = after p u in
       let up : T ≤ u = Search.after-le p u in
-      let start : a ≤ u = plan-on-channel A K (r a) a (laneCell A K l u) u pl .0 in
-      let then : p a ≡ true = active-below r l a b in
+      let start : a ≤ u = plan-on-channel (L .floor) (L .cap) (L .rule a) a (usualCell L l u) u pl .0 in
+      let then : p a ≡ true = active-below L l a b in
       let late : a < T = Search.after-above p u a (earlier p a u start then off) then in
       let o : ℕ = u - T in
       let eo : T + o ≡ u = omega arith in
-      let owed : isOwed A K r l T (T + o) ≡ true = rw eo (owed-in A K r l T a u late ad pl) in
-      let near : o < reach K = omega (arith, owed-reach A K r l T ruled (T + o) owed) in
-      let i : ℕ = owedWithin A K r l T o in
-      let no-later : i ≤ o = rank-le A K r l T o in
+      let owed : isOwed L l T (T + o) ≡ true = rw eo (owed-in L l T a u late ad pl) in
+      let near : o < reach (L .cap) = omega (arith, owed-reach L l T ruled (T + o) owed) in
+      let i : ℕ = owedWithin L l T o in
+      let no-later : i ≤ o = rank-le L l T o in
       let t : ℕ = T + i in
       let same : after p t ≡ T = after-between p u t (omega arith) (omega arith) in
       let quiet : p t ≡ false = silent p u t off (omega arith) (omega arith) in
-      let gone : t - T ≡ i = omega arith in (
-        t,
-        omega arith,
-        omega arith,
-        air-sends A K r l t quiet ∙ (rw (same, gone) (sends-owed A K r l T o near owed)) ∙ ap (λ (x : ℕ). cell (laneCell A K l x)) eo,
-      )
+      let gone : t - T ≡ i = omega arith in
+      let out : onAir L l t ≡ cell (usualCell L l (T + o)) =
+      air-sends L l t quiet ∙ rw (same, gone) (sends-owed L l T o near owed) in
+      (t, omega arith, omega arith, out ∙ ap (λ (x : ℕ). cell (usualCell L l x)) eo)
 
   -- every cell in the plan of an admission is on air on a lane, from the start on and no later than its planned tick
-  pub planned-in-time : (a c u : ℕ) → isAdmission K r a ≡ true → inPlan A K (r a) a c u ≡ true →
-      (l : ℕ) × (l < K) × (t : ℕ) × (a ≤ t) × (t ≤ u) × (onAir A K r l t ≡ cell c)
+  pub planned-in-time : (a c u : ℕ) → isAdmission L a ≡ true → isPlanned L a c u ≡ true →
+      (l : ℕ) × (l < L .cap) × (t : ℕ) × (a ≤ t) × (t ≤ u) × (onAir L l t ≡ cell c)
   planned-in-time a c u ad pl =
-      let s = plan-on-channel A K (r a) a c u pl in
-      let k : r a ≤ K = ruled .high a in
-      let lane = lane-of-cell A K (r a) u c (admitted A K r ruled a ad .1) k (s .1) in
+      let k : ℕ = L .rule a in
+      let high : k ≤ L .cap = ruled .high a in
+      let s = plan-on-channel (L .floor) (L .cap) k a c u pl in
+      let lane = lane-of-cell (L .floor) (L .cap) k u c (admitted L ruled a ad .1) high (s .1) in
       let l : ℕ = lane .0 in
-      let e : laneCell A K l u ≡ c = lane .2 in
-      let pl′ : inPlan A K (r a) a (laneCell A K l u) u ≡ true = rw e pl in
+      let e : usualCell L l u ≡ c = lane .2 in
+      let pl′ : isPlanned L a (usualCell L l u) u ≡ true = rw e pl in
       ⊎-elim
-      (λ on. (l, omega (arith, lane .1), u, s .0, omega arith, air-active A K r l u on ∙ ap cell e))
+      (λ on. (l, omega (arith, lane .1), u, s .0, omega arith, air-active L l u on ∙ ap cell e))
       (λ off.
       let d = dropped-in-time a l u ad (lane .1) pl′ off in
       (l, omega (arith, lane .1), d .0, d .1, d .2, d .3 ∙ ap cell e))
-      (decide (isActive r l u))
+      (decide (isActive L l u))
 
   -- and a cell that holds film no later than its turn to play
-  pub film-in-time : (D a c : ℕ) → 0 < A → isAdmission K r a ≡ true → holdsFilm D A K c ≡ true →
-      (l : ℕ) × (l < K) × (t : ℕ) × (a ≤ t) × (t ≤ a + c) × (onAir A K r l t ≡ cell c)
-  film-in-time D a c pos ad film =
-      let k = admitted A K r ruled a ad in
-      let plan = in-time A K (r a) a c (k .1) (ruled .high a) (k .2) (film-taken D A K (r a) c pos (k .1) (ruled .high a) film) in
+  pub film-in-time : (a c : ℕ) → 0 < L .floor → isAdmission L a ≡ true → isFilm L c ≡ true →
+      (l : ℕ) × (l < L .cap) × (t : ℕ) × (a ≤ t) × (t ≤ a + c) × (onAir L l t ≡ cell c)
+  film-in-time a c pos ad film =
+      let k : ℕ = L .rule a in
+      let high : k ≤ L .cap = ruled .high a in
+      let at = admitted L ruled a ad in
+      let taken = film-taken (L .length) (L .floor) (L .cap) k c pos (at .1) high film in
+      let plan = in-time (L .floor) (L .cap) k a c (at .1) high (at .2) taken in
       let on = planned-in-time a c (plan .0) ad (plan .2) in
       (on .0, on .1, on .2, on .3, omega (arith, on .4, plan .1), on .5)

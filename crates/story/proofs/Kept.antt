@@ -17,20 +17,16 @@ use Rattle.rules.proofs.Search
 use Rattle.grid.specs.Ticks.{tickOf}
 use Rattle.grid.specs.Lanes.{laneCell}
 use Rattle.story.specs.declared.Title.{Title}
-use Rattle.story.specs.Life.{isActive, droppedAt, isOwed, reach, owedWithin, owes, isNth, nthOwed, cell, sends}
-use Rattle.story.specs.Life.{onAir, isHeld}
+use Rattle.story.specs.Life.{Life, usualCell, isActive, droppedAt, isOwed, reach, owedWithin, owes, isNth}
+use Rattle.story.specs.Life.{nthOwed, cell, sends, onAir, isHeld}
 use Rattle.story.proofs.Ruled.{Ruled, Legal, isRuling, lastEnd}
 use Rattle.story.specs.Kept.{tickAt, ruling, keptOwed, keptWithin, keptHeld, titleHeld, keptNth, sendingTick}
 use Rattle.story.specs.Kept.{shows}
-use Rattle.story.specs.Story.{Life, tickIn, heldIn}
+use Rattle.story.specs.Story.{tickIn, heldIn}
 use Rattle.story.proofs.Clock.{tick-pos, tick-mono}
 use Rattle.story.proofs.Owed.{air-sends, air-active}
 use Rattle.story.proofs.Held.{dropped-le, held-active, held-sending}
-use Rattle.story.proofs.Stored.{kept-owed, EndsAt}
-
--- the life that a stored title tells, under a rule
-abbrev pub lifeIn : Title → (ℕ → ℕ) → Life
-lifeIn t r = record { opened = t .opened; length = t .length; floor = t .floor; cap = t .cap; rule = r }
+use Rattle.story.proofs.Stored.{lifeIn, kept-owed, EndsAt}
 
 -- the numbers that an accepted opening gives, and the rows' lengths
 pub record Sized (t : Title) : Type 0 where
@@ -57,34 +53,35 @@ pub record Present (t : Title) (r : ℕ → ℕ) : Type 0 where
   pub since : t .opened ≤ t .last
   pub on-tick : (t .last - t .opened) % tickOf (t .length) (t .floor) (t .cap) ≡ 0
   pub steady : (u : ℕ) → tickAt t (t .last) ≤ u → r u ≡ ruling t
-  pub ruled : Ruled (t .floor) (t .cap) r
-  pub legal : Legal (t .floor) (t .cap) r
+  pub ruled : Ruled (lifeIn t r)
+  pub legal : Legal (lifeIn t r)
   pub ends : (c : ℕ) → t .floor ≤ c → c ≤ t .cap → (ruling t ≡ c → ⊥) →
-      getD (t .ends) c 0 ≡ lastEnd r c (tickAt t (t .last))
-  pub drops : (l : ℕ) → l < t .cap → ruling t ≤ l → getD (t .dropped) l 0 ≡ droppedAt r l (tickAt t (t .last))
+      getD (t .ends) c 0 ≡ lastEnd (lifeIn t r) c (tickAt t (t .last))
+  pub drops : (l : ℕ) → l < t .cap → ruling t ≤ l →
+      getD (t .dropped) l 0 ≡ droppedAt (lifeIn t r) l (tickAt t (t .last))
   pub owing : (l : ℕ) → l < t .cap → ruling t ≤ l →
-      getD (t .owed) l 0 ≡ owes (t .floor) (t .cap) r l (getD (t .dropped) l 0)
+      getD (t .owed) l 0 ≡ owes (lifeIn t r) l (getD (t .dropped) l 0)
 
 -- what a held lane that is not active shows
-air-held : (A K : ℕ) (r : ℕ → ℕ) (l n : ℕ) → isActive r l n ≡ false → isHeld A K r l n ≡ true →
-    onAir A K r l n ≡ cell (laneCell A K l (droppedAt r l n + nthOwed A K r l (droppedAt r l n) (n - droppedAt r l n)))
+air-held : (L : Life) (l n : ℕ) → isActive L l n ≡ false → isHeld L l n ≡ true →
+    onAir L l n ≡ cell (usualCell L l (droppedAt L l n + nthOwed L l (droppedAt L l n) (n - droppedAt L l n)))
 unfolding isHeld sends
-air-held A K r l n off held =
-    let air : onAir A K r l n ≡ sends A K r l (droppedAt r l n) (n - droppedAt r l n) = air-sends A K r l n off in
-    let i : ℕ = nthOwed A K r l (droppedAt r l n) (n - droppedAt r l n) in
-    ⊎-elim (λ x. air ∙ rw x refl) (λ x. absurd (false≢true (rw x at (rw air at held)))) (decide (ltb i (reach K)))
+air-held L l n off held =
+    let air : onAir L l n ≡ sends L l (droppedAt L l n) (n - droppedAt L l n) = air-sends L l n off in
+    let i : ℕ = nthOwed L l (droppedAt L l n) (n - droppedAt L l n) in
+    ⊎-elim (λ x. air ∙ rw x refl) (λ x. absurd (false≢true (rw x at (rw air at held)))) (decide (ltb i (reach (L .cap))))
 
 module _ (t : Title) (r : ℕ → ℕ) (here : Present t r) where
-  pub active-kept : (l n : ℕ) → tickAt t (t .last) ≤ n → isActive r l n ≡ ltb l (ruling t)
+  pub active-kept : (l n : ℕ) → tickAt t (t .last) ≤ n → isActive (lifeIn t r) l n ≡ ltb l (ruling t)
   unfolding isActive
   active-kept l n le = rw (here .steady n le) refl
 
   -- a lane that is not active was dropped at the stored tick
   pub dropped-kept : (l n : ℕ) → l < t .cap → ruling t ≤ l → tickAt t (t .last) ≤ n →
-      droppedAt r l n ≡ getD (t .dropped) l 0
+      droppedAt (lifeIn t r) l n ≡ getD (t .dropped) l 0
   unfolding droppedAt
   dropped-kept l n lane off le =
-      Search.after-flat (isActive r l) (tickAt t (t .last)) n le
+      Search.after-flat (isActive (lifeIn t r) l) (tickAt t (t .last)) n le
       (λ i lo hi. active-kept l i lo ∙ le-ltb l (ruling t) off)
       ∙ sym (here .drops l lane off)
 
@@ -93,7 +90,7 @@ module _ (t : Title) (r : ℕ → ℕ) (here : Present t r) where
   unfolding droppedAt isActive
   off-since l v lane off le =
       ⊎-elim
-      (λ x. ltb-false l (r v) (Search.after-none (isActive r l) (tickAt t (t .last)) v (rw (here .drops l lane off) at le) (ltb-true v (tickAt t (t .last)) x)))
+      (λ x. ltb-false l (r v) (Search.after-none (isActive (lifeIn t r) l) (tickAt t (t .last)) v (rw (here .drops l lane off) at le) (ltb-true v (tickAt t (t .last)) x)))
       (λ x. rw (here .steady v (ltb-false v (tickAt t (t .last)) x)) off)
       (decide (ltb v (tickAt t (t .last))))
 
@@ -102,42 +99,42 @@ module _ (t : Title) (r : ℕ → ℕ) (here : Present t r) where
   unfolding lastEnd
   ends-kept l lane off c had low high =
       here .ends c low high (λ e. omega arith)
-      ∙ Search.after-flat (isRuling r c) (getD (t .dropped) l 0) (tickAt t (t .last))
-      (rw (here .drops l lane off) (dropped-le r l (tickAt t (t .last))))
+      ∙ Search.after-flat (isRuling (lifeIn t r) c) (getD (t .dropped) l 0) (tickAt t (t .last))
+      (rw (here .drops l lane off) (dropped-le (lifeIn t r) l (tickAt t (t .last))))
       (λ i lo hi. ne-eqb (r i) c (λ e. omega (arith, off-since l i lane off lo)))
 
   -- the stored ends say which of its ticks are owed
   pub owed-kept : (l u : ℕ) → l < t .cap → ruling t ≤ l → getD (t .dropped) l 0 ≤ u →
-      isOwed (t .floor) (t .cap) r l (getD (t .dropped) l 0) u ≡ keptOwed t l u
+      isOwed (lifeIn t r) l (getD (t .dropped) l 0) u ≡ keptOwed t l u
   owed-kept l u lane off le =
       kept-owed t r l (getD (t .dropped) l 0) u (here .ruled) (here .legal) lane
       (off-since l (getD (t .dropped) l 0) lane off (omega arith)) le (ends-kept l lane off)
 
   pub within-kept : (l n : ℕ) → l < t .cap → ruling t ≤ l →
-      owedWithin (t .floor) (t .cap) r l (getD (t .dropped) l 0) n ≡ keptWithin t l (getD (t .dropped) l 0) n
+      owedWithin (lifeIn t r) l (getD (t .dropped) l 0) n ≡ keptWithin t l (getD (t .dropped) l 0) n
   unfolding owedWithin keptWithin
   within-kept l n lane off =
-      Search.howMany-ext (λ o. isOwed (t .floor) (t .cap) r l (getD (t .dropped) l 0) (getD (t .dropped) l 0 + o))
+      Search.howMany-ext (λ o. isOwed (lifeIn t r) l (getD (t .dropped) l 0) (getD (t .dropped) l 0 + o))
       (λ o. keptOwed t l (getD (t .dropped) l 0 + o)) n (λ o b. owed-kept l (getD (t .dropped) l 0 + o) lane off (omega arith))
 
   -- a lane is held, at any tick from the latest event on, as the stored numbers say
-  pub held-kept : (l n : ℕ) → l < t .cap → tickAt t (t .last) ≤ n → isHeld (t .floor) (t .cap) r l n ≡ keptHeld t l n
+  pub held-kept : (l n : ℕ) → l < t .cap → tickAt t (t .last) ≤ n → isHeld (lifeIn t r) l n ≡ keptHeld t l n
   unfolding keptHeld
   held-kept l n lane le = ⊎-elim on off (decide (ltb l (ruling t)))
     where
       on : ltb l (ruling t) ≡ true →
-          isHeld (t .floor) (t .cap) r l n
+          isHeld (lifeIn t r) l n
           ≡ either (ltb l (ruling t)) (ltb n (getD (t .dropped) l 0 + getD (t .owed) l 0))
-      on x = held-active (t .floor) (t .cap) r l n (active-kept l n le ∙ x) ∙ rw x refl
+      on x = held-active (lifeIn t r) l n (active-kept l n le ∙ x) ∙ rw x refl
 
       off : ltb l (ruling t) ≡ false →
-          isHeld (t .floor) (t .cap) r l n
+          isHeld (lifeIn t r) l n
           ≡ either (ltb l (ruling t)) (ltb n (getD (t .dropped) l 0 + getD (t .owed) l 0))
       off x =
           let quiet : ruling t ≤ l = ltb-false l (ruling t) x in
-          let d : droppedAt r l n ≡ getD (t .dropped) l 0 = dropped-kept l n lane quiet le in
-          let past : getD (t .dropped) l 0 ≤ n = rw d at (dropped-le r l n) in
-          held-sending (t .floor) (t .cap) r l n (active-kept l n le ∙ x)
+          let d : droppedAt (lifeIn t r) l n ≡ getD (t .dropped) l 0 = dropped-kept l n lane quiet le in
+          let past : getD (t .dropped) l 0 ≤ n = rw d at (dropped-le (lifeIn t r) l n) in
+          held-sending (lifeIn t r) l n (active-kept l n le ∙ x)
           ∙ rw (d, x, ← here .owing l lane quiet)
           (same (ltb (n - getD (t .dropped) l 0) (getD (t .owed) l 0)) (ltb n (getD (t .dropped) l 0 + getD (t .owed) l 0))
           (λ h. lt-ltb n (getD (t .dropped) l 0 + getD (t .owed) l 0) (omega (arith, ltb-true (n - getD (t .dropped) l 0) (getD (t .owed) l 0) h)))
@@ -145,32 +142,32 @@ module _ (t : Title) (r : ℕ → ℕ) (here : Present t r) where
 
   -- the tick whose cell goes out is found from the stored ends
   pub nth-kept : (l i : ℕ) → l < t .cap → ruling t ≤ l →
-      nthOwed (t .floor) (t .cap) r l (getD (t .dropped) l 0) i
+      nthOwed (lifeIn t r) l (getD (t .dropped) l 0) i
       ≡ first (keptNth t l (getD (t .dropped) l 0) i) (reach (t .cap))
   unfolding nthOwed isNth keptNth
   nth-kept l i lane off =
-      Search.first-ext (isNth (t .floor) (t .cap) r l (getD (t .dropped) l 0) i) (keptNth t l (getD (t .dropped) l 0) i) (reach (t .cap))
+      Search.first-ext (isNth (lifeIn t r) l (getD (t .dropped) l 0) i) (keptNth t l (getD (t .dropped) l 0) i) (reach (t .cap))
       (λ o b. rw (owed-kept l (getD (t .dropped) l 0 + o) lane off (omega arith), within-kept l o lane off) refl)
 
   -- a held lane shows the cell that the stored numbers give
-  pub shows-kept : (l n : ℕ) → l < t .cap → tickAt t (t .last) ≤ n → isHeld (t .floor) (t .cap) r l n ≡ true →
-      onAir (t .floor) (t .cap) r l n ≡ cell (shows t l n)
+  pub shows-kept : (l n : ℕ) → l < t .cap → tickAt t (t .last) ≤ n → isHeld (lifeIn t r) l n ≡ true →
+      onAir (lifeIn t r) l n ≡ cell (shows t l n)
   unfolding shows sendingTick
   shows-kept l n lane le held = ⊎-elim on off (decide (ltb l (ruling t)))
     where
       on : ltb l (ruling t) ≡ true →
-          onAir (t .floor) (t .cap) r l n
+          onAir (lifeIn t r) l n
           ≡ cell (laneCell (t .floor) (t .cap) l (pick (ltb l (ruling t)) n (sendingTick t l n)))
-      on x = air-active (t .floor) (t .cap) r l n (active-kept l n le ∙ x) ∙ rw x refl
+      on x = air-active (lifeIn t r) l n (active-kept l n le ∙ x) ∙ rw x refl
 
       off : ltb l (ruling t) ≡ false →
-          onAir (t .floor) (t .cap) r l n
+          onAir (lifeIn t r) l n
           ≡ cell (laneCell (t .floor) (t .cap) l (pick (ltb l (ruling t)) n (sendingTick t l n)))
       off x =
           let quiet : ruling t ≤ l = ltb-false l (ruling t) x in
-          let still : isActive r l n ≡ false = active-kept l n le ∙ x in
-          let d : droppedAt r l n ≡ getD (t .dropped) l 0 = dropped-kept l n lane quiet le in
-          air-held (t .floor) (t .cap) r l n still held ∙ rw (d, nth-kept l (n - getD (t .dropped) l 0) lane quiet, x) refl
+          let still : isActive (lifeIn t r) l n ≡ false = active-kept l n le ∙ x in
+          let d : droppedAt (lifeIn t r) l n ≡ getD (t .dropped) l 0 = dropped-kept l n lane quiet le in
+          air-held (lifeIn t r) l n still held ∙ rw (d, nth-kept l (n - getD (t .dropped) l 0) lane quiet, x) refl
 
   -- a stored title's tick is of some length
   pub tick-some : 0 < tickOf (t .length) (t .floor) (t .cap)
@@ -189,6 +186,6 @@ module _ (t : Title) (r : ℕ → ℕ) (here : Present t r) where
   pub title-held-kept : (τ : ℕ) → t .last ≤ τ → heldIn (lifeIn t r) τ ≡ titleHeld t τ
   unfolding heldIn titleHeld tickIn tickAt
   title-held-kept τ le =
-      Search.howMany-ext (λ l. isHeld (t .floor) (t .cap) r l (tickAt t τ)) (λ l. keptHeld t l (tickAt t τ)) (t .cap)
+      Search.howMany-ext (λ l. isHeld (lifeIn t r) l (tickAt t τ)) (λ l. keptHeld t l (tickAt t τ)) (t .cap)
       (λ l b. held-kept l (tickAt t τ) b (later τ le))
       ∙ rw mode-some refl

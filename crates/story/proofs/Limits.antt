@@ -17,7 +17,8 @@ use Rattle.rules.proofs.Search
 use Rattle.story.specs.declared.Title.{Title}
 use Rattle.story.specs.declared.State.{State}
 use Rattle.story.specs.Kept.{titleAt, rowOk, numbersOk, orderOk, titleOk, stateOk}
-use Rattle.story.specs.Story.{Life, Event, lifeOf, latestOf}
+use Rattle.story.specs.Life.{Life}
+use Rattle.story.specs.Story.{Event, lifeOf, latestOf}
 use Rattle.story.proofs.Kept.{Present}
 use Rattle.story.proofs.Tells.{TellsTitle, absent, present, Tells}
 

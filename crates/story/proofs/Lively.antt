@@ -12,15 +12,17 @@ use Rattle.story.proofs.Ruled.{Ruled}
 use Rattle.story.specs.Kept.{titleAt, tickAt}
 use Rattle.story.specs.Calls.{emptyPool}
 use Rattle.story.specs.Next.{callNext}
-use Rattle.story.specs.Story.{Event, Life, unopened, tickLength, tickIn, lifeOf, latestOf, lastTime, Accepted}
-use Rattle.story.specs.Story.{none, more}
-use Rattle.story.proofs.Kept.{lifeIn, Present, tick-some}
+use Rattle.story.specs.Life.{Life}
+use Rattle.story.specs.Story.{Event, unopened, tickLength, tickIn, lifeOf, latestOf, lastTime, Accepted, none}
+use Rattle.story.specs.Story.{more}
+use Rattle.story.proofs.Stored.{lifeIn}
+use Rattle.story.proofs.Kept.{Present, tick-some}
 use Rattle.story.proofs.Tells.{TellsTitle, absent, present}
 use Rattle.story.proofs.Runs.{Told, told-more, fresh-tells}
 
 -- a life whose latest event was at m: its rule keeps to floor and cap and is steady from then on
 pub record Lively (L : Life) (m : ℕ) : Type 0 where
-  pub ruled : Ruled (L .floor) (L .cap) (L .rule)
+  pub ruled : Ruled L
   pub floor-some : 0 < L .floor
   pub cap-high : L .cap ≤ countMax
   pub tick-some : 0 < tickLength L

@@ -14,9 +14,10 @@ use Rattle.rules.proofs.Tests.{both-l, both-r, either-false-r}
 use Rattle.rules.proofs.Refusals.{hitsOf, numbered, cleared}
 use Rattle.grid.proofs.Numbers.{ne-zero-pos}
 use Rattle.grid.specs.Ticks.{isSlotStart}
-use Rattle.story.specs.Story.{Act, opens, changes, closes, Event, event, Life, tickLength, tickIn, lifeOf}
-use Rattle.story.specs.Story.{latestOf, lastTime, countIn, heldOver, isThereIn, isSlotIn, withinLimits}
-use Rattle.story.specs.Story.{openLimits, actLimits, testsTo, orderOf, answerTo}
+use Rattle.story.specs.Life.{Life}
+use Rattle.story.specs.Story.{Act, opens, changes, closes, Event, event, tickLength, tickIn, lifeOf, latestOf}
+use Rattle.story.specs.Story.{lastTime, countIn, heldOver, isThereIn, isSlotIn, withinLimits, openLimits}
+use Rattle.story.specs.Story.{actLimits, testsTo, orderOf, answerTo}
 
 -- a number within two limits
 pub within-low : (lo hi x : ℕ) → within lo hi x ≡ true → lo ≤ x

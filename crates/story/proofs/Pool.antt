@@ -14,8 +14,8 @@ use Rattle.rules.specs.Refusals.{pick}
 use Rattle.rules.specs.Search.{howMany, total}
 use Rattle.rules.proofs.Tests.{decide}
 use Rattle.rules.proofs.Search
-use Rattle.story.specs.Life.{isActive, droppedAt, isHeld}
-use Rattle.story.specs.Story.{Act, opens, changes, closes, Event, event, Life, unopened, tickLength, tickIn, turn}
+use Rattle.story.specs.Life.{Life, underRule, isActive, droppedAt, owes, isHeld}
+use Rattle.story.specs.Story.{Act, opens, changes, closes, Event, event, unopened, tickLength, tickIn, turn}
 use Rattle.story.specs.Story.{lifeAfter, lifeOf, latestOf, lastTime, upTo, isHeldIn, heldIn, heldOver, answerTo}
 use Rattle.story.specs.Story.{Accepted, none, more}
 use Rattle.story.proofs.Clock.{tick-mono}
@@ -33,11 +33,11 @@ falls L m τ υ w from le =
     let on : n ≤ tickIn L υ = tick-mono (L .opened) (tickLength L) (w .tick-some) τ υ le in
     Search.howMany-wider (λ l. isHeldIn L l υ) (λ l. isHeldIn L l τ) (L .cap)
     (λ l b held.
-    ⊎-elim (λ x. held-active (L .floor) (L .cap) (L .rule) l n x)
+    ⊎-elim (λ x. held-active L l n x)
     (λ x.
-    held-falls (L .floor) (L .cap) (L .rule) l n (tickIn L υ) on
+    held-falls L l n (tickIn L υ) on
     (λ v lo hi. ap (λ k. ltb l k) (w .steady v n (omega arith) now) ∙ x) held)
-    (decide (isActive (L .rule) l n)))
+    (decide (isActive L l n)))
 
 none-held : (τ υ : ℕ) → heldIn unopened υ ≤ heldIn unopened τ
 unfolding heldIn howMany
@@ -59,18 +59,20 @@ over-falls lanes es high acc τ υ from le =
     (lively lanes es high acc i b))
 
 -- a lane that a close leaves held was held before
-close-lane : (A K : ℕ) (r : ℕ → ℕ) (l n : ℕ) → isHeld A K (turn r n 0) l n ≡ true → isHeld A K r l n ≡ true
+close-lane : (L : Life) (l n : ℕ) → isHeld (underRule L (turn (L .rule) n 0)) l n ≡ true → isHeld L l n ≡ true
 unfolding isActive
-close-lane A K r l n held =
-    ⊎-elim (λ x. held-active A K r l n x)
-    (λ x.
-    let below : (a : ℕ) → a < n → r a ≡ turn r n 0 a = λ a b. sym (turn-before r n 0 a b) in
-    let d : droppedAt r l n ≡ droppedAt (turn r n 0) l n = dropped-local A K r (turn r n 0) l n below in
-    let quiet : isActive (turn r n 0) l n ≡ false = ap (λ k. ltb l k) (turn-from r n 0 n (omega arith)) ∙ le-ltb l 0 (omega arith) in
-    held-sending A K r l n x
-    ∙ rw (d, owes-local A K r (turn r n 0) l (droppedAt (turn r n 0) l n) (λ a b. below a (omega (arith, dropped-le (turn r n 0) l n))))
-    (sym (held-sending A K (turn r n 0) l n quiet) ∙ held))
-    (decide (isActive r l n))
+close-lane L l n held =
+    let r : ℕ → ℕ = turn (L .rule) n 0 in
+    let T : ℕ = droppedAt L l n in
+    let below : (a : ℕ) → a < n → r a ≡ L .rule a = turn-before (L .rule) n 0 in
+    let d : droppedAt (underRule L r) l n ≡ T = dropped-local L r l n below in
+    let same : owes (underRule L r) l T ≡ owes L l T =
+    owes-local L r l T (λ a b. below a (omega (arith, dropped-le L l n))) in
+    let quiet : isActive (underRule L r) l n ≡ false =
+    ap (λ k. ltb l k) (turn-from (L .rule) n 0 n (omega arith)) ∙ le-ltb l 0 (omega arith) in
+    ⊎-elim (λ x. held-active L l n x)
+    (λ x. held-sending L l n x ∙ rw (d, same) at (sym (held-sending (underRule L r) l n quiet) ∙ held))
+    (decide (isActive L l n))
 
 -- a close holds no lane more
 close-lowers : (es : List Event) (i τ : ℕ) → heldOver (event i τ closes ∷ es) τ ≤ heldOver es τ
@@ -81,7 +83,7 @@ close-lowers es i τ =
     elim (eqb i j) as (λ x. heldIn (pick x (lifeAfter (lifeOf es j) τ closes) (lifeOf es j)) τ ≤ heldIn (lifeOf es j) τ) [
       | true ↦
           Search.howMany-wider (λ l. isHeldIn (lifeAfter (lifeOf es j) τ closes) l τ) (λ l. isHeldIn (lifeOf es j) l τ) (lifeOf es j .cap)
-          (λ l c held. close-lane (lifeOf es j .floor) (lifeOf es j .cap) (lifeOf es j .rule) l (tickIn (lifeOf es j) τ) held)
+          (λ l c held. close-lane (lifeOf es j) l (tickIn (lifeOf es j) τ) held)
       | false ↦ omega arith
     ])
 

@@ -16,23 +16,24 @@ use Rattle.rules.proofs.Search
 use Rattle.rules.proofs.Refusals.{hitsOf, numbered, cleared, hit-same}
 use Rattle.story.specs.declared.Title.{Title}
 use Rattle.story.specs.declared.State.{State}
-use Rattle.story.specs.Life.{isActive, droppedAt, reach, owes, cell, isHeld}
+use Rattle.story.specs.Life.{Life, isActive, droppedAt, reach, owes, cell, isHeld}
 use Rattle.story.specs.Kept.{titleAt, stateOk, tickAt, shows}
 use Rattle.story.specs.Calls.{laneHeld, laneAnswer, laneShows, statusAnswer, statusCount, statusHeld}
-use Rattle.story.specs.Story.{Event, Life, unopened, lifeOf, latestOf, lastTime, tickIn, countIn, airIn, isHeldIn}
+use Rattle.story.specs.Story.{Event, unopened, lifeOf, latestOf, lastTime, tickIn, countIn, airIn, isHeldIn}
 use Rattle.story.specs.Story.{heldIn, laneRulesTo, laneAnswerTo, statusAnswerTo}
 use Rattle.story.proofs.Held.{held-sending}
+use Rattle.story.proofs.Stored.{lifeIn}
 use Rattle.story.proofs.Kept.{later, held-kept, shows-kept, mode-some}
 use Rattle.story.proofs.Tells.{TellsTitle, absent, present, owes-none, count-told, held-told}
 use Rattle.story.proofs.Runs.{Told, sound-state}
 
 -- a lane that no count has is never held
-pub no-lane : (A K : ℕ) (r : ℕ → ℕ) (l n : ℕ) → ((u : ℕ) → r u ≤ l) → isHeld A K r l n ≡ false
+pub no-lane : (L : Life) (l n : ℕ) → ((u : ℕ) → L .rule u ≤ l) → isHeld L l n ≡ false
 unfolding droppedAt isActive owes after
-no-lane A K r l n off =
-    let quiet : (u : ℕ) → isActive r l u ≡ false = λ u. le-ltb l (r u) (off u) in
-    let d : droppedAt r l n ≡ 0 = Search.after-flat (isActive r l) 0 n (omega arith) (λ u lo hi. quiet u) in
-    held-sending A K r l n (quiet n) ∙ rw (d, owes-none A K r l (reach K)) (le-ltb (n - 0) 0 (omega arith))
+no-lane L l n off =
+    let quiet : (u : ℕ) → isActive L l u ≡ false = λ u. le-ltb l (L .rule u) (off u) in
+    let d : droppedAt L l n ≡ 0 = Search.after-flat (isActive L l) 0 n (omega arith) (λ u lo hi. quiet u) in
+    held-sending L l n (quiet n) ∙ rw (d, owes-none L l (reach (L .cap))) (le-ltb (n - 0) 0 (omega arith))
 
 -- the latest event of a title
 pub last-told : (L : Life) (m : ℕ) (t : Title) → TellsTitle L m t → t .last ≡ m
@@ -44,12 +45,12 @@ pub lane-held-told : (L : Life) (m : ℕ) (t : Title) (l τ : ℕ) → TellsTitl
     laneHeld t l τ ≡ isHeldIn L l τ
 unfolding tickIn tickAt
 lane-held-told L m t l τ (absent e f g) le =
-    rw g (sym (rw e (no-lane 0 0 (λ u. 0) l (tickIn unopened τ) (λ u. omega arith))))
+    rw g (sym (rw e (no-lane unopened l (tickIn unopened τ) (λ u. omega arith))))
 lane-held-told L m t l τ (present r e f p) le =
     rw (mode-some t r p, e)
     (⊎-elim
     (λ x. rw x (sym (held-kept t r p l (tickAt t τ) (ltb-true l (t .cap) x) (later t r p τ (omega arith)))))
-    (λ x. rw x (sym (no-lane (t .floor) (t .cap) r l (tickAt t τ) (λ u. omega (arith, ltb-false l (t .cap) x, p .ruled .high u)))))
+    (λ x. rw x (sym (no-lane (lifeIn t r) l (tickAt t τ) (λ u. omega (arith, ltb-false l (t .cap) x, p .ruled .high u)))))
     (decide (ltb l (t .cap))))
 
 -- what it shows
@@ -57,13 +58,13 @@ pub lane-shows-told : (L : Life) (m : ℕ) (t : Title) (l τ : ℕ) → TellsTit
     airIn L l τ ≡ cell (shows t l (tickAt t τ))
 unfolding tickIn tickAt
 lane-shows-told L m t l τ (absent e f g) le h =
-    absurd (false≢true (sym (no-lane 0 0 (λ u. 0) l (tickIn unopened τ) (λ u. omega arith)) ∙ rw e at h))
+    absurd (false≢true (sym (no-lane unopened l (tickIn unopened τ) (λ u. omega arith)) ∙ rw e at h))
 lane-shows-told L m t l τ (present r e f p) le h =
-    let held : isHeld (t .floor) (t .cap) r l (tickAt t τ) ≡ true = rw e at h in
+    let held : isHeld (lifeIn t r) l (tickAt t τ) ≡ true = rw e at h in
     rw e
     (shows-kept t r p l (tickAt t τ)
     (⊎-elim (λ x. ltb-true l (t .cap) x)
-    (λ x. absurd (false≢true (sym (no-lane (t .floor) (t .cap) r l (tickAt t τ) (λ u. omega (arith, ltb-false l (t .cap) x, p .ruled .high u))) ∙ held)))
+    (λ x. absurd (false≢true (sym (no-lane (lifeIn t r) l (tickAt t τ) (λ u. omega (arith, ltb-false l (t .cap) x, p .ruled .high u))) ∙ held)))
     (decide (ltb l (t .cap))))
     (later t r p τ (omega arith)) held)
 

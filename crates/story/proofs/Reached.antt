@@ -14,11 +14,11 @@ use Rattle.rules.specs.Refusals.{pick, firstHit}
 use Rattle.rules.specs.Search.{howMany}
 use Rattle.rules.proofs.Tests.{decide, pick-false}
 use Rattle.story.specs.declared.State.{State}
-use Rattle.story.specs.Life.{Air, cell, isCell, isHeld}
+use Rattle.story.specs.Life.{Life, Air, cell, isCell, isHeld}
 use Rattle.story.specs.Next.{callNext}
 use Rattle.story.specs.Calls.{laneAnswer, laneShows}
-use Rattle.story.specs.Story.{Event, Life, lifeOf, latestOf, lastTime, upTo, answer, taking, accepted, Accepted}
-use Rattle.story.specs.Story.{none, more, laneRulesTo, laneAnswerTo, lifeAt, airAt, Quiet, nothing-new, elsewhere}
+use Rattle.story.specs.Story.{Event, lifeOf, latestOf, lastTime, upTo, answer, taking, accepted, Accepted, none}
+use Rattle.story.specs.Story.{more, laneAnswerTo, lifeAt, airAt, Quiet, elsewhere}
 use Rattle.story.specs.Runs.{answered, called, stateAfter, lanesOf, Reached}
 use Rattle.story.proofs.Runs.{Told, lanes-limit, told, told-answer}
 use Rattle.story.proofs.Questions.{lane-answer-told, lane-cell-told}

@@ -1,4 +1,4 @@
--- What proofs ask of a rule: it keeps to floor and cap, and turns only where 01 permits. What an admission then has.
+-- What proofs ask of a life's rule: it keeps to floor and cap, and turns only where 01 permits. What an admission then has.
 -- Rests on the definition of an admission.
 use mathlib.Core.Path.{_≡_}
 use mathlib.Core.Bool.{Bool, true}
@@ -8,29 +8,31 @@ use borrow.Author.Tests.{ltb-true}
 use Rattle.rules.specs.Search.{after}
 use Rattle.rules.proofs.Tests.{both-l, both-r}
 use Rattle.grid.specs.Ticks.{isSlotStart}
-use Rattle.story.specs.Life.{isAdmission}
+use Rattle.story.specs.Life.{Life, isAdmission}
 
 -- a rule that keeps to floor and cap, closing apart
-pub record Ruled (A K : ℕ) (r : ℕ → ℕ) : Type 0 where
-  pub low : (t : ℕ) → 0 < r t → A ≤ r t
-  pub high : (t : ℕ) → r t ≤ K
+pub record Ruled (L : Life) : Type 0 where
+  pub low : (t : ℕ) → 0 < L .rule t → L .floor ≤ L .rule t
+  pub high : (t : ℕ) → L .rule t ≤ L .cap
 
 -- the count changes only at slot starts of the smaller count, of count A where the title closes
-pub record Legal (A K : ℕ) (r : ℕ → ℕ) : Type 0 where
-  pub turns : (t : ℕ) → (r t ≡ r (suc t) → ⊥) → isSlotStart K (max A (min (r t) (r (suc t)))) (suc t) ≡ true
+pub record Legal (L : Life) : Type 0 where
+  pub turns : (t : ℕ) → (L .rule t ≡ L .rule (suc t) → ⊥) →
+      isSlotStart (L .cap) (max (L .floor) (min (L .rule t) (L .rule (suc t)))) (suc t) ≡ true
 
 -- count c rules at tick t
-abbrev pub isRuling : (ℕ → ℕ) → ℕ → ℕ → Bool
-isRuling r c t = eqb (r t) c
+abbrev pub isRuling : Life → ℕ → ℕ → Bool
+isRuling L c t = eqb (L .rule t) c
 
 -- the tick at which count c last stopped ruling, seen from tick T; 0 where it never ruled before
-unfoldable pub lastEnd : (ℕ → ℕ) → ℕ → ℕ → ℕ
-lastEnd r c T = after (isRuling r c) T
+unfoldable pub lastEnd : Life → ℕ → ℕ → ℕ
+lastEnd L c T = after (isRuling L c) T
 
 -- the ruling count at an admission, and that it is a slot start
-pub admitted : (A K : ℕ) (r : ℕ → ℕ) → Ruled A K r → (a : ℕ) → isAdmission K r a ≡ true →
-    (0 < r a) × (A ≤ r a) × (isSlotStart K (r a) a ≡ true)
+pub admitted : (L : Life) → Ruled L → (a : ℕ) → isAdmission L a ≡ true →
+    (0 < L .rule a) × (L .floor ≤ L .rule a) × (isSlotStart (L .cap) (L .rule a) a ≡ true)
 unfolding isAdmission
-admitted A K r ruled a h =
-    let on : 0 < r a = ltb-true 0 (r a) (both-l (ltb 0 (r a)) (isSlotStart K (r a) a) h) in
-    (on, ruled .low a on, both-r (ltb 0 (r a)) (isSlotStart K (r a) a) h)
+admitted L ruled a h =
+    let k : ℕ = L .rule a in
+    let on : 0 < k = ltb-true 0 k (both-l (ltb 0 k) (isSlotStart (L .cap) k a) h) in
+    (on, ruled .low a on, both-r (ltb 0 k) (isSlotStart (L .cap) k a) h)

@@ -15,11 +15,11 @@ use Rattle.rules.specs.Search.{howMany}
 use Rattle.rules.proofs.Tests.{decide, both-r}
 use Rattle.rules.proofs.Search
 use Rattle.story.specs.declared.State.{State}
-use Rattle.story.specs.Life.{isActive}
+use Rattle.story.specs.Life.{Life, isActive}
 use Rattle.story.specs.Kept.{noTitle, stateOk}
 use Rattle.story.specs.Calls.{blankTitle, emptyPool}
-use Rattle.story.specs.Story.{Act, opens, changes, closes, Event, event, Life, unopened, lifeOf, latestOf}
-use Rattle.story.specs.Story.{isHeldIn, heldIn, heldOver, isThereIn, answerTo, answer, taking, accepted}
+use Rattle.story.specs.Story.{Act, opens, changes, closes, Event, event, unopened, lifeOf, latestOf, isHeldIn}
+use Rattle.story.specs.Story.{heldIn, heldOver, isThereIn, answerTo, answer, taking, accepted}
 use Rattle.story.specs.Next.{callNext}
 use Rattle.story.specs.Runs.{answered, called, stateAfter, lanesOf}
 use Rattle.story.proofs.Held.{held-active}
@@ -59,7 +59,7 @@ opened-holds es i τ D A K k id pos high =
     let e : Event = event i τ (opens D A K k) in
     let L : Life = record { opened = τ; length = D; floor = A; cap = K; rule = λ t. k } in
     let same : lifeOf (e ∷ es) i ≡ L = rw (eq-eqb i i refl) refl in
-    let one : 0 < heldIn L τ = Search.howMany-some (λ l. isHeldIn L l τ) K 0 (omega arith) (held-active A K (λ t. k) 0 (Rattle.story.specs.Story.tickIn L τ) (lt-ltb 0 k pos)) in
+    let one : 0 < heldIn L τ = Search.howMany-some (λ l. isHeldIn L l τ) K 0 (omega arith) (held-active L 0 (Rattle.story.specs.Story.tickIn L τ) (lt-ltb 0 k pos)) in
     let part : heldIn (lifeOf (e ∷ es) i) τ ≤ heldOver (e ∷ es) τ = Search.total-at (λ j. heldIn (lifeOf (e ∷ es) j) τ) titlesMax i id in
     omega (arith, ap (λ x. heldIn x τ) same)
 

@@ -16,14 +16,13 @@ use Rattle.rules.proofs.Tests.{decide, both-l, both-r, both-in, same}
 use Rattle.rules.proofs.Search
 use Rattle.grid.specs.Ticks.{slot, isSlotStart}
 use Rattle.grid.specs.Channels.{channelCell}
-use Rattle.grid.specs.Lanes.{laneCell}
 use Rattle.grid.specs.Plan.{inPlan}
 use Rattle.grid.proofs.Numbers.{mod-unique, divides-lower}
 use Rattle.grid.proofs.Ticks.{slot-pos}
 use Rattle.grid.proofs.Lanes.{lane-not-in}
 use Rattle.grid.proofs.Plan.{taken-in, taken-out}
 use Rattle.story.specs.declared.Title.{Title}
-use Rattle.story.specs.Life.{isAdmission, isOwed}
+use Rattle.story.specs.Life.{Life, usualCell, isPlanned, isAdmission, isOwed}
 use Rattle.story.proofs.Ruled.{isRuling, lastEnd, Ruled, Legal, admitted}
 use Rattle.story.specs.Kept.{wantsFrom, wants, keptOwed}
 use Rattle.story.proofs.Owed.{owed-in, owed-out}
@@ -58,15 +57,17 @@ multiple-less w e p ze l =
     let de : e / w * w + e % w ≡ e = div-add-mod' e w in
     mod-unique w 0 (e - w) 1 (e / w) p (omega arith)
 
-module _ (A K : ℕ) (r : ℕ → ℕ) (legal : Legal A K r) (c : ℕ) (low : A ≤ c) where
+module _ (L : Life) (legal : Legal L) (c : ℕ) (low : L .floor ≤ c) where
   -- a count begins and ends at its own slot starts
-  ends-at : (m : ℕ) → r m ≡ c → (r (suc m) ≡ c → ⊥) → isSlotStart K c (suc m) ≡ true
+  ends-at : (m : ℕ) → L .rule m ≡ c → (L .rule (suc m) ≡ c → ⊥) → isSlotStart (L .cap) c (suc m) ≡ true
   ends-at m h f =
-      slot-start-larger K (max A (min (r m) (r (suc m)))) c (suc m) (omega arith) (legal .turns m (λ e. f (sym e ∙ h)))
+      slot-start-larger (L .cap) (max (L .floor) (min (L .rule m) (L .rule (suc m)))) c (suc m) (omega arith)
+      (legal .turns m (λ e. f (sym e ∙ h)))
 
-  begins-at : (m : ℕ) → r (suc m) ≡ c → (r m ≡ c → ⊥) → isSlotStart K c (suc m) ≡ true
+  begins-at : (m : ℕ) → L .rule (suc m) ≡ c → (L .rule m ≡ c → ⊥) → isSlotStart (L .cap) c (suc m) ≡ true
   begins-at m h f =
-      slot-start-larger K (max A (min (r m) (r (suc m)))) c (suc m) (omega arith) (legal .turns m (λ e. f (e ∙ h)))
+      slot-start-larger (L .cap) (max (L .floor) (min (L .rule m) (L .rule (suc m)))) c (suc m) (omega arith)
+      (legal .turns m (λ e. f (e ∙ h)))
 
   -- no start of a slot lies inside another
   inside : (w m j : ℕ) → suc m % w ≡ 0 → suc j < w → suc j ≤ m → (m - j) % w ≡ 0 → ⊥
@@ -76,95 +77,109 @@ module _ (A K : ℕ) (r : ℕ → ℕ) (legal : Legal A K r) (c : ℕ) (low : A 
       omega arith
 
   -- a count that rules at the end of one of its slots rules in the whole slot
-  pub whole-slot : (m j : ℕ) → isSlotStart K c (suc m) ≡ true → r m ≡ c → j < slot K c → slot K c ≤ suc m →
-      r (m - j) ≡ c
+  pub whole-slot : (m j : ℕ) → isSlotStart (L .cap) c (suc m) ≡ true → L .rule m ≡ c → j < slot (L .cap) c →
+      slot (L .cap) c ≤ suc m → L .rule (m - j) ≡ c
   whole-slot m zero s h b w = let e : m - 0 ≡ m = omega arith in rw e h
   whole-slot m (suc j) s h b w =
-      let before : r (m - j) ≡ c = whole-slot m j s h (omega arith) w in
-      let e : m - j ≡ suc (m - suc j) = omega arith in
-      ⊎-elim (λ t. eqb-true (r (m - suc j)) c t)
+      let before : L .rule (m - j) ≡ c = whole-slot m j s h (omega arith) w in
+      let i : ℕ = m - suc j in
+      let e : m - j ≡ suc i = omega arith in
+      ⊎-elim (λ t. eqb-true (L .rule i) c t)
       (λ t.
+      let start : isSlotStart (L .cap) c (suc i) ≡ true = begins-at i (rw e at before) (eqb-false (L .rule i) c t) in
       absurd
-      (inside (slot K c) m j (slot-start-zero K c (suc m) s) b (omega arith)
-      (rw e (slot-start-zero K c (suc (m - suc j)) (begins-at (m - suc j) (rw e at before) (eqb-false (r (m - suc j)) c t))))))
-      (decide (eqb (r (m - suc j)) c))
+      (inside (slot (L .cap) c) m j (slot-start-zero (L .cap) c (suc m) s) b (omega arith)
+      (rw e (slot-start-zero (L .cap) c (suc i) start))))
+      (decide (eqb (L .rule i) c))
 
   -- the end of a count's latest rule before T is a slot start of it, unless it rules at T
-  pub end-slot : (T m : ℕ) → (r T ≡ c → ⊥) → lastEnd r c T ≡ suc m → (r m ≡ c) × (isSlotStart K c (suc m) ≡ true)
+  pub end-slot : (T m : ℕ) → (L .rule T ≡ c → ⊥) → lastEnd L c T ≡ suc m →
+      (L .rule m ≡ c) × (isSlotStart (L .cap) c (suc m) ≡ true)
   unfolding lastEnd
   end-slot T m off e =
-      let last : r m ≡ c = eqb-true (r m) c (Search.after-last (isRuling r c) T m e) in (
+      let last : L .rule m ≡ c = eqb-true (L .rule m) c (Search.after-last (isRuling L c) T m e) in (
         last,
         ends-at m last
             (⊎-elim
-            (λ b. eqb-false (r (suc m)) c (Search.after-none (isRuling r c) T (suc m) (omega arith) b))
+            (λ b. eqb-false (L .rule (suc m)) c (Search.after-none (isRuling L c) T (suc m) (omega arith) b))
             (λ q. rw q off)
-            (Search.below-suc (suc m) T (omega (arith, Search.after-le (isRuling r c) T)))),
+            (Search.below-suc (suc m) T (omega (arith, Search.after-le (isRuling L c) T)))),
       )
 
-pub lastEnd-le : (r : ℕ → ℕ) (c T : ℕ) → lastEnd r c T ≤ T
+pub lastEnd-le : (L : Life) (c T : ℕ) → lastEnd L c T ≤ T
 unfolding lastEnd
-lastEnd-le r c T = Search.after-le (isRuling r c) T
+lastEnd-le L c T = Search.after-le (isRuling L c) T
 
-pub lastEnd-above : (r : ℕ → ℕ) (c T a : ℕ) → a < T → r a ≡ c → a < lastEnd r c T
+pub lastEnd-above : (L : Life) (c T a : ℕ) → a < T → L .rule a ≡ c → a < lastEnd L c T
 unfolding lastEnd
-lastEnd-above r c T a b e = Search.after-above (isRuling r c) T a b (eq-eqb (r a) c e)
+lastEnd-above L c T a b e = Search.after-above (isRuling L c) T a b (eq-eqb (L .rule a) c e)
 
 -- a lane l that is not active at T, the tick of its drop
-module _ (A K : ℕ) (r : ℕ → ℕ) (ruled : Ruled A K r) (legal : Legal A K r) (l T u : ℕ) (lane : l < K) (off : r T ≤ l)
+module _ (L : Life) (ruled : Ruled L) (legal : Legal L) (l T u : ℕ) (lane : l < L .cap) (off : L .rule T ≤ l)
     (from : T ≤ u) where
   -- an admission that awaits the lane's cell had the lane, and its slot ends by the end of its count's rule
-  pub awaited-end : (a : ℕ) → a < T → isAdmission K r a ≡ true → inPlan A K (r a) a (laneCell A K l u) u ≡ true →
-      (l < r a) × (a + slot K (r a) ≤ lastEnd r (r a) T)
+  pub awaited-end : (a : ℕ) → a < T → isAdmission L a ≡ true → isPlanned L a (usualCell L l u) u ≡ true →
+      (l < L .rule a) × (a + slot (L .cap) (L .rule a) ≤ lastEnd L (L .rule a) T)
   awaited-end a b ad pl =
-      let k = admitted A K r ruled a ad in
-      let t = taken-out A K (r a) a (laneCell A K l u) u pl in
-      let had : l < r a =
-      ⊎-elim (λ x. ltb-true l (r a) x)
-      (λ x. absurd (lane-not-in A K (r a) l u (k .1) (ltb-false l (r a) x) lane (t .0, t .1 .channel, t .1 .carries)))
-      (decide (ltb l (r a))) in
-      let e : ℕ = lastEnd r (r a) T in
-      let above : a < e = lastEnd-above r (r a) T a b refl in
+      let c : ℕ = L .rule a in
+      let w : ℕ = slot (L .cap) c in
+      let k = admitted L ruled a ad in
+      let t = taken-out (L .floor) (L .cap) c a (usualCell L l u) u pl in
+      let had : l < c =
+      ⊎-elim (λ x. ltb-true l c x)
+      (λ x.
+      absurd
+      (lane-not-in (L .floor) (L .cap) c l u (k .1) (ltb-false l c x) lane (t .0, t .1 .channel, t .1 .carries)))
+      (decide (ltb l c)) in
+      let e : ℕ = lastEnd L c T in
+      let above : a < e = lastEnd-above L c T a b refl in
       let q : e ≡ suc (e - 1) = omega arith in
-      let s = end-slot A K r legal (r a) (k .1) T (e - 1) (λ same. omega arith) q in (
-        had,
-        multiples (slot K (r a)) a e (slot-pos K (r a)) (slot-start-zero K (r a) a (k .2))
-            (rw q (slot-start-zero K (r a) (suc (e - 1)) (s .1))) above,
-      )
+      let s = end-slot L legal c (k .1) T (e - 1) (λ same. omega arith) q in
+      let ze : e % w ≡ 0 = rw q (slot-start-zero (L .cap) c (suc (e - 1)) (s .1)) in
+      (had, multiples w a e (slot-pos (L .cap) c) (slot-start-zero (L .cap) c a (k .2)) ze above)
 
   -- the other way round, a slot before the end of a count's rule there is an admission
-  pub end-admission : (c : ℕ) → l < c → A ≤ c → 0 < lastEnd r c T →
-      (a : ℕ) × (a < T) × (a + slot K c ≡ lastEnd r c T) × (r a ≡ c) × (isAdmission K r a ≡ true)
+  pub end-admission : (c : ℕ) → l < c → L .floor ≤ c → 0 < lastEnd L c T →
+      (a : ℕ) × (a < T) × (a + slot (L .cap) c ≡ lastEnd L c T) × (L .rule a ≡ c) × (isAdmission L a ≡ true)
   unfolding isAdmission
   end-admission c had low some =
-      let e : ℕ = lastEnd r c T in
-      let w : ℕ = slot K c in
-      let wp : 0 < w = slot-pos K c in
+      let e : ℕ = lastEnd L c T in
+      let w : ℕ = slot (L .cap) c in
+      let wp : 0 < w = slot-pos (L .cap) c in
       let q : e ≡ suc (e - 1) = omega arith in
-      let s = end-slot A K r legal c low T (e - 1) (λ same. omega arith) q in
-      let ze : e % w ≡ 0 = rw q (slot-start-zero K c (suc (e - 1)) (s .1)) in
+      let s = end-slot L legal c low T (e - 1) (λ same. omega arith) q in
+      let ze : e % w ≡ 0 = rw q (slot-start-zero (L .cap) c (suc (e - 1)) (s .1)) in
       let fits : w ≤ e = omega (arith, multiples w 0 e wp (native.Mathlib.Nat.zero-mod w) ze some) in
       let a : ℕ = e - w in
       let back : e - 1 - (w - 1) ≡ a = omega arith in
-      let rule : r a ≡ c = rw back at (whole-slot A K r legal c low (e - 1) (w - 1) (s .1) (s .0) (omega arith) (omega arith)) in
-      let le : e ≤ T = lastEnd-le r c T in (
+      let rule : L .rule a ≡ c =
+      rw back at (whole-slot L legal c low (e - 1) (w - 1) (s .1) (s .0) (omega arith) (omega arith)) in
+      let start : isSlotStart (L .cap) c a ≡ true = zero-slot-start (L .cap) c a (multiple-less w e wp ze fits) in
+      let le : e ≤ T = lastEnd-le L c T in (
         a,
         omega arith,
         omega arith,
         rule,
-        rw rule (both-in (ltb 0 c) (isSlotStart K c a) (lt-ltb 0 c (omega arith)) (zero-slot-start K c a (multiple-less w e wp ze fits))),
+        rw rule (both-in (ltb 0 c) (isSlotStart (L .cap) c a) (lt-ltb 0 c (omega arith)) start),
       )
+
+-- the life that a stored title tells, under a rule
+abbrev pub lifeIn : Title → (ℕ → ℕ) → Life
+lifeIn t r = record { opened = t .opened; length = t .length; floor = t .floor; cap = t .cap; rule = r }
 
 -- the stored ends, of the counts that had lane l, are the ends of those counts' rules before its drop at T
 abbrev pub EndsAt : Title → (ℕ → ℕ) → ℕ → ℕ → Type 0
-EndsAt t r l T = (c : ℕ) → l < c → t .floor ≤ c → c ≤ t .cap → getD (t .ends) c 0 ≡ lastEnd r c T
+EndsAt t r l T = (c : ℕ) → l < c → t .floor ≤ c → c ≤ t .cap → getD (t .ends) c 0 ≡ lastEnd (lifeIn t r) c T
 
 -- what the stored ends say is owed is what 01 says is owed
-pub kept-owed : (t : Title) (r : ℕ → ℕ) (l T u : ℕ) → Ruled (t .floor) (t .cap) r → Legal (t .floor) (t .cap) r →
-    l < t .cap → r T ≤ l → T ≤ u → EndsAt t r l T → isOwed (t .floor) (t .cap) r l T u ≡ keptOwed t l u
+pub kept-owed : (t : Title) (r : ℕ → ℕ) (l T u : ℕ) → Ruled (lifeIn t r) → Legal (lifeIn t r) →
+    l < t .cap → r T ≤ l → T ≤ u → EndsAt t r l T → isOwed (lifeIn t r) l T u ≡ keptOwed t l u
 unfolding keptOwed wants wantsFrom
-kept-owed t r l T u ruled legal lane off from ends = same (isOwed A K r l T u) (some test (suc K)) there back
+kept-owed t r l T u ruled legal lane off from ends = same (isOwed L l T u) (some test (suc K)) there back
   where
+    L : Life
+    L = lifeIn t r
+
     A : ℕ
     A = t .floor
 
@@ -172,13 +187,19 @@ kept-owed t r l T u ruled legal lane off from ends = same (isOwed A K r l T u) (
     K = t .cap
 
     x : ℕ
-    x = laneCell A K l u
+    x = usualCell L l u
 
     end : ℕ → ℕ
     end c = getD (t .ends) c 0
 
+    room : ℕ → ℕ → Bool
+    room c d = ltb (u + slot K c) (end c + slot K c * 2 ^ d)
+
+    carrying : ℕ → ℕ → Bool
+    carrying c d = eqb (channelCell A K c d u) x
+
     channel : ℕ → ℕ → Bool
-    channel c d = both (ltb (u + slot K c) (end c + slot K c * 2 ^ d)) (eqb (channelCell A K c d u) x)
+    channel c d = both (room c d) (carrying c d)
 
     wanted : ℕ → Bool
     wanted c = both (ltb 0 (end c)) (some (channel c) c)
@@ -186,28 +207,28 @@ kept-owed t r l T u ruled legal lane off from ends = same (isOwed A K r l T u) (
     test : ℕ → Bool
     test c = both (ltb l c) (both (leb A c) (wanted c))
 
-    there : isOwed A K r l T u ≡ true → some test (suc K) ≡ true
+    there : isOwed L l T u ≡ true → some test (suc K) ≡ true
     there h =
-        let o = owed-out A K r l T u h in
+        let o = owed-out L l T u h in
         let a : ℕ = o .0 in
         let c : ℕ = r a in
-        let k = admitted A K r ruled a (o .2) in
-        let e = awaited-end A K r ruled legal l T u lane off from a (o .1) (o .2) (o .3) in
+        let k = admitted L ruled a (o .2) in
+        let e = awaited-end L ruled legal l T u lane off from a (o .1) (o .2) (o .3) in
         let s = taken-out A K c a x u (o .3) in
         let d : ℕ = s .0 in
-        let same-end : end c ≡ lastEnd r c T = ends c (e .0) (k .1) (ruled .high a) in
-        let room : u < a + slot K c * 2 ^ d = s .1 .before in
-        let by : a + slot K c ≤ lastEnd r c T = e .1 in
+        let same-end : end c ≡ lastEnd L c T = ends c (e .0) (k .1) (ruled .high a) in
+        let before : u < a + slot K c * 2 ^ d = s .1 .before in
+        let by : a + slot K c ≤ lastEnd L c T = e .1 in
         let ch : channel c d ≡ true =
-        both-in (ltb (u + slot K c) (end c + slot K c * 2 ^ d)) (eqb (channelCell A K c d u) x)
-        (lt-ltb (u + slot K c) (end c + slot K c * 2 ^ d) (omega arith)) (eq-eqb (channelCell A K c d u) x (s .1 .carries)) in
+        both-in (room c d) (carrying c d) (lt-ltb (u + slot K c) (end c + slot K c * 2 ^ d) (omega arith))
+        (eq-eqb (channelCell A K c d u) x (s .1 .carries)) in
         Search.some-in test (suc K) c (omega (arith, ruled .high a))
         (both-in (ltb l c) (both (leb A c) (wanted c)) (lt-ltb l c (e .0))
         (both-in (leb A c) (wanted c) (le-leb A c (k .1))
         (both-in (ltb 0 (end c)) (some (channel c) c) (lt-ltb 0 (end c) (omega (arith, slot-pos K c)))
         (Search.some-in (channel c) c d (s .1 .channel) ch))))
 
-    back : some test (suc K) ≡ true → isOwed A K r l T u ≡ true
+    back : some test (suc K) ≡ true → isOwed L l T u ≡ true
     back h =
         let f = Search.some-out test (suc K) h in
         let c : ℕ = f .0 in
@@ -215,15 +236,18 @@ kept-owed t r l T u ruled legal lane off from ends = same (isOwed A K r l T u) (
         let rest : both (leb A c) (wanted c) ≡ true = both-r (ltb l c) (both (leb A c) (wanted c)) (f .2) in
         let low : A ≤ c = leb-true A c (both-l (leb A c) (wanted c) rest) in
         let want : wanted c ≡ true = both-r (leb A c) (wanted c) rest in
-        let same-end : end c ≡ lastEnd r c T = ends c had low (omega (arith, f .1)) in
+        let same-end : end c ≡ lastEnd L c T = ends c had low (omega (arith, f .1)) in
         let ever : 0 < end c = ltb-true 0 (end c) (both-l (ltb 0 (end c)) (some (channel c) c) want) in
         let g = Search.some-out (channel c) c (both-r (ltb 0 (end c)) (some (channel c) c) want) in
         let d : ℕ = g .0 in
-        let room : u + slot K c < end c + slot K c * 2 ^ d = ltb-true (u + slot K c) (end c + slot K c * 2 ^ d) (both-l (ltb (u + slot K c) (end c + slot K c * 2 ^ d)) (eqb (channelCell A K c d u) x) (g .2)) in
-        let carries : channelCell A K c d u ≡ x = eqb-true (channelCell A K c d u) x (both-r (ltb (u + slot K c) (end c + slot K c * 2 ^ d)) (eqb (channelCell A K c d u) x) (g .2)) in
-        let adm = end-admission A K r ruled legal l T u lane off from c had low (omega arith) in
+        let fits : u + slot K c < end c + slot K c * 2 ^ d =
+        ltb-true (u + slot K c) (end c + slot K c * 2 ^ d) (both-l (room c d) (carrying c d) (g .2)) in
+        let carries : channelCell A K c d u ≡ x =
+        eqb-true (channelCell A K c d u) x (both-r (room c d) (carrying c d) (g .2)) in
+        let adm = end-admission L ruled legal l T u lane off from c had low (omega arith) in
         let a : ℕ = adm .0 in
-        let begun : a + slot K c ≡ lastEnd r c T = adm .2 in
+        let begun : a + slot K c ≡ lastEnd L c T = adm .2 in
         let pl : inPlan A K c a x u ≡ true =
-        taken-in A K c a x u d (record { channel = g .1; from = omega (arith, adm .1); before = omega arith; carries = carries }) in
-        owed-in A K r l T a u (adm .1) (adm .4) (rw (adm .3) pl)
+        taken-in A K c a x u d
+        (record { channel = g .1; from = omega (arith, adm .1); before = omega arith; carries = carries }) in
+        owed-in L l T a u (adm .1) (adm .4) (rw (adm .3) pl)

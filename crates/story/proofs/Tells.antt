@@ -20,14 +20,15 @@ use Rattle.rules.proofs.Search
 use Rattle.grid.specs.Ticks.{tickOf}
 use Rattle.story.specs.declared.Title.{Title}
 use Rattle.story.specs.declared.State.{State}
-use Rattle.story.specs.Life.{droppedAt, isOwed, isAwaited, reach, owedWithin, owes}
+use Rattle.story.specs.Life.{Life, droppedAt, isAwaited, isOwed, reach, owedWithin, owes}
 use Rattle.story.proofs.Ruled.{lastEnd}
 use Rattle.story.specs.Kept.{titleAt, tickAt, ruling, titleHeld, lanesHeld, isThere}
 use Rattle.story.specs.Next.{openedTitle, withTitle}
 use Rattle.story.specs.Calls.{blankTitle}
-use Rattle.story.specs.Story.{Life, Event, unopened, lifeAfter, lifeOf, latestOf, lastTime, tickIn, countIn}
-use Rattle.story.specs.Story.{heldIn, heldOver, isThereIn}
-use Rattle.story.proofs.Kept.{lifeIn, Present, title-held-kept, later}
+use Rattle.story.specs.Story.{Event, unopened, lifeAfter, lifeOf, latestOf, lastTime, tickIn, countIn, heldIn}
+use Rattle.story.specs.Story.{heldOver, isThereIn}
+use Rattle.story.proofs.Stored.{lifeIn}
+use Rattle.story.proofs.Kept.{Present, title-held-kept, later}
 use Rattle.story.proofs.Turn.{open-ruling}
 
 -- a row of zeros holds 0 everywhere
@@ -37,10 +38,10 @@ zeros (suc n) zero = refl
 zeros (suc n) (suc j) = zeros n j
 
 -- nothing is owed from before the first tick
-pub owes-none : (A K : ℕ) (r : ℕ → ℕ) (l n : ℕ) → owedWithin A K r l 0 n ≡ 0
+pub owes-none : (L : Life) (l n : ℕ) → owedWithin L l 0 n ≡ 0
 unfolding owedWithin isOwed isAwaited howMany some
-owes-none A K r l zero = refl
-owes-none A K r l (suc n) = rw (owes-none A K r l n) refl
+owes-none L l zero = refl
+owes-none L l (suc n) = rw (owes-none L l n) refl
 
 -- a title just opened
 pub opened-present : (τ D A K k : ℕ) → τ ≤ eventTimeMax → lengthMin ≤ D → D ≤ lengthMax → floorMin ≤ A → A ≤ floorMax →
@@ -75,7 +76,7 @@ opened-present τ D A K k late d d′ a a′ K′ low high =
       legal = record { turns = λ u f. absurd (f refl) };
       ends = λ c lo hi other. zeros countPlaces c ∙ rw start refl;
       drops = λ l lane off. zeros lanePlaces l ∙ rw start refl;
-      owing = λ l lane off. zeros lanePlaces l ∙ rw (zeros lanePlaces l) (sym (owes-none A K (λ t. k) l (reach K)));
+      owing = λ l lane off. zeros lanePlaces l ∙ rw (zeros lanePlaces l) (sym (owes-none (lifeIn (openedTitle τ D A K k) (λ t. k)) l (reach K)));
     }
 
 -- what a slot keeps of an id: nothing, where no event has named it, or the rule of its life

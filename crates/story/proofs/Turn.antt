@@ -19,14 +19,14 @@ use Rattle.rules.proofs.Tests.{decide, both-in, pick-true, pick-false}
 use Rattle.rules.proofs.Search
 use Rattle.grid.specs.Ticks.{tickOf, isSlotStart}
 use Rattle.story.specs.declared.Title.{Title}
-use Rattle.story.specs.Life.{isActive, droppedAt, isOwed, reach, owedWithin, owes}
+use Rattle.story.specs.Life.{Life, isActive, droppedAt, isOwed, reach, owedWithin, owes}
 use Rattle.story.proofs.Ruled.{Ruled, Legal, isRuling, lastEnd}
 use Rattle.story.specs.Kept.{tickAt, ruling, keptOwed, keptWithin}
 use Rattle.story.specs.Next.{ended, turned, turnedTitle}
 use Rattle.story.specs.Story.{turn}
 use Rattle.story.proofs.Clock.{later-tick}
 use Rattle.story.proofs.Held.{dropped-le, owes-local}
-use Rattle.story.proofs.Stored.{kept-owed, EndsAt}
+use Rattle.story.proofs.Stored.{lifeIn, kept-owed, EndsAt}
 use Rattle.story.proofs.Kept.{Sized, Present, tick-some}
 use Rattle.story.proofs.Rows.{filled, set-high, filled-length, filled-high, filled-in, filled-out, withRows}
 use Rattle.story.proofs.Rows.{isDropped, drop-rows}
@@ -90,15 +90,15 @@ module _ (t : Title) (r : ℕ → ℕ) (τ q m c : ℕ) (h : Turning t r τ q m 
   pub old-rules : (u : ℕ) → tickAt t (t .last) ≤ u → r u ≡ t .count
   old-rules u le = h .here .steady u le ∙ open-ruling t (h .is-open)
 
-  turn-ruled : Ruled (t .floor) (t .cap) (turn r (tickAt t τ) q)
+  turn-ruled : Ruled (lifeIn t (turn r (tickAt t τ) q))
   turn-ruled =
       record {
         low = λ u. elim (leb (tickAt t τ) u) as (λ b. 0 < pick b q (r u) → t .floor ≤ pick b q (r u)) [ true ↦ h .low | false ↦ h .here .ruled .low u ];
         high = λ u. elim (leb (tickAt t τ) u) as (λ b. pick b q (r u) ≤ t .cap) [ true ↦ h .high | false ↦ h .here .ruled .high u ];
       }
 
-  turn-legal : Legal (t .floor) (t .cap) (turn r (tickAt t τ) q)
-  turn-legal = record { turns = λ s f. ⊎-elim (before s f) (λ x. ⊎-elim (at s f) (λ y. absurd (f (turn-from r n q s (omega (arith, ltb-false (suc s) n x, eqb-false (suc s) n y)) ∙ sym (turn-from r n q (suc s) (ltb-false (suc s) n x))))) (decide (eqb (suc s) n))) (decide (ltb (suc s) n)) }
+  turn-legal : Legal (lifeIn t (turn r (tickAt t τ) q))
+  turn-legal = record { turns = λ s f. ⊎-elim (before s f) (λ x. ⊎-elim (at s f) (past s f x) (decide (eqb (suc s) n))) (decide (ltb (suc s) n)) }
     where
       n : ℕ
       n = tickAt t τ
@@ -123,9 +123,15 @@ module _ (t : Title) (r : ℕ → ℕ) (τ q m c : ℕ) (h : Turning t r τ q m 
           let e′ : r′ (suc s) ≡ q = turn-from r n q (suc s) (omega arith) in
           rw (e, e′, g) (h .at-slot)
 
+      past : (s : ℕ) → (r′ s ≡ r′ (suc s) → ⊥) → ltb (suc s) n ≡ false → eqb (suc s) n ≡ false → Good s
+      past s f x y =
+          let l : n ≤ suc s = ltb-false (suc s) n x in
+          let e : r′ s ≡ q = turn-from r n q s (omega (arith, eqb-false (suc s) n y)) in
+          absurd (f (e ∙ sym (turn-from r n q (suc s) l)))
+
   -- of every other count the stored end is where it last stopped ruling
   turn-ends : (d : ℕ) → t .floor ≤ d → d ≤ t .cap → (q ≡ d → ⊥) →
-      getD (set (t .ends) (t .count) (tickAt t τ)) d 0 ≡ lastEnd (turn r (tickAt t τ) q) d (tickAt t τ)
+      getD (set (t .ends) (t .count) (tickAt t τ)) d 0 ≡ lastEnd (lifeIn t (turn r (tickAt t τ) q)) d (tickAt t τ)
   unfolding lastEnd
   turn-ends d lo hi other = ⊎-elim old another (decide (eqb d (t .count)))
     where
@@ -133,9 +139,9 @@ module _ (t : Title) (r : ℕ → ℕ) (τ q m c : ℕ) (h : Turning t r τ q m 
       n = tickAt t τ
 
       p : ℕ → Bool
-      p = isRuling (turn r n q) d
+      p = isRuling (lifeIn t (turn r n q)) d
 
-      agree : (i : ℕ) → i < n → isRuling r d i ≡ p i
+      agree : (i : ℕ) → i < n → isRuling (lifeIn t r) d i ≡ p i
       agree i b = ap (λ x. eqb x d) (sym (turn-before r n q i b))
 
       old : eqb d (t .count) ≡ true → getD (set (t .ends) (t .count) n) d 0 ≡ after p n
@@ -152,9 +158,9 @@ module _ (t : Title) (r : ℕ → ℕ) (τ q m c : ℕ) (h : Turning t r τ q m 
           let ne : d ≡ t .count → ⊥ = eqb-false d (t .count) x in
           getD-set-other (t .ends) (t .count) d n 0 ne
           ∙ h .here .ends d lo hi (λ e. ne (sym e ∙ open-ruling t (h .is-open)))
-          ∙ sym (Search.after-flat (isRuling r d) (tickAt t (t .last)) n (omega (arith, after-now))
+          ∙ sym (Search.after-flat (isRuling (lifeIn t r) d) (tickAt t (t .last)) n (omega (arith, after-now))
           (λ i low b. ne-eqb (r i) d (λ e. ne (sym e ∙ old-rules i low))))
-          ∙ Search.after-ext (isRuling r d) p n agree
+          ∙ Search.after-ext (isRuling (lifeIn t r) d) p n agree
 
   -- a lane that is off after the turn was dropped by it, or was off before
   lane-cases : (l : ℕ) → q ≤ l →
@@ -165,7 +171,7 @@ module _ (t : Title) (r : ℕ → ℕ) (τ q m c : ℕ) (h : Turning t r τ q m 
       (decide (ltb l (t .count)))
 
   turn-drops : (l : ℕ) → l < t .cap → q ≤ l →
-      getD (droppedRow t (tickAt t τ) q) l 0 ≡ droppedAt (turn r (tickAt t τ) q) l (tickAt t τ)
+      getD (droppedRow t (tickAt t τ) q) l 0 ≡ droppedAt (lifeIn t (turn r (tickAt t τ) q)) l (tickAt t τ)
   unfolding droppedAt isActive
   turn-drops l lane off = ⊎-elim now before (lane-cases l off)
     where
@@ -173,7 +179,7 @@ module _ (t : Title) (r : ℕ → ℕ) (τ q m c : ℕ) (h : Turning t r τ q m 
       n = tickAt t τ
 
       p : ℕ → Bool
-      p = isActive (turn r n q) l
+      p = isActive (lifeIn t (turn r n q)) l
 
       long : l < length (t .dropped)
       long = omega (arith, h .here .sized .dropped-long, h .here .sized .cap-high)
@@ -188,31 +194,28 @@ module _ (t : Title) (r : ℕ → ℕ) (τ q m c : ℕ) (h : Turning t r τ q m 
       before w =
           filled-out (isDropped t q) (λ l. n) (t .dropped) (t .count) l (w .1)
           ∙ h .here .drops l lane (rw (open-ruling t (h .is-open)) (w .0))
-          ∙ sym (Search.after-flat (isActive r l) (tickAt t (t .last)) n (omega (arith, after-now))
+          ∙ sym (Search.after-flat (isActive (lifeIn t r) l) (tickAt t (t .last)) n (omega (arith, after-now))
           (λ i low b. rw (old-rules i low) (le-ltb l (t .count) (w .0))))
-          ∙ Search.after-ext (isActive r l) p n (λ i b. ap (λ x. ltb l x) (sym (turn-before r n q i b)))
+          ∙ Search.after-ext (isActive (lifeIn t r) l) p n (λ i b. ap (λ x. ltb l x) (sym (turn-before r n q i b)))
 
   -- the number owed is counted at the drop, from the ends stored then
   turn-owing : (l : ℕ) → l < t .cap → q ≤ l →
       getD (owedRow t (tickAt t τ) q) l 0
-      ≡ owes (t .floor) (t .cap) (turn r (tickAt t τ) q) l (getD (droppedRow t (tickAt t τ) q) l 0)
+      ≡ owes (lifeIn t (turn r (tickAt t τ) q)) l (getD (droppedRow t (tickAt t τ) q) l 0)
   unfolding owes owedWithin keptWithin
   turn-owing l lane off = ⊎-elim now before (lane-cases l off)
     where
       n : ℕ
       n = tickAt t τ
 
-      A : ℕ
-      A = t .floor
-
-      K : ℕ
-      K = t .cap
-
       r′ : ℕ → ℕ
       r′ = turn r n q
 
+      L′ : Life
+      L′ = lifeIn t r′
+
       count : ℕ → ℕ
-      count l = keptWithin (ended t n) l n (reach K)
+      count l = keptWithin (ended t n) l n (reach (t .cap))
 
       long : l < length (t .dropped)
       long = omega (arith, h .here .sized .dropped-long, h .here .sized .cap-high)
@@ -224,23 +227,24 @@ module _ (t : Title) (r : ℕ → ℕ) (τ q m c : ℕ) (h : Turning t r τ q m 
       ends d had lo hi = turn-ends d lo hi (λ e. omega arith)
 
       now : (l < t .count) × (isDropped t q l ≡ true) →
-          getD (owedRow t n q) l 0 ≡ owes A K r′ l (getD (droppedRow t n q) l 0)
+          getD (owedRow t n q) l 0 ≡ owes L′ l (getD (droppedRow t n q) l 0)
       now w =
           filled-in (isDropped t q) count (t .owed) (t .count) l (w .0) long′ (w .1)
           ∙ rw (filled-in (isDropped t q) (λ l. n) (t .dropped) (t .count) l (w .0) long (w .1))
-          (Search.howMany-ext (λ o. keptOwed (ended t n) l (n + o)) (λ o. isOwed A K r′ l n (n + o)) (reach K)
+          (Search.howMany-ext (λ o. keptOwed (ended t n) l (n + o)) (λ o. isOwed L′ l n (n + o)) (reach (t .cap))
           (λ o b. sym (kept-owed (ended t n) r′ l n (n + o) turn-ruled turn-legal lane (rw (turn-from r n q n (omega arith)) off) (omega arith) ends)))
 
       before : (t .count ≤ l) × (isDropped t q l ≡ false) →
-          getD (owedRow t n q) l 0 ≡ owes A K r′ l (getD (droppedRow t n q) l 0)
+          getD (owedRow t n q) l 0 ≡ owes L′ l (getD (droppedRow t n q) l 0)
       before w =
           let quiet : ruling t ≤ l = rw (open-ruling t (h .is-open)) (w .0) in
-          let d : getD (t .dropped) l 0 ≡ droppedAt r l (tickAt t (t .last)) = h .here .drops l lane quiet in
+          let d : getD (t .dropped) l 0 ≡ droppedAt (lifeIn t r) l (tickAt t (t .last)) = h .here .drops l lane quiet in
+          let early : getD (t .dropped) l 0 < n =
+          omega (arith, after-now, d, dropped-le (lifeIn t r) l (tickAt t (t .last))) in
           filled-out (isDropped t q) count (t .owed) (t .count) l (w .1)
           ∙ rw (filled-out (isDropped t q) (λ l. n) (t .dropped) (t .count) l (w .1))
           (h .here .owing l lane quiet
-          ∙ owes-local A K r r′ l (getD (t .dropped) l 0)
-          (λ a b. sym (turn-before r n q a (omega (arith, after-now, d, dropped-le r l (tickAt t (t .last)))))))
+          ∙ sym (owes-local (lifeIn t r) r′ l (getD (t .dropped) l 0) (λ a b. turn-before r n q a (omega arith))))
 
   turn-sized : Sized (laid t τ q m c)
   unfolding tickAt

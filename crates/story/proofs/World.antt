@@ -15,11 +15,10 @@ use Rattle.rules.specs.Limits.{poolMax, titlesMax}
 use Rattle.rules.proofs.Tests.{decide, both-l, either-false-l, either-false-r}
 use Rattle.rules.proofs.Search
 use Rattle.grid.specs.Ticks.{isSlotStart}
-use Rattle.story.specs.Life.{isAdmission, isActive, cell, onAir, isHeld}
-use Rattle.story.specs.Story.{Act, opens, changes, closes, Event, event, Life, tickLength, tickIn, momentOf, turn}
-use Rattle.story.specs.Story.{underRule, lifeAfter, lifeOf, latestOf, lastTime, upTo, countIn, isHeldIn, heldIn}
-use Rattle.story.specs.Story.{isThereIn, answerTo, answer, Accepted, none, more, lifeAt, filmAt, admitsAt, airOn}
-use Rattle.story.specs.Story.{airAt, InTick, Received, Begins}
+use Rattle.story.specs.Life.{Life, underRule, isFilm, isAdmission, isActive, cell, onAir, isHeld}
+use Rattle.story.specs.Story.{Act, opens, changes, closes, Event, event, tickLength, tickIn, momentOf, turn}
+use Rattle.story.specs.Story.{lifeAfter, lifeOf, latestOf, lastTime, upTo, countIn, isHeldIn, heldIn, isThereIn}
+use Rattle.story.specs.Story.{answerTo, answer, Accepted, none, more, lifeAt, airAt, InTick, Received, Begins}
 use Rattle.story.proofs.Clock.{tick-mono, in-tick, begun, on-its-tick}
 use Rattle.story.proofs.InTime.{film-in-time}
 use Rattle.story.proofs.Held.{air-local, held-falls}
@@ -110,20 +109,20 @@ stood lanes es high (more {e = e} {es = es′} acc h) i τ since =
 
 -- what a life says of a tick is what was on air at every moment of the tick
 pub air-stood : (lanes : ℕ) (es : List Event) → lanes ≤ poolMax → Accepted lanes es → (i l t τ : ℕ) →
-    0 < tickLength (lifeOf es i) → InTick (lifeOf es i) t τ → airAt es i l τ ≡ airOn (lifeOf es i) l t
+    0 < tickLength (lifeOf es i) → InTick (lifeOf es i) t τ → airAt es i l τ ≡ onAir (lifeOf es i) l t
 unfolding tickIn
 air-stood lanes es high acc i l t τ pos h =
     let L : Life = lifeOf es i in
     let w = stood lanes es high acc i τ (omega (arith, h .from)) in
     rw (w .life, in-tick (L .opened) (tickLength L) pos τ t (h .from) (h .until))
-    (air-local (L .floor) (L .cap) (w .rule) (L .rule) l t
+    (air-local L (w .rule) l t
     (λ u le. w .agree u (let m : u * tickLength L ≤ t * tickLength L = mul-le-mul-right (tickLength L) le in omega (arith, h .from))))
 
 -- a box of the life L, begun at tick a, seen after more events: the opening is still the id's latest, or it is over and
 -- every cell of the film has been received before the last event
 data Watched (es : List Event) (i : ℕ) (L : Life) (a : ℕ) : Type 0 where
   current : (r : ℕ → ℕ) → lifeOf es i ≡ underRule L r → ((u : ℕ) → u ≤ a → r u ≡ L .rule u) → Watched es i L a
-  over : ((c : ℕ) → filmAt L c ≡ true → (f : Received es i L a c) × (momentOf L (suc (f .tick)) ≤ lastTime es)) →
+  over : ((c : ℕ) → isFilm L c ≡ true → (f : Received es i L a c) × (momentOf L (suc (f .tick)) ≤ lastTime es)) →
       Watched es i L a
 
 -- events after a moment don't count at it
@@ -144,23 +143,25 @@ received-skip e es i L a c f le =
       carries = λ τ h. rw (upTo-skip τ e es (omega (arith, h .until))) (f .carries τ h);
     }
 
--- where a cell is found under the rule that a life has come to
-record Sight (L : Life) (r : ℕ → ℕ) (a c : ℕ) : Type 0 where
+-- where a cell is found in a life
+record Sight (L : Life) (a c : ℕ) : Type 0 where
   lane : ℕ
   tick : ℕ
   lane-low : lane < L .cap
   from-start : a ≤ tick
   by-turn : tick ≤ a + c
-  carries : onAir (L .floor) (L .cap) r lane tick ≡ cell c
+  carries : onAir L lane tick ≡ cell c
 
-nobody : (K : ℕ) (r : ℕ → ℕ) (a : ℕ) → r a ≡ 0 → isAdmission K r a ≡ true → ⊥
+-- no count, no admission
+nobody : (L : Life) (a : ℕ) → L .rule a ≡ 0 → isAdmission L a ≡ true → ⊥
 unfolding isAdmission
-nobody K r a e h = false≢true (sym (rw e refl) ∙ both-l (ltb 0 (r a)) (isSlotStart K (r a) a) h)
+nobody L a e h =
+    false≢true (sym (rw e refl) ∙ both-l (ltb 0 (L .rule a)) (isSlotStart (L .cap) (L .rule a) a) h)
 
 module _ (lanes : ℕ) (es : List Event) (high : lanes ≤ poolMax) (acc : Accepted lanes es) (i : ℕ) (id : i < titlesMax)
-    (L : Life) (a : ℕ) (adm : admitsAt L a ≡ true) (r : ℕ → ℕ) (life : lifeOf es i ≡ underRule L r)
+    (L : Life) (a : ℕ) (adm : isAdmission L a ≡ true) (r : ℕ → ℕ) (life : lifeOf es i ≡ underRule L r)
     (agree : (u : ℕ) → u ≤ a → r u ≡ L .rule u) where
-  still-admitted : isAdmission (L .cap) r a ≡ true
+  still-admitted : isAdmission (underRule L r) a ≡ true
   unfolding isAdmission
   still-admitted = rw (agree a (omega arith)) adm
 
@@ -168,17 +169,17 @@ module _ (lanes : ℕ) (es : List Event) (high : lanes ≤ poolMax) (acc : Accep
   alive : Lively (underRule L r) (latestOf es i)
   alive =
       ⊎-elim
-      (λ e. absurd (nobody (L .cap) r a (ap (λ (X : Life). X .rule a) (sym life ∙ e)) still-admitted))
+      (λ e. absurd (nobody (underRule L r) a (ap (λ (X : Life). X .rule a) (sym life ∙ e)) still-admitted))
       (λ w. rw life at w)
       (lively lanes es high acc i id)
 
-  sight : (c : ℕ) → filmAt L c ≡ true → Sight L r a c
+  sight : (c : ℕ) → isFilm L c ≡ true → Sight (underRule L r) a c
   sight c film =
-      let f = film-in-time (L .floor) (L .cap) r (alive .ruled) (L .length) a c (alive .floor-some) still-admitted film in
+      let f = film-in-time (underRule L r) (alive .ruled) a c (alive .floor-some) still-admitted film in
       record { lane = f .0; tick = f .2; lane-low = f .1; from-start = f .3; by-turn = f .4; carries = f .5 }
 
   -- what is seen in the life was on air then
-  sight-received : (c : ℕ) → Sight L r a c → Received es i L a c
+  sight-received : (c : ℕ) → Sight (underRule L r) a c → Received es i L a c
   sight-received c g =
       let pos : 0 < tickLength (lifeOf es i) = rw life (alive .tick-some) in
       let then : (τ : ℕ) → InTick L (g .tick) τ → InTick (lifeOf es i) (g .tick) τ = λ τ h. rw life (record { from = h .from; until = h .until }) in
@@ -195,7 +196,7 @@ module _ (lanes : ℕ) (es : List Event) (high : lanes ≤ poolMax) (acc : Accep
       }
 
   -- where the id may open again, the cell was seen before
-  seen-before : (c τ : ℕ) → lastTime es ≤ τ → isThereIn (lifeOf es i) τ ≡ false → (g : Sight L r a c) →
+  seen-before : (c τ : ℕ) → lastTime es ≤ τ → isThereIn (lifeOf es i) τ ≡ false → (g : Sight (underRule L r) a c) →
       momentOf L (suc (g .tick)) ≤ τ
   unfolding isHeld isActive tickIn heldIn
   seen-before c τ late away g =
@@ -209,12 +210,12 @@ module _ (lanes : ℕ) (es : List Event) (high : lanes ≤ poolMax) (acc : Accep
       let now : tickIn X (latestOf es i) ≤ n = tick-mono (L .opened) p (alive .tick-some) (latestOf es i) τ from in
       let start : L .opened + n * p ≤ τ = begun (L .opened) p (alive .tick-some) τ n (omega (arith, alive .since)) (omega arith) in
       let pos : 0 < p = alive .tick-some in
-      let then : isHeld (L .floor) (L .cap) r (g .lane) (g .tick) ≡ true = rw (g .carries) refl in
+      let then : isHeld X (g .lane) (g .tick) ≡ true = rw (g .carries) refl in
       ⊎-elim
       (λ x. let m : suc (g .tick) * p ≤ n * p = mul-le-mul-right p (ltb-true (g .tick) n x) in omega arith)
       (λ x.
       let held : isHeldIn X (g .lane) τ ≡ true =
-      held-falls (L .floor) (L .cap) r (g .lane) n (g .tick) (ltb-false (g .tick) n x)
+      held-falls X (g .lane) n (g .tick) (ltb-false (g .tick) n x)
       (λ v lo hi. le-ltb (g .lane) (r v) (omega (arith, alive .steady v n (omega arith) now))) then in
       absurd (omega (arith, Search.howMany-some (λ l. isHeldIn X l τ) (L .cap) (g .lane) (g .lane-low) held)))
       (decide (ltb (g .tick) n))
@@ -240,7 +241,7 @@ own-turn lanes es high acc i τ k w L a lt r life agree b turns =
 
 -- one more event of the box's own title
 own-event : (lanes : ℕ) (es : List Event) → lanes ≤ poolMax → Accepted lanes es → (i τ : ℕ) (b : Act) →
-    answerTo lanes es (event i τ b) (lifeOf es i) b ≡ 0 → (L : Life) (a : ℕ) → admitsAt L a ≡ true → momentOf L a < τ →
+    answerTo lanes es (event i τ b) (lifeOf es i) b ≡ 0 → (L : Life) (a : ℕ) → isAdmission L a ≡ true → momentOf L a < τ →
     (r : ℕ → ℕ) → lifeOf es i ≡ underRule L r → ((u : ℕ) → u ≤ a → r u ≡ L .rule u) → Watched (event i τ b ∷ es) i L a
 unfolding lifeOf sight-received received-skip
 own-event lanes es high acc i τ (opens D A K k) h L a adm lt r life agree =
@@ -258,7 +259,7 @@ own-event lanes es high acc i τ closes h L a adm lt r life agree =
 
 -- one more event of any title, after the box's start
 follow-more : (lanes : ℕ) (e : Event) (es : List Event) → lanes ≤ poolMax → Accepted lanes es → answer lanes es e ≡ 0 →
-    (i : ℕ) (L : Life) (a : ℕ) → admitsAt L a ≡ true → momentOf L a < e .time → Watched es i L a →
+    (i : ℕ) (L : Life) (a : ℕ) → isAdmission L a ≡ true → momentOf L a < e .time → Watched es i L a →
     Watched (e ∷ es) i L a
 unfolding lifeOf received-skip
 follow-more lanes e es high acc h i L a adm lt (over f) =
@@ -300,7 +301,7 @@ follows lanes es high (more {e = e} {es = es′} acc h) i τ a b = begun-or-more
 -- demand 3: whatever accepted events follow, a box that begins at an admission finds every cell that holds film on a lane
 -- of its title, at or after its start and no later than the cell's turn
 pub no-box-runs-dry : (lanes : ℕ) (es : List Event) → lanes ≤ poolMax → Accepted lanes es → (i τ a c : ℕ) →
-    i < titlesMax → Begins es i τ a → filmAt (lifeAt es i τ) c ≡ true → Received es i (lifeAt es i τ) a c
+    i < titlesMax → Begins es i τ a → isFilm (lifeAt es i τ) c ≡ true → Received es i (lifeAt es i τ) a c
 no-box-runs-dry lanes es high acc i τ a c id b film =
     go (follows lanes es high acc i τ a b)
   where

@@ -10,8 +10,8 @@ use Rattle.rules.specs.Limits.{both, either, within, idMax, floorMin, floorMax,
 use Rattle.rules.specs.Limits.{lengthMax, eventTimeMax, askedMax, laneMax, titlesMax}
 use Rattle.rules.specs.Refusals.{pick, Rule, firstHit}
 use Rattle.rules.specs.Search.{every, howMany, total}
-use Rattle.grid.specs.Ticks.{tickOf, holdsFilm, isSlotStart}
-use Rattle.story.specs.Life.{Air, cell, isAdmission, isActive, isOwed, owedWithin, owes, onAir, isHeld}
+use Rattle.grid.specs.Ticks.{tickOf, isSlotStart}
+use Rattle.story.specs.Life.{Life, underRule, isAdmission, isActive, Air, cell, onAir, isHeld}
 use Rattle.story.specs.Orders.{Tests, openOrder, changeOrder, closeOrder, laneOrder, statusOrder}
 
 -- 01, "Events": what an event does: open with length, floor, cap and count; change to a count; close
@@ -28,14 +28,6 @@ pub record Event : Type 0 where
 
 abbrev pub event : ℕ → ℕ → Act → Event
 event i τ a = record { time = τ; title = i; act = a }
-
--- a title since its latest opening
-pub record Life : Type 0 where
-  pub opened : ℕ
-  pub length : ℕ
-  pub floor : ℕ
-  pub cap : ℕ
-  pub rule : ℕ → ℕ
 
 -- an id that was never opened: no cells, no lanes
 abbrev pub unopened : Life
@@ -56,10 +48,6 @@ momentOf L t = L .opened + t * tickLength L
 -- from tick n on count k rules; an event's own tick belongs to the new count
 abbrev pub turn : (ℕ → ℕ) → ℕ → ℕ → ℕ → ℕ
 turn r n k t = pick (leb n t) k (r t)
-
--- the same title under another rule
-abbrev pub underRule : Life → (ℕ → ℕ) → Life
-underRule L r = record { opened = L .opened; length = L .length; floor = L .floor; cap = L .cap; rule = r }
 
 -- the title after an event of its own
 abbrev pub lifeAfter : Life → ℕ → Act → Life
@@ -91,40 +79,13 @@ upTo τ (e ∷ es) = pick (leb (e .time) τ) (e ∷ es) (upTo τ es)
 abbrev pub countIn : Life → ℕ → ℕ
 countIn L τ = L .rule (tickIn L τ)
 
--- a title's cells and lanes, tick by tick: cell c holds film, tick a is an admission,
-abbrev pub filmAt : Life → ℕ → Bool
-filmAt L c = holdsFilm (L .length) (L .floor) (L .cap) c
-
-abbrev pub admitsAt : Life → ℕ → Bool
-admitsAt L a = isAdmission (L .cap) (L .rule) a
-
--- lane l is active at tick t, what it has on air then, and whether it is held,
-abbrev pub isActiveAt : Life → ℕ → ℕ → Bool
-isActiveAt L l t = isActive (L .rule) l t
-
-abbrev pub airOn : Life → ℕ → ℕ → Air
-airOn L l t = onAir (L .floor) (L .cap) (L .rule) l t
-
-abbrev pub isHeldAt : Life → ℕ → ℕ → Bool
-isHeldAt L l t = isHeld (L .floor) (L .cap) (L .rule) l t
-
--- and where it is dropped at tick T: tick t is owed, how many are among the n ticks from T on, and how many in all
-abbrev pub isOwedAt : Life → ℕ → ℕ → ℕ → Bool
-isOwedAt L l T t = isOwed (L .floor) (L .cap) (L .rule) l T t
-
-abbrev pub owedAmong : Life → ℕ → ℕ → ℕ → ℕ
-owedAmong L l T n = owedWithin (L .floor) (L .cap) (L .rule) l T n
-
-abbrev pub owesAt : Life → ℕ → ℕ → ℕ
-owesAt L l T = owes (L .floor) (L .cap) (L .rule) l T
-
 -- what is on air on lane l of a title at a moment
 abbrev pub airIn : Life → ℕ → ℕ → Air
-airIn L l τ = airOn L l (tickIn L τ)
+airIn L l τ = onAir L l (tickIn L τ)
 
 -- lane l of a title is held at a moment
 abbrev pub isHeldIn : Life → ℕ → ℕ → Bool
-isHeldIn L l τ = isHeldAt L l (tickIn L τ)
+isHeldIn L l τ = isHeld L l (tickIn L τ)
 
 -- 01, "Events": the lanes of a title held at a moment, active ones and those still sending
 unfoldable pub heldIn : Life → ℕ → ℕ
@@ -260,12 +221,12 @@ pub record Received (es : List Event) (i : ℕ) (L : Life) (a c : ℕ) : Type 0 
 -- a box may begin at a moment: the start of a tick that is an admission, of the life as it stands then
 pub record Begins (es : List Event) (i τ a : ℕ) : Type 0 where
   pub at-start : τ ≡ momentOf (lifeAt es i τ) a
-  pub admission : admitsAt (lifeAt es i τ) a ≡ true
+  pub admission : isAdmission (lifeAt es i τ) a ≡ true
 
 -- lane l of a life is dropped at tick s + 1, and not raised in the n ticks from then on
 pub record Dropped (L : Life) (l s n : ℕ) : Type 0 where
-  pub active-before : isActiveAt L l s ≡ true
-  pub not-raised : (j : ℕ) → j < n → isActiveAt L l (suc s + j) ≡ false
+  pub active-before : isActive L l s ≡ true
+  pub not-raised : (j : ℕ) → j < n → isActive L l (suc s + j) ≡ false
 
 -- none of these events is of title i at or before τ
 pub data Quiet (i τ : ℕ) : List Event → Type 0 where

@@ -19,7 +19,8 @@ use Rattle.notice.specs.declared.Kind.the-variants.{Open, Change, Close}
 use Rattle.notice.specs.declared.Reading.the-variants as reading
 use Rattle.story.specs.declared.State.{State}
 use Rattle.story.specs.Kept.{titleAt}
-use Rattle.story.specs.Story.{Event, event, Life, unopened, underRule, turn, lifeAfter, lifeOf, latestOf, lastTime}
+use Rattle.story.specs.Life.{Life, underRule}
+use Rattle.story.specs.Story.{Event, event, unopened, turn, lifeAfter, lifeOf, latestOf, lastTime}
 use Rattle.story.specs.Story.{tickIn, answer}
 use Rattle.story.proofs.Passed.{Turned, changing, closing, in-order}
 use Rattle.story.proofs.Tells.{TellsTitle}

@@ -9,7 +9,8 @@ use Rattle.rules.specs.Limits.{both, within, poolMin, poolMax, idMax, askedMax}
 use Rattle.rules.specs.Refusals.{Rule, refuse, firstHit, done, outsideLimits, wrongRows, malformed}
 use Rattle.rules.specs.Search.{every}
 use Rattle.notice.specs.Log.{isWholeLog}
-use Rattle.story.specs.Story.{Life, lifeOf}
+use Rattle.story.specs.Life.{Life}
+use Rattle.story.specs.Story.{lifeOf}
 use Rattle.admissions.specs.Waits.{nobody, Tallied, rowMax}
 use Rattle.waiting.specs.declared.Report.{Report}
 use Rattle.agent.specs.Played.{eventsPlayed}
