@@ -6,7 +6,7 @@ of rate x tick x 2^(K-k) is taken, and among equals the choice whose first title
 
 from itertools import product
 
-NO_LANES, WRONG_ROWS, OUTSIDE_LIMITS, WRONG_COUNT = 9, 10, 1, 6
+NO_LANES, WRONG_ROWS, OUTSIDE_LIMITS, FLOOR_ABOVE_CAP = 9, 10, 1, 15
 
 
 def term(title, k):
@@ -55,7 +55,7 @@ def run(pool, rates, lengths, floors, caps, places=17):
     elif not 1 <= pool <= 64 or not all(map(allowed, titles)):
         answer = OUTSIDE_LIMITS
     elif any(floor > cap for _, _, floor, cap in titles):
-        answer = WRONG_COUNT
+        answer = FLOOR_ABOVE_CAP
     elif sum(floors) > pool:
         answer = NO_LANES
     else:

@@ -12,6 +12,7 @@ use Rattle.plan.specs.Row.{Planned}
 use Rattle.sharing.specs.Verdict.{Answered}
 use Rattle.text.specs.Output.{Page, puts}
 use Rattle.text.proofs.Pages.{puts-append}
+use Rattle.console_answers.specs.Words.{missed}
 use Rattle.console_answers.specs.Entries.{numbersText, cellsText, titlesText}
 use Rattle.console_answers.specs.Outcomes.{doneText, withText, valueText}
 use Rattle.console_answers.specs.Questions.{laneText, statusText, planText, shareText}
@@ -53,14 +54,15 @@ module _ (p q r : Page) where
         (told p q r a 0 _ g z
         (rw (rw (eq-eqb _ _ z) at ec, rw (eq-eqb _ _ z) at eh) at f))
 
-  module _ (A K k a n : ℕ) (row row' : List ℕ) (e : Planned A K k a row n row') (g : q ≡ puts p (doneText n 0)) where
+  module _ (A K k a n : ℕ) (row row' : List ℕ) (e : Planned A K k a row n row')
+      (g : q ≡ puts p (doneText n (missed n A K))) where
     pub plan-refused : (n ≡ 0 → ⊥) → q ≡ puts p (planText A K k a row)
     unfolding planText
-    plan-refused z = rw (sym (e .answer)) (refused p q n 0 _ g z)
+    plan-refused z = rw (sym (e .answer)) (refused p q n (missed n A K) _ g z)
 
     pub plan-told : n ≡ 0 → r ≡ puts q (cellsText row' (2 ^ K)) → r ≡ puts p (planText A K k a row)
     unfolding planText
-    plan-told z f = rw (sym (e .answer)) (told p q r n 0 _ g z (rw (e .left) at f))
+    plan-told z f = rw (sym (e .answer)) (told p q r n (missed n A K) _ g z (rw (e .left) at f))
 
   module _ (pool n : ℕ) (rates lengths floors caps row row' : List ℕ)
       (e : Answered pool rates lengths floors caps row n row')

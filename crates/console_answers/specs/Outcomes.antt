@@ -7,7 +7,7 @@ use Rattle.text.specs.Texts.{text}
 use Rattle.console_answers.specs.Words.{refusalText}
 use Rattle.console_answers.specs.Entries.{entry}
 
--- x is the sequence that a notice out of turn should have had
+-- x is the number that the words of a refusal name
 unfoldable pub doneText : ℕ → ℕ → List ℕ
 doneText a x = pick (eqb a done) (text "0") (refusalText a x)
 

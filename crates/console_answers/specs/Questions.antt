@@ -10,6 +10,7 @@ use Rattle.plan.specs.Row as plan
 use Rattle.sharing.specs.Verdict as sharing
 use Rattle.text.specs.Numbers.{fourBytesMost}
 use Rattle.console_lines.specs.Commands.{idsMost, titlesMost, titleNumbers, placesMost}
+use Rattle.console_answers.specs.Words.{missed}
 use Rattle.console_answers.specs.Entries.{numbersText, cellsText, titlesText}
 use Rattle.console_answers.specs.Outcomes.{withText, valueText}
 
@@ -27,10 +28,11 @@ statusText s τ ids =
 unfoldable pub idsIn : List ℕ → ℕ → List ℕ
 idsIn numbers count = take (min (count - 1) idsMost) (drop 1 numbers)
 
--- the 2^K numbers of the plan that a lent row takes
+-- the 2^K numbers of the plan that a lent row takes; a refusal names the line's own floor or cap
 unfoldable pub planText : ℕ → ℕ → ℕ → ℕ → List ℕ → List ℕ
 planText A K k a row =
-    withText (planAnswer A K k a (length row)) 0 (cellsText (plan.rowAfter A K k a row) (cells K))
+    withText (planAnswer A K k a (length row)) (missed (planAnswer A K k a (length row)) A K)
+    (cellsText (plan.rowAfter A K k a row) (cells K))
 
 unfoldable pub zeros : ℕ → List ℕ
 zeros n = replicate n 0

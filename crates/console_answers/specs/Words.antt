@@ -4,7 +4,8 @@ use Prim.Native.Nat.{ℕ, _+_, min}
 use mathlib.Core.List.{List, [], _∷_, _++_}
 use lib.ListN.{getD}
 use lib.Dec.{eqb}
-use Rattle.rules.specs.Refusals.{pick, outOfTurn}
+use Rattle.rules.specs.Limits.{within}
+use Rattle.rules.specs.Refusals.{pick, outOfTurn, belowFloor, aboveCap}
 use Rattle.text.specs.Texts.{text}
 use Rattle.text.specs.Numbers.{top}
 use Rattle.text.specs.Digits.{decimal}
@@ -18,20 +19,28 @@ refusals =
     text "title not there or lane not held" ∷
     text "id still in use" ∷
     text "title is closing" ∷
-    text "count not possible" ∷
+    text "count unchanged" ∷
     text "title has an event at this time" ∷
     text "not at a permitted slot start" ∷
     text "too few free lanes" ∷
     text "rows do not match or room too short" ∷
     text "malformed notice" ∷
-    text "notice out of turn, expected is " ∷ []
+    text "notice out of turn, expected is " ∷
+    text "below the floor, which is " ∷
+    text "above the cap, which is " ∷
+    text "floor above its cap" ∷ []
 
 unfoldable pub refusalWords : ℕ → List ℕ
 refusalWords n = getD refusals n []
 
--- the answer to a refused call: number, words, and of a notice out of turn the sequence that is expected
+-- the answer to a refused call: number, words, and of 12, 13 and 14 the number that the words name
 unfoldable pub refusalText : ℕ → ℕ → List ℕ
-refusalText n expected = ((decimal n ++ text " ") ++ refusalWords n) ++ pick (eqb n outOfTurn) (decimal expected) []
+refusalText n named =
+    ((decimal n ++ text " ") ++ refusalWords n) ++ pick (within outOfTurn aboveCap n) (decimal named) []
+
+-- of a count that is below floor A or above cap K, by the refusal's number: the one that it missed
+unfoldable pub missed : ℕ → ℕ → ℕ → ℕ
+missed n A K = pick (eqb n belowFloor) A K
 
 -- what is wrong with a line, in words, by the number of its fault; 0 is none
 abbrev pub faults : List (List ℕ)

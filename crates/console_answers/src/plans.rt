@@ -2,6 +2,7 @@
 
 use crate::entries;
 use crate::outcomes;
+use crate::words;
 use console_lines::commands::PLACES_MOST;
 use rules::DONE;
 ghost use mathlib.Core.Path.{_≡_};
@@ -25,7 +26,7 @@ fn put_row(
         (now (out .exit)) r ⌝ }
 {
     let answer = plan::plan(floor, cap, count, arrival, row);
-    let a = outcomes::put_done(out, at, answer, 0);
+    let a = outcomes::put_done(out, at, answer, words::missed(answer, floor, cap));
     if answer == DONE {
         return entries::put_cells(out, a, row, grid::pow2(cap) as usize);
     }

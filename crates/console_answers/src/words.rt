@@ -5,6 +5,8 @@ use text::output;
 ghost use mathlib.Core.Path.{_≡_};
 ghost use Prim.Native.Nat.{_-_, _≤_};
 ghost use lib.ListN.{length, take, drop};
+ghost use Rattle.rules.specs.Limits.{within};
+ghost use Rattle.rules.specs.Refusals.{outOfTurn, aboveCap};
 ghost use Rattle.text.specs.Output.{Written};
 ghost use Rattle.console_answers.specs.Words.{
   refusalWords,
@@ -13,6 +15,7 @@ ghost use Rattle.console_answers.specs.Words.{
   faultText,
   helpText,
   fromOne,
+  missed as missedOf,
 };
 
 // The part of a row from a place to another.
@@ -25,7 +28,7 @@ fn put_part(out: &mut [u8], at: usize, row: &[u8], from: usize, to: usize) -> us
 }
 
 // By number: where each refusal's words begin, and behind the last where they end.
-const REFUSALS: [usize; 14] = [
+const REFUSALS: [usize; 17] = [
     0,
     4,
     23,
@@ -33,13 +36,16 @@ const REFUSALS: [usize; 14] = [
     85,
     100,
     116,
-    134,
-    165,
-    194,
-    212,
-    247,
-    263,
-    295,
+    131,
+    162,
+    191,
+    209,
+    244,
+    260,
+    292,
+    318,
+    342,
+    361,
 ];
 
 // The same for the faults of a line, of which 0 is none.
@@ -55,15 +61,18 @@ fn refusal_words(out: &mut [u8], at: usize, number: u8) -> usize
         title not there or lane not held\
         id still in use\
         title is closing\
-        count not possible\
+        count unchanged\
         title has an event at this time\
         not at a permitted slot start\
         too few free lanes\
         rows do not match or room too short\
         malformed notice\
-        notice out of turn, expected is ";
+        notice out of turn, expected is \
+        below the floor, which is \
+        above the cap, which is \
+        floor above its cap";
     let k = number as usize;
-    if k < 13 {
+    if k < 16 {
         let a = REFUSALS[k];
         let e = REFUSALS[k + 1];
         return put_part(out, at, words, a, e);
@@ -71,17 +80,38 @@ fn refusal_words(out: &mut [u8], at: usize, number: u8) -> usize
     at
 }
 
-// A refusal: its number, its words, and after OUT_OF_TURN the sequence that is expected.
-pub fn put_refusal(out: &mut [u8], at: usize, number: u8, expected: u64) -> usize
-    ensures { λ r. ⌜ Written (now (out .entry)) at (refusalText number expected) (now (out .exit)) r ⌝ }
+// Whether the words of a refusal end in a number: those from OUT_OF_TURN to ABOVE_CAP.
+fn names_number(number: u8) -> bool
+    ensures { λ r. ⌜ r ≡ within outOfTurn aboveCap number ⌝ }
+{
+    rules::within(
+        rules::OUT_OF_TURN as u64,
+        rules::ABOVE_CAP as u64,
+        number as u64,
+    )
+}
+
+// A refusal: its number, its words, and after OUT_OF_TURN, BELOW_FLOOR and ABOVE_CAP the number that the words name.
+pub fn put_refusal(out: &mut [u8], at: usize, number: u8, named: u64) -> usize
+    ensures { λ r. ⌜ Written (now (out .entry)) at (refusalText number named) (now (out .exit)) r ⌝ }
 {
     let a = digits::put_number(out, at, number as u64);
     let b = output::put(out, a, b" ");
     let c = refusal_words(out, b, number);
-    if number == rules::OUT_OF_TURN {
-        return digits::put_number(out, c, expected);
+    if names_number(number) {
+        return digits::put_number(out, c, named);
     }
     c
+}
+
+// Of a count below its floor or above its cap, the one that it missed.
+pub fn missed(number: u8, floor: u64, cap: u64) -> u64
+    ensures { λ r. ⌜ r ≡ missedOf number floor cap ⌝ }
+{
+    if number == rules::BELOW_FLOOR {
+        return floor;
+    }
+    cap
 }
 
 // What is wrong with a line.

@@ -18,6 +18,7 @@ use Rattle.console_answers.specs.Outcomes.{doneText}
 use Rattle.console_answers.specs.Notices.{readingText}
 use Rattle.console_answers.specs.Questions.{laneText, statusText, idsIn, planText, roomOf, shareIn}
 use Rattle.console_desk.specs.Acts.{numberIn, bytesIn, answerAfter, agentAfter}
+use Rattle.console_desk.specs.Named.{namedIn}
 use Rattle.console_desk.specs.Writing.{noticeIn}
 use Rattle.console_desk.specs.Desk.{followedText, actText, tellText, placesIn, askText}
 
@@ -27,11 +28,12 @@ module _ (l : Line) (s : List ℕ) (p q : Page) where
   unfolding actText
   acts-fresh g n h e f = rw (eq-eqb _ _ h, ← e) f
 
-  pub acts-other : (g after : Agent) (n : ℕ) → (l .command ≡ Commands.doFresh → ⊥) → n ≡ answerAfter g l s
+  pub acts-other : (g after : Agent) (n named : ℕ) → (l .command ≡ Commands.doFresh → ⊥) → n ≡ answerAfter g l s
       → after ≡ agentAfter g l s
-      → q ≡ puts p (followedText n after) → q ≡ puts p (actText g l s)
+      → named ≡ namedIn n g l s
+      → q ≡ puts p (followedText n after named) → q ≡ puts p (actText g l s)
   unfolding actText
-  acts-other g after n h e f k = rw (ne-eqb _ _ h, ← e, ← f) k
+  acts-other g after n named h e f m k = rw (ne-eqb _ _ h, ← e, ← f, ← m) k
 
   pub tells-help : l .command ≡ Commands.doHelp → q ≡ puts p helpText → q ≡ puts p (tellText l s)
   unfolding tellText

@@ -1,5 +1,5 @@
 -- What a line of the console is answered, and the agent that it leaves (docs/CONSOLE.md, "Commands").
-use Prim.Native.Nat.{ℕ, _+_}
+use Prim.Native.Nat.{ℕ}
 use mathlib.Core.Path.{_≡_}
 use mathlib.Core.Bool.{Bool}
 use mathlib.Core.List.{List, [], _∷_, _++_}
@@ -21,6 +21,7 @@ use Rattle.console_answers.specs.Outcomes.{doneText, valueText}
 use Rattle.console_answers.specs.Notices.{readingText}
 use Rattle.console_answers.specs.Questions.{laneText, statusText, idsIn, planText, roomOf, shareIn}
 use Rattle.console_desk.specs.Acts.{numberIn, bytesIn, answerAfter, agentAfter}
+use Rattle.console_desk.specs.Named.{namedIn}
 use Rattle.console_desk.specs.Writing.{noticeIn}
 
 -- the commands that may change the agent: fresh, the events, notice
@@ -28,14 +29,14 @@ unfoldable pub mayChange : ℕ → Bool
 mayChange c = either (eqb c Commands.doNotice) (within Commands.doFresh Commands.doClose c)
 
 -- what an event or a notice was answered, with the lanes held at its time, which is that of the last accepted event; of
--- a notice out of turn, which sequence is expected
-unfoldable pub followedText : ℕ → Agent → List ℕ
-followedText a g = valueText a (heldShown (g .state) (g .state .last)) (g .sequence + 1)
+-- a refusal, the number that its words name
+unfoldable pub followedText : ℕ → Agent → ℕ → List ℕ
+followedText a g named = valueText a (heldShown (g .state) (g .state .last)) named
 
 unfoldable pub actText : Agent → Line → List ℕ → List ℕ
 actText g l s =
     pick (eqb (l .command) Commands.doFresh) (doneText (answerAfter g l s) 0)
-    (followedText (answerAfter g l s) (agentAfter g l s))
+    (followedText (answerAfter g l s) (agentAfter g l s) (namedIn (answerAfter g l s) g l s))
 
 -- help, and what concerns notices alone
 unfoldable pub tellText : Line → List ℕ → List ℕ

@@ -38,6 +38,7 @@ ghost use Rattle.console_desk.specs.Desk.{
 
 mod acts;
 mod hex;
+mod named;
 mod writing;
 
 // What a line leaves: the agent, and the place behind what was answered.
@@ -61,13 +62,13 @@ fn may_change(command: u8) -> bool
 }
 
 // What an event or a notice was answered, and the lanes held at the time of the last that was accepted.
-fn put_followed(out: &mut [u8], at: usize, answer: u8, agent: Agent) -> usize
-    ensures { λ r. ⌜ Written (now (out .entry)) at (followedText answer agent) (now (out .exit)) r ⌝ }
+fn put_followed(out: &mut [u8], at: usize, answer: u8, agent: Agent, named: u64) -> usize
+    ensures { λ r. ⌜ Written (now (out .entry)) at (followedText answer agent named) (now (out .exit)) r ⌝ }
 {
     let state = agent.state;
     let time = state.last;
     let held = scheduler::held(state, time).lanes;
-    outcomes::put_value(out, at, answer, held, agent.sequence as u64 + 1)
+    outcomes::put_value(out, at, answer, held, named)
 }
 
 // A command that may change the agent.
@@ -85,7 +86,13 @@ fn act(agent: Agent, line: Line, s: &[u8], out: &mut [u8], at: usize) -> Turned
         let p = outcomes::put_done(out, at, answer, 0);
         return Turned { agent: next, at: p };
     }
-    let q = put_followed(out, at, answer, next);
+    let q = put_followed(
+        out,
+        at,
+        answer,
+        next,
+        named::by_line(answer, agent, line, s),
+    );
     Turned { agent: next, at: q }
 }
 

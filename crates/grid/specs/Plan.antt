@@ -1,10 +1,11 @@
 -- The box plan, and the call that writes it (01, "The box plan" and "Numbers that calls give back").
 use Prim.Native.Nat.{ℕ, _+_, _*_, _^_}
 use mathlib.Core.Bool.{Bool, not}
-use mathlib.Core.List.{[], _∷_}
+use mathlib.Core.List.{List, [], _∷_}
 use lib.Dec.{leb, ltb, eqb}
-use Rattle.rules.specs.Limits.{both, either, within, floorMin, floorMax, countMin, countMax, askedMax}
-use Rattle.rules.specs.Refusals.{pick, refuse, firstHit, outsideLimits, wrongCount, notAtSlot, wrongRows}
+use Rattle.rules.specs.Limits.{both, within, floorMin, floorMax, countMin, countMax, askedMax}
+use Rattle.rules.specs.Refusals.{pick, Rule, refuse, firstHit, outsideLimits, floorAboveCap, belowFloor, aboveCap}
+use Rattle.rules.specs.Refusals.{notAtSlot, wrongRows}
 use Rattle.rules.specs.Search.{some, first}
 use Rattle.grid.specs.Ticks.{cells, slot, isSlotStart}
 use Rattle.grid.specs.Channels.{channelCell}
@@ -36,12 +37,16 @@ planLimits A K k a =
     both (within floorMin floorMax A)
     (both (within countMin countMax K) (both (within countMin countMax k) (leb a askedMax)))
 
--- the call's answer, for a lent row of n places
-unfoldable pub planAnswer : ℕ → ℕ → ℕ → ℕ → ℕ → ℕ
-planAnswer A K k a n =
-    firstHit
-    (refuse outsideLimits (not (planLimits A K k a))
-    ∷ refuse wrongCount (either (ltb K A) (not (within A K k)))
+-- the call's order of refusals and its answer, for a lent row of n places
+abbrev pub planRules : ℕ → ℕ → ℕ → ℕ → ℕ → List Rule
+planRules A K k a n =
+    refuse outsideLimits (not (planLimits A K k a))
+    ∷ refuse floorAboveCap (ltb K A)
+    ∷ refuse belowFloor (ltb k A)
+    ∷ refuse aboveCap (ltb K k)
     ∷ refuse notAtSlot (not (isSlotStart K k a))
     ∷ refuse wrongRows (ltb n (cells K))
-    ∷ [])
+    ∷ []
+
+unfoldable pub planAnswer : ℕ → ℕ → ℕ → ℕ → ℕ → ℕ
+planAnswer A K k a n = firstHit (planRules A K k a n)

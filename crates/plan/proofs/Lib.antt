@@ -1,5 +1,6 @@
 -- Laws of the plan call, each file on those above it.
 pub mod Refusals
+pub mod WhichWay
 pub mod Parts
 pub mod Row
 pub mod Unique

@@ -1,18 +1,18 @@
 -- Laws of the call's answer: which refusal each test gives, and what holds where none does.
--- Rest on the laws of tests.
-use mathlib.Core.Path.{_≡_, refl, sym, _∙_}
+-- Rest on the laws of tests and of the refusals' order.
+use mathlib.Core.Path.{_≡_, refl}
 use mathlib.Core.Bool.{Bool, true, false}
-use mathlib.Core.Logic.{⊎-elim}
 use Prim.Native.Nat.{ℕ, _^_, _≤_, _<_}
-use native.Mathlib.Omega.{arith}
-use lib.Dec.{leb, ltb}
-use borrow.Author.Tests.{leb-true, ltb-true, ltb-false, lt-ltb, le-ltb}
+use lib.Dec.{leb}
+use borrow.Author.Tests.{leb-true, ltb-false, lt-ltb, le-ltb, not-false}
 use Rattle.rules.specs.Limits.{both, within, floorMin, floorMax, countMin, countMax, askedMax}
-use Rattle.rules.specs.Refusals.{firstHit, done, outsideLimits, wrongCount, notAtSlot, wrongRows}
-use Rattle.rules.proofs.Tests.{decide, both-l, both-r}
+use Rattle.rules.specs.Refusals.{firstHit, done, outsideLimits, floorAboveCap, belowFloor, aboveCap}
+use Rattle.rules.specs.Refusals.{notAtSlot, wrongRows}
+use Rattle.rules.proofs.Tests.{both-l, both-r}
+use Rattle.rules.proofs.Refusals.{hitsOf, numbered, cleared}
 use Rattle.grid.specs.Ticks.{isSlotStart}
 use Rattle.grid.specs.Bounds.{Counted}
-use Rattle.grid.specs.Plan.{planLimits, planAnswer}
+use Rattle.grid.specs.Plan.{planLimits, planRules, planAnswer}
 
 module _ (A K k a n : ℕ) where
   pub refused-limits : planLimits A K k a ≡ false → planAnswer A K k a n ≡ outsideLimits
@@ -20,26 +20,33 @@ module _ (A K k a n : ℕ) where
   refused-limits h = rw h refl
 
   module _ (h : planLimits A K k a ≡ true) where
-    pub refused-cap : K < A → planAnswer A K k a n ≡ wrongCount
+    pub refused-cap : K < A → planAnswer A K k a n ≡ floorAboveCap
     unfolding planAnswer firstHit
     refused-cap l = rw (h, lt-ltb K A l) refl
 
-    pub refused-count : A ≤ K → within A K k ≡ false → planAnswer A K k a n ≡ wrongCount
-    unfolding planAnswer firstHit
-    refused-count l w = rw (h, le-ltb K A l, w) refl
+    module _ (fit : A ≤ K) where
+      pub refused-below : k < A → planAnswer A K k a n ≡ belowFloor
+      unfolding planAnswer firstHit
+      refused-below l = rw (h, le-ltb K A fit, lt-ltb k A l) refl
 
-    pub refused-slot : A ≤ K → within A K k ≡ true → isSlotStart K k a ≡ false → planAnswer A K k a n ≡ notAtSlot
-    unfolding planAnswer firstHit
-    refused-slot l w s = rw (h, le-ltb K A l, w, s) refl
+      module _ (low : A ≤ k) where
+        pub refused-above : K < k → planAnswer A K k a n ≡ aboveCap
+        unfolding planAnswer firstHit
+        refused-above l = rw (h, le-ltb K A fit, le-ltb k A low, lt-ltb K k l) refl
 
-    pub refused-rows : A ≤ K → within A K k ≡ true → isSlotStart K k a ≡ true → n < 2 ^ K →
-        planAnswer A K k a n ≡ wrongRows
-    unfolding planAnswer firstHit
-    refused-rows l w s r = rw (h, le-ltb K A l, w, s, lt-ltb n (2 ^ K) r) refl
+        module _ (high : k ≤ K) where
+          pub refused-slot : isSlotStart K k a ≡ false → planAnswer A K k a n ≡ notAtSlot
+          unfolding planAnswer firstHit
+          refused-slot s = rw (h, le-ltb K A fit, le-ltb k A low, le-ltb K k high, s) refl
 
-    pub accepted : A ≤ K → within A K k ≡ true → isSlotStart K k a ≡ true → 2 ^ K ≤ n → planAnswer A K k a n ≡ done
-    unfolding planAnswer firstHit
-    accepted l w s r = rw (h, le-ltb K A l, w, s, le-ltb n (2 ^ K) r) refl
+          module _ (s : isSlotStart K k a ≡ true) where
+            pub refused-rows : n < 2 ^ K → planAnswer A K k a n ≡ wrongRows
+            unfolding planAnswer firstHit
+            refused-rows r = rw (h, le-ltb K A fit, le-ltb k A low, le-ltb K k high, s, lt-ltb n (2 ^ K) r) refl
+
+            pub accepted : 2 ^ K ≤ n → planAnswer A K k a n ≡ done
+            unfolding planAnswer firstHit
+            accepted r = rw (h, le-ltb K A fit, le-ltb k A low, le-ltb K k high, s, le-ltb n (2 ^ K) r) refl
 
   -- what the tests say, where they pass
   pub cap-high : planLimits A K k a ≡ true → K ≤ countMax
@@ -56,13 +63,8 @@ module _ (A K k a n : ℕ) where
       both-r (within countMin countMax K) rest (both-r (within floorMin floorMax A) (both (within countMin countMax K) rest) h) in
       leb-true a askedMax (both-r (within countMin countMax k) (leb a askedMax) last)
 
-  pub counted : planLimits A K k a ≡ true → within A K k ≡ true → Counted A K k
-  counted h w =
-      record {
-        floor = leb-true A k (both-l (leb A k) (leb k K) w);
-        fit = leb-true k K (both-r (leb A k) (leb k K) w);
-        high = cap-high h;
-      }
+  pub counted : planLimits A K k a ≡ true → A ≤ k → k ≤ K → Counted A K k
+  counted h low high = record { floor = low; fit = high; high = cap-high h }
 
 -- a call that is not refused
 pub record Accepted (A K k a n : ℕ) : Type 0 where
@@ -71,22 +73,15 @@ pub record Accepted (A K k a n : ℕ) : Type 0 where
   pub arrival : a ≤ askedMax
   pub room : 2 ^ K ≤ n
 
--- done is answered to no other
+-- done is answered to no other: it clears every rule
 pub accepted-only : (A K k a n : ℕ) → planAnswer A K k a n ≡ done → Accepted A K k a n
+unfolding planAnswer hitsOf numbered
 accepted-only A K k a n e =
-    ⊎-elim
-    (λ h. ⊎-elim
-    (λ l. absurd (omega (arith, sym (refused-cap A K k a n h (ltb-true K A l)) ∙ e)))
-    (λ l. ⊎-elim
-    (λ w. ⊎-elim
-    (λ s. ⊎-elim
-    (λ r. absurd (omega (arith, sym (refused-rows A K k a n h (ltb-false K A l) w s (ltb-true n (2 ^ K) r)) ∙ e)))
-    (λ r. record { count = counted A K k a n h w; start = s; arrival = arrival-high A K k a n h; room = ltb-false n (2 ^ K) r })
-    (decide (ltb n (2 ^ K))))
-    (λ s. absurd (omega (arith, sym (refused-slot A K k a n h (ltb-false K A l) w s) ∙ e)))
-    (decide (isSlotStart K k a)))
-    (λ w. absurd (omega (arith, sym (refused-count A K k a n h (ltb-false K A l) w) ∙ e)))
-    (decide (within A K k)))
-    (decide (ltb K A)))
-    (λ h. absurd (omega (arith, sym (refused-limits A K k a n h) ∙ e)))
-    (decide (planLimits A K k a))
+    let clear = cleared (planRules A K k a n) refl e in
+    let h : planLimits A K k a ≡ true = not-false (planLimits A K k a) (clear outsideLimits) in
+    record {
+      count = counted A K k a n h (ltb-false k A (clear belowFloor)) (ltb-false K k (clear aboveCap));
+      start = not-false (isSlotStart K k a) (clear notAtSlot);
+      arrival = arrival-high A K k a n h;
+      room = ltb-false n (2 ^ K) (clear wrongRows);
+    }

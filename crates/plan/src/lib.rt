@@ -13,15 +13,17 @@ use grid::is_slot_start;
 use grid::place;
 use grid::pow2;
 use grid::slot;
+use rules::ABOVE_CAP;
 use rules::ASKED_MAX;
+use rules::BELOW_FLOOR;
 use rules::COUNT_MAX;
 use rules::COUNT_MIN;
 use rules::DONE;
+use rules::FLOOR_ABOVE_CAP;
 use rules::FLOOR_MAX;
 use rules::FLOOR_MIN;
 use rules::NOT_AT_SLOT;
 use rules::OUTSIDE_LIMITS;
-use rules::WRONG_COUNT;
 use rules::WRONG_ROWS;
 use rules::within;
 
@@ -48,18 +50,21 @@ fn answer(floor: u64, cap: u64, count: u64, arrival: u64, places: usize) -> u8
 {
     if in_limits(floor, cap, count, arrival) {
         if cap < floor {
-            return WRONG_COUNT;
+            return FLOOR_ABOVE_CAP;
         }
-        if within(floor, cap, count) {
-            if is_slot_start(cap, count, arrival) {
-                if (places as u64) < pow2(cap) {
-                    return WRONG_ROWS;
-                }
-                return DONE;
+        if count < floor {
+            return BELOW_FLOOR;
+        }
+        if cap < count {
+            return ABOVE_CAP;
+        }
+        if is_slot_start(cap, count, arrival) {
+            if (places as u64) < pow2(cap) {
+                return WRONG_ROWS;
             }
-            return NOT_AT_SLOT;
+            return DONE;
         }
-        return WRONG_COUNT;
+        return NOT_AT_SLOT;
     }
     OUTSIDE_LIMITS
 }

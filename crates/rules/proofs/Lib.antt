@@ -3,3 +3,4 @@ pub mod Search
 pub mod Tests
 pub mod Refusals
 pub mod OneOutcome
+pub mod Former

@@ -26,9 +26,9 @@ idTaken = 4
 abbrev pub isClosing : ℕ
 isClosing = 5
 
--- count outside floor..cap, floor above cap, or count unchanged
-abbrev pub wrongCount : ℕ
-wrongCount = 6
+-- count unchanged
+abbrev pub unchanged : ℕ
+unchanged = 6
 
 -- second event of this title at one moment
 abbrev pub secondEvent : ℕ
@@ -53,6 +53,18 @@ malformed = 11
 -- notice out of turn
 abbrev pub outOfTurn : ℕ
 outOfTurn = 12
+
+-- count below the floor
+abbrev pub belowFloor : ℕ
+belowFloor = 13
+
+-- count above the cap
+abbrev pub aboveCap : ℕ
+aboveCap = 14
+
+-- floor above its cap
+abbrev pub floorAboveCap : ℕ
+floorAboveCap = 15
 
 -- one of two values, by a test
 abbrev pub pick : {A : Type 0} → Bool → A → A → A

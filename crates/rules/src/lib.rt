@@ -54,7 +54,7 @@ pub const ID_TAKEN: u8 = 4;
 
 pub const CLOSING: u8 = 5;
 
-pub const WRONG_COUNT: u8 = 6;
+pub const UNCHANGED: u8 = 6;
 
 pub const SECOND_EVENT: u8 = 7;
 
@@ -67,6 +67,12 @@ pub const WRONG_ROWS: u8 = 10;
 pub const MALFORMED: u8 = 11;
 
 pub const OUT_OF_TURN: u8 = 12;
+
+pub const BELOW_FLOOR: u8 = 13;
+
+pub const ABOVE_CAP: u8 = 14;
+
+pub const FLOOR_ABOVE_CAP: u8 = 15;
 
 // Whether x lies from lo to hi, both ends allowed.
 pub fn within(lo: u64, hi: u64, x: u64) -> bool

@@ -5,3 +5,4 @@ pub mod Search
 mod Sums
 pub mod Exchange
 pub mod Promise
+pub mod WhichWay

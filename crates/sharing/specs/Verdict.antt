@@ -7,7 +7,7 @@ use lib.Dec.{leb, ltb, eqb}
 use lib.ListN.{length, drop}
 use Rattle.rules.specs.Limits.{within, both, poolMin, poolMax, rateMin, rateMax, lengthMin, lengthMax}
 use Rattle.rules.specs.Limits.{floorMin, floorMax, countMin, countMax, titlesMax}
-use Rattle.rules.specs.Refusals.{pick, refuse, firstHit, done, outsideLimits, wrongCount, noLanes, wrongRows}
+use Rattle.rules.specs.Refusals.{pick, refuse, firstHit, done, outsideLimits, floorAboveCap, noLanes, wrongRows}
 use Rattle.sharing.specs.declared.titles.Title.{Title}
 use Rattle.sharing.specs.declared.verdict.Tally.{Tally}
 use Rattle.sharing.specs.Titles.{titles, rowTotal}
@@ -43,14 +43,14 @@ pub record Tallied (ts : List Title) (r : Tally) : Type 0 where
   pub order : r .ordered ≡ eachTitle ordered ts
 
 -- the answer for titles in rows, with room for so many counts, by the order of 01, "Numbers that calls give back":
--- 10 1 6 9
+-- 10 1 15 9
 unfoldable pub verdictOf : ℕ → List ℕ → List ℕ → List ℕ → List ℕ → ℕ → ℕ
 verdictOf pool rates lengths floors caps room =
     firstHit
     (refuse wrongRows (not (rowsFit rates lengths floors caps room))
     ∷ refuse outsideLimits
     (not (both (within poolMin poolMax pool) (eachTitle allowed (titles rates lengths floors caps))))
-    ∷ refuse wrongCount (not (eachTitle ordered (titles rates lengths floors caps)))
+    ∷ refuse floorAboveCap (not (eachTitle ordered (titles rates lengths floors caps)))
     ∷ refuse noLanes (ltb pool (rowTotal floors))
     ∷ [])
 

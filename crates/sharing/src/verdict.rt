@@ -91,7 +91,7 @@ pub fn verdict(
                 }
                 return rules::DONE;
             }
-            return rules::WRONG_COUNT;
+            return rules::FLOOR_ABOVE_CAP;
         }
         return rules::OUTSIDE_LIMITS;
     }

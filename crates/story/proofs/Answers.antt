@@ -12,8 +12,8 @@ use borrow.Author.Tests.{ltb-true, ltb-false, leb-true, eqb-true, eqb-false, not
 use Rattle.rules.specs.Limits.{both, either, within, idMax, eventTimeMax, lengthMin, lengthMax, floorMin, floorMax}
 use Rattle.rules.specs.Limits.{countMin, countMax}
 use Rattle.rules.specs.Refusals.{Rule, refuse, firstHit, outsideLimits, tooEarly, notThere, idTaken, isClosing}
-use Rattle.rules.specs.Refusals.{wrongCount, secondEvent, notAtSlot, noLanes}
-use Rattle.rules.proofs.Tests.{decide, both-l, both-r, either-false-l, either-false-r}
+use Rattle.rules.specs.Refusals.{floorAboveCap, belowFloor, aboveCap, unchanged, secondEvent, notAtSlot, noLanes}
+use Rattle.rules.proofs.Tests.{decide, both-l, both-r}
 use Rattle.rules.proofs.Refusals.{hitsOf, numbered, cleared, hit-same}
 use Rattle.grid.specs.Ticks.{tickOf, isSlotStart}
 use Rattle.story.specs.declared.Title.{Title}
@@ -102,9 +102,8 @@ module _ (lanes : ℕ) (es : List Event) (s : State) (w : Tells lanes es s) wher
 
     -- an opening within its limits, not too early, with a count from floor to cap
     open-next : (D A K k : ℕ) → i ≤ idMax → τ ≤ eventTimeMax → openLimits D A K k ≡ true → lastTime es ≤ τ →
-        either (ltb K A) (not (within A K k)) ≡ false →
-        Tells lanes (event i τ (opens D A K k) ∷ es) (openNext s i τ D A K k)
-    open-next D A K k id limit nums late order =
+        ltb k A ≡ false → ltb K k ≡ false → Tells lanes (event i τ (opens D A K k) ∷ es) (openNext s i τ D A K k)
+    open-next D A K k id limit nums late low high =
         let k-ok : Bool = within countMin countMax k in
         let K-ok : Bool = within countMin countMax K in
         let A-ok : Bool = within floorMin floorMax A in
@@ -113,10 +112,9 @@ module _ (lanes : ℕ) (es : List Event) (s : State) (w : Tells lanes es s) wher
         let rest : both A-ok (both K-ok k-ok) ≡ true = both-r D-ok (both A-ok (both K-ok k-ok)) nums in
         let a : A-ok ≡ true = both-l A-ok (both K-ok k-ok) rest in
         let c : K-ok ≡ true = both-l K-ok k-ok (both-r A-ok (both K-ok k-ok) rest) in
-        let count : within A K k ≡ true = not-false (within A K k) (either-false-r (ltb K A) (not (within A K k)) order) in
         told-with lanes es s (event i τ (opens D A K k)) (openedTitle τ D A K k) w (omega arith) late limit
         (present (λ t. k) refl refl
-        (opened-present τ D A K k limit (within-low lengthMin lengthMax D d) (within-high lengthMin lengthMax D d) (within-low floorMin floorMax A a) (within-high floorMin floorMax A a) (within-high countMin countMax K c) (within-low A K k count) (within-high A K k count)))
+        (opened-present τ D A K k limit (within-low lengthMin lengthMax D d) (within-high lengthMin lengthMax D d) (within-low floorMin floorMax A a) (within-high floorMin floorMax A a) (within-high countMin countMax K c) (ltb-false k A low) (ltb-false K k high)))
 
     open-told : (D A K k : ℕ) →
         callAnswer s i τ (opens D A K k) ≡ answerTo lanes es (event i τ (opens D A K k)) (lifeOf es i) (opens D A K k)
@@ -129,11 +127,15 @@ module _ (lanes : ℕ) (es : List Event) (s : State) (w : Tells lanes es s) wher
         (λ t2.
         hit-same idTaken _ _ _ _ (sym (there-told (lifeOf es i) (latestOf es i) (titleAt s i) τ (w .title i (omega (arith, n .0))) (seen (late-out t2))))
         (λ t4.
-        hit-same wrongCount _ _ _ _ refl
-        (λ t6.
+        hit-same floorAboveCap _ _ _ _ refl
+        (λ t15.
+        hit-same belowFloor _ _ _ _ refl
+        (λ t13.
+        hit-same aboveCap _ _ _ _ refl
+        (λ t14.
         hit-same noLanes _ _ _ _
-        (full-told (event i τ (opens D A K k)) (openNext s i τ D A K k) (open-next D A K k (n .0) (n .1) (n .2) (late-out t2) t6))
-        (λ t9. refl)))))
+        (full-told (event i τ (opens D A K k)) (openNext s i τ D A K k) (open-next D A K k (n .0) (n .1) (n .2) (late-out t2) t13 t14))
+        (λ t9. refl)))))))
 
     -- a turn of an open title
     turn-next : (t : Title) (q m c : ℕ) (a : Act) → titleAt s i ≡ t → (o : Open (lifeOf es i) (latestOf es i) t τ) →
@@ -164,16 +166,16 @@ module _ (lanes : ℕ) (es : List Event) (s : State) (w : Tells lanes es s) wher
         )
 
     change-next : (k : ℕ) (o : Open (lifeOf es i) (latestOf es i) (titleAt s i) τ) → i ≤ idMax → τ ≤ eventTimeMax →
-        lastTime es ≤ τ →
-        either (not (within (titleAt s i .floor) (titleAt s i .cap) k)) (eqb k (titleAt s i .count)) ≡ false →
-        eqb τ (titleAt s i .last) ≡ false → not (atSlotStart (titleAt s i) (min (titleAt s i .count) k) τ) ≡ false →
+        lastTime es ≤ τ → ltb k (titleAt s i .floor) ≡ false → ltb (titleAt s i .cap) k ≡ false →
+        eqb k (titleAt s i .count) ≡ false → eqb τ (titleAt s i .last) ≡ false →
+        not (atSlotStart (titleAt s i) (min (titleAt s i .count) k) τ) ≡ false →
         Tells lanes (event i τ (changes k) ∷ es) (changeNext s i τ k)
     unfolding changedTitle tickIn tickAt
-    change-next k o id limit late t6 t7 t8 =
+    change-next k o id limit late t13 t14 t6 t7 t8 =
         let t : Title = titleAt s i in
-        let inside : within (t .floor) (t .cap) k ≡ true = not-false (within (t .floor) (t .cap) k) (either-false-l (not (within (t .floor) (t .cap) k)) (eqb k (t .count)) t6) in
-        let low : t .floor ≤ k = within-low (t .floor) (t .cap) k inside in
-        let other : k ≡ t .count → ⊥ = eqb-false k (t .count) (either-false-r (not (within (t .floor) (t .cap) k)) (eqb k (t .count)) t6) in
+        let low : t .floor ≤ k = ltb-false k (t .floor) t13 in
+        let high : k ≤ t .cap = ltb-false (t .cap) k t14 in
+        let other : k ≡ t .count → ⊥ = eqb-false k (t .count) t6 in
         let z = o .here .sized in
         turn-next t k openMode k (changes k) refl o id limit late
         (record {
@@ -184,11 +186,11 @@ module _ (lanes : ℕ) (es : List Event) (s : State) (w : Tells lanes es s) wher
           on-tick = tick-out t (min (t .count) k) t8 .0;
           new = λ e. other (sym e);
           low = λ p. low;
-          high = within-high (t .floor) (t .cap) k inside;
+          high = high;
           at-slot = rw (change-slot (t .floor) (t .count) k (z .count-low) low) (tick-out t (min (t .count) k) t8 .1);
           mode = inl refl;
           count-low = low;
-          count-high = within-high (t .floor) (t .cap) k inside;
+          count-high = high;
           rules = refl;
         })
         refl
@@ -251,8 +253,11 @@ module _ (lanes : ℕ) (es : List Event) (s : State) (w : Tells lanes es s) wher
         standing-told (both (eventOk s i τ) (within countMin countMax k)) (both (withinLimits (event i τ (changes k))) (within countMin countMax k)) _ _ (rw ok refl)
         (λ x. event-out (both-l (eventOk s i τ) (within countMin countMax k) x))
         (λ id limit late o.
-        hit-same wrongCount _ _ _ _
-        (rw (o .count, ap (λ (L : Life). L .floor) (o .life), ap (λ (L : Life). L .cap) (o .life)) refl)
+        hit-same belowFloor _ _ _ _ (rw (ap (λ (L : Life). L .floor) (o .life)) refl)
+        (λ t13.
+        hit-same aboveCap _ _ _ _ (rw (ap (λ (L : Life). L .cap) (o .life)) refl)
+        (λ t14.
+        hit-same unchanged _ _ _ _ (rw (o .count) refl)
         (λ t6.
         hit-same secondEvent _ _ _ _ (ap (λ x. eqb τ x) (sym (o .latest)))
         (λ t7.
@@ -260,8 +265,8 @@ module _ (lanes : ℕ) (es : List Event) (s : State) (w : Tells lanes es s) wher
         (rw (o .count) (ap not (slot-told (lifeOf es i) (latestOf es i) (titleAt s i) τ (min (titleAt s i .count) k) o)))
         (λ t8.
         hit-same noLanes _ _ _ _
-        (full-told (event i τ (changes k)) (changeNext s i τ k) (change-next k o id limit late t6 t7 t8))
-        (λ t9. refl)))))
+        (full-told (event i τ (changes k)) (changeNext s i τ k) (change-next k o id limit late t13 t14 t6 t7 t8))
+        (λ t9. refl)))))))
 
     close-told : callAnswer s i τ closes ≡ answerTo lanes es (event i τ closes) (lifeOf es i) closes
     unfolding callAnswer answerTo
@@ -293,12 +298,12 @@ module _ (lanes : ℕ) (es : List Event) (s : State) (w : Tells lanes es s) wher
     next-told i τ (opens D A K k) h =
         let clear = clears i τ (opens D A K k) h in
         let n = limits-out ok i τ (openLimits D A K k) (clear outsideLimits) in
-        open-next ok i τ D A K k (n .0) (n .1) (n .2) (late-out ok i τ (clear tooEarly)) (clear wrongCount)
+        open-next ok i τ D A K k (n .0) (n .1) (n .2) (late-out ok i τ (clear tooEarly)) (clear belowFloor) (clear aboveCap)
     next-told i τ (changes k) h =
         let clear = clears i τ (changes k) h in
         let n = limits-out ok i τ (within countMin countMax k) (clear outsideLimits) in
         let late = late-out ok i τ (clear tooEarly) in
-        change-next ok i τ k (opened-told ok i τ (n .0) late (clear notThere) (clear isClosing)) (n .0) (n .1) late (clear wrongCount) (clear secondEvent) (clear notAtSlot)
+        change-next ok i τ k (opened-told ok i τ (n .0) late (clear notThere) (clear isClosing)) (n .0) (n .1) late (clear belowFloor) (clear aboveCap) (clear unchanged) (clear secondEvent) (clear notAtSlot)
     next-told i τ closes h =
         let clear = clears i τ closes h in
         let n = event-out ok i τ (not-false (eventOk s i τ) (clear outsideLimits)) in

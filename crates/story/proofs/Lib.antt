@@ -12,6 +12,7 @@ pub mod Tells
 pub mod Limits
 pub mod Passed
 pub mod Answers
+pub mod WhichWay
 pub mod Runs
 pub mod Questions
 pub mod Lively

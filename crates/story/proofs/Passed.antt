@@ -8,9 +8,9 @@ use lib.Dec.{ltb, leb, eqb}
 use borrow.Author.Tests.{ltb-false, leb-true, eqb-true, eqb-false, not-false}
 use Rattle.rules.specs.Limits.{both, within, idMax, eventTimeMax, lengthMin, lengthMax, floorMin, floorMax, countMin}
 use Rattle.rules.specs.Limits.{countMax}
-use Rattle.rules.specs.Refusals.{outsideLimits, tooEarly, notThere, idTaken, isClosing, wrongCount, secondEvent}
-use Rattle.rules.specs.Refusals.{notAtSlot, noLanes}
-use Rattle.rules.proofs.Tests.{both-l, both-r, either-false-r}
+use Rattle.rules.specs.Refusals.{outsideLimits, tooEarly, notThere, idTaken, isClosing, belowFloor, aboveCap}
+use Rattle.rules.specs.Refusals.{secondEvent, notAtSlot, noLanes}
+use Rattle.rules.proofs.Tests.{both-l, both-r}
 use Rattle.rules.proofs.Refusals.{hitsOf, numbered, cleared}
 use Rattle.grid.proofs.Numbers.{ne-zero-pos}
 use Rattle.grid.specs.Ticks.{isSlotStart}
@@ -94,13 +94,12 @@ module _ (lanes : ℕ) (es : List Event) (i τ : ℕ) where
       let A-ok : Bool = within floorMin floorMax A in
       let D-ok : Bool = within lengthMin lengthMax D in
       let count : k-ok ≡ true = both-r K-ok k-ok (both-r A-ok (both K-ok k-ok) (both-r D-ok (both A-ok (both K-ok k-ok)) nums)) in
-      let order : within A K k ≡ true = not-false (within A K k) (either-false-r (ltb K A) (not (within A K k)) (clear wrongCount)) in
       record {
         timely = timely es i τ (opens D A K k) (both-l (withinLimits e) (openLimits D A K k) all) (clear tooEarly);
         away = clear idTaken;
         some = omega (arith, within-low countMin countMax k count);
-        low = within-low A K k order;
-        high = within-high A K k order;
+        low = ltb-false k A (clear belowFloor);
+        high = ltb-false K k (clear aboveCap);
         room = ltb-false lanes (heldOver (e ∷ es) τ) (clear noLanes);
       }
 

@@ -12,7 +12,8 @@ use Rattle.grid.specs.Ticks.{isSlotStart}
 use Rattle.story.specs.declared.Title.{Title}
 use Rattle.story.specs.declared.State.{State}
 use Rattle.story.specs.Orders.{Tests, laneOrder, statusOrder}
-use Rattle.story.specs.Story.{Act, opens, changes, closes, actLimits, countWrong, permitted, orderOf}
+use Rattle.story.specs.Story.{Act, opens, changes, closes, actLimits, permitted, orderOf}
+use Rattle.story.specs.Story.{isCrossed, isBelow, isAbove, isSame}
 use Rattle.story.specs.Kept.{absentMode, closingMode, titleAt, stateOk, tickAt, atTickStart, ruling, keptHeld}
 use Rattle.story.specs.Kept.{titleHeld, lanesHeld, isThere, shows}
 use Rattle.story.specs.Next.{callNext}
@@ -54,7 +55,10 @@ testsIn s i τ a =
       early = ltb τ (s .last);
       there = isThere (titleAt s i) τ;
       closing = eqb (titleAt s i .mode) closingMode;
-      wrong = countWrong a (titleAt s i .floor) (titleAt s i .cap) (titleAt s i .count);
+      crossed = isCrossed a;
+      below = isBelow a (titleAt s i .floor);
+      above = isAbove a (titleAt s i .cap);
+      same = isSame a (titleAt s i .count);
       second = eqb τ (titleAt s i .last);
       off = not (atSlotStart (titleAt s i) (permitted a (titleAt s i .floor) (titleAt s i .count)) τ);
       full = tooMany (callNext s i τ a) τ;

@@ -2,8 +2,8 @@
 -- is handed in by name: the story reads it off the sequence of events, the calls read it off the state.
 use mathlib.Core.Bool.{Bool, not}
 use mathlib.Core.List.{List, [], _∷_}
-use Rattle.rules.specs.Refusals.{Rule, refuse, outsideLimits, tooEarly, notThere, idTaken, isClosing, wrongCount}
-use Rattle.rules.specs.Refusals.{secondEvent, notAtSlot, noLanes, wrongRows}
+use Rattle.rules.specs.Refusals.{Rule, refuse, outsideLimits, tooEarly, notThere, idTaken, isClosing, floorAboveCap}
+use Rattle.rules.specs.Refusals.{belowFloor, aboveCap, unchanged, secondEvent, notAtSlot, noLanes, wrongRows}
 
 -- what the refusals of an event ask
 pub record Tests : Type 0 where
@@ -15,8 +15,14 @@ pub record Tests : Type 0 where
   pub there : Bool
   -- 5: the title is closing
   pub closing : Bool
-  -- 6: the count is outside floor..cap or unchanged, or the floor above the cap
-  pub wrong : Bool
+  -- 15: the floor is above the cap
+  pub crossed : Bool
+  -- 13: the count is below the floor
+  pub below : Bool
+  -- 14: the count is above the cap
+  pub above : Bool
+  -- 6: the count is unchanged
+  pub same : Bool
   -- 7: a second event of the title at one moment
   pub second : Bool
   -- 8: the time is no permitted slot start
@@ -29,7 +35,9 @@ openOrder t =
     refuse outsideLimits (t .outside)
     ∷ refuse tooEarly (t .early)
     ∷ refuse idTaken (t .there)
-    ∷ refuse wrongCount (t .wrong)
+    ∷ refuse floorAboveCap (t .crossed)
+    ∷ refuse belowFloor (t .below)
+    ∷ refuse aboveCap (t .above)
     ∷ refuse noLanes (t .full)
     ∷ []
 
@@ -39,7 +47,9 @@ changeOrder t =
     ∷ refuse tooEarly (t .early)
     ∷ refuse notThere (not (t .there))
     ∷ refuse isClosing (t .closing)
-    ∷ refuse wrongCount (t .wrong)
+    ∷ refuse belowFloor (t .below)
+    ∷ refuse aboveCap (t .above)
+    ∷ refuse unchanged (t .same)
     ∷ refuse secondEvent (t .second)
     ∷ refuse notAtSlot (t .off)
     ∷ refuse noLanes (t .full)

@@ -118,11 +118,27 @@ actLimits (opens D A K k) b = both b (openLimits D A K k)
 actLimits (changes k) b = both b (within countMin countMax k)
 actLimits closes b = b
 
--- what is wrong with the count that an event brings, for a title with floor A, cap K and count k
-abbrev pub countWrong : Act → ℕ → ℕ → ℕ → Bool
-countWrong (opens D A K k) _ _ _ = either (ltb K A) (not (within A K k))
-countWrong (changes n) A K k = either (not (within A K n)) (eqb n k)
-countWrong closes A K k = false
+-- which way the count of an event is wrong, for a title with floor A, cap K and count k: an opening has its own floor
+-- and cap, whose order is asked besides
+abbrev pub isCrossed : Act → Bool
+isCrossed (opens D A K n) = ltb K A
+isCrossed (changes n) = false
+isCrossed closes = false
+
+abbrev pub isBelow : Act → ℕ → Bool
+isBelow (opens D A K n) _ = ltb n A
+isBelow (changes n) A = ltb n A
+isBelow closes A = false
+
+abbrev pub isAbove : Act → ℕ → Bool
+isAbove (opens D A K n) _ = ltb K n
+isAbove (changes n) K = ltb K n
+isAbove closes K = false
+
+abbrev pub isSame : Act → ℕ → Bool
+isSame (opens D A K n) k = false
+isSame (changes n) k = eqb n k
+isSame closes k = false
 
 -- the count at whose slot starts an event is permitted, for a title with floor A and count k: the smaller count of a
 -- change, the floor of a close; an opening may come at any time
@@ -143,7 +159,10 @@ testsTo pool es e L a =
       early = ltb (e .time) (lastTime es);
       there = isThereIn L (e .time);
       closing = eqb (countIn L (e .time)) 0;
-      wrong = countWrong a (L .floor) (L .cap) (countIn L (e .time));
+      crossed = isCrossed a;
+      below = isBelow a (L .floor);
+      above = isAbove a (L .cap);
+      same = isSame a (countIn L (e .time));
       second = eqb (e .time) (latestOf es (e .title));
       off = not (isSlotIn L (permitted a (L .floor) (countIn L (e .time))) (e .time));
       full = overfull pool (e ∷ es) (e .time);

@@ -7,8 +7,8 @@ use native.Mathlib.Omega.{arith}
 use borrow.Author.Tests.{leb-true, ltb-true, ltb-false, eqb-false, not-false, not-true}
 use lib.Dec.{leb, ltb, eqb}
 use Rattle.rules.specs.Limits.{both, within, idMax, laneMax, eventTimeMax, askedMax, floorMin, countMin, countMax}
-use Rattle.rules.specs.Refusals.{firstHit, outsideLimits, notThere, wrongCount}
-use Rattle.rules.proofs.Tests.{both-l, both-r, either-false-l}
+use Rattle.rules.specs.Refusals.{firstHit, outsideLimits, notThere, floorAboveCap}
+use Rattle.rules.proofs.Tests.{both-l, both-r}
 use Rattle.story.specs.declared.Title.{Title}
 use Rattle.story.specs.declared.State.{State}
 use Rattle.story.specs.Kept.{absentMode, titleAt, stateOk, titleOk, titleHeld, isThere}
@@ -62,9 +62,7 @@ module _ (s : State) (i τ D A K k : ℕ) (none : openBefore s i τ D A K k ≡ 
 
   open-fit : A ≤ K
   unfolding openBefore hitsOf numbered
-  open-fit =
-      ltb-false K A
-      (either-false-l (ltb K A) (not (within A K k)) (cleared (openRules s i τ D A K k) refl none wrongCount))
+  open-fit = ltb-false K A (cleared (openRules s i τ D A K k) refl none floorAboveCap)
 
   pub open-film : Film (openedTitle τ D A K k)
   open-film =

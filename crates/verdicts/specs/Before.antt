@@ -1,14 +1,14 @@
 -- The parts of the orders of refusals that the verdicts answer one by one: what an event answers before the lanes of the
 -- next state are counted, and what of that is asked of the state and what of the title (01, "Numbers that calls give back").
 use Prim.Native.Nat.{ℕ, min}
-use mathlib.Core.Bool.{Bool, false, not}
+use mathlib.Core.Bool.{false, not}
 use mathlib.Core.List.{List}
 use lib.Dec.{eqb}
 use Rattle.rules.specs.Refusals.{Rule, firstHit, before, behind, outsideLimits, isClosing, secondEvent, noLanes}
 use Rattle.story.specs.declared.Title.{Title}
 use Rattle.story.specs.declared.State.{State}
 use Rattle.story.specs.Orders.{Tests, openOrder, changeOrder, closeOrder}
-use Rattle.story.specs.Story.{opens, changes, closes, countWrong}
+use Rattle.story.specs.Story.{Act, opens, changes, closes, isCrossed, isBelow, isAbove, isSame}
 use Rattle.story.specs.Kept.{closingMode, isThere}
 use Rattle.story.specs.Calls.{atSlotStart, testsIn}
 
@@ -38,15 +38,18 @@ closeRules s i τ = closeOrder (testsIn s i τ closes)
 abbrev pub standingRules : State → ℕ → ℕ → List Rule
 standingRules s i τ = behind outsideLimits (before secondEvent (closeRules s i τ))
 
--- what the title alone decides, of a count that is wrong or not, at slot starts of count k
-abbrev pub titleTests : Title → ℕ → Bool → ℕ → Tests
-titleTests t τ wrong k =
+-- what the title alone decides of an event, at slot starts of count k
+abbrev pub titleTests : Title → ℕ → Act → ℕ → Tests
+titleTests t τ a k =
     record {
       outside = false;
       early = false;
       there = isThere t τ;
       closing = eqb (t .mode) closingMode;
-      wrong = wrong;
+      crossed = isCrossed a;
+      below = isBelow a (t .floor);
+      above = isAbove a (t .cap);
+      same = isSame a (t .count);
       second = eqb τ (t .last);
       off = not (atSlotStart t k τ);
       full = false;
@@ -54,10 +57,9 @@ titleTests t τ wrong k =
 
 -- whether an open title has a turn at a time, a slot start of count k
 abbrev pub turnRules : Title → ℕ → ℕ → List Rule
-turnRules t k τ = behind isClosing (closeOrder (titleTests t τ false k))
+turnRules t k τ = behind isClosing (closeOrder (titleTests t τ closes k))
 
 -- whether an open title can change to count k at a time
 abbrev pub countRules : Title → ℕ → ℕ → List Rule
 countRules t k τ =
-    behind isClosing
-    (before noLanes (changeOrder (titleTests t τ (countWrong (changes k) (t .floor) (t .cap) (t .count)) (min (t .count) k))))
+    behind isClosing (before noLanes (changeOrder (titleTests t τ (changes k) (min (t .count) k))))

@@ -7,10 +7,13 @@ use measures::limits::state_ok;
 use measures::slots::title_of;
 use measures::ticks::at_tick_start;
 use measures::ticks::tick_at;
+use rules::ABOVE_CAP;
+use rules::BELOW_FLOOR;
 use rules::COUNT_MAX;
 use rules::COUNT_MIN;
 use rules::DONE;
 use rules::EVENT_TIME_MAX;
+use rules::FLOOR_ABOVE_CAP;
 use rules::FLOOR_MAX;
 use rules::FLOOR_MIN;
 use rules::ID_MAX;
@@ -22,7 +25,7 @@ use rules::NOT_THERE;
 use rules::OUTSIDE_LIMITS;
 use rules::SECOND_EVENT;
 use rules::TOO_EARLY;
-use rules::WRONG_COUNT;
+use rules::UNCHANGED;
 use rules::truth::also;
 use rules::truth::smaller;
 use rules::within;
@@ -80,12 +83,15 @@ fn open_later(s: State, id: u64, time: u64, floor: u64, cap: u64, count: u64) ->
         return ID_TAKEN;
     }
     if cap < floor {
-        return WRONG_COUNT;
+        return FLOOR_ABOVE_CAP;
     }
-    if within(floor, cap, count) {
-        return DONE;
+    if count < floor {
+        return BELOW_FLOOR;
     }
-    WRONG_COUNT
+    if cap < count {
+        return ABOVE_CAP;
+    }
+    DONE
 }
 
 // Of an opening.
@@ -147,13 +153,16 @@ fn count_verdict(t: Title, count: u64, time: u64) -> u8
     requires { ⌜ t .count ≤ t .cap ⌝ }
     ensures { λ r. ⌜ r ≡ firstHit (countRules t count time) ⌝ }
 {
-    if within(t.floor, t.cap, count) {
-        if count == t.count {
-            return WRONG_COUNT;
-        }
-        return turn_verdict(t, smaller(t.count, count), time);
+    if count < t.floor {
+        return BELOW_FLOOR;
     }
-    WRONG_COUNT
+    if t.cap < count {
+        return ABOVE_CAP;
+    }
+    if count == t.count {
+        return UNCHANGED;
+    }
+    turn_verdict(t, smaller(t.count, count), time)
 }
 
 // Of a change.

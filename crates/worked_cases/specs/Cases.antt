@@ -6,7 +6,7 @@ use mathlib.Core.Bool.{Bool, true, false, not}
 use mathlib.Core.List.{List, [], _∷_, _++_}
 use lib.Dec.{eqb}
 use Rattle.rules.specs.Limits.{both}
-use Rattle.rules.specs.Refusals.{pick, done, outsideLimits, wrongCount, notAtSlot, noLanes}
+use Rattle.rules.specs.Refusals.{pick, done, outsideLimits, unchanged, aboveCap, notAtSlot, noLanes}
 use Rattle.grid.specs.Ticks.{cells, tickOf, holdsFilm}
 use Rattle.grid.specs.Lanes.{isInG, laneCell}
 use Rattle.grid.specs.Plan.{planAt, never}
@@ -111,7 +111,7 @@ table =
     ∷ answerAfter (film 4 ∷ []) (event 4 (changes 5))
     ∷ answerAfter (film 4 ∷ []) (event 4 (changes 11))
     ∷ [])
-    (wrongCount ∷ wrongCount ∷ outsideLimits ∷ [])
+    (unchanged ∷ aboveCap ∷ outsideLimits ∷ [])
     ∷ case 10 (tickOf 1 floor cap ∷ tickOf 13 floor cap ∷ []) (1 ∷ 2 ∷ [])
     ∷ case 11 (share 210 4 (1 ∷ 2 ∷ [])) (done ∷ 2 ∷ 2 ∷ 7 ∷ [])
     ∷ case 11 (share 210 5 (1 ∷ 2 ∷ [])) (done ∷ 2 ∷ 3 ∷ 7 ∷ [])

@@ -1,4 +1,5 @@
--- `console_desk::act` meets its contract: a fresh agent answers alone, an event or a notice with the lanes held.
+-- `console_desk::act` meets its contract: a fresh agent answers alone, an event or a notice with the lanes held,
+-- and a refusal of theirs with the number that it names.
 use Rattle.text.specs.Output.{page}
 use Rattle.console_desk.proofs.Asking.{acts-fresh, acts-other}
 use borrow.Author.Needs.{needs}
@@ -29,6 +30,9 @@ returns c =
           (at-put-done .put-done .ensures);
     }
 
+by-line-requires : tie.Need-by-line-requires
+by-line-requires c κs = search needs
+
 put-followed-requires : tie.Need-put-followed-requires
 put-followed-requires c κs = search needs
 
@@ -38,7 +42,8 @@ same-length-2 c = search needs
 returns-2 : tie.Need-returns-2
 returns-2 c =
     let at-put-followed = c .before .before in
-    let at-if1 = at-put-followed .before .before in
+    let at-by-line = at-put-followed .before in
+    let at-if1 = at-by-line .before .before in
     let at-follow = at-if1 .before .before in
     let at-start = at-follow .before .before .before in
     let x = at-start .args in
@@ -46,8 +51,8 @@ returns-2 c =
     record {
       agent = f .1;
       row =
-          acts-other (x .line) (x .s .now) (page (x .out .now) (x .at)) _ (x .agent) _ _ (at-if1 .if1 .left) (f .0)
-          (f .1) (at-put-followed .put-followed .ensures);
+          acts-other (x .line) (x .s .now) (page (x .out .now) (x .at)) _ (x .agent) _ _ _ (at-if1 .if1 .left) (f .0)
+          (f .1) (at-by-line .by-line .ensures) (at-put-followed .put-followed .ensures);
     }
 
 pub act-spec : {M : Type 1} → statement M
@@ -58,6 +63,7 @@ act-spec =
     put-done-requires
     same-length
     returns
+    by-line-requires
     put-followed-requires
     same-length-2
     returns-2)

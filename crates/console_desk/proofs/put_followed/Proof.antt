@@ -7,12 +7,6 @@ use Rattle.console_desk.proofs.put_followed.Tie as tie
 held-requires : tie.Need-held-requires
 held-requires c κs = search needs
 
-cast-put-value : tie.Need-cast-put-value
-cast-put-value c = search needs
-
-add-put-value : tie.Need-add-put-value
-add-put-value c = search needs
-
 put-value-requires : tie.Need-put-value-requires
 put-value-requires c κs = search needs
 
@@ -21,9 +15,9 @@ same-length c = search needs
 
 returns : tie.Need-returns
 unfolding followedText
-returns c = rw (← c .before .before .before .before .before .held .ensures .1) (c .before .before .put-value .ensures)
+returns c = rw (← c .before .before .before .before .held .ensures .1) (c .before .before .put-value .ensures)
 
 pub put-followed-spec : {M : Type 1} → statement M
 put-followed-spec =
     tie.close
-    (tie.spec held-requires cast-put-value add-put-value put-value-requires same-length returns)
+    (tie.spec held-requires put-value-requires same-length returns)

@@ -13,7 +13,7 @@ use lib.Seq.{drop-cons}
 use borrow.Author.Tests.{eqb-true, leb-true, lt-ltb, le-ltb, ne-eqb}
 use Rattle.rules.specs.Limits.{both, within, poolMin, poolMax, rateMin, rateMax, lengthMin, lengthMax}
 use Rattle.rules.specs.Limits.{floorMin, floorMax, countMin, titlesMax}
-use Rattle.rules.specs.Refusals.{firstHit, done, wrongRows, outsideLimits, wrongCount, noLanes}
+use Rattle.rules.specs.Refusals.{firstHit, done, wrongRows, outsideLimits, floorAboveCap, noLanes}
 use Rattle.rules.proofs.Tests.{decide, both-l, both-r}
 use Rattle.sharing.specs.declared.titles.Title.{Title}
 use Rattle.sharing.specs.Titles.{titleAt, titles, nobody, rowTotal, Even}
@@ -89,7 +89,7 @@ module _ (pool : ℕ) (rates lengths floors caps : List ℕ) (room : ℕ) where
         (inside :
         both (within poolMin poolMax pool) (eachTitle allowed (titles rates lengths floors caps)) ≡ true) where
       pub refused-counts : eachTitle ordered (titles rates lengths floors caps) ≡ false
-          → wrongCount ≡ verdictOf pool rates lengths floors caps room
+          → floorAboveCap ≡ verdictOf pool rates lengths floors caps room
       unfolding verdictOf firstHit
       refused-counts e = rw (fits, inside, e)
 

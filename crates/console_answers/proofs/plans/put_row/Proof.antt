@@ -12,13 +12,16 @@ use Rattle.console_answers.proofs.plans.put_row.Tie as tie
 plan-requires : tie.Need-plan-requires
 plan-requires c κs = search needs
 
+missed-requires : tie.Need-missed-requires
+missed-requires c κs = search needs
+
 put-done-requires : tie.Need-put-done-requires
 put-done-requires c κs = search needs
 
 pow2-requires : tie.Need-pow2-requires
 pow2-requires c κs =
     let at-if1 = c .before .before in
-    let at-plan = at-if1 .before .before .before .before .before .before .before in
+    let at-plan = at-if1 .before .before .before .before .before .before .before .before in
     let at-start = at-plan .before .before .before .before in
     let x = at-start .args in
     let e = at-plan .plan .ensures in
@@ -28,7 +31,7 @@ pow2-requires c κs =
 put-cells-requires : tie.Need-put-cells-requires
 put-cells-requires c κs =
     let at-if1 = c .before .before .before in
-    let at-plan = at-if1 .before .before .before .before .before .before .before in
+    let at-plan = at-if1 .before .before .before .before .before .before .before .before in
     let at-start = at-plan .before .before .before .before in
     let x = at-start .args in
     let e = at-plan .plan .ensures in
@@ -48,12 +51,13 @@ returns c =
     let at-pow2 = at-put-cells .before in
     let at-if1 = at-pow2 .before .before .before in
     let at-put-done = at-if1 .before .before .before in
-    let at-plan = at-put-done .before .before .before .before in
+    let at-missed = at-put-done .before in
+    let at-plan = at-missed .before .before .before .before in
     let at-start = at-plan .before .before .before .before in
     let x = at-start .args in
     let p = page (x .out .now) (x .at) in
     plan-told p _ _ (x .floor) (x .cap) (x .count) (x .arrival) _ (x .row .now) _ (at-plan .plan .ensures)
-    (at-put-done .put-done .ensures) (at-if1 .if1 .taken)
+    (rw (at-missed .missed .ensures) at (at-put-done .put-done .ensures)) (at-if1 .if1 .taken)
     (rw (at-pow2 .pow2 .ensures .is) at (at-put-cells .put-cells .ensures))
 
 same-length-3 : tie.Need-same-length-3
@@ -65,18 +69,20 @@ same-length-4 c = search needs
 returns-2 : tie.Need-returns-2
 returns-2 c =
     let at-put-done = c .before .before .before in
-    let at-plan = at-put-done .before .before .before .before in
+    let at-missed = at-put-done .before in
+    let at-plan = at-missed .before .before .before .before in
     let at-start = at-plan .before .before .before .before in
     let x = at-start .args in
     let p = page (x .out .now) (x .at) in
     plan-refused p _ p (x .floor) (x .cap) (x .count) (x .arrival) _ (x .row .now) _ (at-plan .plan .ensures)
-    (at-put-done .put-done .ensures) (c .if1 .left)
+    (rw (at-missed .missed .ensures) at (at-put-done .put-done .ensures)) (c .if1 .left)
 
 pub put-row-spec : {M : Type 1} → statement M
 put-row-spec =
     tie.close
     (tie.spec
     plan-requires
+    missed-requires
     put-done-requires
     pow2-requires
     put-cells-requires

@@ -1,6 +1,6 @@
 -- `console_answers::words::put_refusal` meets its contract: its parts are written one behind the other.
+use mathlib.Core.Path.{sym, _∙_}
 use mathlib.Core.List.{_++_, append-nil}
-use borrow.Author.Tests.{eq-eqb, ne-eqb}
 use Rattle.text.specs.Texts.{text}
 use Rattle.text.specs.Output.{page}
 use Rattle.text.specs.Digits.{decimal}
@@ -22,6 +22,9 @@ put-requires c κs = search needs
 refusal-words-requires : tie.Need-refusal-words-requires
 refusal-words-requires c κs = search needs
 
+names-number-requires : tie.Need-names-number-requires
+names-number-requires c κs = search needs
+
 put-number-requires-2 : tie.Need-put-number-requires-2
 put-number-requires-2 c κs = search needs
 
@@ -33,14 +36,15 @@ unfolding refusalText text
 returns c =
     let at-put-number2 = c .before .before in
     let at-if1 = at-put-number2 .before .before in
-    let at-refusal-words = at-if1 .before .before .before in
+    let at-names = at-if1 .before in
+    let at-refusal-words = at-names .before .before .before in
     let at-put = at-refusal-words .before .before .before .before in
     let at-put-number = at-put .before .before .before .before .before in
     let at-start = at-put-number .before .before .before in
     let x = at-start .args in
-    rw (eq-eqb _ _ (at-if1 .if1 .taken))
+    rw (sym (at-names .names-number .ensures) ∙ at-if1 .if1 .taken)
     (puts-then (page (x .out .now) (x .at)) ((decimal (x .number) ++ text " ") ++ refusalWords (x .number))
-    (decimal (x .expected))
+    (decimal (x .named))
     (puts-then (page (x .out .now) (x .at)) (decimal (x .number) ++ text " ") (refusalWords (x .number))
     (puts-then (page (x .out .now) (x .at)) (decimal (x .number)) (text " ") (at-put-number .put-number .ensures)
     (at-put .put .ensures)) (at-refusal-words .refusal-words .ensures)) (at-put-number2 .put-number2 .ensures))
@@ -51,12 +55,13 @@ same-length-2 c = search needs
 returns-2 : tie.Need-returns-2
 unfolding refusalText text
 returns-2 c =
-    let at-refusal-words = c .before .before .before in
+    let at-names = c .before in
+    let at-refusal-words = at-names .before .before .before in
     let at-put = at-refusal-words .before .before .before .before in
     let at-put-number = at-put .before .before .before .before .before in
     let at-start = at-put-number .before .before .before in
     let x = at-start .args in
-    rw (ne-eqb _ _ (c .if1 .left), append-nil)
+    rw (sym (at-names .names-number .ensures) ∙ c .if1 .left, append-nil)
     (puts-then (page (x .out .now) (x .at)) (decimal (x .number) ++ text " ") (refusalWords (x .number))
     (puts-then (page (x .out .now) (x .at)) (decimal (x .number)) (text " ") (at-put-number .put-number .ensures)
     (at-put .put .ensures)) (at-refusal-words .refusal-words .ensures))
@@ -69,6 +74,7 @@ put-refusal-spec =
     slice-aggregate-put
     put-requires
     refusal-words-requires
+    names-number-requires
     put-number-requires-2
     same-length
     returns

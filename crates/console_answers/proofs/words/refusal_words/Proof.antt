@@ -26,9 +26,9 @@ array-read-e : tie.Need-array-read-e
 array-read-e c = search needs
 
 -- every text of the table is its part of the row
-found : (k : ℕ) → k < 13 → Part (joined refusals) (begins 0 refusals) refusals k
+found : (k : ℕ) → k < 16 → Part (joined refusals) (begins 0 refusals) refusals k
 unfolding text joined begins rightTo right same
-found k h = part-at (joined refusals) (begins 0 refusals) refusals 13 refl k h
+found k h = part-at (joined refusals) (begins 0 refusals) refusals 16 refl k h
 
 put-part-requires : tie.Need-put-part-requires
 unfolding text joined begins

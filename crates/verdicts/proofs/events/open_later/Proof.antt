@@ -1,40 +1,101 @@
-use borrow.Author.Needs.{needs}
+-- `open_later` meets its contract: each way out decides the tests up to it.
 use borrow.Author.Tests.{lt-ltb, le-ltb}
 use Rattle.rules.specs.Refusals.{firstHit}
 use Rattle.verdicts.proofs.Event.{event-id, event-readable}
 use Rattle.verdicts.proofs.events.open_later.Statement.{statement}
 use Rattle.verdicts.proofs.events.open_later.Tie as tie
 
--- `open_later` meets its contract: each way out decides the tests up to it.
-
 returns : tie.Need-returns
 unfolding firstHit
 returns c = simp (lt-ltb _ _ (c .if1 .taken))
 
 title-of-requires : tie.Need-title-of-requires
-title-of-requires c κs = event-id (c .before .before .args .s) (c .before .before .args .id) (c .before .before .args .time) (c .before .before .pre)
+title-of-requires c κs =
+    let start = c .before .before in
+    event-id (start .args .s) (start .args .id) (start .args .time) (start .pre)
 
 is-there-requires : tie.Need-is-there-requires
-is-there-requires c κs = rw (c .title-of .ensures) (event-readable (c .before .before .before .args .s) (c .before .before .before .args .id) (c .before .before .before .args .time) (c .before .before .before .pre))
+is-there-requires c κs =
+    let start = c .before .before .before in
+    rw (c .title-of .ensures) (event-readable (start .args .s) (start .args .id) (start .args .time) (start .pre))
 
 returns-2 : tie.Need-returns-2
 unfolding firstHit
-returns-2 c = simp (le-ltb _ _ (c .before .before .before .if1 .left), ← c .before .before .title-of .ensures, ← c .before .is-there .ensures, c .if2 .taken)
+returns-2 c =
+    let at-there = c .before in
+    let at-title = at-there .before in
+    simp (
+      le-ltb _ _ (at-title .before .if1 .left),
+      ← at-title .title-of .ensures,
+      ← at-there .is-there .ensures,
+      c .if2 .taken,
+    )
 
 returns-3 : tie.Need-returns-3
 unfolding firstHit
-returns-3 c = simp (le-ltb _ _ (c .before .before .before .before .if1 .left), ← c .before .before .before .title-of .ensures, ← c .before .before .is-there .ensures, c .before .if2 .left, lt-ltb _ _ (c .if3 .taken))
-
-within-requires : tie.Need-within-requires
-within-requires c κs = search needs
+returns-3 c =
+    let at-if2 = c .before in
+    let at-there = at-if2 .before in
+    let at-title = at-there .before in
+    simp (
+      le-ltb _ _ (at-title .before .if1 .left),
+      ← at-title .title-of .ensures,
+      ← at-there .is-there .ensures,
+      at-if2 .if2 .left,
+      lt-ltb _ _ (c .if3 .taken),
+    )
 
 returns-4 : tie.Need-returns-4
 unfolding firstHit
-returns-4 c = simp (le-ltb _ _ (c .before .before .before .before .before .before .if1 .left), ← c .before .before .before .before .before .title-of .ensures, ← c .before .before .before .before .is-there .ensures, c .before .before .before .if2 .left, le-ltb _ _ (c .before .before .if3 .left), ← c .before .within .ensures, c .if4 .taken)
+returns-4 c =
+    let at-if3 = c .before in
+    let at-if2 = at-if3 .before in
+    let at-there = at-if2 .before in
+    let at-title = at-there .before in
+    simp (
+      le-ltb _ _ (at-title .before .if1 .left),
+      ← at-title .title-of .ensures,
+      ← at-there .is-there .ensures,
+      at-if2 .if2 .left,
+      le-ltb _ _ (at-if3 .if3 .left),
+      lt-ltb _ _ (c .if4 .taken),
+    )
 
 returns-5 : tie.Need-returns-5
 unfolding firstHit
-returns-5 c = simp (le-ltb _ _ (c .before .before .before .before .before .before .if1 .left), ← c .before .before .before .before .before .title-of .ensures, ← c .before .before .before .before .is-there .ensures, c .before .before .before .if2 .left, le-ltb _ _ (c .before .before .if3 .left), ← c .before .within .ensures, c .if4 .left)
+returns-5 c =
+    let at-if4 = c .before in
+    let at-if3 = at-if4 .before in
+    let at-if2 = at-if3 .before in
+    let at-there = at-if2 .before in
+    let at-title = at-there .before in
+    simp (
+      le-ltb _ _ (at-title .before .if1 .left),
+      ← at-title .title-of .ensures,
+      ← at-there .is-there .ensures,
+      at-if2 .if2 .left,
+      le-ltb _ _ (at-if3 .if3 .left),
+      le-ltb _ _ (at-if4 .if4 .left),
+      lt-ltb _ _ (c .if5 .taken),
+    )
+
+returns-6 : tie.Need-returns-6
+unfolding firstHit
+returns-6 c =
+    let at-if4 = c .before in
+    let at-if3 = at-if4 .before in
+    let at-if2 = at-if3 .before in
+    let at-there = at-if2 .before in
+    let at-title = at-there .before in
+    simp (
+      le-ltb _ _ (at-title .before .if1 .left),
+      ← at-title .title-of .ensures,
+      ← at-there .is-there .ensures,
+      at-if2 .if2 .left,
+      le-ltb _ _ (at-if3 .if3 .left),
+      le-ltb _ _ (at-if4 .if4 .left),
+      le-ltb _ _ (c .if5 .left),
+    )
 
 pub open-later-spec : {M : Type 1} → statement M
 open-later-spec =
@@ -45,6 +106,6 @@ open-later-spec =
     is-there-requires
     returns-2
     returns-3
-    within-requires
     returns-4
-    returns-5)
+    returns-5
+    returns-6)

@@ -1,0 +1,67 @@
+-- `console_desk::named::by_notice` meets its contract: each kind is its act's case.
+use Rattle.console_desk.proofs.Missing.{by-kind}
+use borrow.Author.Needs.{needs}
+use Rattle.console_desk.proofs.named.by_notice.Statement.{statement}
+use Rattle.console_desk.proofs.named.by_notice.Tie as tie
+
+cast-id : tie.Need-cast-id
+cast-id c = search needs
+
+enum-known-kind : tie.Need-enum-known-kind
+enum-known-kind c = search needs
+
+cast-missed : tie.Need-cast-missed
+cast-missed c = search needs
+
+cast-missed-2 : tie.Need-cast-missed-2
+cast-missed-2 c = search needs
+
+missed-requires : tie.Need-missed-requires
+missed-requires c κs = search needs
+
+enum-told : tie.Need-enum-told
+enum-told c = search needs
+
+by-title-requires : tie.Need-by-title-requires
+by-title-requires c κs = search needs
+
+enum-told-2 : tie.Need-enum-told-2
+enum-told-2 c = search needs
+
+by-title-requires-2 : tie.Need-by-title-requires-2
+by-title-requires-2 c κs = search needs
+
+returns : tie.Need-returns
+returns c =
+    let at-kind = c .before .before in
+    let x = at-kind .before .before .before .args in
+    by-kind (x .answer) (x .s) (x .n) _ (at-kind .kind .given .1) (c .missed .ensures)
+
+returns-2 : tie.Need-returns-2
+returns-2 c =
+    let at-told = c .before in
+    let x = at-told .before .before .before .args in
+    by-kind (x .answer) (x .s) (x .n) _ (at-told .enum-told .given .1) (c .by-title .ensures)
+
+returns-3 : tie.Need-returns-3
+returns-3 c =
+    let at-told = c .before in
+    let x = at-told .before .before .before .args in
+    by-kind (x .answer) (x .s) (x .n) _ (at-told .enum-told2 .given .1) (c .by-title2 .ensures)
+
+pub by-notice-spec : {M : Type 1} → statement M
+by-notice-spec =
+    tie.close
+    (tie.spec
+    cast-id
+    enum-known-kind
+    cast-missed
+    cast-missed-2
+    missed-requires
+    enum-told
+    by-title-requires
+    enum-told-2
+    by-title-requires-2
+    returns
+    returns-2
+    returns-3)

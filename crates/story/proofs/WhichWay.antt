@@ -1,0 +1,128 @@
+-- Which way a count is wrong is said by four numbers where one stood: the orders of the release before, with their one
+-- test, answer what today's answer but for those numbers, so the same calls are accepted and leave the same states.
+-- Rests on the laws of former answers.
+use mathlib.Core.Path.{_≡_, refl, sym, ap, _∙_}
+use mathlib.Core.Bool.{Bool, false, not}
+use mathlib.Core.List.{List, [], _∷_}
+use Prim.Native.Nat.{ℕ}
+use lib.Dec.{ltb, eqb}
+use Rattle.rules.specs.Limits.{either, within}
+use Rattle.rules.specs.Refusals.{pick, Rule, refuse, firstHit, done, outsideLimits, tooEarly, notThere, idTaken}
+use Rattle.rules.specs.Refusals.{isClosing, secondEvent, notAtSlot, noLanes}
+use Rattle.rules.proofs.Refusals.{hit-same}
+use Rattle.rules.proofs.Former.{formerly, formerly-done, renumbered, former-hit, joined, outside}
+use Rattle.story.specs.declared.State.{State}
+use Rattle.story.specs.Orders.{Tests, openOrder, changeOrder, closeOrder}
+use Rattle.story.specs.Story.{Act, opens, changes, closes, Event}
+use Rattle.story.specs.Kept.{titleAt}
+use Rattle.story.specs.Next.{callNext}
+use Rattle.story.specs.Calls.{testsIn, callAnswer, freshNext}
+use Rattle.story.specs.Runs.{called, stateAfter}
+
+-- 6 as it was: count outside floor..cap, floor above cap, or count unchanged
+abbrev pub wrongCount : ℕ
+wrongCount = 6
+
+abbrev pub countWrong : Act → ℕ → ℕ → ℕ → Bool
+countWrong (opens D A K k) _ _ _ = either (ltb K A) (not (within A K k))
+countWrong (changes n) A K k = either (not (within A K n)) (eqb n k)
+countWrong closes A K k = false
+
+-- the orders as they stood, 1 2 4 6 9 and 1 2 3 5 6 7 8 9, of a count that is wrong or not
+abbrev pub formerOpen : Tests → Bool → List Rule
+formerOpen t wrong =
+    refuse outsideLimits (t .outside)
+    ∷ refuse tooEarly (t .early)
+    ∷ refuse idTaken (t .there)
+    ∷ refuse wrongCount wrong
+    ∷ refuse noLanes (t .full)
+    ∷ []
+
+abbrev pub formerChange : Tests → Bool → List Rule
+formerChange t wrong =
+    refuse outsideLimits (t .outside)
+    ∷ refuse tooEarly (t .early)
+    ∷ refuse notThere (not (t .there))
+    ∷ refuse isClosing (t .closing)
+    ∷ refuse wrongCount wrong
+    ∷ refuse secondEvent (t .second)
+    ∷ refuse notAtSlot (t .off)
+    ∷ refuse noLanes (t .full)
+    ∷ []
+
+abbrev pub formerOrder : Act → Tests → Bool → List Rule
+formerOrder (opens D A K k) = formerOpen
+formerOrder (changes k) = formerChange
+formerOrder closes = λ t wrong. closeOrder t
+
+-- what a call answered
+unfoldable pub formerAnswer : State → ℕ → ℕ → Act → ℕ
+formerAnswer s i τ a =
+    firstHit
+    (formerOrder a (testsIn s i τ a) (countWrong a (titleAt s i .floor) (titleAt s i .cap) (titleAt s i .count)))
+
+-- no other place of an order moved
+open-place : (t : Tests) (wrong : Bool) → wrong ≡ either (t .crossed) (either (t .below) (t .above))
+    → formerly (firstHit (openOrder t)) ≡ firstHit (formerOpen t wrong)
+unfolding renumbered
+open-place t wrong e =
+    let rest : List Rule = refuse noLanes (t .full) ∷ [] in
+    rw e
+    (former-hit (openOrder t)
+    ∙ hit-same outsideLimits _ _ _ _ refl
+    (λ x.
+    hit-same tooEarly _ _ _ _ refl
+    (λ y.
+    hit-same idTaken _ _ _ _ refl
+    (λ z.
+    hit-same wrongCount _ _ _ _ refl (λ w. joined wrongCount (t .below) (t .above) rest)
+    ∙ joined wrongCount (t .crossed) (either (t .below) (t .above)) rest))))
+
+change-place : (t : Tests) (wrong : Bool) → wrong ≡ either (either (t .below) (t .above)) (t .same)
+    → formerly (firstHit (changeOrder t)) ≡ firstHit (formerChange t wrong)
+unfolding renumbered
+change-place t wrong e =
+    let rest : List Rule = refuse secondEvent (t .second) ∷ refuse notAtSlot (t .off) ∷ refuse noLanes (t .full) ∷ [] in
+    rw e
+    (former-hit (changeOrder t)
+    ∙ hit-same outsideLimits _ _ _ _ refl
+    (λ x.
+    hit-same tooEarly _ _ _ _ refl
+    (λ y.
+    hit-same notThere _ _ _ _ refl
+    (λ z.
+    hit-same isClosing _ _ _ _ refl
+    (λ w.
+    joined wrongCount (t .below) (t .above) (refuse wrongCount (t .same) ∷ rest)
+    ∙ joined wrongCount (either (t .below) (t .above)) (t .same) rest)))))
+
+pub same-place : (s : State) (i τ : ℕ) (a : Act) → formerly (callAnswer s i τ a) ≡ formerAnswer s i τ a
+unfolding callAnswer formerAnswer renumbered
+same-place s i τ (opens D A K k) =
+    open-place (testsIn s i τ (opens D A K k)) _ (ap (either (ltb K A)) (outside A K k))
+same-place s i τ (changes k) =
+    let t = titleAt s i in
+    change-place (testsIn s i τ (changes k)) _ (ap (λ b. either b (eqb k (t .count))) (outside (t .floor) (t .cap) k))
+same-place s i τ closes = former-hit (closeOrder (testsIn s i τ closes))
+
+-- what was accepted is accepted, what was refused is refused
+pub same-calls : (s : State) (i τ : ℕ) (a : Act) → eqb (formerAnswer s i τ a) done ≡ eqb (callAnswer s i τ a) done
+same-calls s i τ a = sym (ap (λ n. eqb n done) (same-place s i τ a)) ∙ formerly-done (callAnswer s i τ a)
+
+-- and leaves the same state, call by call and over any run
+abbrev pub formerCalled : State → Event → State
+formerCalled s e =
+    pick (eqb (formerAnswer s (e .title) (e .time) (e .act)) done) (callNext s (e .title) (e .time) (e .act)) s
+
+unfoldable pub formerState : ℕ → List Event → State
+formerState pool [] = freshNext pool
+formerState pool (c ∷ cs) = formerCalled (formerState pool cs) c
+
+pub same-outcome : (s : State) (e : Event) → formerCalled s e ≡ called s e
+same-outcome s e =
+    ap (λ b. pick b (callNext s (e .title) (e .time) (e .act)) s) (same-calls s (e .title) (e .time) (e .act))
+
+pub same-state : (pool : ℕ) (cs : List Event) → formerState pool cs ≡ stateAfter pool cs
+unfolding formerState stateAfter
+same-state pool [] = refl
+same-state pool (c ∷ cs) = ap (λ s. formerCalled s c) (same-state pool cs) ∙ same-outcome (stateAfter pool cs) c
