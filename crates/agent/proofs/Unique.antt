@@ -10,8 +10,8 @@ use Rattle.agent.proofs.fresh_agent.Kinds as fresh-kinds
 use Rattle.agent.proofs.fresh_agent.Reads as fresh-call
 use Rattle.agent.proofs.enact.Kinds as enact-kinds
 use Rattle.agent.proofs.enact.Reads as enact-call
-use Rattle.agent.proofs.turn.Kinds as turn-kinds
-use Rattle.agent.proofs.turn.Reads as turn-call
+use Rattle.agent.proofs.heed.Kinds as heed-kinds
+use Rattle.agent.proofs.heed.Reads as heed-call
 use Rattle.agent.proofs.take.Kinds as take-kinds
 use Rattle.agent.proofs.take.Reads as take-call
 
@@ -28,8 +28,8 @@ pub enact-one-outcome : OneOutcome 0 enact-kinds.ps enact-kinds.r enact-call.Lea
 enact-one-outcome κs a x y e f p q =
     ap₂ (λ (n : ℕ) (s : State). record { answer = n; state = s }) (p .0 ∙ sym (q .0)) (p .1 ∙ sym (q .1))
 
-pub turn-one-outcome : OneOutcome 0 turn-kinds.ps turn-kinds.r turn-call.Learnt
-turn-one-outcome κs a x y e f p q = both-told x y p q
+pub heed-one-outcome : OneOutcome 0 heed-kinds.ps heed-kinds.r heed-call.Learnt
+heed-one-outcome κs a x y e f p q = both-told x y p q
 
 pub take-one-outcome : OneOutcome 1 take-kinds.ps take-kinds.r take-call.Learnt
 take-one-outcome κs a x y e f p q = both-told x y p q

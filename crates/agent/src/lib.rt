@@ -74,7 +74,7 @@ pub fn enact(s: State, n: Notice) -> Outcome
 }
 
 // A notice in its turn is its event; any other changes nothing.
-pub fn turn(agent: Agent, n: Notice) -> Followed
+pub fn heed(agent: Agent, n: Notice) -> Followed
     ensures { λ r. ⌜ (r .answer ≡ noticeAnswer agent (reading.Whole n)) × (r .agent ≡ noticed agent (reading.Whole n)) ⌝ }
 {
     let sequence = n.sequence;
@@ -111,7 +111,7 @@ pub fn take(agent: Agent, bytes: &[u8]) -> Followed
 {
     let read = notice::read(bytes);
     match read {
-        Reading::Whole(n) => turn(agent, n),
+        Reading::Whole(n) => heed(agent, n),
         Reading::Malformed => Followed {
             answer: MALFORMED,
             agent: agent,

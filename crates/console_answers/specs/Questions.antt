@@ -32,7 +32,7 @@ idsIn numbers count = take (min (count - 1) idsMost) (drop 1 numbers)
 unfoldable pub planText : ℕ → ℕ → ℕ → ℕ → List ℕ → List ℕ
 planText A K k a row =
     withText (planAnswer A K k a (length row)) (missed (planAnswer A K k a (length row)) A K)
-    (cellsText (plan.rowAfter A K k a row) (cells K))
+    (cellsText (plan.planRow A K k a row) (cells K))
 
 unfoldable pub zeros : ℕ → List ℕ
 zeros n = replicate n 0

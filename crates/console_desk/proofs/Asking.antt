@@ -17,7 +17,7 @@ use Rattle.console_answers.specs.Words.{helpText}
 use Rattle.console_answers.specs.Outcomes.{doneText}
 use Rattle.console_answers.specs.Notices.{readingText}
 use Rattle.console_answers.specs.Questions.{laneText, statusText, idsIn, planText, roomOf, shareIn}
-use Rattle.console_desk.specs.Acts.{numberIn, bytesIn, answerAfter, agentAfter}
+use Rattle.console_desk.specs.Acts.{numberIn, bytesIn, answerAfter, agentActed}
 use Rattle.console_desk.specs.Named.{namedIn}
 use Rattle.console_desk.specs.Writing.{noticeIn}
 use Rattle.console_desk.specs.Desk.{followedText, actText, tellText, placesIn, askText}
@@ -29,7 +29,7 @@ module _ (l : Line) (s : List ℕ) (p q : Page) where
   acts-fresh g n h e f = rw (eq-eqb _ _ h, ← e) f
 
   pub acts-other : (g after : Agent) (n named : ℕ) → (l .command ≡ Commands.doFresh → ⊥) → n ≡ answerAfter g l s
-      → after ≡ agentAfter g l s
+      → after ≡ agentActed g l s
       → named ≡ namedIn n g l s
       → q ≡ puts p (followedText n after named) → q ≡ puts p (actText g l s)
   unfolding actText

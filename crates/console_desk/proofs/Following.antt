@@ -12,7 +12,7 @@ use Rattle.agent.specs.declared.Agent.{Agent}
 use Rattle.agent.specs.Turns.{freshAgent, noticeAnswer, noticed}
 use Rattle.console_lines.specs.Commands
 use Rattle.console_lines.specs.declared.lines.Line.{Line}
-use Rattle.console_desk.specs.Acts.{numberIn, bytesIn, actIn, eventIn, afterEvent, answerAfter, agentAfter}
+use Rattle.console_desk.specs.Acts.{numberIn, bytesIn, actIn, eventIn, afterEvent, answerAfter, agentActed}
 
 -- the event that a line's numbers and an act make
 abbrev with : Line → Act → Event
@@ -41,21 +41,21 @@ module _ (l : Line) where
 module _ (g : Agent) (l : Line) (s : List ℕ) (n : ℕ) (after : Agent) where
   -- what is to be shown of each way
   abbrev Follows : Type 0
-  Follows = (n ≡ answerAfter g l s) × (after ≡ agentAfter g l s)
+  Follows = (n ≡ answerAfter g l s) × (after ≡ agentActed g l s)
 
   pub follows-fresh : l .command ≡ Commands.doFresh
       → (n ≡ freshAnswer (numberIn l 0)) × (after ≡ freshAgent (numberIn l 0)) → Follows
-  unfolding answerAfter agentAfter
+  unfolding answerAfter agentActed
   follows-fresh h e = rw (eq-eqb _ _ h) e
 
   pub follows-notice : (l .command ≡ Commands.doFresh → ⊥) → l .command ≡ Commands.doNotice
       → (n ≡ noticeAnswer g (readOf (bytesIn s l))) × (after ≡ noticed g (readOf (bytesIn s l))) → Follows
-  unfolding answerAfter agentAfter
+  unfolding answerAfter agentActed
   follows-notice f h e = rw (ne-eqb _ _ f, eq-eqb _ _ h) e
 
   pub follows-event : (l .command ≡ Commands.doFresh → ⊥) → (l .command ≡ Commands.doNotice → ⊥)
       → (n ≡ answered (g .state) (eventIn l)) × (after ≡ afterEvent g l) → Follows
-  unfolding answerAfter agentAfter
+  unfolding answerAfter agentActed
   follows-event f h e = rw (ne-eqb _ _ f, ne-eqb _ _ h) e
 
 -- the agent with another state

@@ -15,7 +15,7 @@ use Rattle.console_lines.specs.Lines.{withFault, begun, readOn, meaning, longes
 use Rattle.text.specs.Output.{Page, puts}
 use Rattle.console_answers.specs.Words.{faultText}
 use Rattle.text.proofs.Pages.{puts-append}
-use Rattle.console_desk.specs.Acts.{agentAfter}
+use Rattle.console_desk.specs.Acts.{agentActed}
 use Rattle.console_desk.specs.Desk.{
   mayChange,
   actText,
@@ -47,7 +47,7 @@ module _ (g : Agent) (l : Line) (s : List ℕ) (p : Page) where
 
   module _ (something : l .command ≡ Commands.none → ⊥) (t : Bool) (e : t ≡ mayChange (l .command)) (after : Agent)
       (q r : Page) where
-    pub it-acts : t ≡ true → Left (agentAfter g l s) (puts p (actText g l s)) after q → r ≡ puts q newline
+    pub it-acts : t ≡ true → Left (agentActed g l s) (puts p (actText g l s)) after q → r ≡ puts q newline
         → Left (afterWhole g l s) (puts p (wholeText g l s)) after r
     unfolding afterWhole wholeText
     it-acts y d f =

@@ -1,21 +1,34 @@
 -- Two outcomes that a contract of this crate admits are equal.
 use Prim.Native.Nat.{ℕ}
-use mathlib.Core.Path.{_≡_, sym, _∙_}
+use mathlib.Core.Path.{_≡_, sym, ap, _∙_}
+use denote.Ref.{now}
+use Rattle.rules.proofs.OneOutcome.{OneEnd}
 use mathlib.Core.List.{List}
 use Rattle.agent.specs.declared.Agent.{Agent}
-use Rattle.text.specs.Output.{Page}
+use Rattle.text.specs.Output.{Page, page}
 use Rattle.console_lines.specs.declared.lines.Line.{Line}
-use Rattle.console_desk.specs.Acts.{answerAfter, agentAfter}
+use Rattle.console_desk.specs.Acts.{answerAfter, agentActed}
+use Rattle.console_desk.specs.declared.Turned.{Turned}
 use Rattle.console_desk.specs.Desk.{Left}
+use Rattle.console_desk.proofs.answer.Kinds as answer-kinds
+use Rattle.console_desk.proofs.answer.Reads as answer-call
 
 -- of `acts::follow`: the answer, and the agent
 pub follow-one-outcome : (g : Agent) (l : Line) (s : List ℕ) (m n : ℕ) (a b : Agent)
-    → (m ≡ answerAfter g l s) × (a ≡ agentAfter g l s)
-    → (n ≡ answerAfter g l s) × (b ≡ agentAfter g l s)
+    → (m ≡ answerAfter g l s) × (a ≡ agentActed g l s)
+    → (n ≡ answerAfter g l s) × (b ≡ agentActed g l s)
     → (m ≡ n) × (a ≡ b)
 follow-one-outcome g l s m n a b e f = (e .0 ∙ sym (f .0), e .1 ∙ sym (f .1))
 
--- of `answer`: the agent, the row and the place
-pub answer-one-outcome : (g : Agent) (p : Page) (a b : Agent) (q r : Page) → Left g p a q → Left g p b r
-    → (a ≡ b) × (q ≡ r)
-answer-one-outcome g p a b q r d e = (d .agent ∙ sym (e .agent), d .row ∙ sym (e .row))
+-- of `answer`: the agent and the place, and the lent row, parameter 2, from 0
+same-left : {g : Agent} {p : Page} (x y : Turned) (c d : List ℕ) → Left g p (x .agent) (page c (x .at)) →
+    Left g p (y .agent) (page d (y .at)) → (x ≡ y) × (c ≡ d)
+same-left x y c d l m =
+    let agent : x .agent ≡ y .agent = l .agent ∙ sym (m .agent) in
+    let left : page c (x .at) ≡ page d (y .at) = l .row ∙ sym (m .row) in
+    let at : x .at ≡ y .at = ap (λ (p : Page). p .at) left in
+    (λ i. record { agent = agent i; at = at i }, ap (λ (p : Page). p .row) left)
+
+pub answer-one-outcome : OneEnd 2 answer-kinds.ps answer-kinds.r (λ κs e f. now (e .1 .1 .0) ≡ now (f .1 .1 .0))
+    answer-call.Learnt
+answer-one-outcome κs a x y e f p q = same-left x y _ _ p q

@@ -52,8 +52,8 @@ answerAfter g l s =
     (answered (g .state) (eventIn l)))
 
 -- and the agent that it leaves
-unfoldable pub agentAfter : Agent → Line → List ℕ → Agent
-agentAfter g l s =
+unfoldable pub agentActed : Agent → Line → List ℕ → Agent
+agentActed g l s =
     pick (eqb (l .command) Commands.doFresh) (freshAgent (numberIn l 0))
     (pick (eqb (l .command) Commands.doNotice) (noticed g (readOf (bytesIn s l)))
     (afterEvent g l))

@@ -20,7 +20,7 @@ use Rattle.console_answers.specs.Words.{faultText, helpText}
 use Rattle.console_answers.specs.Outcomes.{doneText, valueText}
 use Rattle.console_answers.specs.Notices.{readingText}
 use Rattle.console_answers.specs.Questions.{laneText, statusText, idsIn, planText, roomOf, shareIn}
-use Rattle.console_desk.specs.Acts.{numberIn, bytesIn, answerAfter, agentAfter}
+use Rattle.console_desk.specs.Acts.{numberIn, bytesIn, answerAfter, agentActed}
 use Rattle.console_desk.specs.Named.{namedIn}
 use Rattle.console_desk.specs.Writing.{noticeIn}
 
@@ -36,7 +36,7 @@ followedText a g named = valueText a (heldShown (g .state) (g .state .last)) nam
 unfoldable pub actText : Agent → Line → List ℕ → List ℕ
 actText g l s =
     pick (eqb (l .command) Commands.doFresh) (doneText (answerAfter g l s) 0)
-    (followedText (answerAfter g l s) (agentAfter g l s) (namedIn (answerAfter g l s) g l s))
+    (followedText (answerAfter g l s) (agentActed g l s) (namedIn (answerAfter g l s) g l s))
 
 -- help, and what concerns notices alone
 unfoldable pub tellText : Line → List ℕ → List ℕ
@@ -69,7 +69,7 @@ wholeText g l s =
     (pick (mayChange (l .command)) (actText g l s) (askText (g .state) l s) ++ newline)
 
 unfoldable pub afterWhole : Agent → Line → List ℕ → Agent
-afterWhole g l s = pick (mayChange (l .command)) (agentAfter g l s) g
+afterWhole g l s = pick (mayChange (l .command)) (agentActed g l s) g
 
 -- what the line s is answered: what is wrong with it, or what it asks for
 unfoldable pub lineText : Agent → List ℕ → List ℕ

@@ -13,7 +13,7 @@ ghost use Prim.Native.Nat.{_≤_};
 ghost use lib.ListN.{length};
 ghost use Rattle.story.specs.Runs.{answered, called};
 ghost use Rattle.console_lines.specs.Lines.{longest};
-ghost use Rattle.console_desk.specs.Acts.{eventIn, afterEvent, answerAfter, agentAfter};
+ghost use Rattle.console_desk.specs.Acts.{eventIn, afterEvent, answerAfter, agentActed};
 
 // The event of a line, put to the scheduler.
 fn happen(s: State, line: Line) -> Outcome
@@ -51,7 +51,7 @@ fn event(agent: Agent, line: Line) -> Followed
 // from.
 pub fn follow(agent: Agent, line: Line, s: &[u8]) -> Followed
     requires { ⌜ length (now s) ≤ longest ⌝ }
-    ensures { λ r. ⌜ (r .answer ≡ answerAfter agent line (now (s .entry))) × (r .agent ≡ agentAfter agent line
+    ensures { λ r. ⌜ (r .answer ≡ answerAfter agent line (now (s .entry))) × (r .agent ≡ agentActed agent line
         (now (s .entry))) ⌝ }
 {
     let command = line.command;

@@ -21,7 +21,7 @@ ghost use Prim.Native.Nat.{_≤_};
 ghost use lib.ListN.{length};
 ghost use Rattle.text.specs.Output.{page, puts, Written};
 ghost use Rattle.console_lines.specs.Lines.{longest};
-ghost use Rattle.console_desk.specs.Acts.{agentAfter};
+ghost use Rattle.console_desk.specs.Acts.{agentActed};
 ghost use Rattle.console_desk.specs.Desk.{
   mayChange,
   followedText,
@@ -74,7 +74,7 @@ fn put_followed(out: &mut [u8], at: usize, answer: u8, agent: Agent, named: u64)
 // A command that may change the agent.
 fn act(agent: Agent, line: Line, s: &[u8], out: &mut [u8], at: usize) -> Turned
     requires { ⌜ length (now s) ≤ longest ⌝ }
-    ensures { λ r. ⌜ Left (agentAfter agent line (now (s .entry)))
+    ensures { λ r. ⌜ Left (agentActed agent line (now (s .entry)))
         (puts (page (now (out .entry)) at) (actText agent line (now (s .entry)))) (r .agent)
         (page (now (out .exit)) (r .at)) ⌝ }
 {

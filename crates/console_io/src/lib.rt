@@ -92,7 +92,7 @@ fn take_lines(session: Session, block: &[u8], out: &mut [u8]) -> Stand
     let mut s = session;
     let mut from = 0;
     while from < block.len() {
-        let end = bytes::reach(block, from, Sort::Line);
+        let end = bytes::run_end(block, from, Sort::Line);
         if end < block.len() {
             s = take_line(s, &block[from..end], out);
             from = end + 1;

@@ -4,7 +4,7 @@ use Prim.Native.String.{String}
 use mathlib.Core.Path.{_≡_, refl}
 use mathlib.Core.List.{List, [], _∷_}
 use lib.ListN.{take}
-use Rattle.text.specs.Bytes.{isSort, run, reach}
+use Rattle.text.specs.Bytes.{isSort, run, runEnd}
 use Rattle.text.specs.Numbers.{amount, tooLarge}
 use Rattle.text.specs.Texts.{text, same}
 use Rattle.console_lines.specs.Commands.{
@@ -41,7 +41,7 @@ unfoldable pub told : Line → List ℕ
 told l = l .command ∷ l .fault ∷ l .place ∷ take (l .count) (l .numbers)
 
 unfoldable pub each : List String → List (List ℕ)
-unfolding told isSort run reach amount tooLarge text same verbOf leastOf mostOf enough takesHex takesKind limitsOf
+unfolding told isSort run runEnd amount tooLarge text same verbOf leastOf mostOf enough takesHex takesKind limitsOf
     limitOf crowded oversized blank withFault ended goOn withNumber withKind withHex wordAt withWord step withVerb begun
     readOn meaning
 each [] = []
@@ -87,7 +87,7 @@ meanings =
 
 -- the lines above, one after the other, mean what the list says
 pub shown : each lines ≡ meanings
-unfolding told each isSort run reach amount tooLarge text same verbOf leastOf mostOf enough takesHex takesKind limitsOf
+unfolding told each isSort run runEnd amount tooLarge text same verbOf leastOf mostOf enough takesHex takesKind limitsOf
     limitOf crowded oversized blank withFault ended goOn withNumber withKind withHex wordAt withWord step withVerb begun
     readOn meaning
 shown = refl

@@ -11,7 +11,7 @@ use lib.Dec.{eqb, leb, ltb}
 use Rattle.rules.specs.Limits.{within}
 use Rattle.rules.specs.Refusals.{pick}
 use Rattle.text.specs.declared.bytes.Sort.the-variants.{Separator, Word, Digit, Hex}
-use Rattle.text.specs.Bytes.{reach}
+use Rattle.text.specs.Bytes.{runEnd}
 use Rattle.text.specs.Numbers.{amount, tooLarge}
 use Rattle.console_lines.specs.Commands
 use Rattle.rules.proofs.Tests.{both-l}
@@ -72,8 +72,8 @@ number-falls : (s : List ℕ) (l : Line) (a e : ℕ) → l .count < Commands.mos
     → Falls l (withNumber s l a e)
 unfolding withNumber goOn room
 number-falls s l a e h =
-    pick-case (Falls l) (ltb (reach Digit s a) e) _ _
-    (λ t. stops l Commands.notNumber (reach Digit s a) (λ u. omega arith))
+    pick-case (Falls l) (ltb (runEnd Digit s a) e) _ _
+    (λ t. stops l Commands.notNumber (runEnd Digit s a) (λ u. omega arith))
     (λ t. pick-case (Falls l) (tooLarge (Commands.limitOf (l .command) (l .count)) (amount 0 (drop a s))) _ _
     (λ q. stops l (Commands.oversized (l .command)) a (oversized-known (l .command)))
     (λ q u. omega (arith, few (l .command))))
@@ -82,7 +82,7 @@ number-falls s l a e h =
 hex-falls : (s : List ℕ) (l : Line) (a e : ℕ) → l .count < 1 → Falls l (withHex s l a e)
 unfolding withHex room
 hex-falls s l a e h =
-    pick-case (Falls l) (ltb (reach Hex s a) e) _ _ (λ t. stops l Commands.badHex (reach Hex s a) (λ u. omega arith))
+    pick-case (Falls l) (ltb (runEnd Hex s a) e) _ _ (λ t. stops l Commands.badHex (runEnd Hex s a) (λ u. omega arith))
     (λ t. pick-case (Falls l) (eqb ((e - a) % 2) 1) _ _ (λ q. stops l Commands.oddHex a (λ u. omega arith))
     (λ q u. omega arith))
 
@@ -120,17 +120,17 @@ word-falls s l a =
     (λ t. stops l (Commands.crowded (l .command)) a (crowded-known (l .command)))
     (λ t. let h : l .count < Commands.mostOf (l .command) = leb-false _ _ t in
     pick-case (Falls l) (Commands.takesHex (l .command)) _ _
-    (λ q. hex-falls s l a (reach Word s a) (omega (arith, hex-one (l .command) q)))
+    (λ q. hex-falls s l a (runEnd Word s a) (omega (arith, hex-one (l .command) q)))
     (λ q. pick-case (Falls l) (Commands.takesKind (l .command) (l .count)) _ _
-    (λ k. kind-falls (wordAt s a) l a (reach Word s a) (kind-write (l .command) (l .count) k))
-    (λ k. number-falls s l a (reach Word s a) h)))
+    (λ k. kind-falls (wordAt s a) l a (runEnd Word s a) (kind-write (l .command) (l .count) k))
+    (λ k. number-falls s l a (runEnd Word s a) h)))
 
 step-falls : (s : List ℕ) (l : Line) → Falls l (step s l)
 unfolding step ended
 step-falls s l =
-    pick-case (Falls l) (ltb (reach Separator s (l .place)) (length s)) _ _
-    (λ t. word-falls s l (reach Separator s (l .place)))
-    (λ t. stops l _ (reach Separator s (l .place))
+    pick-case (Falls l) (ltb (runEnd Separator s (l .place)) (length s)) _ _
+    (λ t. word-falls s l (runEnd Separator s (l .place)))
+    (λ t. stops l _ (runEnd Separator s (l .place))
     (pick-case known (Commands.enough (l .command) (l .count)) _ _ (λ q u. omega arith) (λ q u. omega arith)))
 
 after : (n : ℕ) (s : List ℕ) (l : Line) (t : Bool) → eqb (l .fault) Commands.unread ≡ t

@@ -10,7 +10,7 @@ use lib.Dec.{eqb, ltb}
 use Rattle.rules.specs.Refusals.{pick}
 use Rattle.text.specs.declared.bytes.Sort.the-variants.{Separator, Word, Digit, Hex}
 use Rattle.console_lines.specs.declared.lines.Line.{Line}
-use Rattle.text.specs.Bytes.{reach}
+use Rattle.text.specs.Bytes.{runEnd}
 use Rattle.text.specs.Numbers.{top, amount, capped, above, tooLarge}
 use Rattle.console_lines.specs.Commands.{
   verbOf,
@@ -63,15 +63,15 @@ unfolding above capped tooLarge
 above-capped limit v h = held-above limit v h _ _ refl refl
 
 module _ (s : List ℕ) (l : Line) (a e : ℕ) where
-  pub hex-bad : (p : ℕ) → p ≡ reach Hex s a → p < e → withFault l badHex p ≡ withHex s l a e
+  pub hex-bad : (p : ℕ) → p ≡ runEnd Hex s a → p < e → withFault l badHex p ≡ withHex s l a e
   unfolding withHex
   hex-bad p q h = rw (← q, lt-ltb _ _ h)
 
-  pub hex-odd : (p : ℕ) → p ≡ reach Hex s a → e ≤ p → (e - a) % 2 ≡ 1 → withFault l oddHex a ≡ withHex s l a e
+  pub hex-odd : (p : ℕ) → p ≡ runEnd Hex s a → e ≤ p → (e - a) % 2 ≡ 1 → withFault l oddHex a ≡ withHex s l a e
   unfolding withHex
   hex-odd p q h o = rw (← q, le-ltb _ _ h, eq-eqb _ _ o)
 
-  pub hex-whole : (p : ℕ) → p ≡ reach Hex s a → e ≤ p → ((e - a) % 2 ≡ 1 → ⊥)
+  pub hex-whole : (p : ℕ) → p ≡ runEnd Hex s a → e ≤ p → ((e - a) % 2 ≡ 1 → ⊥)
       → record { command = l .command; fault = l .fault; place = e; count = 1; numbers = set (set (l .numbers) 0 a) 1 e }
       ≡ withHex s l a e
   unfolding withHex
@@ -91,11 +91,11 @@ module _ (s : List ℕ) (l : Line) (a e : ℕ) where
   unfolding withKind
   kind-told v q h g = rw (← q, le-leb _ _ h, le-leb _ _ g)
 
-  pub number-bad : (p : ℕ) → p ≡ reach Digit s a → p < e → withFault l notNumber p ≡ withNumber s l a e
+  pub number-bad : (p : ℕ) → p ≡ runEnd Digit s a → p < e → withFault l notNumber p ≡ withNumber s l a e
   unfolding withNumber
   number-bad p q h = rw (← q, lt-ltb _ _ h)
 
-  module _ (p : ℕ) (q : p ≡ reach Digit s a) (h : e ≤ p) (m : ℕ) (r : m ≡ limitOf (l .command) (l .count))
+  module _ (p : ℕ) (q : p ≡ runEnd Digit s a) (h : e ≤ p) (m : ℕ) (r : m ≡ limitOf (l .command) (l .count))
       (small : m ≤ top) where
     number-rest : pick (above m (capped (amount 0 (drop a s)))) (withFault l (oversized (l .command)) a)
         (goOn l (amount 0 (drop a s)) e)
@@ -116,7 +116,7 @@ module _ (s : List ℕ) (l : Line) (a m : ℕ) (q : m ≡ mostOf (l .command)) w
   unfolding withWord
   word-crowded h = rw (← q, le-leb _ _ h)
 
-  module _ (h : l .count < m) (t : Bool) (f : t ≡ takesHex (l .command)) (e : ℕ) (g : e ≡ reach Word s a) where
+  module _ (h : l .count < m) (t : Bool) (f : t ≡ takesHex (l .command)) (e : ℕ) (g : e ≡ runEnd Word s a) where
     pub word-hex : t ≡ true → withHex s l a e ≡ withWord s l a
     unfolding withWord
     word-hex y = rw (← q, lt-leb _ _ h, ← f, y, ← g)
@@ -130,7 +130,7 @@ module _ (s : List ℕ) (l : Line) (a m : ℕ) (q : m ≡ mostOf (l .command)) w
       unfolding withWord
       word-number y = rw (← q, lt-leb _ _ h, ← f, n, ← k, y, ← g)
 
-module _ (s : List ℕ) (l : Line) (a : ℕ) (q : a ≡ reach Separator s (l .place)) where
+module _ (s : List ℕ) (l : Line) (a : ℕ) (q : a ≡ runEnd Separator s (l .place)) where
   pub step-word : a < length s → withWord s l a ≡ step s l
   unfolding step
   step-word h = rw (← q, lt-ltb _ _ h)
@@ -144,7 +144,7 @@ module _ (s : List ℕ) where
   unfolding begun
   begun-long h = rw (lt-ltb _ _ h)
 
-  module _ (h : length s ≤ longest) (a : ℕ) (q : a ≡ reach Separator s 0) where
+  module _ (h : length s ≤ longest) (a : ℕ) (q : a ≡ runEnd Separator s 0) where
     pub begun-blank : length s ≤ a → blank ≡ begun s
     unfolding begun
     begun-blank g = rw (le-ltb _ _ h, ← q, le-ltb _ _ g)
@@ -153,7 +153,7 @@ module _ (s : List ℕ) where
     unfolding begun
     begun-hash g e = rw (le-ltb _ _ h, ← q, lt-ltb _ _ g, eq-eqb _ _ e)
 
-    pub begun-verb : a < length s → (getD s a 0 ≡ 35 → ⊥) → (e : ℕ) → e ≡ reach Word s a
+    pub begun-verb : a < length s → (getD s a 0 ≡ 35 → ⊥) → (e : ℕ) → e ≡ runEnd Word s a
         → withVerb (verbOf (take (e - a) (drop a s))) a e ≡ begun s
     unfolding begun wordAt
     begun-verb g n e r = rw (le-ltb _ _ h, ← q, lt-ltb _ _ g, ne-eqb _ _ n, ← r)

@@ -1,10 +1,8 @@
--- Two outcomes that the contract of `lines::parse` admits are equal.
-use Prim.Native.Nat.{ℕ}
-use mathlib.Core.Path.{_≡_}
-use mathlib.Core.List.{List}
-use Rattle.text.proofs.Unique as text
-use Rattle.console_lines.specs.declared.lines.Line.{Line}
-use Rattle.console_lines.specs.Lines.{meaning}
+-- Two outcomes that the contract of `lines::parse` admits are equal. Rests on its being an equation to a definition.
+use mathlib.Core.Path.{_≡_, sym, _∙_}
+use Rattle.rules.proofs.OneOutcome.{OneOutcome}
+use Rattle.console_lines.proofs.lines.parse.Kinds as parse-kinds
+use Rattle.console_lines.proofs.lines.parse.Reads as parse-call
 
-pub one-outcome : (s : List ℕ) (r q : Line) → r ≡ meaning s → q ≡ meaning s → r ≡ q
-one-outcome s r q e f = text.one-outcome e f
+pub one-outcome : OneOutcome 1 parse-kinds.ps parse-kinds.r parse-call.Learnt
+one-outcome κs a x y e f p q = p ∙ sym q

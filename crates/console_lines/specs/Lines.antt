@@ -8,7 +8,7 @@ use Rattle.rules.specs.Limits.{within}
 use Rattle.rules.specs.Refusals.{pick}
 use Rattle.text.specs.declared.bytes.Sort.the-variants.{Separator, Word, Digit, Hex}
 use Rattle.console_lines.specs.declared.lines.Line.{Line}
-use Rattle.text.specs.Bytes.{reach}
+use Rattle.text.specs.Bytes.{runEnd}
 use Rattle.text.specs.Numbers.{top, amount, tooLarge}
 use Rattle.console_lines.specs.Commands
 
@@ -49,7 +49,7 @@ goOn l v e =
 -- the word from a to e is a number: digits only, and no larger than its limit
 unfoldable pub withNumber : List ℕ → Line → ℕ → ℕ → Line
 withNumber s l a e =
-    pick (ltb (reach Digit s a) e) (withFault l Commands.notNumber (reach Digit s a))
+    pick (ltb (runEnd Digit s a) e) (withFault l Commands.notNumber (runEnd Digit s a))
     (pick (tooLarge (Commands.limitOf (l .command) (l .count)) (amount 0 (drop a s)))
     (withFault l (Commands.oversized (l .command)) a)
     (goOn l (amount 0 (drop a s)) e))
@@ -70,7 +70,7 @@ withKind w l a e =
 -- the word from a to e is hexadecimal: an even count of digits. Kept are its two ends
 unfoldable pub withHex : List ℕ → Line → ℕ → ℕ → Line
 withHex s l a e =
-    pick (ltb (reach Hex s a) e) (withFault l Commands.badHex (reach Hex s a))
+    pick (ltb (runEnd Hex s a) e) (withFault l Commands.badHex (runEnd Hex s a))
     (pick (eqb ((e - a) % 2) 1) (withFault l Commands.oddHex a)
     (record {
       command = l .command;
@@ -82,21 +82,21 @@ withHex s l a e =
 
 -- the word that starts at a
 unfoldable pub wordAt : List ℕ → ℕ → List ℕ
-wordAt s a = take (reach Word s a - a) (drop a s)
+wordAt s a = take (runEnd Word s a - a) (drop a s)
 
 -- the next word starts at a, and there is one
 unfoldable pub withWord : List ℕ → Line → ℕ → Line
 withWord s l a =
     pick (leb (Commands.mostOf (l .command)) (l .count)) (withFault l (Commands.crowded (l .command)) a)
-    (pick (Commands.takesHex (l .command)) (withHex s l a (reach Word s a))
-    (pick (Commands.takesKind (l .command) (l .count)) (withKind (wordAt s a) l a (reach Word s a))
-    (withNumber s l a (reach Word s a))))
+    (pick (Commands.takesHex (l .command)) (withHex s l a (runEnd Word s a))
+    (pick (Commands.takesKind (l .command) (l .count)) (withKind (wordAt s a) l a (runEnd Word s a))
+    (withNumber s l a (runEnd Word s a))))
 
 -- the next word of the line, or its end
 unfoldable pub step : List ℕ → Line → Line
 step s l =
-    pick (ltb (reach Separator s (l .place)) (length s)) (withWord s l (reach Separator s (l .place)))
-    (ended l (reach Separator s (l .place)))
+    pick (ltb (runEnd Separator s (l .place)) (length s)) (withWord s l (runEnd Separator s (l .place)))
+    (ended l (runEnd Separator s (l .place)))
 
 -- the first word, at a, is the command v
 unfoldable pub withVerb : ℕ → ℕ → ℕ → Line
@@ -116,10 +116,10 @@ hash = 35
 unfoldable pub begun : List ℕ → Line
 begun s =
     pick (ltb longest (length s)) (withFault blank Commands.tooLong longest)
-    (pick (ltb (reach Separator s 0) (length s))
-    (pick (eqb (getD s (reach Separator s 0) 0) hash) blank
-    (withVerb (Commands.verbOf (wordAt s (reach Separator s 0))) (reach Separator s 0)
-    (reach Word s (reach Separator s 0))))
+    (pick (ltb (runEnd Separator s 0) (length s))
+    (pick (eqb (getD s (runEnd Separator s 0) 0) hash) blank
+    (withVerb (Commands.verbOf (wordAt s (runEnd Separator s 0))) (runEnd Separator s 0)
+    (runEnd Word s (runEnd Separator s 0))))
     blank)
 
 -- reading on, at most so many words, until the line is whole or faulty

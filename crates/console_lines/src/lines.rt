@@ -75,7 +75,7 @@ fn take_number(s: &[u8], line: Line, a: usize, e: usize) -> Line
     requires { ⌜ line .count < numbersMost ⌝ }
     ensures { λ r. ⌜ r ≡ withNumber (now (s .entry)) line a e ⌝ }
 {
-    let p = bytes::reach(s, a, Sort::Digit);
+    let p = bytes::run_end(s, a, Sort::Digit);
     if p < e {
         return faulted(line, commands::NOT_NUMBER, p);
     }
@@ -114,7 +114,7 @@ fn take_hex(s: &[u8], line: Line, a: usize, e: usize) -> Line
     requires { ⌜ a ≤ e ⌝ }
     ensures { λ r. ⌜ r ≡ withHex (now (s .entry)) line a e ⌝ }
 {
-    let p = bytes::reach(s, a, Sort::Hex);
+    let p = bytes::run_end(s, a, Sort::Hex);
     if p < e {
         return faulted(line, commands::BAD_HEX, p);
     }
@@ -139,7 +139,7 @@ fn take_word(s: &[u8], line: Line, a: usize) -> Line
     if commands::most(command) <= count {
         return faulted(line, commands::crowded_fault(command), a);
     }
-    let e = bytes::reach(s, a, Sort::Word);
+    let e = bytes::run_end(s, a, Sort::Word);
     if commands::takes_hex(command) {
         return take_hex(s, line, a, e);
     }
@@ -154,7 +154,7 @@ fn step(s: &[u8], line: Line) -> Line
     ensures { λ r. ⌜ r ≡ stepped (now (s .entry)) line ⌝ }
 {
     let place = line.place;
-    let a = bytes::reach(s, place, Sort::Separator);
+    let a = bytes::run_end(s, place, Sort::Separator);
     if a < s.len() {
         return take_word(s, line, a);
     }
@@ -183,12 +183,12 @@ fn begin(s: &[u8]) -> Line
     if LONGEST < s.len() {
         return faulted(empty(), commands::TOO_LONG, LONGEST);
     }
-    let a = bytes::reach(s, 0, Sort::Separator);
+    let a = bytes::run_end(s, 0, Sort::Separator);
     if a < s.len() {
         if s[a] == b'#' {
             return empty();
         }
-        let e = bytes::reach(s, a, Sort::Word);
+        let e = bytes::run_end(s, a, Sort::Word);
         return take_verb(commands::verb(&s[a..e]), a, e);
     }
     empty()

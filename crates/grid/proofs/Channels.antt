@@ -23,6 +23,8 @@ use Rattle.grid.proofs.Numbers.{mod-unique, mod-same, pow-part, top-uni
 unfoldable pub lifted : ℕ → ℕ → ℕ → ℕ
 lifted A k j = j + 1 + (2 ^ k - 2 ^ (k - A))
 
+-- ---- one natural for the shifted grid
+
 -- the floor remainder of a difference: as many multiples of m added as keep it a natural number
 pub diff-rem : (j s m q : ℕ) → 0 < m → s ≤ j + m * q → floorRem (pos j -ℤ pos s) m ≡ (j + m * q - s) % m
 unfolding floorRem
@@ -56,6 +58,8 @@ unfolding channelCell cellOf segment
 cell-lifted A K k d t l =
     rw (rem-lifted A k d (t / slot K k) l)
     (let p : 0 < 2 ^ d = pow-pos d in ap (λ n. n * slot K k + t % slot K k) (omega arith))
+
+-- ---- from one count to the next
 
 -- the lifted slot of one count more: Theorem 1 and the added channel follow from this equation
 pub lifted-half : (A k j : ℕ) → A ≤ k → lifted A (suc k) j + 1 ≡ 2 * lifted A k (j / 2) + j % 2
@@ -135,6 +139,8 @@ module _ (A K k t : ℕ) (low : A ≤ k) (high : k < K) where
       ⊎-elim (λ h. rw h (raise-same d l (eqb-true (turn A K k t % 2 ^ suc d) 0 h)))
       (λ h. rw h (raise-next d l (ne-zero-pos (turn A K k t % 2 ^ suc d) (eqb-false (turn A K k t % 2 ^ suc d) 0 h))))
       (decide (eqb (turn A K k t % 2 ^ suc d) 0))
+
+-- ---- apart, in a period, within the film
 
 -- the k cells of a count at a tick are distinct
 pub distinct : (A K k t i j : ℕ) → A ≤ k → k ≤ K → i < k → j < k → channelCell A K k i t ≡ channelCell A K k j t → i ≡ j

@@ -18,6 +18,8 @@ use Rattle.grid.proofs.Numbers.{divides-lower}
 use Rattle.grid.proofs.Channels.{turn, raised, raise, channel-period}
 pub use Rattle.grid.proofs.Channels.{distinct}
 
+-- ---- the set as a test
+
 -- the test says what the set says
 pub isInG-in : (A K k t c : ℕ) → InG A K k t c → isInG A K k t c ≡ true
 unfolding isInG
@@ -66,6 +68,8 @@ module _ (A K k t : ℕ) where
       ⊎-elim (λ h. omega (arith, raised-below d (ltb-true d (spare A K k t) h), ltb-true d (spare A K k t) h))
       (λ h. omega (arith, raised-above d (ltb-false d (spare A K k t) h) l, ltb-false d (spare A K k t) h))
       (decide (ltb d (spare A K k t)))
+
+-- ---- the added channel
 
 -- below the floor a lane carries its channel of count A
 pub lane-channel : (A K l t : ℕ) → l < A → laneCell A K l t ≡ channelCell A K A l t
@@ -127,6 +131,8 @@ module _ (A K k t : ℕ) (low : A ≤ k) (high : k < K) where
   pub lane-spare : laneCell A K k t ≡ channelCell A K (suc k) (spare A K k t) t
   lane-spare = lane-added A K k t low ∙ ap (λ d. channelCell A K (suc k) d t) added-spare
 
+-- ---- containment, and one cell more
+
 -- Corollary 1 of source 000: G(k, t) lies within G(k + 1, t)
 pub nested : (A K k t c : ℕ) → A ≤ k → k < K → InG A K k t c → InG A K (suc k) t c
 nested A K k t c low high m =
@@ -161,6 +167,8 @@ nested-up A K k t c (suc n) low high m =
 pub nested-to : (A K k m t c : ℕ) → A ≤ k → k ≤ m → m ≤ K → InG A K k t c → InG A K m t c
 nested-to A K k m t c low l high i =
     let e : k + (m - k) ≡ m = omega arith in rw e at (nested-up A K k t c (m - k) low (omega arith) i)
+
+-- ---- lanes and cells
 
 pub cell-of-lane : (A K k l t : ℕ) → A ≤ k → k ≤ K → l < k → InG A K k t (laneCell A K l t)
 cell-of-lane A K k l t low high b =
@@ -208,6 +216,8 @@ lanes-apart A K l m t floor a b e =
     (λ h. ⊎-elim (λ g. absurd (lane-before A K m l t floor (ltb-true m l g) a (sym e)))
     (λ g. le-antisymm (ltb-false m l g) (ltb-false l m h)) (decide (ltb m l)))
     (decide (ltb l m))
+
+-- ---- the period
 
 -- lanes repeat with the grid's period
 module _ (A K t n : ℕ) (floor : A ≤ K) where

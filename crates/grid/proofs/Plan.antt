@@ -23,6 +23,8 @@ use Rattle.grid.proofs.Ticks.{slot-pos, all-cells, half-cells, slot-sta
 use Rattle.grid.proofs.Numbers.{mod-unique, div-unique, top-unique}
 use Rattle.grid.proofs.Channels.{lifted, cell-lifted, lifted-add, cell-within}
 
+-- ---- what a box takes
+
 -- a box takes cell c from channel d at tick t
 pub record Taken (A K k a c t d : ℕ) : Type 0 where
   pub channel : d < k
@@ -81,6 +83,8 @@ film-taken D A K k c p low high h =
 unfoldable pub wait : ℕ → ℕ → ℕ → ℕ → ℕ → ℕ → ℕ
 wait A K k a c d = (c / slot K k + 1 + (2 ^ d - lifted A k (a / slot K k) % 2 ^ d)) % 2 ^ d
 
+-- ---- the one channel of a cell
+
 -- a channel that has a cell on it is the one that carries it
 pub carries-only : (A K k d t : ℕ) → d ≤ k → Carrier K k (channelCell A K k d t) d
 carries-only A K k d t l =
@@ -115,6 +119,8 @@ unfolding isInG
 in-cells A K k t c high l =
     some-none (λ d. eqb (channelCell A K k d t) c) k
     (λ d b. ne-eqb (channelCell A K k d t) c (λ e. omega (arith, e, cell-within A K k d t high b)))
+
+-- ---- when that channel has it
 
 pub wait-lt : (A K k a c d : ℕ) → wait A K k a c d < 2 ^ d
 unfolding wait
@@ -213,6 +219,8 @@ carrier K k c l h =
     let r = leading-top k (c / w + 1) (omega arith) (omega arith) in
     (r .0, omega (arith, r .1), record { low = r .2; high = r .3 })
 
+-- ---- once, and in time
+
 -- a box takes a cell once: at one tick, from one channel
 pub once : (A K k a c t d u e : ℕ) → isSlotStart K k a ≡ true → Taken A K k a c t d → Taken A K k a c u e →
     (t ≡ u) × (d ≡ e)
@@ -236,6 +244,8 @@ in-time A K k a c low high start h =
       omega (arith, div-add-mod' c w),
       taken-in A K k a c (a + (wait A K k a c d * w + c % w)) d (wait-taken A K k a c d start (r .1) (r .2)),
     )
+
+-- ---- the number that the plan gives
 
 -- the tick minus a at which cell c comes on channel d
 abbrev pub due : ℕ → ℕ → ℕ → ℕ → ℕ → ℕ → ℕ

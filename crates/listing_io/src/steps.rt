@@ -3,7 +3,7 @@
 use super::lines::put_last;
 use super::lines::put_line;
 use agent::Agent;
-use agent::turn;
+use agent::heed;
 use notice::Found;
 use notice::LONGEST;
 use notice::Notice;
@@ -42,7 +42,7 @@ fn held_after(agent: Agent, answer: u8, time: u64) -> u64
 fn list_notice(agent: Agent, n: Notice, end: usize, out: &mut [u8]) -> Listed
     ensures { λ r. ⌜ Lists agent (found.At n end) end (now (out .entry)) r (now (out .exit)) ⌝ }
 {
-    let followed = turn(agent, n);
+    let followed = heed(agent, n);
     let answer = followed.answer;
     let next = followed.agent;
     let held = held_after(next, answer, n.time);

@@ -16,7 +16,7 @@ use Rattle.rules.proofs.Search.{below-suc}
 use Rattle.grid.specs.Ticks.{cells, slot}
 use Rattle.grid.specs.Plan.{planAt, planAnswer, inPlan, never}
 use Rattle.grid.proofs.Plan.{plan-in, plan-only, plan-never}
-use Rattle.plan.specs.Row.{written, rowAfter, Planned}
+use Rattle.plan.specs.Row.{written, planRow, Planned}
 use Rattle.plan.proofs.Refusals.{accepted-only}
 
 module _ (f : ℕ → ℕ) (row : List ℕ) where
@@ -39,47 +39,47 @@ module _ (f : ℕ → ℕ) (row : List ℕ) where
       (below-suc i n h)
 
 module _ (A K k a : ℕ) (row : List ℕ) where
-  pub row-done : planAnswer A K k a (length row) ≡ done → rowAfter A K k a row ≡ written (planAt A K k a) row (cells K)
-  unfolding rowAfter
+  pub row-done : planAnswer A K k a (length row) ≡ done → planRow A K k a row ≡ written (planAt A K k a) row (cells K)
+  unfolding planRow
   row-done e = rw (eq-eqb (planAnswer A K k a (length row)) done e) refl
 
   -- a refusal writes nothing
-  pub row-refused : (planAnswer A K k a (length row) ≡ done → ⊥) → rowAfter A K k a row ≡ row
-  unfolding rowAfter
+  pub row-refused : (planAnswer A K k a (length row) ≡ done → ⊥) → planRow A K k a row ≡ row
+  unfolding planRow
   row-refused h = rw (ne-eqb (planAnswer A K k a (length row)) done h) refl
 
-  pub row-length : length (rowAfter A K k a row) ≡ length row
-  unfolding rowAfter
+  pub row-length : length (planRow A K k a row) ≡ length row
+  unfolding planRow
   row-length =
       elim (eqb (planAnswer A K k a (length row)) done) as (λ b. length (pick b (written (planAt A K k a) row (cells K)) row) ≡ length row)
       [ true ↦ written-length (planAt A K k a) row (cells K) | false ↦ refl ]
 
   module _ (accepted : planAnswer A K k a (length row) ≡ done) where
     -- the first 2^K places hold the plan
-    pub row-first : (c : ℕ) → c < cells K → getD (rowAfter A K k a row) c 0 ≡ planAt A K k a c
+    pub row-first : (c : ℕ) → c < cells K → getD (planRow A K k a row) c 0 ≡ planAt A K k a c
     row-first c l =
         ap (λ r. getD r c 0) (row-done accepted)
         ∙ written-first (planAt A K k a) row (cells K) c (accepted-only A K k a (length row) accepted .room) l
 
     -- and no later one is touched
-    pub row-later : (c : ℕ) → cells K ≤ c → getD (rowAfter A K k a row) c 0 ≡ getD row c 0
+    pub row-later : (c : ℕ) → cells K ≤ c → getD (planRow A K k a row) c 0 ≡ getD row c 0
     row-later c l = ap (λ r. getD r c 0) (row-done accepted) ∙ written-later (planAt A K k a) row (cells K) c l
 
     -- every cell but the last w is taken at the number in its place, no later than its turn
     pub row-taken : (c : ℕ) → c < cells K - slot K k →
-        (inPlan A K k a c (a + getD (rowAfter A K k a row) c 0) ≡ true) × (getD (rowAfter A K k a row) c 0 ≤ c)
+        (inPlan A K k a c (a + getD (planRow A K k a row) c 0) ≡ true) × (getD (planRow A K k a row) c 0 ≤ c)
     row-taken c l =
         let t = accepted-only A K k a (length row) accepted in
         rw (row-first c (omega arith)) (plan-in A K k a c (t .count .fit) (t .start) (t .count .floor) l)
 
     -- and at no other tick
-    pub row-only : (c t : ℕ) → c < cells K → inPlan A K k a c t ≡ true → getD (rowAfter A K k a row) c 0 ≡ t - a
+    pub row-only : (c t : ℕ) → c < cells K → inPlan A K k a c t ≡ true → getD (planRow A K k a row) c 0 ≡ t - a
     row-only c t l h =
         let u = accepted-only A K k a (length row) accepted in
         row-first c l ∙ plan-only A K k a c (u .count .fit) (u .start) t h
 
     -- the last w are never taken
-    pub row-never : (c : ℕ) → cells K - slot K k ≤ c → c < cells K → getD (rowAfter A K k a row) c 0 ≡ never
+    pub row-never : (c : ℕ) → cells K - slot K k ≤ c → c < cells K → getD (planRow A K k a row) c 0 ≡ never
     row-never c l h =
         let t = accepted-only A K k a (length row) accepted in
         row-first c h ∙ plan-never A K k a c (t .count .fit) (t .start) l

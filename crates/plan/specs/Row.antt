@@ -14,11 +14,11 @@ written f row zero = row
 written f row (suc n) = set (written f row n) n (f n)
 
 -- the plan goes into the first 2^K places; a refusal writes nothing
-unfoldable pub rowAfter : ℕ → ℕ → ℕ → ℕ → List ℕ → List ℕ
-rowAfter A K k a row =
+unfoldable pub planRow : ℕ → ℕ → ℕ → ℕ → List ℕ → List ℕ
+planRow A K k a row =
     pick (eqb (planAnswer A K k a (length row)) done) (written (planAt A K k a) row (cells K)) row
 
 -- what the call settles: the answer r, and the row that it leaves
 pub record Planned (A K k a : ℕ) (row : List ℕ) (r : ℕ) (after : List ℕ) : Type 0 where
   pub answer : r ≡ planAnswer A K k a (length row)
-  pub left : after ≡ rowAfter A K k a row
+  pub left : after ≡ planRow A K k a row

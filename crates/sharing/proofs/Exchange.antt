@@ -10,7 +10,7 @@ use Prim.Native.Nat.{ℕ, zero, suc, _+_, _-_, _≤_, _<_}
 use native.Mathlib.Omega.{arith}
 use lib.ListN.{length, getD, set, length-set}
 use lib.Seq.{getD-set-same, getD-set-other, ext-getD}
-use Rattle.sharing.specs.declared.titles.Title.{Title}
+use Rattle.sharing.specs.declared.titles.Rated.{Rated}
 use Rattle.sharing.specs.Titles.{titleAt, rowTotal}
 use Rattle.sharing.specs.Term.{fall}
 use Rattle.sharing.specs.Choice.{sumOf, atLeast, prefers, Way, Choice, Shared}
@@ -21,7 +21,7 @@ use Rattle.sharing.proofs.term.Laws.{falls, fall-rest}
 
 -- a lane given to title i at count a was worth at least as much as one withheld from title j at count b, and more where
 -- j comes first
-pub record Given (ts : List Title) (c : List ℕ) : Type 0 where
+pub record Given (ts : List Rated) (c : List ℕ) : Type 0 where
   pub worth-it : (i j a b : ℕ) → i < length ts → j < length ts → titleAt ts i .floor ≤ a → a < getD c i 0
       → getD c j 0 ≤ b → b < titleAt ts j .cap
       → fall (titleAt ts j) b ≤ fall (titleAt ts i) a
@@ -30,7 +30,7 @@ pub record Given (ts : List Title) (c : List ℕ) : Type 0 where
       → fall (titleAt ts j) b < fall (titleAt ts i) a
 
 -- counts so given, until the pool is used or every title is at its cap
-pub record Settled (pool : ℕ) (ts : List Title) (c : List ℕ) : Type 0 where
+pub record Settled (pool : ℕ) (ts : List Rated) (c : List ℕ) : Type 0 where
   pub choice : Choice pool ts c
   pub given : Given ts c
   pub full : (rowTotal c ≡ pool) ⊎ ((j : ℕ) → j < length ts → titleAt ts j .cap ≤ getD c j 0)
@@ -59,7 +59,7 @@ gap (suc n) p q = go (gap n p q) (side (getD p n 0) (getD q n 0))
             by (same e) = rw e s
             by (more g) = absurd (omega arith)
 
-module _ (pool : ℕ) (ts : List Title) (ok : AllWeighable ts) (c x : List ℕ)
+module _ (pool : ℕ) (ts : List Rated) (ok : AllWeighable ts) (c x : List ℕ)
     (s : Settled pool ts c) (h : Shared pool ts x) where
   -- no choice has a lesser sum, nor the same sum and a better rank
   no-lesser : (y : List ℕ) → Choice pool ts y → sumOf ts y < sumOf ts x → ⊥

@@ -6,3 +6,4 @@ mod Sums
 pub mod Exchange
 pub mod Promise
 pub mod WhichWay
+pub mod Unique

@@ -9,7 +9,7 @@ use native.Mathlib.Omega.{arith}
 use native.Mathlib.Decide.{decLt}
 use lib.ListN.{length}
 use borrow.Author.Tests.{lt-ltb, le-ltb, eq-eqb, ne-eqb}
-use Rattle.sharing.specs.declared.titles.Title.{Title}
+use Rattle.sharing.specs.declared.titles.Rated.{Rated}
 use Rattle.sharing.specs.Choice.{lessOr, atLeast, prefers, sumOf}
 
 -- of two numbers the first is less, or it is not
@@ -112,7 +112,7 @@ least-antisym (a ∷ x) (b ∷ y) p h k =
     let e = or-antisym b a (atLeast x y) (atLeast y x) h k in
     ap₂ _∷_ (sym (e .0)) (least-antisym x y (omega arith) (e .1) (e .2))
 
-module _ (ts : List Title) (x y : List ℕ) where
+module _ (ts : List Rated) (x y : List ℕ) where
   pub prefers-total : (prefers ts x y ≡ true) ⊎ (prefers ts y x ≡ true)
   unfolding prefers
   prefers-total = or-total (sumOf ts x) (sumOf ts y) (atLeast x y) (atLeast y x) (least-total x y)
@@ -129,7 +129,7 @@ module _ (ts : List Title) (x y : List ℕ) where
   unfolding prefers
   prefers-trans z p q h k = or-trans (sumOf ts x) (sumOf ts y) (sumOf ts z) (λ r s. least-trans x y z p q r s) h k
 
-pub prefers-self : (ts : List Title) (x : List ℕ) → prefers ts x x ≡ true
+pub prefers-self : (ts : List Rated) (x : List ℕ) → prefers ts x x ≡ true
 prefers-self ts x = go (prefers-total ts x x)
   where
     go : (prefers ts x x ≡ true) ⊎ (prefers ts x x ≡ true) → prefers ts x x ≡ true

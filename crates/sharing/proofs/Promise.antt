@@ -1,4 +1,4 @@
--- What a caller may rely on beyond the contract's equations: two outcomes that it admits are the same; the counts
+-- What a caller may rely on beyond the contract's equations: the counts
 -- written are a choice to be preferred to every choice, with the least sum, and no other choice is; later places stay,
 -- and a refusal writes nothing. Rests on the search (proofs/Search).
 use mathlib.Core.Path.{_≡_, refl, sym, ap, _∙_}
@@ -10,17 +10,17 @@ use native.Mathlib.Omega.{arith}
 use lib.ListN.{length, drop, take}
 use lib.Seq.{drop-at, take-at}
 use Rattle.rules.specs.Refusals.{done}
-use Rattle.sharing.specs.declared.titles.Title.{Title}
+use Rattle.sharing.specs.declared.titles.Rated.{Rated}
 use Rattle.sharing.specs.Titles.{titles}
 use Rattle.sharing.specs.Choice.{Choice, Shared, prefers, sumOf, atLeast, shared}
-use Rattle.sharing.specs.Verdict.{verdictOf, rowAfter, Answered}
+use Rattle.sharing.specs.Verdict.{verdictOf, rowAfter}
 use Rattle.sharing.proofs.Order.{or-view}
 use Rattle.sharing.proofs.Search.{search-finds, only-one}
 use Rattle.sharing.proofs.titles.Laws.{titles-length, titles-floors}
 use Rattle.sharing.proofs.verdict.Laws.{ready, row-done, row-refused}
 
 -- the least sum, as 01 says it
-pub least : (pool : ℕ) (ts : List Title) (x y : List ℕ) → Shared pool ts x → Choice pool ts y → sumOf ts x ≤ sumOf ts y
+pub least : (pool : ℕ) (ts : List Rated) (x y : List ℕ) → Shared pool ts x → Choice pool ts y → sumOf ts x ≤ sumOf ts y
 unfolding prefers
 least pool ts x y s c = go (or-view (sumOf ts x) (sumOf ts y) (atLeast x y) (s .best y c))
   where
@@ -29,12 +29,6 @@ least pool ts x y s c = go (or-view (sumOf ts x) (sumOf ts y) (atLeast x y) (s .
     go (inr e) = omega arith
 
 module _ (pool : ℕ) (rates lengths floors caps row : List ℕ) where
-  -- the contract settles answer and row
-  pub one-outcome : {r s : ℕ} {a b : List ℕ} → Answered pool rates lengths floors caps row r a
-      → Answered pool rates lengths floors caps row s b
-      → (r ≡ s) × (a ≡ b)
-  one-outcome p q = (p .answer ∙ sym (q .answer), p .counts ∙ sym (q .counts))
-
   module _ (ok : verdictOf pool rates lengths floors caps (length row) ≡ done) where
     -- where nothing is refused, the search's counts are to be preferred to every choice
     pub is-shared : Shared pool (titles rates lengths floors caps) (shared pool (titles rates lengths floors caps))

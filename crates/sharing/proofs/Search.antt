@@ -12,13 +12,13 @@ use borrow.Author.Tests.{leb-true, le-leb}
 use Rattle.rules.specs.Limits.{both}
 use Rattle.rules.specs.Refusals.{pick}
 use Rattle.rules.proofs.Tests.{decide, both-l, both-r, both-in}
-use Rattle.sharing.specs.declared.titles.Title.{Title}
+use Rattle.sharing.specs.declared.titles.Rated.{Rated}
 use Rattle.sharing.specs.Titles.{titleAt, nobody, rowTotal}
 use Rattle.sharing.specs.Choice.{Way, Choice, Shared, prefers, from, ways, better, bestOf, shared}
 use Rattle.sharing.proofs.Order.{side, prefers-total, prefers-antisym, prefers-trans, prefers-self}
 
 -- one choice only is to be preferred to all
-pub only-one : (pool : ℕ) (ts : List Title) (x y : List ℕ) → Shared pool ts x → Shared pool ts y → x ≡ y
+pub only-one : (pool : ℕ) (ts : List Rated) (x y : List ℕ) → Shared pool ts x → Shared pool ts y → x ≡ y
 only-one pool ts x y p q =
     prefers-antisym ts x y (p .choice .way .places ∙ sym (q .choice .way .places)) (p .best y (q .choice))
     (q .best x (p .choice))
@@ -69,7 +69,7 @@ module _ (P : List ℕ → Type 0) where
           let e : lo ≡ k = omega arith in
           subst (λ (m : ℕ). All P (g m)) e (all-front (g lo) (flatMap g (from (suc lo) n)) h)
 
-way-cons : (t : Title) (ts : List Title) (k : ℕ) (x : List ℕ) → t .floor ≤ k → k ≤ t .cap → Way ts x
+way-cons : (t : Rated) (ts : List Rated) (k : ℕ) (x : List ℕ) → t .floor ≤ k → k ≤ t .cap → Way ts x
     → Way (t ∷ ts) (k ∷ x)
 way-cons t ts k x l h w = record { places = omega (arith, w .places); low = lows; high = highs }
   where
@@ -81,7 +81,7 @@ way-cons t ts k x l h w = record { places = omega (arith, w .places); low = lows
     highs zero b = h
     highs (suc i) b = w .high i (omega arith)
 
-way-tail : (t : Title) (ts : List Title) (k : ℕ) (x : List ℕ) → Way (t ∷ ts) (k ∷ x) → Way ts x
+way-tail : (t : Rated) (ts : List Rated) (k : ℕ) (x : List ℕ) → Way (t ∷ ts) (k ∷ x) → Way ts x
 way-tail t ts k x w =
     record {
       places = omega (arith, w .places);
@@ -90,7 +90,7 @@ way-tail t ts k x w =
     }
 
 -- what is listed is a way
-sound : (ts : List Title) → All (Way ts) (ways ts)
+sound : (ts : List Rated) → All (Way ts) (ways ts)
 unfolding ways
 sound [] = (record { places = refl; low = λ i h. absurd (omega arith); high = λ i h. absurd (omega arith) }, tt)
 sound (t ∷ ts) =
@@ -104,7 +104,7 @@ sound (t ∷ ts) =
     lift k a b (x ∷ xs) s = (way-cons t ts k x a b (s .0), lift k a b xs (s .1))
 
 -- every way is listed: what holds of all that is listed holds of it
-complete : (ts : List Title) (P : List ℕ → Type 0) → All P (ways ts) → (x : List ℕ) → Way ts x → P x
+complete : (ts : List Rated) (P : List ℕ → Type 0) → All P (ways ts) → (x : List ℕ) → Way ts x → P x
 unfolding ways
 complete [] P a [] w = a .0
 complete [] P a (k ∷ x) w = absurd (omega (arith, w .places))
@@ -116,7 +116,7 @@ complete (t ∷ ts) P a (k ∷ x) w =
     (omega (arith, w .low 0 (omega arith), w .high 0 (omega arith))) a))
     x (way-tail t ts k x w)
 
-module _ (pool : ℕ) (ts : List Title) where
+module _ (pool : ℕ) (ts : List Rated) where
   -- the better of a choice and a way is a choice, to be preferred to both
   record Better (x y b : List ℕ) : Type 0 where
     fits : Choice pool ts b
@@ -176,17 +176,17 @@ module _ (pool : ℕ) (ts : List Title) where
               (n .fits .way .places ∙ sym l) (b .first) p
 
 -- the floors are a choice where they are not above the caps and fit the pool
-pub floors-way : (ts : List Title) → ((i : ℕ) → i < length ts → titleAt ts i .floor ≤ titleAt ts i .cap)
+pub floors-way : (ts : List Rated) → ((i : ℕ) → i < length ts → titleAt ts i .floor ≤ titleAt ts i .cap)
     → Way ts (map (λ t. t .floor) ts)
 floors-way ts h =
     record {
       places = length-map ts (λ t. t .floor);
-      low = λ i l. omega (arith, List·getD-map (λ (t : Title). t .floor) ts i nobody);
-      high = λ i l. omega (arith, List·getD-map (λ (t : Title). t .floor) ts i nobody, h i l);
+      low = λ i l. omega (arith, List·getD-map (λ (t : Rated). t .floor) ts i nobody);
+      high = λ i l. omega (arith, List·getD-map (λ (t : Rated). t .floor) ts i nobody, h i l);
     }
 
 -- the search finds what is to be preferred to every choice
-pub search-finds : (pool : ℕ) (ts : List Title) → ((i : ℕ) → i < length ts → titleAt ts i .floor ≤ titleAt ts i .cap)
+pub search-finds : (pool : ℕ) (ts : List Rated) → ((i : ℕ) → i < length ts → titleAt ts i .floor ≤ titleAt ts i .cap)
     → rowTotal (map (λ t. t .floor) ts) ≤ pool → Shared pool ts (shared pool ts)
 unfolding shared
 search-finds pool ts h r =

@@ -7,7 +7,7 @@ use Prim.Native.Nat.{ℕ, zero, suc, _+_, _≤_, _<_}
 use native.Mathlib.Omega.{arith}
 use lib.ListN.{length, getD, set, length-set}
 use lib.Seq.{getD-set-same, getD-set-other}
-use Rattle.sharing.specs.declared.titles.Title.{Title}
+use Rattle.sharing.specs.declared.titles.Rated.{Rated}
 use Rattle.sharing.specs.Titles.{titleAt, rowTotal}
 use Rattle.sharing.specs.Term.{term}
 use Rattle.sharing.specs.Choice.{sumOf, atLeast, Way}
@@ -27,7 +27,7 @@ total-mono (k ∷ x) [] e h = absurd (omega arith)
 total-mono (k ∷ x) (l ∷ y) e h =
     omega (arith, h 0 (omega arith), total-mono x y (omega arith) (λ i g. h (suc i) (omega arith)))
 
-pub sum-set : (ts : List Title) (x : List ℕ) (i v : ℕ) → i < length ts → length x ≡ length ts
+pub sum-set : (ts : List Rated) (x : List ℕ) (i v : ℕ) → i < length ts → length x ≡ length ts
     → sumOf ts (set x i v) + term (titleAt ts i) (getD x i 0) ≡ sumOf ts x + term (titleAt ts i) v
 unfolding sumOf
 sum-set [] x i v h e = absurd (omega arith)
@@ -58,7 +58,7 @@ raised n p q a b i l g up =
     (omega (arith, length-set p i (suc (getD p i 0)))))
 
 -- a count set within floor and cap leaves a way a way
-pub way-set : (ts : List Title) (x : List ℕ) → Way ts x → (i v : ℕ) → i < length ts → titleAt ts i .floor ≤ v
+pub way-set : (ts : List Rated) (x : List ℕ) → Way ts x → (i v : ℕ) → i < length ts → titleAt ts i .floor ≤ v
     → v ≤ titleAt ts i .cap
     → Way ts (set x i v)
 way-set ts x w i v l f c =

@@ -5,16 +5,16 @@ use Prim.Native.Nat.{ℕ, suc, _*_, _-_}
 use lib.Dec.{ltb}
 use Rattle.rules.specs.Refusals.{pick}
 use Rattle.grid.specs.Ticks.{tickOf, slot}
-use Rattle.sharing.specs.declared.titles.Title.{Title}
+use Rattle.sharing.specs.declared.titles.Rated.{Rated}
 
 -- the title's part of the sum with count k: its rate times the ms in a slot
-unfoldable pub term : Title → ℕ → ℕ
+unfoldable pub term : Rated → ℕ → ℕ
 term t k = t .rate * (tickOf (t .length) (t .floor) (t .cap) * slot (t .cap) k)
 
 -- by how much the part falls with one lane more
-unfoldable pub fall : Title → ℕ → ℕ
+unfoldable pub fall : Rated → ℕ → ℕ
 fall t k = term t k - term t (suc k)
 
 -- what one lane more is worth to a title with count k: nothing at its cap
-unfoldable pub worth : Title → ℕ → ℕ
+unfoldable pub worth : Rated → ℕ → ℕ
 worth t k = pick (ltb k (t .cap)) (fall t k) 0

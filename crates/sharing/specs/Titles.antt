@@ -3,17 +3,17 @@ use mathlib.Core.Path.{_≡_}
 use mathlib.Core.List.{List, [], _∷_}
 use Prim.Native.Nat.{ℕ, _+_}
 use lib.ListN.{length, getD}
-use Rattle.sharing.specs.declared.titles.Title.{Title}
+use Rattle.sharing.specs.declared.titles.Rated.{Rated}
 
 -- what is read past the last title
-abbrev pub nobody : Title
+abbrev pub nobody : Rated
 nobody = record { rate = 0; length = 0; floor = 0; cap = 0 }
 
-abbrev pub titleAt : List Title → ℕ → Title
+abbrev pub titleAt : List Rated → ℕ → Rated
 titleAt ts i = getD ts i nobody
 
 -- the titles whose rates, lengths, floors and caps stand in four rows, as far as all four go
-unfoldable pub titles : List ℕ → List ℕ → List ℕ → List ℕ → List Title
+unfoldable pub titles : List ℕ → List ℕ → List ℕ → List ℕ → List Rated
 titles [] ds fs cs = []
 titles (r ∷ rs) [] fs cs = []
 titles (r ∷ rs) (d ∷ ds) [] cs = []

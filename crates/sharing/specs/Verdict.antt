@@ -8,7 +8,7 @@ use lib.ListN.{length, drop}
 use Rattle.rules.specs.Limits.{within, both, poolMin, poolMax, rateMin, rateMax, lengthMin, lengthMax}
 use Rattle.rules.specs.Limits.{floorMin, floorMax, countMin, countMax, titlesMax}
 use Rattle.rules.specs.Refusals.{pick, refuse, firstHit, done, outsideLimits, floorAboveCap, noLanes, wrongRows}
-use Rattle.sharing.specs.declared.titles.Title.{Title}
+use Rattle.sharing.specs.declared.titles.Rated.{Rated}
 use Rattle.sharing.specs.declared.verdict.Tally.{Tally}
 use Rattle.sharing.specs.Titles.{titles, rowTotal}
 use Rattle.sharing.specs.Choice.{shared}
@@ -22,23 +22,23 @@ rowsFit rates lengths floors caps room =
     (both (leb (length rates) titlesMax) (leb (length rates) room))))
 
 -- each number of a title is within its limits (01, "What the product holds")
-unfoldable pub allowed : Title → Bool
+unfoldable pub allowed : Rated → Bool
 allowed t =
     both (within rateMin rateMax (t .rate))
     (both (within lengthMin lengthMax (t .length))
     (both (within floorMin floorMax (t .floor)) (within countMin countMax (t .cap))))
 
 -- the title's floor is not above its cap
-unfoldable pub ordered : Title → Bool
+unfoldable pub ordered : Rated → Bool
 ordered t = leb (t .floor) (t .cap)
 
 -- every title passes a test
-unfoldable pub eachTitle : (Title → Bool) → List Title → Bool
+unfoldable pub eachTitle : (Rated → Bool) → List Rated → Bool
 eachTitle p [] = true
 eachTitle p (t ∷ ts) = both (p t) (eachTitle p ts)
 
 -- what the code's one look at every title tells
-pub record Tallied (ts : List Title) (r : Tally) : Type 0 where
+pub record Tallied (ts : List Rated) (r : Tally) : Type 0 where
   pub limits : r .allowed ≡ eachTitle allowed ts
   pub order : r .ordered ≡ eachTitle ordered ts
 

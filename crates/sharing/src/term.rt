@@ -2,11 +2,11 @@
 ghost use mathlib.Core.Path.{_≡_};
 ghost use Rattle.sharing.specs.Term.{worth};
 ghost use Rattle.sharing.specs.Giving.{Weighable};
-use super::titles::Title;
+use super::titles::Rated;
 
 // What the sum loses when the title with count k gets one lane more, a whole number; 0 at its cap. A lane more halves
 // the slot, so that what is lost is as much as what is left.
-pub fn gain(t: Title, k: u32) -> u64
+pub fn gain(t: Rated, k: u32) -> u64
     requires { ⌜ Weighable t ⌝ }
     ensures { λ r. ⌜ r ≡ worth t k ⌝ }
 {

@@ -6,7 +6,7 @@ ghost use Rattle.rules.specs.Limits.{titlesMax};
 ghost use Rattle.sharing.specs.Titles.{titleAt, titles, rowTotal, Even};
 
 // What the sharing knows of a title.
-pub struct Title {
+pub struct Rated {
     pub rate: u32,
     pub length: u32,
     pub floor: u32,
@@ -14,13 +14,13 @@ pub struct Title {
 }
 
 // The title at a place of the rows.
-pub fn title_at(rates: &[u32], lengths: &[u32], floors: &[u32], caps: &[u32], i: usize) -> Title
+pub fn title_at(rates: &[u32], lengths: &[u32], floors: &[u32], caps: &[u32], i: usize) -> Rated
     requires { ⌜ Even (now rates) (now lengths) (now floors) (now caps) ⌝ }
     requires { ⌜ i < length (now rates) ⌝ }
     ensures { λ r. ⌜ r
         ≡ titleAt (titles (now (rates .entry)) (now (lengths .entry)) (now (floors .entry)) (now (caps .entry))) i ⌝ }
 {
-    Title {
+    Rated {
         rate: rates[i],
         length: lengths[i],
         floor: floors[i],

@@ -1,9 +1,10 @@
 // Which sharings are refused, and with which number.
+use rules::truth::also;
 ghost use mathlib.Core.Path.{_≡_};
 ghost use Rattle.rules.specs.Limits.{both};
 ghost use Rattle.sharing.specs.Titles.{titles, Even};
 ghost use Rattle.sharing.specs.Verdict.{rowsFit, allowed as allowedOf, Tallied, verdictOf};
-use super::titles::Title;
+use super::titles::Rated;
 use super::titles::floor_total;
 use super::titles::title_at;
 use rules::within;
@@ -14,13 +15,6 @@ pub struct Tally {
     pub allowed: bool,
     // no floor is above its cap
     pub ordered: bool,
-}
-
-// Both tests hold.
-fn also(a: bool, b: bool) -> bool
-    ensures { λ r. ⌜ r ≡ both a b ⌝ }
-{
-    if a { b } else { false }
 }
 
 // Four rows of one length, at most sixteen titles, and room for their counts.
@@ -37,7 +31,7 @@ fn rows_fit(rates: &[u32], lengths: &[u32], floors: &[u32], caps: &[u32], room: 
 }
 
 // Each number of the title is within its limits.
-fn allowed(t: Title) -> bool
+fn allowed(t: Rated) -> bool
     ensures { λ r. ⌜ r ≡ allowedOf t ⌝ }
 {
     let rate = within(rules::RATE_MIN, rules::RATE_MAX, t.rate as u64);

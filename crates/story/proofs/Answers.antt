@@ -33,6 +33,8 @@ use Rattle.story.proofs.Passed.{within-low, within-high}
 use Rattle.story.proofs.Tells.{TellsTitle, absent, present, Tells, opened-present, count-told, there-told}
 use Rattle.story.proofs.Tells.{closing-told, lanes-told, told-with, blank-away}
 
+-- ---- an open title, told from its life
+
 -- a title that is open: the rule of its life, its count and its latest event
 record Open (L : Life) (m : ℕ) (t : Title) (τ : ℕ) : Type 0 where
   rule : ℕ → ℕ
@@ -66,6 +68,8 @@ close-slot A c = omega arith
 -- the life that a turned title tells has the title's own numbers
 life-turned : (t : Title) (τ q m c : ℕ) (r : ℕ → ℕ) → lifeIn (turnedTitle t τ q m c) r ≡ lifeIn t r
 life-turned t τ q m c r = ap (λ x. lifeIn x r) (turned-laid t τ q m c)
+
+-- ---- the answers, and the states after them
 
 module _ (lanes : ℕ) (es : List Event) (s : State) (w : Tells lanes es s) where
   -- the pool is too small for the state after an event just where it is for the sequence after it

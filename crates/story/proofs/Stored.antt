@@ -27,6 +27,8 @@ use Rattle.story.proofs.Ruled.{isRuling, lastEnd, Ruled, Legal, admitte
 use Rattle.story.specs.Kept.{wantsFrom, wants, keptOwed}
 use Rattle.story.proofs.Owed.{owed-in, owed-out}
 
+-- ---- slot starts as remainders
+
 -- the remainder by a slot is 0 at a slot start
 pub slot-start-zero : (K k t : ℕ) → isSlotStart K k t ≡ true → t % slot K k ≡ 0
 unfolding isSlotStart
@@ -56,6 +58,8 @@ multiple-less : (w e : ℕ) → 0 < w → e % w ≡ 0 → w ≤ e → (e - w) % 
 multiple-less w e p ze l =
     let de : e / w * w + e % w ≡ e = div-add-mod' e w in
     mod-unique w 0 (e - w) 1 (e / w) p (omega arith)
+
+-- ---- where a count last ended
 
 module _ (L : Life) (legal : Legal L) (c : ℕ) (low : L .floor ≤ c) where
   -- a count begins and ends at its own slot starts
@@ -162,6 +166,8 @@ module _ (L : Life) (ruled : Ruled L) (legal : Legal L) (l T u : ℕ) (lane : l 
         rule,
         rw rule (both-in (ltb 0 c) (isSlotStart (L .cap) c a) (lt-ltb 0 c (omega arith)) start),
       )
+
+-- ---- the stored numbers
 
 -- the life that a stored title tells, under a rule
 abbrev pub lifeIn : Title → (ℕ → ℕ) → Life

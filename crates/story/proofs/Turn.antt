@@ -31,6 +31,8 @@ use Rattle.story.proofs.Kept.{Sized, Present, tick-some}
 use Rattle.story.proofs.Rows.{filled, set-high, filled-length, filled-high, filled-in, filled-out, withRows}
 use Rattle.story.proofs.Rows.{isDropped, drop-rows}
 
+-- ---- a turn, and the rows that it leaves
+
 -- an open title turns to q lanes at τ; its stored mode and count become m and c
 pub record Turning (t : Title) (r : ℕ → ℕ) (τ q m c : ℕ) : Type 0 where
   pub here : Present t r
@@ -73,12 +75,16 @@ pub open-ruling : (t : Title) → t .mode ≡ 1 → ruling t ≡ t .count
 unfolding ruling
 open-ruling t e = rw e refl
 
+-- ---- the rule before and after it
+
 -- below its tick a turn changes nothing, from it on the new count rules
 pub turn-before : (r : ℕ → ℕ) (n q u : ℕ) → u < n → turn r n q u ≡ r u
 turn-before r n q u l = pick-false (leb n u) q (r u) (lt-leb n u l)
 
 pub turn-from : (r : ℕ → ℕ) (n q u : ℕ) → n ≤ u → turn r n q u ≡ q
 turn-from r n q u l = pick-true (leb n u) q (r u) (le-leb n u l)
+
+-- ---- what a turned title keeps
 
 module _ (t : Title) (r : ℕ → ℕ) (τ q m c : ℕ) (h : Turning t r τ q m c) where
   -- the turn comes in a later tick than the latest event

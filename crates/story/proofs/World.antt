@@ -26,6 +26,8 @@ use Rattle.story.proofs.Turn.{turn-before}
 use Rattle.story.proofs.Passed.{Turned, opening, changing, closing, in-order}
 use Rattle.story.proofs.Lively.{Lively, lively, newest}
 
+-- ---- what stood at a moment
+
 -- the life as it stood at an earlier moment is the same opening, and its rule the same up to that moment
 pub record Stood (L M : Life) (τ : ℕ) : Type 0 where
   pub rule : ℕ → ℕ
@@ -117,6 +119,8 @@ air-stood lanes es high acc i l t τ pos h =
     rw (w .life, in-tick (L .opened) (tickLength L) pos τ t (h .from) (h .until))
     (air-local L (w .rule) l t
     (λ u le. w .agree u (let m : u * tickLength L ≤ t * tickLength L = mul-le-mul-right (tickLength L) le in omega (arith, h .from))))
+
+-- ---- a box, seen after more events
 
 -- a box of the life L, begun at tick a, seen after more events: the opening is still the id's latest, or it is over and
 -- every cell of the film has been received before the last event
@@ -220,6 +224,8 @@ module _ (lanes : ℕ) (es : List Event) (high : lanes ≤ poolMax) (acc : Accep
       absurd (omega (arith, Search.howMany-some (λ l. isHeldIn X l τ) (L .cap) (g .lane) (g .lane-low) held)))
       (decide (ltb (g .tick) n))
 
+-- ---- one more event
+
 -- a change or a close after the box's start turns only later ticks
 own-turn : (lanes : ℕ) (es : List Event) → lanes ≤ poolMax → Accepted lanes es → (i τ k : ℕ) → Turned es i τ →
     (L : Life) (a : ℕ) → momentOf L a < τ → (r : ℕ → ℕ) → lifeOf es i ≡ underRule L r →
@@ -297,6 +303,8 @@ follows : (lanes : ℕ) (es : List Event) → lanes ≤ poolMax → Accepted lan
 unfolding upTo lifeOf
 follows lanes es high none i τ a b = current (λ u. 0) refl (λ u le. refl)
 follows lanes es high (more {e = e} {es = es′} acc h) i τ a b = begun-or-more lanes e es′ high acc h i τ a b (follows lanes es′ high acc i τ a)
+
+-- ---- the demand
 
 -- demand 3: whatever accepted events follow, a box that begins at an admission finds every cell that holds film on a lane
 -- of its title, at or after its start and no later than the cell's turn

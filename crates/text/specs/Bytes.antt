@@ -35,8 +35,8 @@ run k [] = 0
 run k (b ∷ s) = pick (isSort k b) (suc (run k s)) 0
 
 -- the place of the line past the run that begins at i
-unfoldable pub reach : Sort → List ℕ → ℕ → ℕ
-reach k s i = i + run k (drop i s)
+unfoldable pub runEnd : Sort → List ℕ → ℕ → ℕ
+runEnd k s i = i + run k (drop i s)
 
 -- what a decimal digit is worth
 abbrev pub digitOf : ℕ → ℕ

@@ -2,7 +2,7 @@
 
 ghost use mathlib.Core.Path.{_≡_};
 ghost use Prim.Native.Nat.{_<_};
-ghost use Rattle.text.specs.Bytes.{isSort, reach as reached, digitOf};
+ghost use Rattle.text.specs.Bytes.{isSort, runEnd as reached, digitOf};
 
 // What a run of bytes may be made of.
 pub enum Sort {
@@ -58,7 +58,7 @@ pub fn is_sort(sort: Sort, b: u8) -> bool
 
 // The place past the run of such bytes that begins at from; from itself where none stands there, or past the line's
 // end.
-pub fn reach(s: &[u8], from: usize, sort: Sort) -> usize
+pub fn run_end(s: &[u8], from: usize, sort: Sort) -> usize
     ensures { λ r. ⌜ r ≡ reached sort (now (s .entry)) from ⌝ }
 {
     let mut i = from;

@@ -4,3 +4,4 @@ pub mod Answers
 pub mod Counting
 pub mod Reading
 pub mod Telling
+pub mod Unique

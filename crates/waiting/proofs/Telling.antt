@@ -73,8 +73,8 @@ module _ (pool : ℕ) (log : List ℕ) (title : ℕ) (xs : List ℕ) where
 
   -- ---- two outcomes that the report admits are equal
 
-  pub one-outcome : (r q : Report) → Reports pool log title xs r → Reports pool log title xs q → r ≡ q
-  one-outcome r q s t =
+  pub told-once : (r q : Report) → Reports pool log title xs r → Reports pool log title xs q → r ≡ q
+  told-once r q s t =
       let same : r .answer ≡ q .answer = s .answers ∙ sym (t .answers) in
       ⊎-elim
       (λ b.

@@ -8,7 +8,7 @@ use admissions::endless;
 use admissions::opened;
 use agent::Agent;
 use agent::fresh_agent;
-use agent::turn;
+use agent::heed;
 use notice::Found;
 use notice::Kind;
 use notice::Notice;
@@ -86,7 +86,7 @@ fn hear(agent: Agent, tally: Tally, n: Notice, title: u64, arrivals: &[u64]) -> 
     let s = agent.state;
     let t = s.titles[title as usize];
     let id = n.title;
-    let followed = turn(agent, n);
+    let followed = heed(agent, n);
     let answer = followed.answer;
     let next = followed.agent;
     if answer == DONE {

@@ -5,7 +5,7 @@ use crate::arrivals::take_text;
 use crate::lines::put_report;
 use libc::STDERR_FILENO;
 use text::bytes::Sort;
-use text::bytes::reach;
+use text::bytes::run_end;
 use text::digits::put_number;
 use text::numbers::spelt;
 use text::output::put;
@@ -71,7 +71,7 @@ fn number_given(i: usize) -> Given {
         return Given::NoNumber;
     }
     let word = &room[..n];
-    if reach(word, 0, Sort::Digit) < n {
+    if run_end(word, 0, Sort::Digit) < n {
         return Given::NoNumber;
     }
     let number = spelt(word, 0);

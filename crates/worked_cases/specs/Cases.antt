@@ -45,8 +45,8 @@ floor = 2
 abbrev pub cap : ℕ
 cap = 4
 
-abbrev pub length : ℕ
-length = 12
+abbrev pub filmLength : ℕ
+filmLength = 12
 
 abbrev pub filmCells : ℕ
 filmCells = cells cap
@@ -65,7 +65,7 @@ event τ a = record { time = τ; title = 0; act = a }
 
 -- the film of the cases, opened with a count
 abbrev pub film : ℕ → Event
-film k = event 0 (opens length floor cap k)
+film k = event 0 (opens filmLength floor cap k)
 
 -- any pool that has the lanes of the cases
 abbrev pub pool : ℕ
@@ -90,8 +90,8 @@ share D lanes rates =
 
 unfoldable pub table : List Case
 table =
-    case 0 (tickOf length floor cap ∷ []) (1 ∷ [])
-    ∷ case 0 (those (λ c. not (holdsFilm length floor cap c)) filmCells) (12 ∷ 13 ∷ 14 ∷ 15 ∷ [])
+    case 0 (tickOf filmLength floor cap ∷ []) (1 ∷ [])
+    ∷ case 0 (those (λ c. not (holdsFilm filmLength floor cap c)) filmCells) (12 ∷ 13 ∷ 14 ∷ 15 ∷ [])
     ∷ case 1 (inG 2 0) (0 ∷ 4 ∷ [])
     ∷ case 1 (inG 3 0) (0 ∷ 4 ∷ 12 ∷ [])
     ∷ case 1 (inG 4 0) (0 ∷ 2 ∷ 4 ∷ 12 ∷ [])
@@ -119,7 +119,7 @@ table =
     ∷ case 11 (share 210 7 (1 ∷ 2 ∷ [])) (done ∷ 3 ∷ 4 ∷ 7 ∷ [])
     ∷ case 11 (share 210 3 (1 ∷ 2 ∷ [])) (noLanes ∷ 0 ∷ 0 ∷ 7 ∷ [])
     ∷ case 11 (share 210 5 (1 ∷ 1 ∷ [])) (done ∷ 3 ∷ 2 ∷ 7 ∷ [])
-    ∷ case 11 (share length 6 (4 ∷ 9 ∷ [])) (done ∷ 2 ∷ 4 ∷ 7 ∷ [])
+    ∷ case 11 (share filmLength 6 (4 ∷ 9 ∷ [])) (done ∷ 2 ∷ 4 ∷ 7 ∷ [])
     ∷ []
 
 -- two rows are the same

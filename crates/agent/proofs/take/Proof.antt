@@ -11,18 +11,18 @@ read-requires c κs = search needs
 enum-known-read : tie.Need-enum-known-read
 enum-known-read c = search needs
 
-turn-requires : tie.Need-turn-requires
-turn-requires c κs = search needs
+heed-requires : tie.Need-heed-requires
+heed-requires c κs = search needs
 
 enum-told : tie.Need-enum-told
 enum-told c = search needs
 
 returns : tie.Need-returns
-returns c = reads-as _ _ _ _ _ (sym (c .before .before .before .before .read .ensures .is) ∙ c .before .before .read2 .given .1) (c .turn .ensures)
+returns c = reads-as _ _ _ _ _ (sym (c .before .before .before .before .read .ensures .is) ∙ c .before .before .read2 .given .1) (c .heed .ensures)
 
 returns-2 : tie.Need-returns-2
 returns-2 c = reads-as _ _ _ _ _ (sym (c .before .before .read .ensures .is) ∙ c .enum-told .given .1) (malformed-stays _)
 
 pub take-spec : {M : Type 1} → statement M
 take-spec =
-    tie.close (tie.spec read-requires enum-known-read turn-requires enum-told returns returns-2)
+    tie.close (tie.spec read-requires enum-known-read heed-requires enum-told returns returns-2)

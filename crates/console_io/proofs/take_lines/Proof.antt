@@ -4,7 +4,7 @@ use mathlib.Core.Path.{_≡_, refl, _∙_}
 use native.Mathlib.Omega.{arith}
 use lib.ListN.{length}
 use Rattle.text.specs.declared.bytes.Sort.the-variants.{Line}
-use Rattle.text.proofs.Runs.{reach-low}
+use Rattle.text.proofs.Runs.{run-end-low}
 use borrow.Author.Needs.{needs}
 use Rattle.console_io.proofs.take_lines.Statement.{statement}
 use Rattle.console_io.proofs.take_lines.Tie as tie
@@ -18,25 +18,25 @@ abbrev μ-loop : tie.MeasureT-loop
 loop-holds : tie.Need-loop-holds Inv-loop μ-loop
 loop-holds c = (omega arith, refl)
 
-reach-requires : tie.Need-reach-requires Inv-loop μ-loop
-reach-requires c κs = search needs
+run-end-requires : tie.Need-run-end-requires Inv-loop μ-loop
+run-end-requires c κs = search needs
 
 sub-take-line : tie.Need-sub-take-line Inv-loop μ-loop
 sub-take-line c =
     omega (
       arith,
-      reach-low Line (c .before .before .before .before .before .before .args .block .now)
+      run-end-low Line (c .before .before .before .before .before .before .args .block .now)
           (c .before .before .before .loop .from),
-      c .before .reach .ensures,
+      c .before .run-end .ensures,
     )
 
 part-take-line-start : tie.Need-part-take-line-start Inv-loop μ-loop
 part-take-line-start c =
     omega (
       arith,
-      reach-low Line (c .before .before .before .before .before .before .args .block .now)
+      run-end-low Line (c .before .before .before .before .before .before .args .block .now)
           (c .before .before .before .loop .from),
-      c .before .reach .ensures,
+      c .before .run-end .ensures,
     )
 
 part-take-line-end : tie.Need-part-take-line-end Inv-loop μ-loop
@@ -50,18 +50,18 @@ add-from c = omega arith
 
 loop-less : tie.Need-loop-less Inv-loop μ-loop
 loop-less c =
-    let at-reach = c .before .before .before .before .before .before in
-    let at-loop = at-reach .before .before in
+    let at-run-end = c .before .before .before .before .before .before in
+    let at-loop = at-run-end .before .before in
     let at-start = at-loop .before .before .before in
-    omega (arith, reach-low Line (at-start .args .block .now) (at-loop .loop .from), at-reach .reach .ensures)
+    omega (arith, run-end-low Line (at-start .args .block .now) (at-loop .loop .from), at-run-end .run-end .ensures)
 
 loop-again : tie.Need-loop-again Inv-loop μ-loop
 loop-again c =
     let at-take-line = c .before .before in
-    let at-reach = at-take-line .before .before .before .before in
-    let at-loop = at-reach .before .before in
+    let at-run-end = at-take-line .before .before .before .before in
+    let at-loop = at-run-end .before .before in
     let at-start = at-loop .before .before .before in (
-      omega (arith, reach-low Line (at-start .args .block .now) (at-loop .loop .from), at-reach .reach .ensures),
+      omega (arith, run-end-low Line (at-start .args .block .now) (at-loop .loop .from), at-run-end .run-end .ensures),
       at-take-line .take-line .kept .1 .1 .0 ∙ at-loop .loop .inv .1,
     )
 
@@ -84,7 +84,7 @@ take-lines-spec =
     Inv-loop
     μ-loop
     loop-holds
-    reach-requires
+    run-end-requires
     sub-take-line
     part-take-line-start
     part-take-line-end

@@ -10,7 +10,7 @@ use native.Mathlib.Numerals.{add-one}
 use lib.ListN.{length, getD, set, List·getD-map}
 use borrow.Author.Tests.{lt-ltb, le-ltb}
 use Rattle.rules.specs.Limits.{countMin}
-use Rattle.sharing.specs.declared.titles.Title.{Title}
+use Rattle.sharing.specs.declared.titles.Rated.{Rated}
 use Rattle.sharing.specs.Titles.{titleAt, nobody, rowTotal}
 use Rattle.sharing.specs.Term.{fall, worth}
 use Rattle.sharing.specs.Choice.{Way, shared}
@@ -21,21 +21,21 @@ use Rattle.sharing.proofs.Sums.{total-set, at-set, way-set}
 use Rattle.sharing.proofs.Exchange.{Given, settled-is-shared}
 use Rattle.sharing.proofs.term.Laws.{falls, fall-rest, shrinks-on}
 
-worth-below : (t : Title) (k : ℕ) → k < t .cap → worth t k ≡ fall t k
+worth-below : (t : Rated) (k : ℕ) → k < t .cap → worth t k ≡ fall t k
 unfolding worth
 worth-below t k h = rw (lt-ltb _ _ h)
 
-worth-capped : (t : Title) (k : ℕ) → t .cap ≤ k → worth t k ≡ 0
+worth-capped : (t : Rated) (k : ℕ) → t .cap ≤ k → worth t k ≡ 0
 unfolding worth
 worth-capped t k h = rw (le-ltb _ _ h)
 
 -- below the cap a lane is worth something
-pub worth-some : (t : Title) → Weighable t → (k : ℕ) → countMin ≤ k → k < t .cap → 0 < worth t k
+pub worth-some : (t : Rated) → Weighable t → (k : ℕ) → countMin ≤ k → k < t .cap → 0 < worth t k
 worth-some t w k l h =
     omega (arith, worth-below t k h, fall-rest t w k l h, falls t w k l h)
 
 -- the title that leads among the first i, with what a lane is worth to it; r is the number of titles while none leads
-pub record Leading (ts : List Title) (ks : List ℕ) (i r m : ℕ) : Type 0 where
+pub record Leading (ts : List Rated) (ks : List ℕ) (i r m : ℕ) : Type 0 where
   pub passed : i ≤ length ts
   pub bound : r ≤ length ts
   pub all : (j : ℕ) → j < i → worth (titleAt ts j) (getD ks j 0) ≤ m
@@ -44,7 +44,7 @@ pub record Leading (ts : List Title) (ks : List ℕ) (i r m : ℕ) : Type 0 wher
   pub here : r < length ts → worth (titleAt ts r) (getD ks r 0) ≡ m
   pub first : r < length ts → (j : ℕ) → j < r → worth (titleAt ts j) (getD ks j 0) < m
 
-module _ (ts : List Title) (ks : List ℕ) where
+module _ (ts : List Rated) (ks : List ℕ) where
   -- what holds of the first i and of the i-th holds of the first i + 1
   upto : (P : ℕ → Type 0) (i : ℕ) → ((j : ℕ) → j < i → P j) → P i → (j : ℕ) → j < suc i → P j
   upto P i f p j h = go (trio j i)
@@ -109,14 +109,14 @@ module _ (ts : List Title) (ks : List ℕ) where
       }
 
 -- counts after s lanes were given from the floors on, or fewer where all titles are at their caps
-pub record Progress (ts : List Title) (s : ℕ) (c : List ℕ) : Type 0 where
+pub record Progress (ts : List Rated) (s : ℕ) (c : List ℕ) : Type 0 where
   pub way : Way ts c
   pub given : Given ts c
   pub within : rowTotal c ≤ rowTotal (map (λ t. t .floor) ts) + s
   pub used :
       (rowTotal c ≡ rowTotal (map (λ t. t .floor) ts) + s) ⊎ ((j : ℕ) → j < length ts → titleAt ts j .cap ≤ getD c j 0)
 
-module _ (ts : List Title) (ok : AllWeighable ts) where
+module _ (ts : List Rated) (ok : AllWeighable ts) where
   pub begins : Progress ts 0 (map (λ t. t .floor) ts)
   begins =
       record {
@@ -131,7 +131,7 @@ module _ (ts : List Title) (ok : AllWeighable ts) where
       }
     where
       floor-at : (i : ℕ) → getD (map (λ t. t .floor) ts) i 0 ≡ titleAt ts i .floor
-      floor-at i = List·getD-map (λ (t : Title). t .floor) ts i nobody
+      floor-at i = List·getD-map (λ (t : Rated). t .floor) ts i nobody
 
   module _ {s r : ℕ} {c : List ℕ} (p : Progress ts s c) (n : Neediest ts c r) where
     -- no title can use a lane: all are at their caps

@@ -10,7 +10,7 @@ use native.Mathlib.Numerals.{add-one}
 use Rattle.rules.specs.Limits.{countMin, countMax, lengthMax, rateMax}
 use Rattle.grid.specs.Ticks.{tickOf, slot}
 use Rattle.grid.proofs.Ticks.{slot-pos, slot-half, tick-exactly}
-use Rattle.sharing.specs.declared.titles.Title.{Title}
+use Rattle.sharing.specs.declared.titles.Rated.{Rated}
 use Rattle.sharing.specs.Term.{term, fall}
 use Rattle.sharing.specs.Giving.{Weighable}
 
@@ -18,11 +18,11 @@ use Rattle.sharing.specs.Giving.{Weighable}
 twice : (r m K k : ℕ) → k < K → r * (m * slot K k) ≡ 2 * (r * (m * slot K (suc k)))
 twice r m K k h = omega (arith, ap (λ (w : ℕ). r * (m * w)) (slot-half K k h))
 
-doubled : (t : Title) (k : ℕ) → k < t .cap → term t k ≡ 2 * term t (suc k)
+doubled : (t : Rated) (k : ℕ) → k < t .cap → term t k ≡ 2 * term t (suc k)
 unfolding term
 doubled t k h = twice (t .rate) _ (t .cap) k h
 
-tick-some : (t : Title) → Weighable t → 0 < tickOf (t .length) (t .floor) (t .cap)
+tick-some : (t : Rated) → Weighable t → 0 < tickOf (t .length) (t .floor) (t .cap)
 tick-some t w =
     let x =
     tick-exactly (t .length) (t .floor) (t .cap) _ _ (w .length-low) (omega (arith, w .floor-low))
@@ -30,15 +30,15 @@ tick-some t w =
     omega (arith, x .is, x .low)
 
 -- `halves`, `positive` and `fall-is` are of this `term`; the laws after them rest on the first two alone
-pub halves : (t : Title) → Weighable t → (k : ℕ) → countMin ≤ k → k < t .cap → 2 * term t (suc k) ≤ term t k
+pub halves : (t : Rated) → Weighable t → (k : ℕ) → countMin ≤ k → k < t .cap → 2 * term t (suc k) ≤ term t k
 halves t w k l h = omega (arith, doubled t k h)
 
-pub positive : (t : Title) → Weighable t → (k : ℕ) → countMin ≤ k → k ≤ t .cap → 0 < term t k
+pub positive : (t : Rated) → Weighable t → (k : ℕ) → countMin ≤ k → k ≤ t .cap → 0 < term t k
 unfolding term
 positive t w k l h = mul-pos (w .rate-low) (mul-pos (tick-some t w) (slot-pos (t .cap) k))
 
 -- what falls is as much as is left: rate x tick x the slot of one lane more, as the code has them
-pub fall-is : (t : Title) (k : ℕ) {m w : ℕ} → k < t .cap → m ≡ tickOf (t .length) (t .floor) (t .cap)
+pub fall-is : (t : Rated) (k : ℕ) {m w : ℕ} → k < t .cap → m ≡ tickOf (t .length) (t .floor) (t .cap)
     → w ≡ slot (t .cap) (k + 1) → t .rate * (m * w) ≡ fall t k
 unfolding fall term
 fall-is t k h e f = rw (e, f, add-one) (omega (arith, doubled t k h))
@@ -51,7 +51,7 @@ pub part-fits : {r s : ℕ} → r ≤ rateMax → s ≤ lengthMax * 2 ^ countMax
 part-fits {r} {s} a b =
     omega (arith, mul-le-mul {n₁ = r} {m₁ = s} {n₂ = rateMax} {m₂ = lengthMax * 2 ^ countMax} a b)
 
-module _ (t : Title) (w : Weighable t) where
+module _ (t : Rated) (w : Weighable t) where
   -- a lane more makes the part less
   pub falls : (k : ℕ) → countMin ≤ k → k < t .cap → term t (suc k) < term t k
   falls k l h = omega (arith, halves t w k l h, positive t w k l (omega arith))

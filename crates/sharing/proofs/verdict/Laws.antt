@@ -15,7 +15,7 @@ use Rattle.rules.specs.Limits.{both, within, poolMin, poolMax, rateMin, rateMax
 use Rattle.rules.specs.Limits.{floorMin, floorMax, countMin, titlesMax}
 use Rattle.rules.specs.Refusals.{firstHit, done, wrongRows, outsideLimits, floorAboveCap, noLanes}
 use Rattle.rules.proofs.Tests.{decide, both-l, both-r}
-use Rattle.sharing.specs.declared.titles.Title.{Title}
+use Rattle.sharing.specs.declared.titles.Rated.{Rated}
 use Rattle.sharing.specs.Titles.{titleAt, titles, nobody, rowTotal, Even}
 use Rattle.sharing.specs.Verdict.{eachTitle, allowed, ordered, rowsFit, verdictOf, rowAfter}
 use Rattle.sharing.specs.Choice.{shared}
@@ -30,7 +30,7 @@ both-all : (a : Bool) → both a true ≡ a
 both-all true = refl
 both-all false = refl
 
-module _ (p : Title → Bool) (ts : List Title) where
+module _ (p : Rated → Bool) (ts : List Rated) where
   -- what is known after the titles before i, with what the others will add
   pub passed-next : (a b : Bool) (i : ℕ) → i < length ts → b ≡ both a (p (titleAt ts i))
       → both a (eachTitle p (drop i ts)) ≡ eachTitle p ts
@@ -102,7 +102,7 @@ module _ (pool : ℕ) (rates lengths floors caps : List ℕ) (room : ℕ) where
         unfolding verdictOf firstHit
         accepted h = rw (fits, inside, kept, le-ltb _ _ h)
 
-each-at : (p : Title → Bool) (ts : List Title) → eachTitle p ts ≡ true → (i : ℕ) → i < length ts
+each-at : (p : Rated → Bool) (ts : List Rated) → eachTitle p ts ≡ true → (i : ℕ) → i < length ts
     → p (titleAt ts i) ≡ true
 unfolding eachTitle
 each-at p [] e i h = absurd (omega arith)
@@ -110,7 +110,7 @@ each-at p (t ∷ ts) e zero h = both-l (p t) (eachTitle p ts) e
 each-at p (t ∷ ts) e (suc i) h = each-at p ts (both-r (p t) (eachTitle p ts) e) i (omega arith)
 
 -- a title that passes both tests can be weighed
-weighs : (t : Title) → allowed t ≡ true → ordered t ≡ true → Weighable t
+weighs : (t : Rated) → allowed t ≡ true → ordered t ≡ true → Weighable t
 unfolding allowed ordered
 weighs t a o =
     let b = both-r (within rateMin rateMax (t .rate)) _ a in
@@ -143,7 +143,7 @@ module _ (pool : ℕ) (rates lengths floors caps row : List ℕ) where
       (decide (both (within poolMin poolMax pool) (eachTitle allowed ts)))
       (decide (eachTitle ordered ts)) (side pool (rowTotal floors))
     where
-      ts : List Title
+      ts : List Rated
       ts = titles rates lengths floors caps
 
       n : ℕ

@@ -11,8 +11,8 @@ mul-t c = search needs
 element-copy-out-t : tie.Need-element-copy-out-t
 element-copy-out-t c = search needs
 
-turn-requires : tie.Need-turn-requires
-turn-requires c κs = search needs
+heed-requires : tie.Need-heed-requires
+heed-requires c κs = search needs
 
 cast-if2 : tie.Need-cast-if2
 cast-if2 c = search needs
@@ -21,16 +21,16 @@ count-event-requires : tie.Need-count-event-requires
 count-event-requires c κs =
     let turned = c .before .before .before in
     let ready = turned .before .before .before .before .pre in
-    (ready .playing, (ready .early _ (sym (turned .turn .ensures .0) ∙ c .before .if1 .taken), ready .few))
+    (ready .playing, (ready .early _ (sym (turned .heed .ensures .0) ∙ c .before .if1 .taken), ready .few))
 
 returns : tie.Need-returns
-returns c = hears-event _ _ _ _ _ _ _ (c .before .before .before .before .turn .ensures) _ (c .before .before .if1 .taken) (c .before .if2 .taken) (c .count-event .ensures)
+returns c = hears-event _ _ _ _ _ _ _ (c .before .before .before .before .heed .ensures) _ (c .before .before .if1 .taken) (c .before .if2 .taken) (c .count-event .ensures)
 
 returns-2 : tie.Need-returns-2
-returns-2 c = hears-other _ _ _ _ _ _ _ (c .before .before .before .turn .ensures) (c .if2 .left)
+returns-2 c = hears-other _ _ _ _ _ _ _ (c .before .before .before .heed .ensures) (c .if2 .left)
 
 returns-3 : tie.Need-returns-3
-returns-3 c = hears-refused _ _ _ _ _ _ _ (c .before .before .turn .ensures) (c .if1 .left)
+returns-3 c = hears-refused _ _ _ _ _ _ _ (c .before .before .heed .ensures) (c .if1 .left)
 
 pub hear-spec : {M : Type 1} → statement M
 hear-spec =
@@ -38,7 +38,7 @@ hear-spec =
     (tie.spec
     mul-t
     element-copy-out-t
-    turn-requires
+    heed-requires
     cast-if2
     count-event-requires
     returns

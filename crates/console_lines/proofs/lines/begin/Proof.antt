@@ -7,7 +7,7 @@ use Rattle.console_lines.specs.declared.lines.Line.{Line}
 use Rattle.console_lines.specs.Commands.{tooLong}
 use Rattle.console_lines.specs.Lines.{withFault, withVerb, longest}
 use Rattle.text.specs.declared.bytes.Sort.the-variants.{Word}
-use Rattle.text.proofs.Runs.{reach-low, reach-high}
+use Rattle.text.proofs.Runs.{run-end-low, run-end-high}
 use Rattle.console_lines.proofs.Reading.{begun-long, begun-hash, begun-verb, begun-blank}
 use borrow.Author.Needs.{needs}
 use Rattle.console_lines.proofs.lines.begin.Statement.{statement}
@@ -25,8 +25,8 @@ returns c =
     c .faulted .ensures ∙ ap (λ (l : Line). withFault l tooLong longest) (c .before .empty .ensures) ∙ begun-long
     (x .s .now) (c .before .before .if1 .taken)
 
-reach-requires : tie.Need-reach-requires
-reach-requires c κs = search needs
+run-end-requires : tie.Need-run-end-requires
+run-end-requires c κs = search needs
 
 shared-slice-read-if3 : tie.Need-shared-slice-read-if3
 shared-slice-read-if3 c = search needs
@@ -38,19 +38,19 @@ returns-2 : tie.Need-returns-2
 returns-2 c =
     let x = c .before .before .before .before .before .before .before .args in
     c .empty2 .ensures ∙ begun-hash (x .s .now) (c .before .before .before .before .before .if1 .left) _
-    (c .before .before .before .before .reach .ensures) (c .before .before .before .if2 .taken) (c .before .if3 .taken)
+    (c .before .before .before .before .run-end .ensures) (c .before .before .before .if2 .taken) (c .before .if3 .taken)
 
-reach-requires-2 : tie.Need-reach-requires-2
-reach-requires-2 c κs = search needs
+run-end-requires-2 : tie.Need-run-end-requires-2
+run-end-requires-2 c κs = search needs
 
 sub-verb : tie.Need-sub-verb
 sub-verb c =
     let x = c .before .before .before .before .before .before .before .args in
     omega (
       arith,
-      c .reach2 .ensures,
-      reach-low Word (x .s .now) (c .before .before .before .before .reach .result),
-      reach-high Word (x .s .now) (c .before .before .before .before .reach .result) (omega arith),
+      c .run-end2 .ensures,
+      run-end-low Word (x .s .now) (c .before .before .before .before .run-end .result),
+      run-end-high Word (x .s .now) (c .before .before .before .before .run-end .result) (omega arith),
     )
 
 part-verb-start : tie.Need-part-verb-start
@@ -58,9 +58,9 @@ part-verb-start c =
     let x = c .before .before .before .before .before .before .before .args in
     omega (
       arith,
-      c .reach2 .ensures,
-      reach-low Word (x .s .now) (c .before .before .before .before .reach .result),
-      reach-high Word (x .s .now) (c .before .before .before .before .reach .result) (omega arith),
+      c .run-end2 .ensures,
+      run-end-low Word (x .s .now) (c .before .before .before .before .run-end .result),
+      run-end-high Word (x .s .now) (c .before .before .before .before .run-end .result) (omega arith),
     )
 
 part-verb-end : tie.Need-part-verb-end
@@ -68,9 +68,9 @@ part-verb-end c =
     let x = c .before .before .before .before .before .before .before .args in
     omega (
       arith,
-      c .reach2 .ensures,
-      reach-low Word (x .s .now) (c .before .before .before .before .reach .result),
-      reach-high Word (x .s .now) (c .before .before .before .before .reach .result) (omega arith),
+      c .run-end2 .ensures,
+      run-end-low Word (x .s .now) (c .before .before .before .before .run-end .result),
+      run-end-high Word (x .s .now) (c .before .before .before .before .run-end .result) (omega arith),
     )
 
 verb-requires : tie.Need-verb-requires
@@ -81,17 +81,17 @@ take-verb-requires c κs = search needs
 
 returns-3 : tie.Need-returns-3
 returns-3 c =
-    let at-reach2 = c .before .before .before in
-    let at-if3 = at-reach2 .before in
+    let at-run-end2 = c .before .before .before in
+    let at-if3 = at-run-end2 .before in
     let at-if2 = at-if3 .before .before in
-    let at-reach = at-if2 .before in
-    let at-if1 = at-reach .before in
+    let at-run-end = at-if2 .before in
+    let at-if1 = at-run-end .before in
     let at-start = at-if1 .before .before in
     let x = at-start .args in
-    c .take-verb .ensures ∙ ap (λ (v : ℕ). withVerb v (at-reach .reach .result) (at-reach2 .reach2 .result))
+    c .take-verb .ensures ∙ ap (λ (v : ℕ). withVerb v (at-run-end .run-end .result) (at-run-end2 .run-end2 .result))
     (c .before .verb .ensures)
-    ∙ begun-verb (x .s .now) (at-if1 .if1 .left) _ (at-reach .reach .ensures) (at-if2 .if2 .taken) (at-if3 .if3 .left) _
-    (at-reach2 .reach2 .ensures)
+    ∙ begun-verb (x .s .now) (at-if1 .if1 .left) _ (at-run-end .run-end .ensures) (at-if2 .if2 .taken) (at-if3 .if3 .left) _
+    (at-run-end2 .run-end2 .ensures)
 
 empty-requires-3 : tie.Need-empty-requires-3
 empty-requires-3 c κs = search needs
@@ -100,7 +100,7 @@ returns-4 : tie.Need-returns-4
 returns-4 c =
     let x = c .before .before .before .before .before .args in
     c .empty3 .ensures ∙ begun-blank (x .s .now) (c .before .before .before .if1 .left) _
-    (c .before .before .reach .ensures) (c .before .if2 .left)
+    (c .before .before .run-end .ensures) (c .before .if2 .left)
 
 pub begin-spec : {M : Type 1} → statement M
 begin-spec =
@@ -109,11 +109,11 @@ begin-spec =
     empty-requires
     faulted-requires
     returns
-    reach-requires
+    run-end-requires
     shared-slice-read-if3
     empty-requires-2
     returns-2
-    reach-requires-2
+    run-end-requires-2
     sub-verb
     part-verb-start
     part-verb-end

@@ -5,8 +5,8 @@ use borrow.Author.Needs.{needs}
 use Rattle.console_lines.proofs.lines.step.Statement.{statement}
 use Rattle.console_lines.proofs.lines.step.Tie as tie
 
-reach-requires : tie.Need-reach-requires
-reach-requires c κs = search needs
+run-end-requires : tie.Need-run-end-requires
+run-end-requires c κs = search needs
 
 take-word-requires : tie.Need-take-word-requires
 take-word-requires c κs = search needs
@@ -14,7 +14,7 @@ take-word-requires c κs = search needs
 returns : tie.Need-returns
 returns c =
     let x = c .before .before .before .before .args in
-    c .take-word .ensures ∙ step-word (x .s .now) (x .line) _ (c .before .before .reach .ensures)
+    c .take-word .ensures ∙ step-word (x .s .now) (x .line) _ (c .before .before .run-end .ensures)
     (c .before .if1 .taken)
 
 end-requires : tie.Need-end-requires
@@ -23,7 +23,7 @@ end-requires c κs = search needs
 returns-2 : tie.Need-returns-2
 returns-2 c =
     let x = c .before .before .before .before .args in
-    c .end .ensures ∙ step-end (x .s .now) (x .line) _ (c .before .before .reach .ensures) (c .before .if1 .left)
+    c .end .ensures ∙ step-end (x .s .now) (x .line) _ (c .before .before .run-end .ensures) (c .before .if1 .left)
 
 pub step-spec : {M : Type 1} → statement M
-step-spec = tie.close (tie.spec reach-requires take-word-requires returns end-requires returns-2)
+step-spec = tie.close (tie.spec run-end-requires take-word-requires returns end-requires returns-2)

@@ -10,8 +10,8 @@ use borrow.Author.Needs.{needs}
 use Rattle.console_lines.proofs.lines.take_number.Statement.{statement}
 use Rattle.console_lines.proofs.lines.take_number.Tie as tie
 
-reach-requires : tie.Need-reach-requires
-reach-requires c κs = search needs
+run-end-requires : tie.Need-run-end-requires
+run-end-requires c κs = search needs
 
 faulted-requires : tie.Need-faulted-requires
 faulted-requires c κs = search needs
@@ -19,7 +19,7 @@ faulted-requires c κs = search needs
 returns : tie.Need-returns
 returns c =
     let x = c .before .before .before .before .args in
-    c .faulted .ensures ∙ number-bad (x .s .now) (x .line) (x .a) (x .e) _ (c .before .before .reach .ensures)
+    c .faulted .ensures ∙ number-bad (x .s .now) (x .line) (x .a) (x .e) _ (c .before .before .run-end .ensures)
     (c .before .if1 .taken)
 
 spelt-requires : tie.Need-spelt-requires
@@ -44,11 +44,11 @@ returns-2 c =
     let at-limit = at-above .before in
     let at-spelt = at-limit .before in
     let at-if1 = at-spelt .before in
-    let at-reach = at-if1 .before in
-    let at-start = at-reach .before .before in
+    let at-run-end = at-if1 .before in
+    let at-start = at-run-end .before .before in
     let x = at-start .args in
     c .faulted2 .ensures ∙ ap (λ (f : ℕ). withFault (x .line) f (x .a)) (c .before .oversized-fault .ensures)
-    ∙ number-large (x .s .now) (x .line) (x .a) (x .e) _ (at-reach .reach .ensures) (at-if1 .if1 .left) _
+    ∙ number-large (x .s .now) (x .line) (x .a) (x .e) _ (at-run-end .run-end .ensures) (at-if1 .if1 .left) _
     (at-limit .limit .ensures) (omega arith) _
     (at-above .above .ensures ∙ ap (above (at-limit .limit .result)) (at-spelt .spelt .ensures))
     (at-if2 .if2 .taken)
@@ -67,7 +67,7 @@ unfolding goOn capped
 returns-3 c =
     let x = c .before .before .before .before .before .before .before .args in
     rw (c .before .before .before .spelt .ensures)
-    (number-whole (x .s .now) (x .line) (x .a) (x .e) _ (c .before .before .before .before .before .reach .ensures)
+    (number-whole (x .s .now) (x .line) (x .a) (x .e) _ (c .before .before .before .before .before .run-end .ensures)
     (c .before .before .before .before .if1 .left) _ (c .before .before .limit .ensures) (omega arith) _
     (c .before .above .ensures ∙ ap (above (c .before .before .limit .result))
     (c .before .before .before .spelt .ensures))
@@ -77,7 +77,7 @@ pub take-number-spec : {M : Type 1} → statement M
 take-number-spec =
     tie.close
     (tie.spec
-    reach-requires
+    run-end-requires
     faulted-requires
     returns
     spelt-requires

@@ -5,7 +5,7 @@ use mathlib.Core.Path.{_∙_, ap}
 use native.Mathlib.Omega.{arith}
 use Rattle.console_lines.specs.Lines.{withFault}
 use Rattle.text.specs.declared.bytes.Sort.the-variants.{Word}
-use Rattle.text.proofs.Runs.{reach-low, reach-high}
+use Rattle.text.proofs.Runs.{run-end-low, run-end-high}
 use Rattle.console_lines.proofs.Reading.{word-crowded, word-hex, word-kind, word-number}
 use borrow.Author.Needs.{needs}
 use Rattle.console_lines.proofs.lines.take_word.Statement.{statement}
@@ -27,8 +27,8 @@ returns c =
     ∙ word-crowded (x .s .now) (x .line) (x .a) _ (c .before .before .before .most .ensures .0)
     (c .before .before .if1 .taken)
 
-reach-requires : tie.Need-reach-requires
-reach-requires c κs = search needs
+run-end-requires : tie.Need-run-end-requires
+run-end-requires c κs = search needs
 
 takes-hex-requires : tie.Need-takes-hex-requires
 takes-hex-requires c κs = search needs
@@ -38,9 +38,9 @@ take-hex-requires c κs =
     let x = c .before .before .before .before .before .before .args in
     omega (
       arith,
-      c .before .before .reach .ensures,
-      reach-low Word (x .s .now) (x .a),
-      reach-high Word (x .s .now)
+      c .before .before .run-end .ensures,
+      run-end-low Word (x .s .now) (x .a),
+      run-end-high Word (x .s .now)
           (x .a) (omega arith),
     )
 
@@ -49,47 +49,47 @@ returns-2 c =
     let x = c .before .before .before .before .before .before .before .args in
     c .take-hex .ensures ∙ word-hex (x .s .now) (x .line) (x .a) _
     (c .before .before .before .before .before .most .ensures .0) (c .before .before .before .before .if1 .left) _
-    (c .before .before .takes-hex .ensures) _ (c .before .before .before .reach .ensures) (c .before .if2 .taken)
+    (c .before .before .takes-hex .ensures) _ (c .before .before .before .run-end .ensures) (c .before .if2 .taken)
 
 takes-kind-requires : tie.Need-takes-kind-requires
 takes-kind-requires c κs = search needs
 
 sub-take-kind : tie.Need-sub-take-kind
 sub-take-kind c =
-    let at-reach = c .before .before .before .before in
-    let at-start = at-reach .before .before .before .before in
+    let at-run-end = c .before .before .before .before in
+    let at-start = at-run-end .before .before .before .before in
     let x = at-start .args in
     omega (
       arith,
-      at-reach .reach .ensures,
-      reach-low Word (x .s .now) (x .a),
-      reach-high Word (x .s .now) (x .a)
+      at-run-end .run-end .ensures,
+      run-end-low Word (x .s .now) (x .a),
+      run-end-high Word (x .s .now) (x .a)
           (omega arith),
     )
 
 part-take-kind-start : tie.Need-part-take-kind-start
 part-take-kind-start c =
-    let at-reach = c .before .before .before .before in
-    let at-start = at-reach .before .before .before .before in
+    let at-run-end = c .before .before .before .before in
+    let at-start = at-run-end .before .before .before .before in
     let x = at-start .args in
     omega (
       arith,
-      at-reach .reach .ensures,
-      reach-low Word (x .s .now) (x .a),
-      reach-high Word (x .s .now) (x .a)
+      at-run-end .run-end .ensures,
+      run-end-low Word (x .s .now) (x .a),
+      run-end-high Word (x .s .now) (x .a)
           (omega arith),
     )
 
 part-take-kind-end : tie.Need-part-take-kind-end
 part-take-kind-end c =
-    let at-reach = c .before .before .before .before in
-    let at-start = at-reach .before .before .before .before in
+    let at-run-end = c .before .before .before .before in
+    let at-start = at-run-end .before .before .before .before in
     let x = at-start .args in
     omega (
       arith,
-      at-reach .reach .ensures,
-      reach-low Word (x .s .now) (x .a),
-      reach-high Word (x .s .now) (x .a)
+      at-run-end .run-end .ensures,
+      run-end-low Word (x .s .now) (x .a),
+      run-end-high Word (x .s .now) (x .a)
           (omega arith),
     )
 
@@ -102,13 +102,13 @@ returns-3 c =
     let at-takes-kind = at-if3 .before in
     let at-if2 = at-takes-kind .before in
     let at-takes-hex = at-if2 .before in
-    let at-reach = at-takes-hex .before in
-    let at-if1 = at-reach .before in
+    let at-run-end = at-takes-hex .before in
+    let at-if1 = at-run-end .before in
     let at-most = at-if1 .before in
     let at-start = at-most .before .before in
     let x = at-start .args in
     c .take-kind .ensures ∙ word-kind (x .s .now) (x .line) (x .a) _ (at-most .most .ensures .0) (at-if1 .if1 .left) _
-    (at-takes-hex .takes-hex .ensures) _ (at-reach .reach .ensures) (at-if2 .if2 .left) _
+    (at-takes-hex .takes-hex .ensures) _ (at-run-end .run-end .ensures) (at-if2 .if2 .left) _
     (at-takes-kind .takes-kind .ensures) (at-if3 .if3 .taken)
 
 take-number-requires : tie.Need-take-number-requires
@@ -119,13 +119,13 @@ returns-4 c =
     let at-takes-kind = c .before .before in
     let at-if2 = at-takes-kind .before in
     let at-takes-hex = at-if2 .before in
-    let at-reach = at-takes-hex .before in
-    let at-if1 = at-reach .before in
+    let at-run-end = at-takes-hex .before in
+    let at-if1 = at-run-end .before in
     let at-most = at-if1 .before in
     let at-start = at-most .before .before in
     let x = at-start .args in
     c .take-number .ensures ∙ word-number (x .s .now) (x .line) (x .a) _ (at-most .most .ensures .0)
-    (at-if1 .if1 .left) _ (at-takes-hex .takes-hex .ensures) _ (at-reach .reach .ensures) (at-if2 .if2 .left) _
+    (at-if1 .if1 .left) _ (at-takes-hex .takes-hex .ensures) _ (at-run-end .run-end .ensures) (at-if2 .if2 .left) _
     (at-takes-kind .takes-kind .ensures) (c .before .if3 .left)
 
 pub take-word-spec : {M : Type 1} → statement M
@@ -136,7 +136,7 @@ take-word-spec =
     crowded-fault-requires
     faulted-requires
     returns
-    reach-requires
+    run-end-requires
     takes-hex-requires
     take-hex-requires
     returns-2

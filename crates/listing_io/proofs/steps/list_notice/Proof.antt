@@ -4,8 +4,8 @@ use borrow.Author.Needs.{needs}
 use Rattle.listing_io.proofs.steps.list_notice.Statement.{statement}
 use Rattle.listing_io.proofs.steps.list_notice.Tie as tie
 
-turn-requires : tie.Need-turn-requires
-turn-requires c κs = search needs
+heed-requires : tie.Need-heed-requires
+heed-requires c κs = search needs
 
 held-after-requires : tie.Need-held-after-requires
 held-after-requires c κs = search needs
@@ -25,14 +25,14 @@ returns c =
     let held = lined .before .before .before in
     let told = held .before .before in
     let start = told .before .before in
-    notice-step _ _ _ _ (start .args .n) (start .args .end) _ _ _ _ (told .turn .ensures) (held .held-after .ensures)
+    notice-step _ _ _ _ (start .args .n) (start .args .end) _ _ _ _ (told .heed .ensures) (held .held-after .ensures)
     (lined .before .kind-number .ensures) (lined .put-line .ensures)
 
 pub list-notice-spec : {M : Type 1} → statement M
 list-notice-spec =
     tie.close
     (tie.spec
-    turn-requires
+    heed-requires
     held-after-requires
     kind-number-requires
     put-line-requires

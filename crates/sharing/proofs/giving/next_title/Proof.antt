@@ -6,7 +6,7 @@ use Prim.Native.Nat.{ℕ, _<_, _-_}
 use native.Mathlib.Omega.{arith}
 use lib.ListN.{length, getD}
 use borrow.Author.Needs.{needs}
-use Rattle.sharing.specs.declared.titles.Title.{Title}
+use Rattle.sharing.specs.declared.titles.Rated.{Rated}
 use Rattle.sharing.specs.Titles.{titles, titleAt}
 use Rattle.sharing.specs.Giving.{Weighable}
 use Rattle.sharing.specs.Term.{worth}
@@ -73,7 +73,7 @@ loop-again c =
     let l = c .before .before .before .before .before .loop in
     let e : c .before .gain .result ≡ worth (titleAt ts (l .i)) (getD ks (l .i) 0) =
     c .before .gain .ensures
-    ∙ ap (λ (t : Title). worth t (getD ks (l .i) 0)) (c .before .before .before .title-at .ensures) in
+    ∙ ap (λ (t : Rated). worth t (getD ks (l .i) 0)) (c .before .before .before .title-at .ensures) in
     let next = leads-next ts ks (l .inv) (inside (c .before .before .before .before)) e in
     ⊎-elim (λ w. next (inl (omega (arith, w .0 .taken), w .1, w .2)))
     (λ w. next (inr (omega (arith, w .0 .left), w .1, w .2))) (c .if1 .came)

@@ -6,7 +6,7 @@ use native.Mathlib.Omega.{arith}
 use lib.ListN.{length, drop}
 use borrow.Author.Needs.{needs}
 use Rattle.rules.specs.Limits.{both}
-use Rattle.sharing.specs.declared.titles.Title.{Title}
+use Rattle.sharing.specs.declared.titles.Rated.{Rated}
 use Rattle.sharing.specs.Titles.{titles}
 use Rattle.sharing.specs.Verdict.{allowed, ordered, eachTitle}
 use Rattle.sharing.proofs.titles.Laws.{titles-length}
@@ -56,7 +56,7 @@ loop-again c =
       passed-next allowed ts (l .good) _ (l .i) h
           (c .before .before .also .ensures
           ∙ ap (both (l .good)) (c .before .before .before .allowed .ensures ∙ ap allowed t)) (l .inv .0),
-      passed-next ordered ts (l .kept) _ (l .i) h (c .also2 .ensures ∙ ap (λ (x : Title). both (l .kept) (ordered x)) t)
+      passed-next ordered ts (l .kept) _ (l .i) h (c .also2 .ensures ∙ ap (λ (x : Rated). both (l .kept) (ordered x)) t)
           (l .inv .1),
     )
 

@@ -1,17 +1,17 @@
--- `text::bytes::reach` meets its contract: what is left of the run, from each place passed, ends where the whole run
+-- `text::bytes::run_end` meets its contract: what is left of the run, from each place passed, ends where the whole run
 -- ends.
 use Prim.Native.Nat.{_-_}
 use mathlib.Core.Path.{_≡_, sym, _∙_}
 use native.Mathlib.Omega.{arith}
 use borrow.Author.Needs.{needs}
 use lib.ListN.{length}
-use Rattle.text.specs.Bytes.{reach}
-use Rattle.text.proofs.Runs.{reach-on, reach-stop, reach-end}
-use Rattle.text.proofs.bytes.reach.Statement.{statement}
-use Rattle.text.proofs.bytes.reach.Tie as tie
+use Rattle.text.specs.Bytes.{runEnd}
+use Rattle.text.proofs.Runs.{run-end-on, run-end-stop, run-end-end}
+use Rattle.text.proofs.bytes.run_end.Statement.{statement}
+use Rattle.text.proofs.bytes.run_end.Tie as tie
 
 abbrev Inv-loop : tie.InvT-loop
-Inv-loop s from sort i₀ i = reach sort s i ≡ reach sort s from
+Inv-loop s from sort i₀ i = runEnd sort s i ≡ runEnd sort s from
 
 abbrev μ-loop : tie.MeasureT-loop
 μ-loop s from sort i₀ i = length s - i
@@ -35,23 +35,23 @@ loop-again : tie.Need-loop-again Inv-loop μ-loop
 loop-again c =
     let a = c .before .before .before .before .before .before .args in
     let i = c .before .before .before .before .loop .i in
-    reach-on (a .sort) (a .s .now) i (omega arith) (sym (c .before .is-sort .ensures) ∙ c .if1 .taken)
+    run-end-on (a .sort) (a .s .now) i (omega arith) (sym (c .before .is-sort .ensures) ∙ c .if1 .taken)
     ∙ c .before .before .before .before .loop .inv
 
 returns : tie.Need-returns Inv-loop μ-loop
 returns c =
     let a = c .before .before .before .before .before .before .args in
     let i = c .before .before .before .before .loop .i in
-    reach-stop (a .sort) (a .s .now) i (omega arith) (sym (c .before .is-sort .ensures) ∙ c .if1 .left)
+    run-end-stop (a .sort) (a .s .now) i (omega arith) (sym (c .before .is-sort .ensures) ∙ c .if1 .left)
     ∙ c .before .before .before .before .loop .inv
 
 returns-2 : tie.Need-returns-2 Inv-loop μ-loop
 returns-2 c =
     let a = c .before .before .before .args in
-    reach-end (a .sort) (a .s .now) (c .before .loop .i) (omega arith) ∙ c .before .loop .inv
+    run-end-end (a .sort) (a .s .now) (c .before .loop .i) (omega arith) ∙ c .before .loop .inv
 
-pub reach-spec : {M : Type 1} → statement M
-reach-spec =
+pub run-end-spec : {M : Type 1} → statement M
+run-end-spec =
     tie.close
     (tie.spec
     Inv-loop

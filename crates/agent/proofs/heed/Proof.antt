@@ -1,8 +1,8 @@
--- `agent::turn` meets its contract: the test of the turn, then the event's answer.
+-- `agent::heed` meets its contract: the test of the turn, then the event's answer.
 use Rattle.agent.proofs.Turns.{turn-taken, turn-refused, turn-other}
 use borrow.Author.Needs.{needs}
-use Rattle.agent.proofs.turn.Statement.{statement}
-use Rattle.agent.proofs.turn.Tie as tie
+use Rattle.agent.proofs.heed.Statement.{statement}
+use Rattle.agent.proofs.heed.Tie as tie
 
 cast-if1 : tie.Need-cast-if1
 cast-if1 c = search needs
@@ -27,6 +27,6 @@ returns-2 c =
 returns-3 : tie.Need-returns-3
 returns-3 c = turn-other _ _ (c .if1 .left)
 
-pub turn-spec : {M : Type 1} → statement M
-turn-spec =
+pub heed-spec : {M : Type 1} → statement M
+heed-spec =
     tie.close (tie.spec cast-if1 cast-if1-2 add-if1 enact-requires returns returns-2 returns-3)
