@@ -1,7 +1,8 @@
 -- A drop that overtakes the raise before it: the agent answers it with 12 and stays as it is, and after the missing notice
 -- it is the agent that heard both in order. For any agent and notices in such a plight; then a worked one, computed from the
 -- definitions over the notices' own bytes. Rests on the laws of one notice's turn.
-use mathlib.Core.Path.{_≡_, refl, ap}
+use mathlib.Core.Path.{_≡_, refl, sym, ap, subst, _∙_}
+use lib.ListN.{length}
 use mathlib.Core.List.{List, [], _∷_}
 use Prim.Native.Nat.{ℕ, suc}
 use native.Mathlib.Omega.{arith}
@@ -13,7 +14,8 @@ use Rattle.grid.specs.Lanes.{isInG, isAdded, addedChannel, laneCell}
 use Rattle.grid.specs.Plan.{takenFrom, inPlan}
 use Rattle.story.specs.Life.{isAdmission, isActive, droppedAt, isAwaited, isOwed, reach, owedWithin, isNth, nthOwed}
 use Rattle.story.specs.Life.{sends, onAir, isHeld}
-use Rattle.story.specs.Story.{tickIn, lifeOf, latestOf, heldIn, heldOver, answerTo}
+use Rattle.story.specs.Story.{tickIn, lifeOf, latestOf, heldIn, heldOver, answerTo, opens, changes, Event, event, accepted}
+use Rattle.story.specs.Runs.{stateAfter}
 use Rattle.notice.specs.declared.Notice.{Notice}
 use Rattle.notice.specs.declared.Kind.the-variants.{Open, Change}
 use Rattle.notice.specs.declared.Reading.the-variants as reading
@@ -23,7 +25,11 @@ use Rattle.notice.specs.Encode.{bytesOf, bytesTo, rowBytes, fieldBytes}
 use Rattle.notice.specs.Decode.{readOf, noticeIn, kindIn, valueAt, standsTo, rowStands, headStands}
 use Rattle.agent.specs.declared.Agent.{Agent}
 use Rattle.agent.specs.Turns.{noticeAnswer, noticed}
-use Rattle.agent.specs.Series.{heard}
+use Rattle.notice.proofs.ReadBack.{one-notice}
+use Rattle.agent.specs.Series.{agentAfter, heard, eventsHeard, Of, no-bytes, more-bytes, OneEach}
+use Rattle.agent.proofs.Order.{follows}
+use Rattle.agent.proofs.OneLog.{one-log}
+use Rattle.agent.proofs.Alike.{alike}
 use Rattle.agent.proofs.Turns.{out-of-turn, refused-stays}
 
 -- the agent waits for the raise, and the drop comes first
@@ -57,3 +63,72 @@ overtaken = bytesOf dropped ∷ bytesOf raised ∷ bytesOf dropped ∷ bytesOf o
 pub heard-in-turn : heard 8 overtaken ≡ dropped ∷ raised ∷ opened ∷ []
 unfolding heard answerTo firstHit lifeOf latestOf heldOver heldIn tickIn total howMany isHeld onAir isActive droppedAt after sends nthOwed isNth owedWithin isOwed isAwaited isAdmission reach some first inPlan takenFrom laneCell addedChannel isAdded isInG channelCell segment shift floorRem cellOf slot isSlotStart tickOf roundedUp readOf noticeIn kindIn valueAt standsTo rowStands headStands numberAt startOf spanOf table bigEndian bytesOf bytesTo rowBytes fieldBytes
 heard-in-turn = refl
+
+-- the same notices in order, and that both series are of one log: no two of its notices share a sequence
+abbrev pub in-order : List (List ℕ)
+in-order = bytesOf dropped ∷ bytesOf raised ∷ bytesOf opened ∷ []
+
+heard-in-order : heard 8 in-order ≡ dropped ∷ raised ∷ opened ∷ []
+unfolding heard answerTo firstHit lifeOf latestOf heldOver heldIn tickIn total howMany isHeld onAir isActive droppedAt after sends nthOwed isNth owedWithin isOwed isAwaited isAdmission reach some first inPlan takenFrom laneCell addedChannel isAdded isInG channelCell segment shift floorRem cellOf slot isSlotStart tickOf roundedUp readOf noticeIn kindIn valueAt standsTo rowStands headStands numberAt startOf spanOf table bigEndian bytesOf bytesTo rowBytes fieldBytes
+heard-in-order = refl
+
+data Log : Notice → Type 0 where
+  first-of : Log opened
+  second-of : Log raised
+  third-of : Log dropped
+
+one-each : OneEach Log
+one-each m n first-of first-of e = refl
+one-each m n first-of second-of e = absurd (omega arith)
+one-each m n first-of third-of e = absurd (omega arith)
+one-each m n second-of first-of e = absurd (omega arith)
+one-each m n second-of second-of e = refl
+one-each m n second-of third-of e = absurd (omega arith)
+one-each m n third-of first-of e = absurd (omega arith)
+one-each m n third-of second-of e = absurd (omega arith)
+one-each m n third-of third-of e = refl
+
+reads-opened : readOf (bytesOf opened) ≡ reading.Whole opened
+unfolding heard answerTo firstHit lifeOf latestOf heldOver heldIn tickIn total howMany isHeld onAir isActive droppedAt after sends nthOwed isNth owedWithin isOwed isAwaited isAdmission reach some first inPlan takenFrom laneCell addedChannel isAdded isInG channelCell segment shift floorRem cellOf slot isSlotStart tickOf roundedUp readOf noticeIn kindIn valueAt standsTo rowStands headStands numberAt startOf spanOf table bigEndian bytesOf bytesTo rowBytes fieldBytes
+reads-opened = refl
+
+reads-raised : readOf (bytesOf raised) ≡ reading.Whole raised
+unfolding heard answerTo firstHit lifeOf latestOf heldOver heldIn tickIn total howMany isHeld onAir isActive droppedAt after sends nthOwed isNth owedWithin isOwed isAwaited isAdmission reach some first inPlan takenFrom laneCell addedChannel isAdded isInG channelCell segment shift floorRem cellOf slot isSlotStart tickOf roundedUp readOf noticeIn kindIn valueAt standsTo rowStands headStands numberAt startOf spanOf table bigEndian bytesOf bytesTo rowBytes fieldBytes
+reads-raised = refl
+
+reads-dropped : readOf (bytesOf dropped) ≡ reading.Whole dropped
+unfolding heard answerTo firstHit lifeOf latestOf heldOver heldIn tickIn total howMany isHeld onAir isActive droppedAt after sends nthOwed isNth owedWithin isOwed isAwaited isAdmission reach some first inPlan takenFrom laneCell addedChannel isAdded isInG channelCell segment shift floorRem cellOf slot isSlotStart tickOf roundedUp readOf noticeIn kindIn valueAt standsTo rowStands headStands numberAt startOf spanOf table bigEndian bytesOf bytesTo rowBytes fieldBytes
+reads-dropped = refl
+
+logged : (m n : Notice) → Log m → readOf (bytesOf m) ≡ reading.Whole m → readOf (bytesOf m) ≡ reading.Whole n → Log n
+logged m n l reads is = subst Log (one-notice (bytesOf m) m n reads is) l
+
+of-order : Of Log in-order
+of-order =
+    more-bytes (λ n is. logged dropped n third-of reads-dropped is)
+    (more-bytes (λ n is. logged raised n second-of reads-raised is)
+    (more-bytes (λ n is. logged opened n first-of reads-opened is) no-bytes))
+
+of-log : Of Log overtaken
+of-log =
+    more-bytes (λ n is. logged dropped n third-of reads-dropped is)
+    (more-bytes (λ n is. logged raised n second-of reads-raised is)
+    (more-bytes (λ n is. logged dropped n third-of reads-dropped is)
+    (more-bytes (λ n is. logged opened n first-of reads-opened is) no-bytes)))
+
+-- so the agent that was overtaken is the agent that heard them in order
+pub caught-up : agentAfter 8 overtaken ≡ agentAfter 8 in-order
+caught-up =
+    one-log Log one-each 8 overtaken in-order of-log of-order
+    (follows 8 overtaken .sequence ∙ ap length heard-in-turn ∙ sym (follows 8 in-order .sequence ∙ ap length heard-in-order))
+
+-- and a head-end with those events is in its state
+abbrev calls : List Event
+calls = event 0 8 (changes 3) ∷ event 0 4 (changes 4) ∷ event 0 0 (opens 12 2 4 3) ∷ []
+
+same-events : accepted 8 calls ≡ eventsHeard 8 overtaken
+unfolding accepted heard answerTo firstHit lifeOf latestOf heldOver heldIn tickIn total howMany isHeld onAir isActive droppedAt after sends nthOwed isNth owedWithin isOwed isAwaited isAdmission reach some first inPlan takenFrom laneCell addedChannel isAdded isInG channelCell segment shift floorRem cellOf slot isSlotStart tickOf roundedUp readOf noticeIn kindIn valueAt standsTo rowStands headStands numberAt startOf spanOf table bigEndian bytesOf bytesTo rowBytes fieldBytes
+same-events = refl
+
+pub as-the-head-end : stateAfter 8 calls ≡ agentAfter 8 overtaken .state
+as-the-head-end = alike 8 calls overtaken same-events
