@@ -7,25 +7,33 @@ use borrow.Author.Needs.{needs}
 use Rattle.measures.proofs.limits.rows_ok.Statement.{statement}
 use Rattle.measures.proofs.limits.rows_ok.Tie as tie
 
+-- the function's start, seen from where the first row is lent
+abbrev start : tie.After-ends2 → tie.Start
+start at-ends = at-ends .before .before .before .before
+
 slice-aggregate-row-within : tie.Need-slice-aggregate-row-within
 slice-aggregate-row-within c = search needs
 
 row-within-requires : tie.Need-row-within-requires
-row-within-requires c κs = let e : length (c .before .before .before .before .args .t .ends) ≡ countPlaces = search needs in omega arith
+row-within-requires c κs =
+    let e : length (start c .args .t .ends) ≡ countPlaces = search needs in
+    omega arith
 
 slice-aggregate-row-within-2 : tie.Need-slice-aggregate-row-within-2
 slice-aggregate-row-within-2 c = search needs
 
 row-within-requires-2 : tie.Need-row-within-requires-2
-row-within-requires-2 c κs = let e : length (c .before .before .before .before .before .before .args .t .dropped) ≡ lanePlaces = search needs in omega arith
+row-within-requires-2 c κs =
+    let e : length (start (c .before .before) .args .t .dropped) ≡ lanePlaces = search needs in
+    omega arith
 
 slice-aggregate-row-within-3 : tie.Need-slice-aggregate-row-within-3
 slice-aggregate-row-within-3 c = search needs
 
 row-within-requires-3 : tie.Need-row-within-requires-3
 row-within-requires-3 c κs =
-    let start = c .before .before .before .before .before .before .before .before in
-    let e : length (start .args .t .owed) ≡ lanePlaces = search needs in omega arith
+    let e : length (start (c .before .before .before .before) .args .t .owed) ≡ lanePlaces = search needs in
+    omega arith
 
 also-requires : tie.Need-also-requires
 also-requires c κs = search needs

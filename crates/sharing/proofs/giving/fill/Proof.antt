@@ -25,13 +25,15 @@ same-length c = search needs
 
 returns : tie.Need-returns
 returns c =
-    let s =
-    c .before .before .before .before .before .before .before .before .before .before .before .before .before .before in
+    let at-give = c .before .before in
+    let at-total = at-give .before .before in
+    let at-copy = at-total .before .before .before in
+    let s = at-copy .before .before .before .before .before .before .before in
     let ts = titles (s .args .rates .now) (s .args .lengths .now) (s .args .floors .now) (s .args .caps .now) in
-    let f = c .before .before .before .before .floor-total in
+    let f = at-total .floor-total in
     let e : rowTotal (s .args .floors .now) + (s .args .pool - f .result) ≡ s .args .pool =
     omega (arith, f .ensures, s .pre .room) in
-    c .before .before .give .ensures ∙ ap (λ (n : ℕ). shared n ts) e
+    at-give .give .ensures ∙ ap (λ (n : ℕ). shared n ts) e
 
 pub fill-spec : {M : Type 1} → statement M
 fill-spec =

@@ -21,6 +21,10 @@ Inv-loop rates lengths floors caps spare counts₀ given₀ counts given =
 abbrev μ-loop : tie.MeasureT-loop
 μ-loop rates lengths floors caps spare counts₀ given₀ counts given = spare - given
 
+-- the function's start, seen from its loop: the five rows come between
+abbrev start : tie.At-loop Inv-loop μ-loop → tie.Start Inv-loop μ-loop
+start at-loop = at-loop .before .before .before .before .before .before
+
 loop-holds : tie.Need-loop-holds Inv-loop μ-loop
 loop-holds c =
     let s = c .before .before .before .before .before in
@@ -30,17 +34,19 @@ loop-holds c =
 
 next-title-requires : tie.Need-next-title-requires Inv-loop μ-loop
 next-title-requires c κs =
-    (c .before .before .before .before .before .before .before .before .pre .0, c .before .before .loop .inv .1 .way)
+    let at-loop = c .before .before in
+    (start at-loop .pre .0, at-loop .loop .inv .1 .way)
 
 -- where a lane is given, the place is a title's, and has a count
 inside : (c : tie.Then1 Inv-loop μ-loop) →
-    let s = c .before .before .before .before .before .before .before .before .before .before in
+    let at-loop = c .before .before .before .before in
+    let s = start at-loop in
     let ts = titles (s .args .rates .now) (s .args .lengths .now) (s .args .floors .now) (s .args .caps .now) in
-    (c .before .next-title .result < length ts) × (length (c .before .before .before .before .loop .counts) ≡ length ts)
+    (c .before .next-title .result < length ts) × (length (at-loop .loop .counts) ≡ length ts)
 inside c =
-    let s = c .before .before .before .before .before .before .before .before .before .before in
-    let l = c .before .before .before .before .loop in
-    (omega (arith, c .if1 .taken, titles-length _ _ _ _ (s .pre .0 .even)), l .inv .1 .way .places)
+    let at-loop = c .before .before .before .before in
+    let n = titles-length _ _ _ _ (start at-loop .pre .0 .even) in
+    (omega (arith, c .if1 .taken, n), at-loop .loop .inv .1 .way .places)
 
 mul-counts : tie.Need-mul-counts Inv-loop μ-loop
 mul-counts c = search needs
@@ -50,11 +56,14 @@ slice-read-counts c = omega (arith, inside (c .before))
 
 add-counts : tie.Need-add-counts Inv-loop μ-loop
 add-counts c =
-    let s = c .before .before .before .before .before .before .before .before .before .before .before in
+    let at-loop = c .before .before .before .before .before in
     let at = c .before .before .next-title .result in
     let l = inside (c .before) .0 in
-    let way = c .before .before .before .before .before .loop .inv .1 .way in
-    omega (arith, way .high at l, s .pre .0 .weighable .each at l .cap-high)
+    omega (
+      arith,
+      at-loop .loop .inv .1 .way .high at l,
+      start at-loop .pre .0 .weighable .each at l .cap-high,
+    )
 
 mul-counts-2 : tie.Need-mul-counts-2 Inv-loop μ-loop
 mul-counts-2 c = search needs
@@ -70,11 +79,10 @@ loop-less c = omega arith
 
 loop-again : tie.Need-loop-again Inv-loop μ-loop
 loop-again c =
-    let s = c .before .before .before .before .before .before .before .before .before .before in
+    let at-loop = c .before .before .before .before in
+    let s = start at-loop in
     let n = titles-length _ _ _ _ (s .pre .0 .even) in
-    let next =
-    goes-on _ (s .pre .0 .weighable) (c .before .before .before .before .loop .inv .1)
-    (c .before .next-title .ensures) in (
+    let next = goes-on _ (s .pre .0 .weighable) (at-loop .loop .inv .1) (c .before .next-title .ensures) in (
       omega arith,
       ⊎-elim (λ w. next (inl (omega (arith, w .0 .taken, n), w .2)))
           (λ w. next (inr (omega (arith, w .0 .left, n), w .1))) (c .if1 .came),
@@ -82,7 +90,7 @@ loop-again c =
 
 same-length : tie.Need-same-length Inv-loop μ-loop
 same-length c =
-    let s = c .before .before .before .before .before .before .before in
+    let s = start (c .before) in
     let even = s .pre .0 .even in
     omega (
       arith,
@@ -94,7 +102,7 @@ same-length c =
 
 returns : tie.Need-returns Inv-loop μ-loop
 returns c =
-    let s = c .before .before .before .before .before .before .before in
+    let s = start (c .before) in
     let ts = titles (s .args .rates .now) (s .args .lengths .now) (s .args .floors .now) (s .args .caps .now) in
     let e : c .before .loop .given ≡ s .args .spare = omega (arith, c .loop-test .left, c .before .loop .inv .0) in
     ends ts (s .pre .0 .weighable) (c .before .loop .given) (c .before .loop .counts) (c .before .loop .inv .1)

@@ -22,6 +22,10 @@ Inv-loop rates lengths floors caps counts n best₀ most₀ i₀ best most i =
 abbrev μ-loop : tie.MeasureT-loop
 μ-loop rates lengths floors caps counts n best₀ most₀ i₀ best most i = n - i
 
+-- the function's start, seen from its loop: the five rows come between
+abbrev start : tie.At-loop Inv-loop μ-loop → tie.Start Inv-loop μ-loop
+start at-loop = at-loop .before .before .before .before .before .before
+
 loop-holds : tie.Need-loop-holds Inv-loop μ-loop
 loop-holds c =
     let s = c .before .before .before .before .before in
@@ -31,7 +35,7 @@ loop-holds c =
 
 title-at-requires : tie.Need-title-at-requires Inv-loop μ-loop
 title-at-requires c κs =
-    let s = c .before .before .before .before .before .before .before in
+    let s = start (c .before) in
     (s .pre .0 .even, c .loop-test .taken)
 
 mul-gain : tie.Need-mul-gain Inv-loop μ-loop
@@ -39,24 +43,24 @@ mul-gain c = search needs
 
 -- in the loop, i is a title's place
 inside : (c : tie.In-loop Inv-loop μ-loop) →
-    let s = c .before .before .before .before .before .before .before in
+    let s = start (c .before) in
     let ts = titles (s .args .rates .now) (s .args .lengths .now) (s .args .floors .now) (s .args .caps .now) in
     c .before .loop .i < length ts
 inside c =
-    let s = c .before .before .before .before .before .before .before in
+    let s = start (c .before) in
     omega (arith, c .loop-test .taken, titles-length _ _ _ _ (s .pre .0 .even))
 
 shared-slice-read-gain : tie.Need-shared-slice-read-gain Inv-loop μ-loop
 shared-slice-read-gain c =
-    let s = c .before .before .before .before .before .before .before .before .before in
+    let s = start (c .before .before .before) in
     omega (arith, inside (c .before .before), s .pre .1 .places)
 
 gain-requires : tie.Need-gain-requires Inv-loop μ-loop
 gain-requires c κs =
-    let s = c .before .before .before .before .before .before .before .before .before in
-    let i = c .before .before .before .loop .i in
+    let at-loop = c .before .before .before in
+    let i = at-loop .loop .i in
     let l = inside (c .before .before) in
-    let w = s .pre .0 .weighable .each i l in
+    let w = start at-loop .pre .0 .weighable .each i l in
     subst⁻¹ Weighable (c .before .title-at .ensures) w
 
 add-i : tie.Need-add-i Inv-loop μ-loop
@@ -67,10 +71,11 @@ loop-less c = omega arith
 
 loop-again : tie.Need-loop-again Inv-loop μ-loop
 loop-again c =
-    let s = c .before .before .before .before .before .before .before .before .before .before .before in
+    let at-loop = c .before .before .before .before .before in
+    let s = start at-loop in
     let ts = titles (s .args .rates .now) (s .args .lengths .now) (s .args .floors .now) (s .args .caps .now) in
     let ks = s .args .counts .now in
-    let l = c .before .before .before .before .before .loop in
+    let l = at-loop .loop in
     let e : c .before .gain .result ≡ worth (titleAt ts (l .i)) (getD ks (l .i) 0) =
     c .before .gain .ensures
     ∙ ap (λ (t : Rated). worth t (getD ks (l .i) 0)) (c .before .before .before .title-at .ensures) in
@@ -80,7 +85,7 @@ loop-again c =
 
 returns : tie.Need-returns Inv-loop μ-loop
 returns c =
-    let s = c .before .before .before .before .before .before .before in
+    let s = start (c .before) in
     leads-all _ _ (omega (arith, c .loop-test .left, titles-length _ _ _ _ (s .pre .0 .even))) (c .before .loop .inv)
 
 pub next-title-spec : {M : Type 1} → statement M

@@ -23,11 +23,15 @@ Inv-loop rates lengths floors caps good₀ kept₀ i₀ good kept i =
 abbrev μ-loop : tie.MeasureT-loop
 μ-loop rates lengths floors caps good₀ kept₀ i₀ good kept i = length rates - i
 
+-- the function's start, seen from its loop: the four rows come between
+abbrev start : tie.At-loop Inv-loop μ-loop → tie.Start Inv-loop μ-loop
+start at-loop = at-loop .before .before .before .before .before
+
 loop-holds : tie.Need-loop-holds Inv-loop μ-loop
 loop-holds c = (refl, refl)
 
 title-at-requires : tie.Need-title-at-requires Inv-loop μ-loop
-title-at-requires c κs = (c .before .before .before .before .before .before .pre, c .loop-test .taken)
+title-at-requires c κs = (start (c .before) .pre, c .loop-test .taken)
 
 allowed-requires : tie.Need-allowed-requires Inv-loop μ-loop
 allowed-requires c κs = tt
@@ -47,11 +51,13 @@ loop-less c = omega arith
 loop-again : tie.Need-loop-again Inv-loop μ-loop
 unfolding ordered
 loop-again c =
-    let s = c .before .before .before .before .before .before .before .before .before .before .before in
+    let at-loop-test = c .before .before .before .before .before in
+    let at-loop = at-loop-test .before in
+    let s = start at-loop in
     let ts = titles (s .args .rates .now) (s .args .lengths .now) (s .args .floors .now) (s .args .caps .now) in
-    let l = c .before .before .before .before .before .before .loop in
+    let l = at-loop .loop in
     let h : l .i < length ts =
-    omega (arith, c .before .before .before .before .before .loop-test .taken, titles-length _ _ _ _ (s .pre)) in
+    omega (arith, at-loop-test .loop-test .taken, titles-length _ _ _ _ (s .pre)) in
     let t = c .before .before .before .before .title-at .ensures in (
       passed-next allowed ts (l .good) _ (l .i) h
           (c .before .before .also .ensures
@@ -62,7 +68,7 @@ loop-again c =
 
 returns : tie.Need-returns Inv-loop μ-loop
 returns c =
-    let s = c .before .before .before .before .before .before in
+    let s = start (c .before) in
     let n = titles-length _ _ _ _ (s .pre) in
     record {
       limits =

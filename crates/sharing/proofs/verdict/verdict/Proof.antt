@@ -15,15 +15,20 @@ use Rattle.sharing.proofs.verdict.verdict.Tie as tie
 rows-fit-requires : tie.Need-rows-fit-requires
 rows-fit-requires c κs = search needs
 
+-- the function's start, seen from where the rows fit
+abbrev start : tie.Then1 → tie.Start
+start at-if1 = at-if1 .before .before .before .before .before .before
+
 -- past the first test the rows fit
 fits : (c : tie.Then1) →
-    let a = c .before .before .before .before .before .before .args in
+    let a = start c .args in
     rowsFit (a .rates .now) (a .lengths .now) (a .floors .now) (a .caps .now) (a .room) ≡ true
 fits c = sym (c .before .rows-fit .ensures) ∙ c .if1 .taken
 
 -- what the second test tests
 inside : (c : tie.After-also) →
-    let a = c .before .before .before .before .before .before .before .before .before .args in
+    let at-if1 = c .before .before .before in
+    let a = start at-if1 .args in
     both (within poolMin poolMax (a .pool))
     (eachTitle allowed (titles (a .rates .now) (a .lengths .now) (a .floors .now) (a .caps .now)))
     ≡ c .also .result
