@@ -5,7 +5,7 @@ use mathlib.Core.List.{List, map, append-nil}
 use borrow.Author.Tests.{eq-eqb, ne-eqb}
 use lib.Dec.{eqb}
 use lib.ListN.{length}
-use Rattle.rules.specs.Refusals.{pick}
+use Rattle.rules.specs.Refusals.{pick, done}
 use Rattle.story.specs.declared.State.{State}
 use Rattle.story.specs.Calls.{laneAnswer, laneShows, statusAnswer, statusCount, statusHeld}
 use Rattle.plan.specs.Row.{Planned}
@@ -18,13 +18,13 @@ use Rattle.console_answers.specs.Outcomes.{doneText, withText, valueText
 use Rattle.console_answers.specs.Questions.{laneText, statusText, planText, shareText}
 
 -- what is told stands behind the 0
-pub told : (p q r : Page) (a x : ℕ) (more : List ℕ) → q ≡ puts p (doneText a x) → a ≡ 0 → r ≡ puts q more
+pub told : (p q r : Page) (a x : ℕ) (more : List ℕ) → q ≡ puts p (doneText a x) → a ≡ done → r ≡ puts q more
     → r ≡ puts p (withText a x more)
 unfolding withText
 told p q r a x more e z f = rw (eq-eqb _ _ z, puts-append) (cc)
 
 -- nothing stands behind a refusal
-pub refused : (p q : Page) (a x : ℕ) (more : List ℕ) → q ≡ puts p (doneText a x) → (a ≡ 0 → ⊥)
+pub refused : (p q : Page) (a x : ℕ) (more : List ℕ) → q ≡ puts p (doneText a x) → (a ≡ done → ⊥)
     → q ≡ puts p (withText a x more)
 unfolding withText
 refused p q a x more e z = rw (ne-eqb _ _ z, append-nil) e
@@ -41,13 +41,13 @@ module _ (p q r : Page) where
     same-answer : statusAnswer s τ ids (length ids) (length ids) ≡ a
     same-answer = sym (rw (lc, lh) at e)
 
-    pub status-refused : (a ≡ 0 → ⊥) → q ≡ puts p (statusText s τ ids)
+    pub status-refused : (a ≡ done → ⊥) → q ≡ puts p (statusText s τ ids)
     unfolding statusText
     status-refused z = rw same-answer (refused p q a 0 _ g z)
 
-    pub status-told : (counts' held' : List ℕ) → counts' ≡ pick (eqb a 0) (map (λ i. statusCount s i) ids) counts
-        → held' ≡ pick (eqb a 0) (map (λ i. statusHeld s i τ) ids) held
-        → a ≡ 0 → r ≡ puts q (titlesText ids counts' held' (length ids)) → r ≡ puts p (statusText s τ ids)
+    pub status-told : (counts' held' : List ℕ) → counts' ≡ pick (eqb a done) (map (λ i. statusCount s i) ids) counts
+        → held' ≡ pick (eqb a done) (map (λ i. statusHeld s i τ) ids) held
+        → a ≡ done → r ≡ puts q (titlesText ids counts' held' (length ids)) → r ≡ puts p (statusText s τ ids)
     unfolding statusText
     status-told counts' held' ec eh z f =
         rw same-answer
@@ -56,22 +56,22 @@ module _ (p q r : Page) where
 
   module _ (A K k a n : ℕ) (row row' : List ℕ) (e : Planned A K k a row n row')
       (g : q ≡ puts p (doneText n (missed n A K))) where
-    pub plan-refused : (n ≡ 0 → ⊥) → q ≡ puts p (planText A K k a row)
+    pub plan-refused : (n ≡ done → ⊥) → q ≡ puts p (planText A K k a row)
     unfolding planText
     plan-refused z = rw (sym (e .answer)) (refused p q n (missed n A K) _ g z)
 
-    pub plan-told : n ≡ 0 → r ≡ puts q (cellsText row' (2 ^ K)) → r ≡ puts p (planText A K k a row)
+    pub plan-told : n ≡ done → r ≡ puts q (cellsText row' (2 ^ K)) → r ≡ puts p (planText A K k a row)
     unfolding planText
     plan-told z f = rw (sym (e .answer)) (told p q r n (missed n A K) _ g z (rw (e .left) at f))
 
   module _ (pool n : ℕ) (rates lengths floors caps row row' : List ℕ)
       (e : Answered pool rates lengths floors caps row n row')
       (g : q ≡ puts p (doneText n 0)) where
-    pub share-refused : (n ≡ 0 → ⊥) → q ≡ puts p (shareText pool rates lengths floors caps row)
+    pub share-refused : (n ≡ done → ⊥) → q ≡ puts p (shareText pool rates lengths floors caps row)
     unfolding shareText
     share-refused z = rw (sym (e .answer)) (refused p q n 0 _ g z)
 
-    pub share-told : n ≡ 0 → length row' ≡ length row → r ≡ puts q (numbersText row' (length row'))
+    pub share-told : n ≡ done → length row' ≡ length row → r ≡ puts q (numbersText row' (length row'))
         → r ≡ puts p (shareText pool rates lengths floors caps row)
     unfolding shareText
     share-told z l f = rw (sym (e .answer)) (told p q r n 0 _ g z (rw (e .counts) at (rw l at f)))

@@ -1,5 +1,4 @@
--- Laws of tables of texts, of what was asked and where its answer stands, and of the rows that questions lend. That two
+-- Laws of what was asked and where its answer stands, and of the rows that questions lend. That two
 -- outcomes of a call here are equal is `page-one-outcome` of `text`.
-pub mod Parts
 pub mod Rows
 pub mod Answered

@@ -1,4 +1,5 @@
 -- What the console answers.
+pub mod Parts
 pub mod Words
 pub mod Entries
 pub mod Outcomes

@@ -1,5 +1,6 @@
 // Rows of numbers, each behind a space.
 
+use plan::NEVER;
 use text::digits;
 use text::output;
 ghost use mathlib.Core.Path.{_≡_};
@@ -42,9 +43,6 @@ pub fn put_shares(out: &mut [u8], at: usize, row: &[u32]) -> usize
     }
     place
 }
-
-// In a plan, a cell that is never taken.
-const NEVER: u16 = 65535;
 
 // A cell of a plan: its number, or `-` where it is never taken.
 fn put_cell(out: &mut [u8], at: usize, n: u16) -> usize

@@ -5,6 +5,7 @@ pub mod entries;
 pub mod lanes;
 pub mod notices;
 pub mod outcomes;
+pub mod parts;
 pub mod plans;
 pub mod shares;
 pub mod titles;

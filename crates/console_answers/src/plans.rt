@@ -33,24 +33,21 @@ fn put_row(
     a
 }
 
-// Places as they count a row's: as many as are asked for, up to the most.
-const ROOM: usize = 1024;
-
 // As many places as are asked for, up to the most.
 fn places_of(places: u64) -> usize
     ensures { λ r. ⌜ r ≡ min places placesMost ⌝ }
 {
-    if places < PLACES_MOST {
+    if places < PLACES_MOST as u64 {
         return places as usize;
     }
-    ROOM
+    PLACES_MOST
 }
 
 // The row that a line lends.
-fn blank_row() -> [u16; ROOM]
+fn blank_row() -> [u16; PLACES_MOST]
     ensures { λ r. ⌜ (r ≡ zeros placesMost) × (length r ≡ placesMost) ⌝ }
 {
-    [0; ROOM]
+    [0; PLACES_MOST]
 }
 
 pub fn put_plan(

@@ -2,6 +2,7 @@
 
 use crate::entries;
 use crate::outcomes;
+use console_lines::commands::TITLE_NUMBERS;
 use console_lines::commands::TITLES_MOST;
 use console_lines::lines::NUMBERS_MOST;
 use rules::DONE;
@@ -9,7 +10,7 @@ use text::numbers;
 ghost use mathlib.Core.Path.{_≡_};
 ghost use Prim.Native.Nat.{_≤_};
 ghost use lib.ListN.{length};
-ghost use Rattle.console_lines.specs.Commands.{titlesMost};
+ghost use Rattle.console_lines.specs.Commands.{titlesMost, titleNumbers};
 ghost use Rattle.text.specs.Output.{Written};
 ghost use Rattle.console_answers.specs.Questions.{shareText, column as columnOf, titlesIn, shareIn};
 
@@ -38,13 +39,13 @@ fn put_rows(
 
 // Every fourth number of the line, from a place on: of each title the same one, at most the largest of four bytes.
 fn column(row: &[u64; NUMBERS_MOST], first: usize) -> [u32; TITLES_MOST]
-    requires { ⌜ first ≤ 4 ⌝ }
+    requires { ⌜ first ≤ titleNumbers ⌝ }
     ensures { λ r. ⌜ (r ≡ columnOf (now (row .entry)) first titlesMost) × (length r ≡ titlesMost) ⌝ }
 {
     let mut c = [0u32; TITLES_MOST];
     let mut i = 0;
     while i < TITLES_MOST {
-        c[i] = numbers::as_four_bytes(row[first + 4 * i]);
+        c[i] = numbers::as_four_bytes(row[first + TITLE_NUMBERS * i]);
         i += 1;
     }
     c
@@ -57,7 +58,7 @@ fn titles_of(count: usize) -> usize
     if count < 1 {
         return 0;
     }
-    let n = (count - 1) / 4;
+    let n = (count - 1) / TITLE_NUMBERS;
     if n < TITLES_MOST {
         return n;
     }

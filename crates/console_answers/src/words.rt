@@ -1,10 +1,9 @@
 // The words that the console answers in: of refusals, of what is wrong with a line, and of help.
 
+use crate::parts::put_part;
 use text::digits;
 use text::output;
 ghost use mathlib.Core.Path.{_≡_};
-ghost use Prim.Native.Nat.{_-_, _≤_};
-ghost use lib.ListN.{length, take, drop};
 ghost use Rattle.rules.specs.Limits.{within};
 ghost use Rattle.rules.specs.Refusals.{outOfTurn, aboveCap};
 ghost use Rattle.text.specs.Output.{Written};
@@ -18,17 +17,13 @@ ghost use Rattle.console_answers.specs.Words.{
   missed as missedOf,
 };
 
-// The part of a row from a place to another.
-fn put_part(out: &mut [u8], at: usize, row: &[u8], from: usize, to: usize) -> usize
-    requires { ⌜ (from ≤ to) × (to ≤ length (now row)) ⌝ }
-    ensures { λ r. ⌜ Written (now (out .entry)) at (take (to - from) (drop from (now (row .entry))))
-        (now (out .exit)) r ⌝ }
-{
-    output::put(out, at, &row[from..to])
-}
+// How many refusals there are, with done, and faults of a line, with none.
+const REFUSAL_COUNT: usize = 16;
+
+const FAULT_COUNT: usize = 12;
 
 // By number: where each refusal's words begin, and behind the last where they end.
-const REFUSALS: [usize; 17] = [
+const REFUSALS: [usize; REFUSAL_COUNT + 1] = [
     0,
     4,
     23,
@@ -49,7 +44,7 @@ const REFUSALS: [usize; 17] = [
 ];
 
 // The same for the faults of a line, of which 0 is none.
-const FAULTS: [usize; 13] = [0, 0, 27, 39, 54, 70, 81, 97, 128, 151, 167, 186, 207];
+const FAULTS: [usize; FAULT_COUNT + 1] = [0, 0, 27, 39, 54, 70, 81, 97, 128, 151, 167, 186, 207];
 
 // The words of a refusal.
 fn refusal_words(out: &mut [u8], at: usize, number: u8) -> usize
@@ -71,13 +66,8 @@ fn refusal_words(out: &mut [u8], at: usize, number: u8) -> usize
         below the floor, which is \
         above the cap, which is \
         floor above its cap";
-    let k = number as usize;
-    if k < 16 {
-        let a = REFUSALS[k];
-        let e = REFUSALS[k + 1];
-        return put_part(out, at, words, a, e);
-    }
-    at
+    let cuts = REFUSALS;
+    put_part(out, at, words, &cuts, number)
 }
 
 // Whether the words of a refusal end in a number: those from OUT_OF_TURN to ABOVE_CAP.
@@ -129,13 +119,8 @@ fn fault_words(out: &mut [u8], at: usize, fault: u8) -> usize
         more than 32 ids\
         more than 17 titles\
         more than 1024 places";
-    let k = fault as usize;
-    if k < 12 {
-        let a = FAULTS[k];
-        let e = FAULTS[k + 1];
-        return put_part(out, at, words, a, e);
-    }
-    at
+    let cuts = FAULTS;
+    put_part(out, at, words, &cuts, fault)
 }
 
 // The last place that has a number when it is counted from 1.

@@ -121,7 +121,7 @@ fn places_of(line: Line) -> u64
     if 4 < count {
         return n[4];
     }
-    commands::PLACES_MOST
+    commands::PLACES_MOST as u64
 }
 
 // A question, which changes nothing.

@@ -92,13 +92,37 @@ pub const IDS_MOST: usize = 32;
 
 pub const TITLES_MOST: usize = 17;
 
-pub const PLACES_MOST: u64 = 1024;
+pub const PLACES_MOST: usize = 1024;
 
-// By command: the fewest words after its own, and the most: 33 is a time and the ids, 69 a pool and four numbers of
-// each title. Read and notice have no number, but HEX, which is a word.
+// The numbers of a title in a share: rate, length, floor and cap.
+pub const TITLE_NUMBERS: usize = 4;
+
+// A status has a time and its ids, a share a pool and the numbers of its titles.
+const STATUS_MOST: usize = 1 + IDS_MOST;
+
+const SHARE_MOST: usize = 1 + TITLE_NUMBERS * TITLES_MOST;
+
+// By command: the fewest words after its own, and the most. Read and notice have no number, but HEX, which is a word.
 const LEAST: [usize; COMMANDS] = [0, 1, 6, 3, 2, 3, 1, 4, 1, 1, 1, 2, 0, 7, 4, 3];
 
-const MOST: [usize; COMMANDS] = [0, 1, 6, 3, 2, 3, 33, 5, 69, 1, 1, 2, 0, 7, 4, 3];
+const MOST: [usize; COMMANDS] = [
+    0,
+    1,
+    6,
+    3,
+    2,
+    3,
+    STATUS_MOST,
+    5,
+    SHARE_MOST,
+    1,
+    1,
+    2,
+    0,
+    7,
+    4,
+    3,
+];
 
 // verb where the word is that name, or other.
 fn named(word: &[u8], name: &[u8], verb: u8, other: u8) -> u8
@@ -155,7 +179,7 @@ pub fn enough(command: u8, count: usize) -> bool
     ensures { λ r. ⌜ r ≡ suffices command count ⌝ }
 {
     if command == SHARE {
-        return count % 4 == 1;
+        return count % TITLE_NUMBERS == 1;
     }
     least(command) <= count
 }
@@ -188,7 +212,7 @@ fn limits(command: u8) -> [u64; LIMITED]
     ensures { λ r. ⌜ r ≡ limitsOf command ⌝ }
 {
     if command == PLAN {
-        return [0, 0, 0, 0, PLACES_MOST, 0, 0];
+        return [0, 0, 0, 0, PLACES_MOST as u64, 0, 0];
     }
     if command == WRITE {
         return [FOUR_BYTES_MOST, 0, 0, 0, 0, 0, 0];

@@ -9,6 +9,12 @@ use borrow.Author.Needs.{needs}
 use Rattle.console_answers.proofs.plans.put_row.Statement.{statement}
 use Rattle.console_answers.proofs.plans.put_row.Tie as tie
 
+-- the plan's step, seen from where its answer is done
+abbrev planned : tie.Then1 → tie.After-plan
+planned at-if1 =
+    let at-put-done = at-if1 .before .before .before in
+    at-put-done .before .before .before .before .before
+
 plan-requires : tie.Need-plan-requires
 plan-requires c κs = search needs
 
@@ -21,7 +27,7 @@ put-done-requires c κs = search needs
 pow2-requires : tie.Need-pow2-requires
 pow2-requires c κs =
     let at-if1 = c .before .before in
-    let at-plan = at-if1 .before .before .before .before .before .before .before .before in
+    let at-plan = planned at-if1 in
     let at-start = at-plan .before .before .before .before in
     let x = at-start .args in
     let e = at-plan .plan .ensures in
@@ -31,7 +37,7 @@ pow2-requires c κs =
 put-cells-requires : tie.Need-put-cells-requires
 put-cells-requires c κs =
     let at-if1 = c .before .before .before in
-    let at-plan = at-if1 .before .before .before .before .before .before .before .before in
+    let at-plan = planned at-if1 in
     let at-start = at-plan .before .before .before .before in
     let x = at-start .args in
     let e = at-plan .plan .ensures in

@@ -5,6 +5,12 @@ use borrow.Author.Needs.{needs}
 use Rattle.console_answers.proofs.shares.put_rows.Statement.{statement}
 use Rattle.console_answers.proofs.shares.put_rows.Tie as tie
 
+-- the function's start, seen from the sharing: six rows and their lending come between
+abbrev start : tie.After-share → tie.Start
+start at-share =
+    let at-lent = at-share .before .before in
+    at-lent .before .before .before .before .before .before
+
 share-requires : tie.Need-share-requires
 share-requires c κs = search needs
 
@@ -26,8 +32,7 @@ returns c =
     let at-if1 = at-put-shares .before .before .before in
     let at-put-done = at-if1 .before .before .before in
     let at-share = at-put-done .before .before .before .before in
-    let at-start = at-share .before .before .before .before .before .before .before .before in
-    let x = at-start .args in
+    let x = start at-share .args in
     let p = page (x .out .now) (x .at) in
     share-told p _ _ (x .pool) _ (x .rates .now) (x .lengths .now) (x .floors .now) (x .caps .now) (x .counts .now) _
     (at-share .share .ensures) (at-put-done .put-done .ensures) (at-if1 .if1 .taken) (search needs)
@@ -43,8 +48,7 @@ returns-2 : tie.Need-returns-2
 returns-2 c =
     let at-put-done = c .before .before .before in
     let at-share = at-put-done .before .before .before .before in
-    let at-start = at-share .before .before .before .before .before .before .before .before in
-    let x = at-start .args in
+    let x = start at-share .args in
     let p = page (x .out .now) (x .at) in
     share-refused p _ p (x .pool) _ (x .rates .now) (x .lengths .now) (x .floors .now) (x .caps .now) (x .counts .now) _
     (at-share .share .ensures) (at-put-done .put-done .ensures) (c .if1 .left)

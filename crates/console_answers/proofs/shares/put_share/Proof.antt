@@ -31,7 +31,8 @@ array-share-prefix-rates c = search needs
 
 slice-aggregate-put-rows : tie.Need-slice-aggregate-put-rows
 slice-aggregate-put-rows c =
-    let at-column = c .before .before .before .before .before .before .before .before in
+    let at-column4 = c .before .before in
+    let at-column = at-column4 .before .before .before .before .before .before in
     let at-titles-of = at-column .before .before in
     counted _ titlesMost (at-column .column .result) (at-column .column .ensures .1)
     (at-titles-of .titles-of .ensures .1)
@@ -62,7 +63,8 @@ array-share-prefix-caps c = search needs
 slice-aggregate-put-rows-4 : tie.Need-slice-aggregate-put-rows-4
 slice-aggregate-put-rows-4 c =
     let at-column4 = c .before .before .before .before .before in
-    let at-titles-of = at-column4 .before .before .before .before .before .before .before .before in
+    let at-column = at-column4 .before .before .before .before .before .before in
+    let at-titles-of = at-column .before .before in
     counted _ titlesMost (at-column4 .column4 .result) (at-column4 .column4 .ensures .1)
     (at-titles-of .titles-of .ensures .1)
 
@@ -71,7 +73,9 @@ array-borrow-prefix-counts c = search needs
 
 slice-aggregate-put-rows-5 : tie.Need-slice-aggregate-put-rows-5
 slice-aggregate-put-rows-5 c =
-    let at-titles-of = c .before .before .before .before .before .before .before .before .before .before .before .before .before .before in
+    let at-column4 = c .before .before .before .before .before .before in
+    let at-column = at-column4 .before .before .before .before .before .before in
+    let at-titles-of = at-column .before .before in
     rw length-take (omega (arith, at-titles-of .titles-of .ensures .1))
 
 put-rows-requires : tie.Need-put-rows-requires

@@ -12,7 +12,12 @@ grow-requires : tie.Need-grow-requires
 grow-requires c κs = search needs
 
 returns : tie.Need-returns
-returns c = takes-digit _ _ _ _ (c .before .before .before .if1 .taken) _ (sym (c .before .before .is-digit .ensures) ∙ c .before .if2 .taken) (c .grow .ensures)
+returns c =
+    let at-if2 = c .before in
+    let at-digit = at-if2 .before in
+    let at-if1 = at-digit .before in
+    takes-digit _ _ _ _ (at-if1 .if1 .taken) _ (sym (at-digit .is-digit .ensures) ∙ at-if2 .if2 .taken)
+    (c .grow .ensures)
 
 is-gap-requires : tie.Need-is-gap-requires
 is-gap-requires c κs = search needs
@@ -24,10 +29,24 @@ same-length : tie.Need-same-length
 same-length c = search needs
 
 returns-2 : tie.Need-returns-2
-returns-2 c = takes-gap _ _ _ _ (c .before .before .before .before .before .before .before .before .if1 .taken) _ _ (sym (c .before .before .before .before .before .before .before .is-digit .ensures) ∙ c .before .before .before .before .before .before .if2 .left) (sym (c .before .before .before .before .before .is-gap .ensures) ∙ c .before .before .before .before .if3 .taken) (c .before .before .end-number .ensures)
+returns-2 c =
+    let at-end = c .before .before in
+    let at-if3 = at-end .before .before in
+    let at-gap = at-if3 .before in
+    let at-if2 = at-gap .before in
+    let at-digit = at-if2 .before in
+    let at-if1 = at-digit .before in
+    takes-gap _ _ _ _ (at-if1 .if1 .taken) _ _ (sym (at-digit .is-digit .ensures) ∙ at-if2 .if2 .left)
+    (sym (at-gap .is-gap .ensures) ∙ at-if3 .if3 .taken) (at-end .end-number .ensures)
 
 returns-3 : tie.Need-returns-3
-returns-3 c = takes-other _ _ _ _ (c .before .before .before .before .if1 .taken) (sym (c .before .before .before .is-digit .ensures) ∙ c .before .before .if2 .left) (sym (c .before .is-gap .ensures) ∙ c .if3 .left)
+returns-3 c =
+    let at-gap = c .before in
+    let at-if2 = at-gap .before in
+    let at-digit = at-if2 .before in
+    let at-if1 = at-digit .before in
+    takes-other _ _ _ _ (at-if1 .if1 .taken) (sym (at-digit .is-digit .ensures) ∙ at-if2 .if2 .left)
+    (sym (at-gap .is-gap .ensures) ∙ c .if3 .left)
 
 returns-4 : tie.Need-returns-4
 returns-4 c = takes-none _ _ _ _ (c .if1 .left)

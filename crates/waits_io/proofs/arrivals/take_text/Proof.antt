@@ -12,7 +12,8 @@ use Rattle.waits_io.proofs.arrivals.take_text.Statement.{statement}
 use Rattle.waits_io.proofs.arrivals.take_text.Tie as tie
 
 abbrev Inv-loop : tie.InvT-loop
-Inv-loop text row₀ scan₀ i₀ row scan i = (i ≤ length text) × (soFar row scan ≡ takenTo text row₀ i) × (length row ≡ length row₀)
+Inv-loop text row₀ scan₀ i₀ row scan i =
+    (i ≤ length text) × (soFar row scan ≡ takenTo text row₀ i) × (length row ≡ length row₀)
 
 abbrev μ-loop : tie.MeasureT-loop
 μ-loop text row₀ scan₀ i₀ row scan i = length text - i
@@ -36,8 +37,9 @@ loop-less c = search needs
 loop-again : tie.Need-loop-again Inv-loop μ-loop
 unfolding takenTo
 loop-again c =
-    let x = c .before .before .before .before .before .before .before .before .before .args in
-    let l = c .before .before .before .before .before .before .loop in
+    let at-loop = c .before .before .before .before .before .before in
+    let x = at-loop .before .before .before .args in
+    let l = at-loop .loop in
     let e = c .before .before .take-byte .ensures in
     let b = getD (x .text .now) (l .i) 0 in (
       omega arith,
@@ -50,14 +52,19 @@ end-number-requires c κs = search needs
 
 same-length : tie.Need-same-length Inv-loop μ-loop
 same-length c =
-    let l = c .before .before .before .before .before .loop in
-    ap (λ (s : SoFar). length (s .row)) (c .before .before .end-number .ensures) ∙ ending-length (soFar (l .row) (l .scan)) ∙ l .inv .2
+    let at-loop = c .before .before .before .before .before in
+    let l = at-loop .loop in
+    ap (λ (s : SoFar). length (s .row)) (c .before .before .end-number .ensures)
+    ∙ ending-length (soFar (l .row) (l .scan))
+    ∙ l .inv .2
 
 returns : tie.Need-returns Inv-loop μ-loop
 returns c =
-    let l = c .before .before .before .before .before .loop in
-    let all = le-antisymm (l .inv .0) (c .before .before .before .before .loop-test .left) in
-    let x = c .before .before .before .before .before .before .before .before .args in
+    let at-loop-test = c .before .before .before .before in
+    let at-loop = at-loop-test .before in
+    let l = at-loop .loop in
+    let all = le-antisymm (l .inv .0) (at-loop-test .loop-test .left) in
+    let x = at-loop .before .before .before .args in
     c .before .before .end-number .ensures ∙ ap ending (l .inv .1 ∙ ap (takenTo (x .text .now) (x .row .now)) all)
 
 pub take-text-spec : {M : Type 1} → statement M

@@ -1,0 +1,2 @@
+-- Laws of a row that is cut into texts.
+pub mod Laws
