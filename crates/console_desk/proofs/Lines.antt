@@ -40,40 +40,48 @@ readable s e = by-test (ltb longest (length s)) refl where
   by-test true h = let z : _≡_ {A = ℕ} 1 0 = sym (too-long s h) ∙ e in omega arith
   by-test false h = ltb-false _ _ h
 
+-- what a line leaves, over a page before and a page after
+abbrev pub Leaves : Agent → Page → List ℕ → Agent → Page → Type 0
+Leaves g p text after q = Left g (p .row) (p .at) text after (q .row) (q .at)
+
 module _ (g : Agent) (l : Line) (s : List ℕ) (p : Page) where
-  pub asks-nothing : l .command ≡ Commands.none → Left (afterWhole g l s) (puts p (wholeText g l s)) g p
+  pub asks-nothing : l .command ≡ Commands.none → Leaves (afterWhole g l s) p (wholeText g l s) g p
   unfolding afterWhole wholeText mayChange puts
-  asks-nothing h = record { agent = rw h; row = rw h }
+  asks-nothing h = record { agent = rw h; written = rw h }
 
   module _ (something : l .command ≡ Commands.none → ⊥) (t : Bool) (e : t ≡ mayChange (l .command)) (after : Agent)
       (q r : Page) where
-    pub it-acts : t ≡ true → Left (agentActed g l s) (puts p (actText g l s)) after q → r ≡ puts q newline
-        → Left (afterWhole g l s) (puts p (wholeText g l s)) after r
+    pub it-acts : t ≡ true → Leaves (agentActed g l s) p (actText g l s) after q → r ≡ puts q newline
+        → Leaves (afterWhole g l s) p (wholeText g l s) after r
     unfolding afterWhole wholeText
     it-acts y d f =
         record {
           agent = rw (sym e ∙ y) (d .agent);
-          row = rw (ne-eqb _ _ something, sym e ∙ y, puts-append, ← d .row) f;
+          written = rw (ne-eqb _ _ something, sym e ∙ y, puts-append, ← d .written) f;
         }
 
     pub it-asks : t ≡ false → q ≡ puts p (askText (g .state) l s) → r ≡ puts q newline
-        → Left (afterWhole g l s) (puts p (wholeText g l s)) g r
+        → Leaves (afterWhole g l s) p (wholeText g l s) g r
     unfolding afterWhole wholeText
     it-asks y d f =
         record {
           agent = rw (sym e ∙ y);
-          row = rw (ne-eqb _ _ something, sym e ∙ y, puts-append, ← d) f;
+          written = rw (ne-eqb _ _ something, sym e ∙ y, puts-append, ← d) f;
         }
 
 module _ (g : Agent) (s : List ℕ) (l : Line) (is : l ≡ meaning s) (p : Page) where
   pub it-is-whole : l .fault ≡ Commands.noFault → (after : Agent) (q : Page)
-      → Left (afterWhole g l s) (puts p (wholeText g l s)) after q
-      → Left (afterLine g s) (puts p (lineText g s)) after q
+      → Leaves (afterWhole g l s) p (wholeText g l s) after q
+      → Leaves (afterLine g s) p (lineText g s) after q
   unfolding afterLine lineText
   it-is-whole h after q d = rw (← is, eq-eqb _ _ h) d
 
   pub it-is-faulty : (l .fault ≡ Commands.noFault → ⊥) → (q r : Page) → q ≡ puts p (faultText (l .fault) (l .place))
       → r ≡ puts q newline
-      → Left (afterLine g s) (puts p (lineText g s)) g r
+      → Leaves (afterLine g s) p (lineText g s) g r
   unfolding afterLine lineText
-  it-is-faulty h q r d f = record { agent = rw (← is, ne-eqb _ _ h); row = rw (← is, ne-eqb _ _ h, puts-append, ← d) f }
+  it-is-faulty h q r d f =
+      record {
+        agent = rw (← is, ne-eqb _ _ h);
+        written = rw (← is, ne-eqb _ _ h, puts-append, ← d) f;
+      }

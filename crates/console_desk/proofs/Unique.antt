@@ -21,11 +21,11 @@ pub follow-one-outcome : (g : Agent) (l : Line) (s : List ℕ) (m n : ℕ) (a b 
 follow-one-outcome g l s m n a b e f = (e .0 ∙ sym (f .0), e .1 ∙ sym (f .1))
 
 -- of `answer`: the agent and the place, and the lent row, parameter 2, from 0
-same-left : {g : Agent} {p : Page} (x y : Turned) (c d : List ℕ) → Left g p (x .agent) (page c (x .at)) →
-    Left g p (y .agent) (page d (y .at)) → (x ≡ y) × (c ≡ d)
+same-left : {g : Agent} {o : List ℕ} {n : ℕ} {t : List ℕ} (x y : Turned) (c d : List ℕ) →
+    Left g o n t (x .agent) c (x .at) → Left g o n t (y .agent) d (y .at) → (x ≡ y) × (c ≡ d)
 same-left x y c d l m =
     let agent : x .agent ≡ y .agent = l .agent ∙ sym (m .agent) in
-    let left : page c (x .at) ≡ page d (y .at) = l .row ∙ sym (m .row) in
+    let left : page c (x .at) ≡ page d (y .at) = l .written ∙ sym (m .written) in
     let at : x .at ≡ y .at = ap (λ (p : Page). p .at) left in
     (λ i. record { agent = agent i; at = at i }, ap (λ (p : Page). p .row) left)
 

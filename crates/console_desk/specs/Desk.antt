@@ -14,7 +14,7 @@ use Rattle.agent.specs.declared.Agent.{Agent}
 use Rattle.console_lines.specs.Commands
 use Rattle.console_lines.specs.declared.lines.Line.{Line}
 use Rattle.console_lines.specs.Lines.{meaning}
-use Rattle.text.specs.Output.{Page}
+use Rattle.text.specs.Output.{Written}
 use Rattle.text.specs.Digits.{hexText}
 use Rattle.console_answers.specs.Words.{faultText, helpText}
 use Rattle.console_answers.specs.Outcomes.{doneText, valueText}
@@ -81,7 +81,8 @@ lineText g s =
 unfoldable pub afterLine : Agent → List ℕ → Agent
 afterLine g s = pick (eqb ((meaning s) .fault) Commands.noFault) (afterWhole g (meaning s) s) g
 
--- what a line leaves: the agent, and the row with its answer at the place
-pub record Left (g : Agent) (p : Page) (after : Agent) (q : Page) : Type 0 where
+-- what a line leaves: an agent, and a row in which its answer was written at a place
+pub record Left (g : Agent) (before : List ℕ) (at : ℕ) (text : List ℕ) (after : Agent) (row : List ℕ) (behind : ℕ)
+    : Type 0 where
   pub agent : after ≡ g
-  pub row : q ≡ p
+  pub written : Written before at text row behind

@@ -19,7 +19,7 @@ use text::output;
 ghost use mathlib.Core.Path.{_≡_};
 ghost use Prim.Native.Nat.{_≤_};
 ghost use lib.ListN.{length};
-ghost use Rattle.text.specs.Output.{page, puts, Written};
+ghost use Rattle.text.specs.Output.{Written};
 ghost use Rattle.console_lines.specs.Lines.{longest};
 ghost use Rattle.console_desk.specs.Acts.{agentActed};
 ghost use Rattle.console_desk.specs.Desk.{
@@ -74,9 +74,8 @@ fn put_followed(out: &mut [u8], at: usize, answer: u8, agent: Agent, named: u64)
 // A command that may change the agent.
 fn act(agent: Agent, line: Line, s: &[u8], out: &mut [u8], at: usize) -> Turned
     requires { ⌜ length (now s) ≤ longest ⌝ }
-    ensures { λ r. ⌜ Left (agentActed agent line (now (s .entry)))
-        (puts (page (now (out .entry)) at) (actText agent line (now (s .entry)))) (r .agent)
-        (page (now (out .exit)) (r .at)) ⌝ }
+    ensures { λ r. ⌜ Left (agentActed agent line (now (s .entry))) (now (out .entry)) at
+        (actText agent line (now (s .entry))) (r .agent) (now (out .exit)) (r .at) ⌝ }
 {
     let f = acts::follow(agent, line, s);
     let next = f.agent;
@@ -149,9 +148,8 @@ fn ask(state: State, line: Line, s: &[u8], out: &mut [u8], at: usize) -> usize
 // A line with nothing wrong.
 fn whole(agent: Agent, line: Line, s: &[u8], out: &mut [u8], at: usize) -> Turned
     requires { ⌜ length (now s) ≤ longest ⌝ }
-    ensures { λ r. ⌜ Left (afterWhole agent line (now (s .entry)))
-        (puts (page (now (out .entry)) at) (wholeText agent line (now (s .entry)))) (r .agent)
-        (page (now (out .exit)) (r .at)) ⌝ }
+    ensures { λ r. ⌜ Left (afterWhole agent line (now (s .entry))) (now (out .entry)) at
+        (wholeText agent line (now (s .entry))) (r .agent) (now (out .exit)) (r .at) ⌝ }
 {
     let command = line.command;
     if command == commands::NONE {
@@ -171,9 +169,8 @@ fn whole(agent: Agent, line: Line, s: &[u8], out: &mut [u8], at: usize) -> Turne
 
 // Answers one line, given without its newline.
 pub fn answer(agent: Agent, s: &[u8], out: &mut [u8], at: usize) -> Turned
-    ensures { λ r. ⌜ Left (afterLine agent (now (s .entry)))
-        (puts (page (now (out .entry)) at) (lineText agent (now (s .entry)))) (r .agent)
-        (page (now (out .exit)) (r .at)) ⌝ }
+    ensures { λ r. ⌜ Left (afterLine agent (now (s .entry))) (now (out .entry)) at
+        (lineText agent (now (s .entry))) (r .agent) (now (out .exit)) (r .at) ⌝ }
 {
     let line = lines::parse(s);
     let fault = line.fault;

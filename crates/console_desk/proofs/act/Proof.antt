@@ -25,7 +25,7 @@ returns c =
     let f = at-follow .follow .ensures in
     record {
       agent = f .1;
-      row =
+      written =
           acts-fresh (x .line) (x .s .now) (page (x .out .now) (x .at)) _ (x .agent) _ (at-if1 .if1 .taken) (f .0)
           (at-put-done .put-done .ensures);
     }
@@ -50,7 +50,7 @@ returns-2 c =
     let f = at-follow .follow .ensures in
     record {
       agent = f .1;
-      row =
+      written =
           acts-other (x .line) (x .s .now) (page (x .out .now) (x .at)) _ (x .agent) _ _ _ (at-if1 .if1 .left) (f .0)
           (f .1) (at-by-line .by-line .ensures) (at-put-followed .put-followed .ensures);
     }
