@@ -3,6 +3,7 @@
 use mathlib.Core.Path.{_≡_, refl}
 use mathlib.Core.Bool.{Bool, true, false}
 use Prim.Native.Nat.{ℕ, _^_, _≤_, _<_}
+use native.Mathlib.Nat.{le-trans}
 use lib.Dec.{leb}
 use borrow.Author.Tests.{leb-true, ltb-false, lt-ltb, le-ltb, not-false}
 use Rattle.rules.specs.Limits.{both, within, floorMin, floorMax, countMin, countMax, askedMax}
@@ -34,19 +35,25 @@ module _ (A K k a n : ℕ) where
         unfolding planAnswer firstHit
         refused-above l = rw (h, le-ltb K A fit, le-ltb k A low, lt-ltb K k l) refl
 
-        module _ (high : k ≤ K) where
-          pub refused-slot : isSlotStart K k a ≡ false → planAnswer A K k a n ≡ notAtSlot
-          unfolding planAnswer firstHit
-          refused-slot s = rw (h, le-ltb K A fit, le-ltb k A low, le-ltb K k high, s) refl
+    -- past the tests of the count, which is the title's
+    module _ (c : Counted A K k) where
+      fit : A ≤ K
+      fit = le-trans (c .floor) (c .fit)
 
-          module _ (s : isSlotStart K k a ≡ true) where
-            pub refused-rows : n < 2 ^ K → planAnswer A K k a n ≡ wrongRows
-            unfolding planAnswer firstHit
-            refused-rows r = rw (h, le-ltb K A fit, le-ltb k A low, le-ltb K k high, s, lt-ltb n (2 ^ K) r) refl
+      pub refused-slot : isSlotStart K k a ≡ false → planAnswer A K k a n ≡ notAtSlot
+      unfolding planAnswer firstHit
+      refused-slot s = rw (h, le-ltb K A fit, le-ltb k A (c .floor), le-ltb K k (c .fit), s) refl
 
-            pub accepted : 2 ^ K ≤ n → planAnswer A K k a n ≡ done
-            unfolding planAnswer firstHit
-            accepted r = rw (h, le-ltb K A fit, le-ltb k A low, le-ltb K k high, s, le-ltb n (2 ^ K) r) refl
+      module _ (s : isSlotStart K k a ≡ true) where
+        pub refused-rows : n < 2 ^ K → planAnswer A K k a n ≡ wrongRows
+        unfolding planAnswer firstHit
+        refused-rows r =
+            rw (h, le-ltb K A fit, le-ltb k A (c .floor), le-ltb K k (c .fit), s, lt-ltb n (2 ^ K) r) refl
+
+        pub accepted : 2 ^ K ≤ n → planAnswer A K k a n ≡ done
+        unfolding planAnswer firstHit
+        accepted r =
+            rw (h, le-ltb K A fit, le-ltb k A (c .floor), le-ltb K k (c .fit), s, le-ltb n (2 ^ K) r) refl
 
   -- what the tests say, where they pass
   pub cap-high : planLimits A K k a ≡ true → K ≤ countMax
