@@ -33,6 +33,8 @@ use Rattle.console_lines.specs.Lines.{
   meaning,
 }
 
+-- ---- room for further words
+
 -- how many words a line may still have, its kind counted for one
 unfoldable room : Line → ℕ
 room l = (Commands.wordsMost - l .count) + pick (eqb (l .command) Commands.doWrite) 1 0
@@ -44,6 +46,8 @@ pick-case P false a b f g = g refl
 -- a line that is still to be read has less room than l
 abbrev Falls : Line → Line → Type 0
 Falls l m = m .fault ≡ Commands.unread → suc (room m) ≤ room l
+
+-- ---- a fault ends the reading
 
 -- a fault is not "not read yet"
 abbrev known : ℕ → Type 0
@@ -66,6 +70,8 @@ oversized-known c = pick-case known (eqb c Commands.doPlan) _ _ (λ e u. omega a
 few : (c : ℕ) → Commands.mostOf c ≤ Commands.wordsMost
 unfolding Commands.mostOf allUpTo
 few c = up-to Commands.wordsMost Commands.mostTable refl c
+
+-- ---- each word takes room
 
 -- a number takes one word
 number-falls : (s : List ℕ) (l : Line) (a e : ℕ) → l .count < Commands.mostOf (l .command)
@@ -132,6 +138,8 @@ step-falls s l =
     (λ t. word-falls s l (runEnd Separator s (l .place)))
     (λ t. stops l _ (runEnd Separator s (l .place))
     (pick-case known (Commands.enough (l .command) (l .count)) _ _ (λ q u. omega arith) (λ q u. omega arith)))
+
+-- ---- so the reading ends
 
 after : (n : ℕ) (s : List ℕ) (l : Line) (t : Bool) → eqb (l .fault) Commands.unread ≡ t
     → (l .fault ≡ Commands.unread → room l < suc n)

@@ -45,6 +45,8 @@ use Rattle.console_lines.specs.Lines.{
   readOn,
 }
 
+-- ---- a number and its limit
+
 -- a number as it is handed on is above a limit when the number itself is
 held-above : (limit v : ℕ) → limit ≤ top → (t u : Bool) → eqb limit 0 ≡ t → ltb top v ≡ u
     → pick t false (pick u true (ltb limit (min v top))) ≡ pick t false (ltb limit v)
@@ -61,6 +63,8 @@ held-above limit v h false false e f =
 pub above-capped : (limit v : ℕ) → limit ≤ top → above limit (capped v) ≡ tooLarge limit v
 unfolding above capped tooLarge
 above-capped limit v h = held-above limit v h _ _ refl refl
+
+-- ---- one word: HEX, a kind, a number
 
 module _ (s : List ℕ) (l : Line) (a e : ℕ) where
   pub hex-bad : (p : ℕ) → p ≡ runEnd Hex s a → p < e → withFault l badHex p ≡ withHex s l a e
@@ -111,6 +115,8 @@ module _ (s : List ℕ) (l : Line) (a e : ℕ) where
         → goOn l (amount 0 (drop a s)) e ≡ withNumber s l a e
     number-whole t f g = rw (sym f ∙ g) at number-rest
 
+-- ---- which of them the next word is
+
 module _ (s : List ℕ) (l : Line) (a m : ℕ) (q : m ≡ mostOf (l .command)) where
   pub word-crowded : m ≤ l .count → withFault l (crowded (l .command)) a ≡ withWord s l a
   unfolding withWord
@@ -130,6 +136,8 @@ module _ (s : List ℕ) (l : Line) (a m : ℕ) (q : m ≡ mostOf (l .command)) w
       unfolding withWord
       word-number y = rw (← q, lt-leb _ _ h, ← f, n, ← k, y, ← g)
 
+-- ---- the next word, or the line's end
+
 module _ (s : List ℕ) (l : Line) (a : ℕ) (q : a ≡ runEnd Separator s (l .place)) where
   pub step-word : a < length s → withWord s l a ≡ step s l
   unfolding step
@@ -138,6 +146,8 @@ module _ (s : List ℕ) (l : Line) (a : ℕ) (q : a ≡ runEnd Separator s (l .p
   pub step-end : length s ≤ a → ended l a ≡ step s l
   unfolding step
   step-end h = rw (← q, le-ltb _ _ h)
+
+-- ---- the first word
 
 module _ (s : List ℕ) where
   pub begun-long : longest < length s → withFault blank tooLong longest ≡ begun s
@@ -157,6 +167,8 @@ module _ (s : List ℕ) where
         → withVerb (verbOf (take (e - a) (drop a s))) a e ≡ begun s
     unfolding begun wordAt
     begun-verb g n e r = rw (le-ltb _ _ h, ← q, lt-ltb _ _ g, ne-eqb _ _ n, ← r)
+
+-- ---- the reading's turns
 
 -- a turn of the reading, and its two ways out
 module _ (s : List ℕ) (l : Line) where

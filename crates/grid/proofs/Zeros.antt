@@ -22,6 +22,8 @@ use Rattle.grid.proofs.Numbers.{mod-unique, mod-same, divides-lower, po
 use Rattle.grid.proofs.Channels.{lifted, turn}
 use Rattle.grid.proofs.Lanes.{spare, added-spare}
 
+-- ---- low zeros, and what the language counts
+
 -- z of the k lowest digits of n are zeros, up to its lowest one
 pub record LowZeros (k n z : ℕ) : Type 0 where
   pub most : z ≤ k
@@ -81,6 +83,8 @@ zeros-are (suc k) n = ⊎-elim (even (zeros-are k (n / 2))) odd (decide (eqb (n 
           one = λ l d. omega arith;
         })
 
+-- ---- one number only, and of fewer digits
+
 -- there is only one such number
 zeros-below : (k n z y : ℕ) → LowZeros k n z → LowZeros k n y → z < y → ⊥
 zeros-below k n z y a b l = a .one (omega (arith, b .most)) (divides-lower (suc z) y n l (b .zeros))
@@ -109,6 +113,8 @@ zeros-fewer m k n l h =
     zeros-only k n (trailingZeros m n) (trailingZeros k n)
     (record { most = omega arith; zeros = a .zeros; one = λ b. a .one (omega arith) })
     (zeros-are k n)
+
+-- ---- zeros by the powers that divide
 
 -- the first power of two that does not divide a number
 zeros-first : (k n z : ℕ) → LowZeros k n z → first (λ d. not (eqb (n % 2 ^ suc d) 0)) k ≡ z
@@ -144,6 +150,8 @@ opposite : (P x y r : ℕ) → 0 < P → x + y ≡ P * r → x % P ≡ 0 → y %
 opposite P x y r p e h =
     let d : P * (x / P) + x % P ≡ x = div-add-mod x P in
     mod-unique P 0 y (x / P) r p (omega arith)
+
+-- ---- the channel that is added
 
 -- the slot number of count l + 1, shifted as in 01, plus one, as far from zero as it lies
 abbrev pub sum : ℕ → ℕ → ℕ → ℕ → ℕ

@@ -19,6 +19,8 @@ below-suc i n h =
     ⊎-elim (λ t. inl (ltb-true i n t)) (λ t. inr (le-antisymm (omega arith) (ltb-false i n t))) (decide (ltb i n))
 
 module _ (p : ℕ → Bool) where
+  -- ---- some
+
   pub some-in : (n i : ℕ) → i < n → p i ≡ true → some p n ≡ true
   unfolding some
   some-in zero i l h = absurd (omega arith)
@@ -40,6 +42,8 @@ module _ (p : ℕ → Bool) where
   pub none-some : (n i : ℕ) → some p n ≡ false → i < n → p i ≡ false
   none-some n i h l = fails (p i) (λ t. false≢true (sym h ∙ some-in n i l t))
 
+  -- ---- every
+
   pub every-in : (n : ℕ) → ((i : ℕ) → i < n → p i ≡ true) → every p n ≡ true
   unfolding every
   every-in zero f = refl
@@ -51,6 +55,8 @@ module _ (p : ℕ → Bool) where
   every-out (suc n) i h l =
       ⊎-elim (λ b. every-out n i (both-r (p n) (every p n) h) b) (λ e. rw e (both-l (p n) (every p n) h))
       (below-suc i n l)
+
+  -- ---- first
 
   pub first-le : (n : ℕ) → first p n ≤ n
   unfolding first
@@ -97,6 +103,8 @@ module _ (p : ℕ → Bool) where
       ⊎-elim (λ t. absurd (false≢true (sym (first-before n i (ltb-true i (first p n) t)) ∙ h))) (λ t. ltb-false i (first p n) t)
       (decide (ltb i (first p n)))
 
+  -- ---- howMany
+
   pub howMany-le : (n : ℕ) → howMany p n ≤ n
   unfolding howMany
   howMany-le zero = omega arith
@@ -138,6 +146,8 @@ module _ (p : ℕ → Bool) where
       (λ h. let r = howMany-at n i h in (r .0, omega (arith, r .1), r .2, r .3))
       (λ e. (n, omega arith, ⊎-elim (λ t. t) (λ t. absurd (omega (arith, howMany-miss n t))) (decide (p n)), sym e))
       (below-suc i (howMany p n) (omega (arith, howMany-step n)))
+
+  -- ---- after
 
   pub after-le : (n : ℕ) → after p n ≤ n
   unfolding after
@@ -184,6 +194,8 @@ module _ (p : ℕ → Bool) where
       down zero e = omega arith
       down (suc j) e = after-above n j (omega (arith, after-le m)) (after-last m j e)
 
+-- ---- two tests that agree
+
 -- searches see a test only through its answers below the bound
 module _ (p q : ℕ → Bool) where
   pub some-ext : (n : ℕ) → ((i : ℕ) → i < n → p i ≡ q i) → some p n ≡ some q n
@@ -215,6 +227,8 @@ module _ (p q : ℕ → Bool) where
   unfolding after
   after-ext zero f = refl
   after-ext (suc n) f = rw (f n (omega arith), after-ext n (λ i l. f i (omega arith))) refl
+
+-- ---- total
 
 module _ (f g : ℕ → ℕ) where
   pub total-ext : (n : ℕ) → ((i : ℕ) → i < n → f i ≡ g i) → total f n ≡ total g n

@@ -19,6 +19,8 @@ use Rattle.sharing.proofs.Order.{side, Trio, less, same, more, trio, or
 use Rattle.sharing.proofs.Sums.{total-set, sum-set, raised, way-set, ranks}
 use Rattle.sharing.proofs.term.Laws.{falls, fall-rest}
 
+-- ---- counts as they are given
+
 -- a lane given to title i at count a was worth at least as much as one withheld from title j at count b, and more where
 -- j comes first
 pub record Given (ts : List Rated) (c : List ℕ) : Type 0 where
@@ -34,6 +36,8 @@ pub record Settled (pool : ℕ) (ts : List Rated) (c : List ℕ) : Type 0 where
   pub choice : Choice pool ts c
   pub given : Given ts c
   pub full : (rowTotal c ≡ pool) ⊎ ((j : ℕ) → j < length ts → titleAt ts j .cap ≤ getD c j 0)
+
+-- ---- where two rows differ
 
 -- a place below n where the first row is less
 record Gap (n : ℕ) (p q : List ℕ) : Type 0 where
@@ -58,6 +62,8 @@ gap (suc n) p q = go (gap n p q) (side (getD p n 0) (getD q n 0))
             by (less l) = f i l
             by (same e) = rw e s
             by (more g) = absurd (omega arith)
+
+-- ---- a choice that differs can be bettered
 
 module _ (pool : ℕ) (ts : List Rated) (ok : AllWeighable ts) (c x : List ℕ)
     (s : Settled pool ts c) (h : Shared pool ts x) where

@@ -17,11 +17,15 @@ use Rattle.sharing.specs.Titles.{titleAt, nobody, rowTotal}
 use Rattle.sharing.specs.Choice.{Way, Choice, Shared, prefers, from, ways, better, bestOf, shared}
 use Rattle.sharing.proofs.Order.{side, prefers-total, prefers-antisym, prefers-trans, prefers-self}
 
+-- ---- one choice at most
+
 -- one choice only is to be preferred to all
 pub only-one : (pool : ℕ) (ts : List Rated) (x y : List ℕ) → Shared pool ts x → Shared pool ts y → x ≡ y
 only-one pool ts x y p q =
     prefers-antisym ts x y (p .choice .way .places ∙ sym (q .choice .way .places)) (p .best y (q .choice))
     (q .best x (p .choice))
+
+-- ---- what holds of every member of a list
 
 -- a property of every member of a list
 abbrev All : (List ℕ → Type 0) → List (List ℕ) → Type 0
@@ -69,6 +73,8 @@ module _ (P : List ℕ → Type 0) where
           let e : lo ≡ k = omega arith in
           subst (λ (m : ℕ). All P (g m)) e (all-front (g lo) (flatMap g (from (suc lo) n)) h)
 
+-- ---- the list has every way, and no other row
+
 way-cons : (t : Rated) (ts : List Rated) (k : ℕ) (x : List ℕ) → t .floor ≤ k → k ≤ t .cap → Way ts x
     → Way (t ∷ ts) (k ∷ x)
 way-cons t ts k x l h w = record { places = omega (arith, w .places); low = lows; high = highs }
@@ -115,6 +121,8 @@ complete (t ∷ ts) P a (k ∷ x) w =
     (of-from P (λ j. map (λ y. j ∷ y) (ways ts)) (t .floor) (suc (t .cap) - t .floor) k (w .low 0 (omega arith))
     (omega (arith, w .low 0 (omega arith), w .high 0 (omega arith))) a))
     x (way-tail t ts k x w)
+
+-- ---- the best of a list
 
 module _ (pool : ℕ) (ts : List Rated) where
   -- the better of a choice and a way is a choice, to be preferred to both
@@ -174,6 +182,8 @@ module _ (pool : ℕ) (ts : List Rated) where
           over z l p =
               prefers-trans ts _ (better pool ts x y) z (b .fits .way .places ∙ sym (n .fits .way .places))
               (n .fits .way .places ∙ sym l) (b .first) p
+
+-- ---- what the search finds
 
 -- the floors are a choice where they are not above the caps and fit the pool
 pub floors-way : (ts : List Rated) → ((i : ℕ) → i < length ts → titleAt ts i .floor ≤ titleAt ts i .cap)

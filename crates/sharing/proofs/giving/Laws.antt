@@ -21,6 +21,8 @@ use Rattle.sharing.proofs.Sums.{total-set, at-set, way-set}
 use Rattle.sharing.proofs.Exchange.{Given, settled-is-shared}
 use Rattle.sharing.proofs.term.Laws.{falls, fall-rest, shrinks-on}
 
+-- ---- what a lane is worth
+
 worth-below : (t : Rated) (k : ℕ) → k < t .cap → worth t k ≡ fall t k
 unfolding worth
 worth-below t k h = rw (lt-ltb _ _ h)
@@ -33,6 +35,8 @@ worth-capped t k h = rw (le-ltb _ _ h)
 pub worth-some : (t : Rated) → Weighable t → (k : ℕ) → countMin ≤ k → k < t .cap → 0 < worth t k
 worth-some t w k l h =
     omega (arith, worth-below t k h, fall-rest t w k l h, falls t w k l h)
+
+-- ---- the title that leads
 
 -- the title that leads among the first i, with what a lane is worth to it; r is the number of titles while none leads
 pub record Leading (ts : List Rated) (ks : List ℕ) (i r m : ℕ) : Type 0 where
@@ -107,6 +111,8 @@ module _ (ts : List Rated) (ks : List ℕ) where
         most = λ d j b. omega (arith, l .here d, l .all j (omega arith));
         first = λ d j b. omega (arith, l .here d, l .first d j b);
       }
+
+-- ---- lanes given one at a time
 
 -- counts after s lanes were given from the floors on, or fewer where all titles are at their caps
 pub record Progress (ts : List Rated) (s : ℕ) (c : List ℕ) : Type 0 where

@@ -22,6 +22,8 @@ use Rattle.sharing.specs.Choice.{shared}
 use Rattle.sharing.specs.Giving.{Weighable, Sound}
 use Rattle.sharing.proofs.Order.{side}
 
+-- ---- one look at every title
+
 both-assoc : (a b c : Bool) → both (both a b) c ≡ both a (both b c)
 both-assoc true b c = refl
 both-assoc false b c = refl
@@ -47,6 +49,8 @@ module _ (p : Rated → Bool) (ts : List Rated) where
   unfolding eachTitle
   passed-all a i h f = sym (both-all a) ∙ sym (ap (λ l. both a (eachTitle p l)) (drop-of-length-le ts h)) ∙ f
 
+-- ---- rows that fit
+
 module _ (rates lengths floors caps : List ℕ) (room : ℕ) where
   -- what it means that the rows fit
   pub record Fit : Type 0 where
@@ -70,6 +74,8 @@ module _ (rates lengths floors caps : List ℕ) (room : ℕ) where
         few = leb-true _ _ (both-l (leb (length rates) titlesMax) _ d);
         roomy = leb-true _ _ (both-r (leb (length rates) titlesMax) _ d);
       }
+
+-- ---- the refusals
 
 -- each refusal in its turn: those before it do not hit
 module _ (pool : ℕ) (rates lengths floors caps : List ℕ) (room : ℕ) where
@@ -101,6 +107,8 @@ module _ (pool : ℕ) (rates lengths floors caps : List ℕ) (room : ℕ) where
         pub accepted : rowTotal floors ≤ pool → done ≡ verdictOf pool rates lengths floors caps room
         unfolding verdictOf firstHit
         accepted h = rw (fits, inside, kept, le-ltb _ _ h)
+
+-- ---- where nothing is refused
 
 each-at : (p : Rated → Bool) (ts : List Rated) → eachTitle p ts ≡ true → (i : ℕ) → i < length ts
     → p (titleAt ts i) ≡ true
