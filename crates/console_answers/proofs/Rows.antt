@@ -1,7 +1,8 @@
--- Laws of rows: a turn of the loops that write one place by place, and the lengths of those that the questions lend.
-use Prim.Native.Nat.{ℕ, zero, suc, _+_, _*_, _≤_, min}
-use mathlib.Core.Path.{_≡_, refl, _∙_}
+-- Laws of rows: the loops that write one place by place, and the lengths of those that the questions lend.
+use Prim.Native.Nat.{ℕ, zero, suc, _+_, _*_, _<_, _≤_, min}
+use mathlib.Core.Path.{_≡_, refl, ap, _∙_}
 use mathlib.Core.List.{List}
+use native.Mathlib.Nat.{le-antisymm}
 use native.Mathlib.Omega.{arith}
 use native.Mathlib.Numerals.{add-one}
 use lib.ListN.{length, getD, take, length-set, length-take}
@@ -12,12 +13,29 @@ use Rattle.console_lines.specs.Commands.{titlesMost, titleNumbers}
 use Rattle.console_answers.specs.Entries.{each}
 use Rattle.console_answers.specs.Questions.{column}
 
--- p is the page before the loop, q before its turn, r after it
-pub written-on : (f : ℕ → List ℕ) (p : Page) (i n : ℕ) {q r : Page}
-    → q ≡ puts p (each f i) → length (q .row) ≡ n → r ≡ puts q (f i)
-    → (r ≡ puts p (each f (i + 1))) × (length (r .row) ≡ n)
-unfolding each
-written-on f p i n {q} e h g = (rw add-one (puts-then p (each f i) (f i) e g), same-room q (f i) g h)
+-- of n places in all the first i are written, each by its text: p is the page before the loop, q the page so far
+pub record Passed (f : ℕ → List ℕ) (n : ℕ) (p : Page) (i : ℕ) (q : Page) : Type 0 where
+  pub within : i ≤ n
+  pub so-far : q ≡ puts p (each f i)
+  pub room : length (q .row) ≡ length (p .row)
+
+-- the loop's start, a turn of it and its end
+module _ (f : ℕ → List ℕ) (n : ℕ) (p : Page) where
+  pub passed-none : Passed f n p 0 p
+  unfolding each puts
+  passed-none = record { within = omega arith; so-far = refl; room = refl }
+
+  pub passed-on : (i : ℕ) {q r : Page} → Passed f n p i q → i < n → r ≡ puts q (f i) → Passed f n p (i + 1) r
+  unfolding each
+  passed-on i {q} h l g =
+      record {
+        within = omega arith;
+        so-far = rw add-one (puts-then p (each f i) (f i) (h .so-far) g);
+        room = same-room q (f i) g (h .room);
+      }
+
+  pub passed-all : (i : ℕ) {q : Page} → Passed f n p i q → n ≤ i → q ≡ puts p (each f n)
+  passed-all i h l = h .so-far ∙ ap (λ (j : ℕ). puts p (each f j)) (le-antisymm (h .within) l)
 
 pub column-length : (numbers : List ℕ) (first n : ℕ) → length (column numbers first n) ≡ titlesMost
 unfolding column

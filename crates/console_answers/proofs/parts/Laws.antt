@@ -54,7 +54,8 @@ unfolding begins joined
 part-is pre k [] h = absurd (omega arith)
 part-is pre zero (t ∷ ts) h =
     let n : length pre + length t - length pre ≡ length t = omega arith in
-    rw (begins-first (length pre + length t) ts, drop-append-seam pre (t ++ joined ts), n) (take-append-seam t (joined ts))
+    rw (begins-first (length pre + length t) ts, drop-append-seam pre (t ++ joined ts), n) (take-append-seam t
+    (joined ts))
 part-is pre (suc k) (t ∷ ts) h =
     rw (sym (length-append pre t), sym (append-assoc pre t (joined ts))) (part-is (pre ++ t) k ts (omega arith))
 
@@ -75,4 +76,5 @@ parts ts k = go (ltb (k + 1) (length (begins 0 ts))) refl
     go true e =
         let inside : k < length ts = omega (arith, ltb-true (k + 1) (length (begins 0 ts)) e, begins-length 0 ts) in
         rw add-one (part-is [] k ts inside)
-    go false e = sym (List·getD-eq-default ts [] (omega (arith, ltb-false (k + 1) (length (begins 0 ts)) e, begins-length 0 ts)))
+    go false e =
+        sym (List·getD-eq-default ts [] (omega (arith, ltb-false (k + 1) (length (begins 0 ts)) e, begins-length 0 ts)))

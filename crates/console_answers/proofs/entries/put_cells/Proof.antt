@@ -1,27 +1,23 @@
 -- `console_answers::entries::put_cells` meets its contract: of the plan, the cells passed are written.
-use Prim.Native.Nat.{ℕ, _-_, _≤_}
-use mathlib.Core.Path.{_≡_, refl}
-use mathlib.Core.List.{List}
+use Prim.Native.Nat.{ℕ, _-_}
 use native.Mathlib.Omega.{arith}
-use native.Mathlib.Nat.{le-antisymm}
 use lib.ListN.{length, getD}
-use Rattle.text.specs.Output.{page, puts}
-use Rattle.console_answers.specs.Entries.{cellEntry, each, cellsText}
-use Rattle.console_answers.proofs.Rows.{written-on}
+use Rattle.text.specs.Output.{page}
+use Rattle.console_answers.specs.Entries.{cellEntry}
+use Rattle.console_answers.proofs.Rows.{Passed, passed-none, passed-on, passed-all}
 use borrow.Author.Needs.{needs}
 use Rattle.console_answers.proofs.entries.put_cells.Statement.{statement}
 use Rattle.console_answers.proofs.entries.put_cells.Tie as tie
 
 abbrev Inv-loop : tie.InvT-loop
 Inv-loop out₀ at row n place₀ i₀ out place i =
-    (i ≤ n) × (page out place ≡ puts (page out₀ at) (cellsText row i)) × (length out ≡ length out₀)
+    Passed (λ (j : ℕ). cellEntry (getD row j 0)) n (page out₀ at) i (page out place)
 
 abbrev μ-loop : tie.MeasureT-loop
 μ-loop out₀ at row n place₀ i₀ out place i = n - i
 
 loop-holds : tie.Need-loop-holds Inv-loop μ-loop
-unfolding each puts
-loop-holds c = (omega arith, refl, refl)
+loop-holds c = passed-none _ _ _
 
 mul-put-cell : tie.Need-mul-put-cell Inv-loop μ-loop
 mul-put-cell c = search needs
@@ -40,21 +36,16 @@ loop-less c = omega arith
 
 loop-again : tie.Need-loop-again Inv-loop μ-loop
 loop-again c =
-    let at-put-cell = c .before .before in
-    let at-loop = at-put-cell .before .before .before .before in
-    let at-start = at-loop .before .before .before in
-    let l = at-loop .loop in
-    let x = at-start .args in
-    let f : ℕ → List ℕ = λ i. cellEntry (getD (x .row .now) i 0) in
-    let w = written-on f (page (x .out .now) (x .at)) (l .i) _ (l .inv .1) (l .inv .2)
-    (at-put-cell .put-cell .ensures) in
-    (omega arith, w .0, w .1)
+    let at-put = c .before .before in
+    let at-loop-test = at-put .before .before .before in
+    let at-loop = at-loop-test .before in
+    passed-on _ _ _ _ (at-loop .loop .inv) (at-loop-test .loop-test .taken) (at-put .put-cell .ensures)
 
 same-length : tie.Need-same-length Inv-loop μ-loop
-same-length c = c .before .loop .inv .2
+same-length c = c .before .loop .inv .room
 
 returns : tie.Need-returns Inv-loop μ-loop
-returns c = cc (le-antisymm (c .before .loop .inv .0) (c .loop-test .left))
+returns c = passed-all _ _ _ _ (c .before .loop .inv) (c .loop-test .left)
 
 pub put-cells-spec : {M : Type 1} → statement M
 put-cells-spec =

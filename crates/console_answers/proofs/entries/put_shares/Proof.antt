@@ -1,27 +1,23 @@
 -- `console_answers::entries::put_shares` meets its contract: a row of counts, of which the entries passed are written.
-use Prim.Native.Nat.{ℕ, _-_, _≤_}
-use mathlib.Core.Path.{_≡_, refl}
-use mathlib.Core.List.{List}
+use Prim.Native.Nat.{ℕ, _-_}
 use native.Mathlib.Omega.{arith}
-use native.Mathlib.Nat.{le-antisymm}
 use lib.ListN.{length, getD}
-use Rattle.text.specs.Output.{page, puts}
-use Rattle.console_answers.specs.Entries.{entry, each, numbersText}
-use Rattle.console_answers.proofs.Rows.{written-on}
+use Rattle.text.specs.Output.{page}
+use Rattle.console_answers.specs.Entries.{entry}
+use Rattle.console_answers.proofs.Rows.{Passed, passed-none, passed-on, passed-all}
 use borrow.Author.Needs.{needs}
 use Rattle.console_answers.proofs.entries.put_shares.Statement.{statement}
 use Rattle.console_answers.proofs.entries.put_shares.Tie as tie
 
 abbrev Inv-loop : tie.InvT-loop
 Inv-loop out₀ at row place₀ i₀ out place i =
-    (i ≤ length row) × (page out place ≡ puts (page out₀ at) (numbersText row i)) × (length out ≡ length out₀)
+    Passed (λ (j : ℕ). entry (getD row j 0)) (length row) (page out₀ at) i (page out place)
 
 abbrev μ-loop : tie.MeasureT-loop
 μ-loop out₀ at row place₀ i₀ out place i = length row - i
 
 loop-holds : tie.Need-loop-holds Inv-loop μ-loop
-unfolding each puts
-loop-holds c = (omega arith, refl, refl)
+loop-holds c = passed-none _ _ _
 
 mul-put-entry : tie.Need-mul-put-entry Inv-loop μ-loop
 mul-put-entry c = search needs
@@ -43,21 +39,16 @@ loop-less c = omega arith
 
 loop-again : tie.Need-loop-again Inv-loop μ-loop
 loop-again c =
-    let at-put-entry = c .before .before in
-    let at-loop = at-put-entry .before .before .before .before in
-    let at-start = at-loop .before .before .before in
-    let l = at-loop .loop in
-    let x = at-start .args in
-    let f : ℕ → List ℕ = λ i. entry (getD (x .row .now) i 0) in
-    let w = written-on f (page (x .out .now) (x .at)) (l .i) _ (l .inv .1) (l .inv .2)
-    (at-put-entry .put-entry .ensures) in
-    (omega arith, w .0, w .1)
+    let at-put = c .before .before in
+    let at-loop-test = at-put .before .before .before in
+    let at-loop = at-loop-test .before in
+    passed-on _ _ _ _ (at-loop .loop .inv) (at-loop-test .loop-test .taken) (at-put .put-entry .ensures)
 
 same-length : tie.Need-same-length Inv-loop μ-loop
-same-length c = c .before .loop .inv .2
+same-length c = c .before .loop .inv .room
 
 returns : tie.Need-returns Inv-loop μ-loop
-returns c = cc (le-antisymm (c .before .loop .inv .0) (c .loop-test .left))
+returns c = passed-all _ _ _ _ (c .before .loop .inv) (c .loop-test .left)
 
 pub put-shares-spec : {M : Type 1} → statement M
 put-shares-spec =
