@@ -1,4 +1,5 @@
--- The three ways of asking a lane after the change.
+-- A fresh pool, an opening and a change in turn, and the three ways of asking a lane after them.
+-- Rests on nothing but the definitions.
 use Prim.Native.Nat.{ℕ, _+_, _<_, _≤_}
 use mathlib.Core.Path.{_≡_, ap, _∙_}
 use borrow.Author.Tests.{eq-eqb, ne-eqb, lt-ltb, le-ltb}
@@ -11,7 +12,18 @@ use Rattle.story.specs.Story.{opens, changes}
 use Rattle.story.specs.Runs.{called}
 use Rattle.figures.specs.Transitions.{changedTo, sentOf}
 
--- the three states in turn
+-- three calls in turn leave the state that the definitions name
+pub in-turn : (pool D A K k τ n : ℕ) (a b c : State) → a ≡ freshNext pool →
+    b ≡ pick (eqb (openAnswer a 0 0 D A K k) 0) (openNext a 0 0 D A K k) a →
+    c ≡ pick (eqb (changeAnswer b 0 τ n) 0) (changeNext b 0 τ n) b →
+    c ≡ called (called (freshNext pool) (record { time = 0; title = 0; act = opens D A K k }))
+    (record { time = τ; title = 0; act = changes n })
+in-turn pool D A K k τ n a b c first second third =
+    third
+    ∙ ap (λ (s : State). called s (record { time = τ; title = 0; act = changes n }))
+    (second ∙ ap (λ (s : State). called s (record { time = 0; title = 0; act = opens D A K k })) first)
+
+-- the three states of figures 6 and 7
 pub record Run (n : ℕ) (a b c : State) : Type 0 where
   pub first : a ≡ freshNext 4
   pub second : b ≡ pick (eqb (openAnswer a 0 0 12 2 4 4) 0) (openNext a 0 0 12 2 4 4) a
@@ -19,10 +31,7 @@ pub record Run (n : ℕ) (a b c : State) : Type 0 where
 
 run-is : (n : ℕ) (a b c : State) → Run n a b c → c ≡ changedTo n
 unfolding changedTo
-run-is n a b c r =
-    r .third
-    ∙ ap (λ (s : State). called s (record { time = 4; title = 0; act = changes n }))
-    (r .second ∙ ap (λ (s : State). called s (record { time = 0; title = 0; act = opens 12 2 4 4 })) (r .first))
+run-is n a b c r = in-turn 4 12 2 4 4 4 n a b c (r .first) (r .second) (r .third)
 
 module _ (n l τ : ℕ) (a b c : State) (run : Run n a b c) (answer cell : ℕ)
     (asked : (answer ≡ laneAnswer c 0 l τ) × (cell ≡ laneShows c 0 l τ)) where

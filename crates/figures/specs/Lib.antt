@@ -1,4 +1,5 @@
 -- What the runs against published figures compute.
+pub mod Holding
 pub mod Rows
 pub mod Segments
 pub mod Times

@@ -5,7 +5,7 @@ ghost use Rattle.grid.specs.Ticks.{tickOf};
 ghost use Rattle.grid.specs.Bounds.{FloorCap, Exactly};
 ghost use Rattle.figures.specs.Times.{film, roundTo, increaseOf};
 
-const FILM: u64 = 7_200_000;
+pub const FILM: u64 = 7_200_000;
 
 // The slot, in ms: the longest wait.
 pub fn slot_ms(floor: u64, count: u64) -> u64

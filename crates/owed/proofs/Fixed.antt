@@ -35,8 +35,12 @@ fixed-drops t n k (suc i) = go (both (leb k i) (ltb i (t .count))) (fixed-drops 
     go true f = record { length = f .length; floor = f .floor; cap = f .cap; count = f .count; ends = f .ends }
     go false f = f
 
+-- the film of a title with the same length, floor and cap
+pub fixed-film : (t q : Title) → Fixed t q → Film t → Film q
+fixed-film t q f o = record { sized = rw (f .length) (o .sized); cut = rw (f .floor, f .cap) (o .cut) }
+
 pub fixed-owing : (t q : Title) → Fixed t q → Owing t → Owing q
-fixed-owing t q f o = record { cut = rw (f .floor, f .cap) (o .cut); ends = rw (f .ends) (o .ends) }
+fixed-owing t q f o = record { film = fixed-film t q f (o .film); ends = rw (f .ends) (o .ends) }
 
 -- what holds of a value, and of each place of a row, holds of each place once the value is stored
 pub stored : {A : Type 0} (P : A → Type 0) (row : List A) (i j : ℕ) (v d : A) → P v → P (getD row j d) →
@@ -53,7 +57,7 @@ stored-row row n i v l ok =
     (λ j below. le-leb (getD (set row i v) j 0) askedMax (stored (λ x. x ≤ askedMax) row i j v 0 l (in-row row n j ok below)))
 
 pub ended-owing : (t : Title) (n : ℕ) → n ≤ askedMax → Owing t → Owing (ended t n)
-ended-owing t n l o = record { cut = o .cut; ends = stored-row (t .ends) countPlaces (t .count) n l (o .ends) }
+ended-owing t n l o = record { film = record { sized = o .film .sized; cut = o .film .cut }; ends = stored-row (t .ends) countPlaces (t .count) n l (o .ends) }
 
 -- below the old count a lane is dropped or not by the new count alone
 pub drop-more : (t q : Title) (n k i : ℕ) → q ≡ dropLanes t n k i → i < t .count →
@@ -68,17 +72,13 @@ drop-more t q n k i e l = rw (lt-ltb i (t .count) l, ← e) (go (leb k i))
 -- a title that is there, in a state within its limits
 module _ (t : Title) (ok : titleOk t ≡ true) (there : t .mode ≡ absentMode → ⊥) where
   pub owing : Owing t
-  owing = record { cut = readable t ok there .cut; ends = ends-ok t ok }
+  owing = record { film = readable t ok there; ends = ends-ok t ok }
 
   pub sending : Sending t
   sending = record { owing = owing; dropped = dropped-ok t ok }
 
   pub changeable : Changeable t
-  changeable = record { film = readable t ok there; owing = owing; ruled = count-fit t ok there }
-
--- the film of a title with the same length, floor and cap
-pub fixed-film : (t q : Title) → Fixed t q → Film t → Film q
-fixed-film t q f o = record { sized = rw (f .length) (o .sized); cut = rw (f .floor, f .cap) (o .cut) }
+  changeable = record { owing = owing; ruled = count-fit t ok there }
 
 pub changed-film : (t : Title) (τ k : ℕ) → Film t → Film (changedTitle t τ k)
 unfolding changedTitle

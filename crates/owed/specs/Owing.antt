@@ -7,13 +7,12 @@ use mathlib.Core.Bool.{Bool, true}
 use lib.Dec.{ltb, eqb}
 use Rattle.grid.specs.Ticks.{slot}
 use Rattle.grid.specs.Channels.{channelCell}
-use Rattle.grid.specs.Bounds.{FloorCap}
 use Rattle.story.specs.declared.Title.{Title}
 use Rattle.story.specs.Kept.{rowOk}
 use Rattle.measures.specs.Film.{Film}
 
 pub record Owing (t : Title) : Type 0 where
-  pub cut : FloorCap (t .floor) (t .cap)
+  pub film : Film t
   pub ends : rowOk (t .ends) countPlaces ≡ true
 
 -- and those by which the cell of a sending lane is found
@@ -23,7 +22,6 @@ pub record Sending (t : Title) : Type 0 where
 
 -- and those by which a title is changed or closed
 pub record Changeable (t : Title) : Type 0 where
-  pub film : Film t
   pub owing : Owing t
   pub ruled : t .count ≤ t .cap
 

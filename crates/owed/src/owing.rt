@@ -2,6 +2,7 @@
 
 use grid::carrier;
 use grid::channel_cell;
+use grid::holds_film;
 use grid::lane_cell;
 use grid::pow2;
 use grid::slot;
@@ -13,7 +14,7 @@ ghost use mathlib.Core.Path.{_≡_};
 ghost use lib.Dec.{leb};
 ghost use Rattle.rules.specs.Limits.{both, askedMax};
 ghost use Rattle.grid.specs.Bounds.{Exactly, FloorCap, Counted, tickMax};
-ghost use Rattle.story.specs.Kept.{keptOwed, keptWithin};
+ghost use Rattle.story.specs.Kept.{keptAwaited, keptOwed, keptWithin};
 ghost use Rattle.owed.specs.Owing.{Owing, takesFrom, takes as takesOf};
 
 // The latest boxes of a count, whose slot ended at tick `end`, take a cell from one of its channels at a tick.
@@ -70,15 +71,14 @@ fn owed_to(floor: u64, cap: u64, count: u64, end: u64, cell: u64, tick: u64) -> 
     takes(floor, cap, count, end, cell, tick)
 }
 
-// Of a dropped lane a tick is owed to the boxes of some count that had the lane.
-pub fn is_owed(t: Title, lane: u64, tick: u64) -> bool
+// The boxes of some count that had the lane still await a cell at a tick.
+fn is_awaited(t: Title, lane: u64, cell: u64, tick: u64) -> bool
     requires { ⌜ Owing t ⌝ }
-    requires { ⌜ (lane < t .cap) × (tick ≤ tickMax) ⌝ }
-    ensures { λ r. ⌜ r ≡ keptOwed t lane tick ⌝ }
+    requires { ⌜ (lane < t .cap) × ((cell < 2 ^ t .cap) × (tick ≤ tickMax)) ⌝ }
+    ensures { λ r. ⌜ r ≡ keptAwaited t lane cell tick ⌝ }
 {
     let cap = t.cap;
     let floor = t.floor;
-    let cell = lane_cell(floor, cap, lane, tick);
     let mut found = false;
     let mut count = lane + 1;
     while count <= cap {
@@ -88,6 +88,19 @@ pub fn is_owed(t: Title, lane: u64, tick: u64) -> bool
         count += 1;
     }
     found
+}
+
+// Of a dropped lane a tick is owed: its cell is no padding, and is still awaited.
+pub fn is_owed(t: Title, lane: u64, tick: u64) -> bool
+    requires { ⌜ Owing t ⌝ }
+    requires { ⌜ (lane < t .cap) × (tick ≤ tickMax) ⌝ }
+    ensures { λ r. ⌜ r ≡ keptOwed t lane tick ⌝ }
+{
+    let cell = lane_cell(t.floor, t.cap, lane, tick);
+    if holds_film(t.length, t.floor, t.cap, cell) {
+        return is_awaited(t, lane, cell, tick);
+    }
+    false
 }
 
 // How many of the n ticks from a tick on a lane owes.

@@ -1,8 +1,9 @@
-// Figures that others published, beside what the product computes: source 000 is the paper of the scheme itself, source 004
-// compares schemes of its kind. What is expected was taken from the papers' text by hand, at the place that the row names.
-// Where a row says "derived" it was worked out from the paper's formulas, since the drawing is not in the text. A time is
-// rounded to the nearest unit that the row names.
+// Figures that others published, beside what the product computes: source 000 is the paper of the scheme itself, source 002
+// has its transitions in figures, source 004 compares schemes of its kind. What is expected was taken from the papers' text by
+// hand, at the place that the row names. Where a row says "derived" it was worked out from the paper's formulas, since the
+// drawing is not in the text. A time is rounded to the nearest unit that the row names.
 
+use figures::holding::holding_tenths;
 use figures::rows::agree;
 use figures::segments::found_in;
 use figures::segments::on_channel;
@@ -377,18 +378,18 @@ fn figure_6a() {
     );
 }
 
-// By Definition 4 with t at slot 4, S3, S7 and S15 are left of these, at slots 4, 6 and 10; by Definition 5 they are packed. 99 is
-// a lane that is released.
+// By Definition 4 with t at slot 4, S3, S7 and S15 are left of these, at slots 4, 6 and 10; by Definition 5 they are packed. S15 is
+// padding, which is owed to nobody and not sent. 99 is a lane that is released.
 fn figure_6c() {
     show(
         b"source 000, figure 6(c), derived: what the fourth lane sends from slot 4 on, after 4 channels went to 3",
         &[sent(3, 3, 4), sent(3, 3, 5), sent(3, 3, 6), sent(3, 3, 7)],
-        &[3, 7, 15, 99],
+        &[3, 7, 99, 99],
     );
 }
 
 // Figure 7 is a drawing; by the same definitions from 4 channels to 2, the third lane has S3 and S7 of 3 channels left, which are
-// S5, S6 and S13, S14 of 4.
+// S5, S6 and S13, S14 of 4. S13 to S16 are padding.
 fn figure_7() {
     show(
         b"source 000, figure 7, derived: what the fourth and the third lane send from slot 4 on, after 4 channels went to 2",
@@ -403,7 +404,46 @@ fn figure_7() {
             sent(2, 2, 7),
             sent(2, 2, 8),
         ],
-        &[3, 7, 15, 99, 5, 6, 13, 14, 99],
+        &[3, 7, 99, 99, 5, 6, 99, 99, 99],
+    );
+}
+
+// Table 3.4: how long a channel that is given back is held, the longest over all drop moments, for each base number of channels.
+fn table_3_4() {
+    show(
+        b"source 002, table 3.4, base 2: held after 3 went to 2, up to 7 to 6, 1/10 minute",
+        &[
+            holding_tenths(2, 3),
+            holding_tenths(2, 4),
+            holding_tenths(2, 5),
+            holding_tenths(2, 6),
+            holding_tenths(2, 7),
+        ],
+        &[200, 200, 150, 100, 63],
+    );
+    show(
+        b"source 002, table 3.4, base 3: held after 4 went to 3, up to 7 to 6, 1/10 minute",
+        &[
+            holding_tenths(3, 4),
+            holding_tenths(3, 5),
+            holding_tenths(3, 6),
+            holding_tenths(3, 7),
+        ],
+        &[171, 129, 86, 54],
+    );
+    show(
+        b"source 002, table 3.4, base 4: held after 5 went to 4, up to 7 to 6, 1/10 minute",
+        &[
+            holding_tenths(4, 5),
+            holding_tenths(4, 6),
+            holding_tenths(4, 7),
+        ],
+        &[120, 80, 50],
+    );
+    show(
+        b"source 002, table 3.4, base 5: held after 6 went to 5 and 7 to 6, 1/10 minute",
+        &[holding_tenths(5, 6), holding_tenths(5, 7)],
+        &[77, 48],
     );
 }
 
@@ -490,6 +530,7 @@ fn main() {
     figure_6a();
     figure_6c();
     figure_7();
+    table_3_4();
     table_2_ssb();
     table_2_sfb();
     table_2_seb();

@@ -60,9 +60,9 @@ fn case5() {
     io::write_all(STDOUT, b"5");
     let s = opened(3);
     let t = told(scheduler::change(s, 0, 4, 2));
-    show_from(t, 2, 4, 9);
-    show_held(t, 7);
-    show_held(t, 8);
+    show_from(t, 2, 4, 7);
+    show_held(t, 5);
+    show_held(t, 6);
     line();
 }
 
@@ -70,8 +70,8 @@ fn case6() {
     io::write_all(STDOUT, b"6");
     let s = opened(4);
     let t = told(scheduler::change(s, 0, 4, 3));
-    show_from(t, 3, 4, 8);
-    show_held(t, 6);
+    show_from(t, 3, 4, 7);
+    show_held(t, 5);
     let u = told(scheduler::change(t, 0, 6, 4));
     show_from(u, 3, 6, 11);
     show_held(u, 6);
@@ -82,7 +82,7 @@ fn case7() {
     io::write_all(STDOUT, b"7");
     let s = opened(4);
     let t = told(scheduler::change(s, 0, 8, 3));
-    show_from(t, 3, 8, 11);
+    show_from(t, 3, 8, 10);
     line();
 }
 
@@ -124,7 +124,7 @@ fn asked() {
     let ids = [0u64, 1, 0];
     let mut counts = [9u64; 3];
     let mut held = [9u64; 3];
-    let answer = status::status(t, 6, &ids, &mut counts, &mut held);
+    let answer = status::status(t, 5, &ids, &mut counts, &mut held);
     word(answer as u64);
     word(counts[0]);
     word(held[0]);
@@ -135,7 +135,7 @@ fn asked() {
     let none = [16u64];
     let mut count = [9u64];
     let mut lanes = [9u64];
-    let refused = status::status(t, 6, &none, &mut count, &mut lanes);
+    let refused = status::status(t, 5, &none, &mut count, &mut lanes);
     word(refused as u64);
     word(count[0]);
     word(lanes[0]);

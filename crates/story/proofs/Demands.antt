@@ -1,14 +1,15 @@
 -- Demand 3 and what the state says of it: the page to read first. In each theorem `es` are the accepted ones, newest first,
 -- of some calls on a fresh pool, and `s` is the state that those calls leave (`Reached`).
 -- Each cites its proof: Runs, Questions, World, Pool, Held and Reached, over every pool, sequence, id and moment.
+-- Beside this page stands Sooner: no release moves later since padding is owed to nobody.
 use mathlib.Core.Path.{_≡_, refl, sym, ap, _∙_}
-use mathlib.Core.Bool.{Bool, true, false, false≢true}
+use mathlib.Core.Bool.{true, false≢true}
 use mathlib.Core.Logic.{⊎-elim}
 use mathlib.Core.List.{List, [], _∷_, _++_}
 use Prim.Native.Nat.{ℕ, suc, _+_, _≤_, _<_}
 use native.Mathlib.Omega.{arith}
 use lib.Dec.{lit<}
-use borrow.Author.Tests.{ltb-true, ltb-false}
+use borrow.Author.Tests.{ltb-true}
 use Rattle.rules.specs.Limits.{titlesMax, idMax, laneMax, askedMax}
 use Rattle.rules.specs.Refusals.{noLanes}
 use Rattle.rules.specs.Search.{howMany}
@@ -28,10 +29,10 @@ use Rattle.story.proofs.Tells.{lanes-told}
 use Rattle.story.proofs.Runs.{lanes-limit, told-answer, sound-state}
 use Rattle.story.proofs.Questions.{lane-answer-told, lane-late, lane-cell-told, status-answer-told}
 use Rattle.story.proofs.Questions.{status-count-told, status-held-told}
-use Rattle.story.proofs.Lively.{Lively, lively}
+use Rattle.story.proofs.Lively.{lively}
 use Rattle.story.proofs.World.{no-box-runs-dry}
 use Rattle.story.proofs.Pool.{never-exceeded, upTo-all}
-use Rattle.story.proofs.Reached.{accepted-all, accepted-is, upTo-accepted, run-accepted, run-told, run-state}
+use Rattle.story.proofs.Reached.{upTo-accepted, run-accepted, run-told, run-state}
 use Rattle.story.proofs.Reached.{asked-done, asked-cell, lane-limit, as-it-stands, life-stays}
 
 -- every run of calls reaches its accepted events and the state it leaves

@@ -1,24 +1,28 @@
--- A sequence that meets the theorems' hypotheses, computed from the definitions: a film opens, gains a lane, loses it,
--- closes, and its id opens again with other numbers; one call of it is refused. Its boxes and lanes at chosen moments, a
--- lane that is dropped and not raised, one that is raised while it sends, and events that leave an answer true.
+-- Sequences that meet the theorems' hypotheses, computed from the definitions: a film opens, gains a lane, loses it,
+-- closes, and its id opens again with other numbers; one call of it is refused. Its boxes and lanes at chosen moments,
+-- a lane that is dropped and not raised, one that is raised while it sends, events that leave an answer true, an id
+-- that is gone at its own closing moment, and an opening that passes since padding is owed to nobody.
 use mathlib.Core.Path.{_≡_, refl, _∙_}
-use mathlib.Core.Bool.{Bool, true, not}
+use mathlib.Core.Bool.{true, not}
 use mathlib.Core.List.{List, [], _∷_}
 use Prim.Native.Nat.{ℕ, _+_, _≤_}
 use native.Mathlib.Omega.{arith}
 use borrow.Author.Tests.{not-true}
-use Rattle.rules.specs.Refusals.{firstHit}
+use Rattle.rules.specs.Refusals.{firstHit, done, notThere, noLanes}
 use Rattle.rules.specs.Search.{some, every, first, howMany, after, total}
 use Rattle.rules.proofs.Search.{every-out}
-use Rattle.grid.specs.Ticks.{tickOf, roundedUp, slot, isSlotStart, cellOf}
+use Rattle.grid.specs.Ticks.{tickOf, holdsFilm, roundedUp, slot, isSlotStart, cellOf}
 use Rattle.grid.specs.Channels.{floorRem, shift, segment, channelCell}
 use Rattle.grid.specs.Lanes.{isInG, isAdded, addedChannel, laneCell}
 use Rattle.grid.specs.Plan.{takenFrom, inPlan}
 use Rattle.story.specs.Life.{Life, isAdmission, isActive, droppedAt, isAwaited, isOwed, reach, owedWithin, owes}
 use Rattle.story.specs.Life.{isNth, nthOwed, Air, nothing, cell, sends, onAir, isHeld}
 use Rattle.story.specs.Story.{opens, changes, closes, Event, event, tickIn, lifeOf, latestOf, upTo, heldIn}
-use Rattle.story.specs.Story.{heldOver, answerTo, accepted, lifeAt, airAt, Begins, Dropped, Quiet, nothing-new}
+use Rattle.story.specs.Story.{heldOver, answerTo, answer, accepted, lifeAt, airAt, Begins, Dropped, Quiet}
+use Rattle.story.specs.Story.{nothing-new}
 use Rattle.story.specs.Story.{elsewhere}
+use Rattle.story.proofs.Sooner.{formerlyOwed, formerlyOwes, formerlyHeld, formerlyHeldIn, formerlyHeldOver}
+use Rattle.story.proofs.Sooner.{formerAnswerTo, formerAnswer}
 use Rattle.story.proofs.Demands.{exactly, throughout}
 
 -- newest first; the change to 4 at 2 is not at a slot start of count 3
@@ -42,78 +46,122 @@ taken =
     ∷ []
 
 all-but-one : accepted 4 calls ≡ taken
-unfolding accepted answerTo firstHit lifeOf latestOf heldOver heldIn tickIn total howMany isHeld onAir isActive droppedAt after sends nthOwed isNth owedWithin isOwed isAwaited isAdmission reach some first inPlan takenFrom laneCell addedChannel isAdded isInG channelCell segment shift floorRem cellOf slot isSlotStart tickOf roundedUp
+unfolding accepted answerTo firstHit lifeOf latestOf heldOver heldIn tickIn total howMany isHeld onAir isActive droppedAt after sends nthOwed isNth owedWithin isOwed isAwaited isAdmission reach some first inPlan takenFrom laneCell addedChannel isAdded isInG channelCell segment shift floorRem cellOf slot isSlotStart tickOf holdsFilm roundedUp
 all-but-one = refl
 
--- lanes held over all titles, at the opening, after the raise, while lane 3 sends, when it is released, at the close, in
--- its last sending tick, and when the id has opened again
+-- lanes held over all titles, at the opening, after the raise, while lane 3 sends, when it is released, at the close,
+-- when one of the two lanes that send has gone, in the last sending tick, and when the id has opened again
 held-then : List ℕ
-held-then = heldThen 0 ∷ heldThen 4 ∷ heldThen 9 ∷ heldThen 10 ∷ heldThen 12 ∷ heldThen 15 ∷ heldThen 16 ∷ []
+held-then =
+    heldThen 0
+    ∷ heldThen 4
+    ∷ heldThen 8
+    ∷ heldThen 9
+    ∷ heldThen 12
+    ∷ heldThen 14
+    ∷ heldThen 15
+    ∷ heldThen 16
+    ∷ []
   where
     heldThen : ℕ → ℕ
     heldThen τ = heldOver (upTo τ taken) τ
 
-held-is : held-then ≡ 3 ∷ 4 ∷ 4 ∷ 3 ∷ 2 ∷ 2 ∷ 2 ∷ []
-unfolding held-then upTo lifeOf heldOver heldIn tickIn total howMany isHeld onAir isActive droppedAt after sends nthOwed isNth owedWithin isOwed isAwaited isAdmission reach some first inPlan takenFrom laneCell addedChannel isAdded isInG channelCell segment shift floorRem cellOf slot isSlotStart tickOf roundedUp
+held-is : held-then ≡ 3 ∷ 4 ∷ 4 ∷ 3 ∷ 2 ∷ 1 ∷ 1 ∷ 2 ∷ []
+unfolding held-then upTo lifeOf heldOver heldIn tickIn total howMany isHeld onAir isActive droppedAt after sends nthOwed isNth owedWithin isOwed isAwaited isAdmission reach some first inPlan takenFrom laneCell addedChannel isAdded isInG channelCell segment shift floorRem cellOf slot isSlotStart tickOf holdsFilm roundedUp
 held-is = refl
 
--- lane 3: off, raised, dropped at 8 and sending the two cells it owes, released
+-- lane 3: off, raised, dropped at 8 and sending the one cell with film that it owes, released
 lane-three : List Air
-lane-three = airAt taken 0 3 3 ∷ airAt taken 0 3 4 ∷ airAt taken 0 3 8 ∷ airAt taken 0 3 9 ∷ airAt taken 0 3 10 ∷ []
+lane-three = airAt taken 0 3 3 ∷ airAt taken 0 3 4 ∷ airAt taken 0 3 8 ∷ airAt taken 0 3 9 ∷ []
 
-lane-three-is : lane-three ≡ nothing ∷ cell 2 ∷ cell 2 ∷ cell 14 ∷ nothing ∷ []
-unfolding lane-three upTo lifeOf heldOver heldIn tickIn total howMany isHeld onAir isActive droppedAt after sends nthOwed isNth owedWithin isOwed isAwaited isAdmission reach some first inPlan takenFrom laneCell addedChannel isAdded isInG channelCell segment shift floorRem cellOf slot isSlotStart tickOf roundedUp
+lane-three-is : lane-three ≡ nothing ∷ cell 2 ∷ cell 2 ∷ nothing ∷ []
+unfolding lane-three upTo lifeOf heldOver heldIn tickIn total howMany isHeld onAir isActive droppedAt after sends nthOwed isNth owedWithin isOwed isAwaited isAdmission reach some first inPlan takenFrom laneCell addedChannel isAdded isInG channelCell segment shift floorRem cellOf slot isSlotStart tickOf holdsFilm roundedUp
 lane-three-is = refl
 
 -- a box may begin at 4, once the raise of that very moment is counted
 box : Begins taken 0 4 4
-unfolding upTo lifeOf heldOver heldIn tickIn total howMany isHeld onAir isActive droppedAt after sends nthOwed isNth owedWithin isOwed isAwaited isAdmission reach some first inPlan takenFrom laneCell addedChannel isAdded isInG channelCell segment shift floorRem cellOf slot isSlotStart tickOf roundedUp
+unfolding upTo lifeOf heldOver heldIn tickIn total howMany isHeld onAir isActive droppedAt after sends nthOwed isNth owedWithin isOwed isAwaited isAdmission reach some first inPlan takenFrom laneCell addedChannel isAdded isInG channelCell segment shift floorRem cellOf slot isSlotStart tickOf holdsFilm roundedUp
 box = record { at-start = refl; admission = refl }
 
--- lane 3 is dropped at 8 and not raised up to 12: it is held in two of those four ticks, as many as it owes cells
+-- lane 3 is dropped at 8 and not raised up to 12: it is held in one of those four ticks, as many as it owes cells
 abbrev first-life : Life
 first-life = lifeAt taken 0 12
 
 dropped : Dropped first-life 3 7 4
-unfolding owes every upTo lifeOf heldOver heldIn tickIn total howMany isHeld onAir isActive droppedAt after sends nthOwed isNth owedWithin isOwed isAwaited isAdmission reach some first inPlan takenFrom laneCell addedChannel isAdded isInG channelCell segment shift floorRem cellOf slot isSlotStart tickOf roundedUp
+unfolding owes every upTo lifeOf heldOver heldIn tickIn total howMany isHeld onAir isActive droppedAt after sends nthOwed isNth owedWithin isOwed isAwaited isAdmission reach some first inPlan takenFrom laneCell addedChannel isAdded isInG channelCell segment shift floorRem cellOf slot isSlotStart tickOf holdsFilm roundedUp
 dropped =
     record {
       active-before = refl;
-      not-raised = λ j b. not-true (isActive first-life 3 (8 + j)) (every-out (λ j. not (isActive first-life 3 (8 + j))) 4 j refl b);
+      not-raised = λ j b.
+          not-true (isActive first-life 3 (8 + j)) (every-out (λ j. not (isActive first-life 3 (8 + j))) 4 j refl b);
     }
 
-owes-two : owes first-life 3 8 ≡ 2
-unfolding owes every upTo lifeOf heldOver heldIn tickIn total howMany isHeld onAir isActive droppedAt after sends nthOwed isNth owedWithin isOwed isAwaited isAdmission reach some first inPlan takenFrom laneCell addedChannel isAdded isInG channelCell segment shift floorRem cellOf slot isSlotStart tickOf roundedUp
-owes-two = refl
+owes-one : owes first-life 3 8 ≡ 1
+unfolding owes every upTo lifeOf heldOver heldIn tickIn total howMany isHeld onAir isActive droppedAt after sends nthOwed isNth owedWithin isOwed isAwaited isAdmission reach some first inPlan takenFrom laneCell addedChannel isAdded isInG channelCell segment shift floorRem cellOf slot isSlotStart tickOf holdsFilm roundedUp
+owes-one = refl
 
-held-twice : howMany (λ j. isHeld first-life 3 (8 + j)) 4 ≡ 2
-held-twice = exactly first-life 3 7 4 dropped (omega (arith, owes-two)) ∙ owes-two
+held-once : howMany (λ j. isHeld first-life 3 (8 + j)) 4 ≡ 1
+held-once = exactly first-life 3 7 4 dropped (omega (arith, owes-one)) ∙ owes-one
 
--- opened with 4 lanes, dropped to 3 at 4 and raised again at 6, while lane 3 still owes a cell: held throughout
+-- opened with 5 lanes, dropped to 4 at 4 and raised again at 6, while lane 4 still owes a cell: held throughout
 abbrev raised-life : Life
-raised-life = lifeOf (event 0 6 (changes 4) ∷ event 0 4 (changes 3) ∷ event 0 0 (opens 12 2 4 4) ∷ []) 0
+raised-life = lifeOf (event 0 6 (changes 5) ∷ event 0 4 (changes 4) ∷ event 0 0 (opens 28 3 5 5) ∷ []) 0
 
-dropped-then-raised : Dropped raised-life 3 3 2
-unfolding owes every upTo lifeOf heldOver heldIn tickIn total howMany isHeld onAir isActive droppedAt after sends nthOwed isNth owedWithin isOwed isAwaited isAdmission reach some first inPlan takenFrom laneCell addedChannel isAdded isInG channelCell segment shift floorRem cellOf slot isSlotStart tickOf roundedUp
+dropped-then-raised : Dropped raised-life 4 3 2
+unfolding owes every upTo lifeOf heldOver heldIn tickIn total howMany isHeld onAir isActive droppedAt after sends nthOwed isNth owedWithin isOwed isAwaited isAdmission reach some first inPlan takenFrom laneCell addedChannel isAdded isInG channelCell segment shift floorRem cellOf slot isSlotStart tickOf holdsFilm roundedUp
 dropped-then-raised =
     record {
       active-before = refl;
-      not-raised = λ j b. not-true (isActive raised-life 3 (4 + j)) (every-out (λ j. not (isActive raised-life 3 (4 + j))) 2 j refl b);
+      not-raised = λ j b.
+          not-true (isActive raised-life 4 (4 + j)) (every-out (λ j. not (isActive raised-life 4 (4 + j))) 2 j refl b);
     }
 
-again : isActive raised-life 3 6 ≡ true
-unfolding owes every upTo lifeOf heldOver heldIn tickIn total howMany isHeld onAir isActive droppedAt after sends nthOwed isNth owedWithin isOwed isAwaited isAdmission reach some first inPlan takenFrom laneCell addedChannel isAdded isInG channelCell segment shift floorRem cellOf slot isSlotStart tickOf roundedUp
+again : isActive raised-life 4 6 ≡ true
+unfolding owes every upTo lifeOf heldOver heldIn tickIn total howMany isHeld onAir isActive droppedAt after sends nthOwed isNth owedWithin isOwed isAwaited isAdmission reach some first inPlan takenFrom laneCell addedChannel isAdded isInG channelCell segment shift floorRem cellOf slot isSlotStart tickOf holdsFilm roundedUp
 again = refl
 
-owes-three : owes raised-life 3 4 ≡ 3
-unfolding owes every upTo lifeOf heldOver heldIn tickIn total howMany isHeld onAir isActive droppedAt after sends nthOwed isNth owedWithin isOwed isAwaited isAdmission reach some first inPlan takenFrom laneCell addedChannel isAdded isInG channelCell segment shift floorRem cellOf slot isSlotStart tickOf roundedUp
+owes-three : owes raised-life 4 4 ≡ 3
+unfolding owes every upTo lifeOf heldOver heldIn tickIn total howMany isHeld onAir isActive droppedAt after sends nthOwed isNth owedWithin isOwed isAwaited isAdmission reach some first inPlan takenFrom laneCell addedChannel isAdded isInG channelCell segment shift floorRem cellOf slot isSlotStart tickOf holdsFilm roundedUp
 owes-three = refl
 
-held-on : (j : ℕ) → j ≤ 2 → isHeld raised-life 3 (4 + j) ≡ true
-held-on j = throughout raised-life 3 3 2 j dropped-then-raised again (omega (arith, owes-three))
+held-on : (j : ℕ) → j ≤ 2 → isHeld raised-life 4 (4 + j) ≡ true
+held-on j = throughout raised-life 4 3 2 j dropped-then-raised again (omega (arith, owes-three))
 
 -- until the close at 12 the events at 4 and 8 leave what the opening alone says of the ticks before 4
 quiet : Quiet 0 3 (event 0 8 (changes 3) ∷ event 0 4 (changes 4) ∷ [])
 quiet =
     elsewhere {e = event 0 8 (changes 3)} (λ e. omega arith)
     (elsewhere {e = event 0 4 (changes 4)} (λ e. omega arith) nothing-new)
+
+-- a short film whose lanes carry padding when it closes at 2, in tick 1: nothing is owed, and the id is gone at once
+abbrev gone : List Event
+gone = event 0 2 closes ∷ event 0 0 (opens 4 2 2 2) ∷ []
+
+gone-accepted : accepted 4 gone ≡ gone
+unfolding accepted answerTo firstHit lifeOf latestOf heldOver heldIn tickIn total howMany isHeld onAir isActive droppedAt after sends nthOwed isNth owedWithin isOwed isAwaited isAdmission reach some first inPlan takenFrom laneCell addedChannel isAdded isInG channelCell segment shift floorRem cellOf slot isSlotStart tickOf holdsFilm roundedUp
+gone-accepted = refl
+
+-- the close leaves no lane sending; a second close at that moment gets 3, and an opening is accepted
+none-sends : heldOver gone 2 ≡ 0
+unfolding lifeOf latestOf heldOver heldIn tickIn total howMany isHeld onAir isActive droppedAt after sends nthOwed isNth owedWithin isOwed isAwaited isAdmission reach some first inPlan takenFrom laneCell addedChannel isAdded isInG channelCell segment shift floorRem cellOf slot isSlotStart tickOf holdsFilm roundedUp
+none-sends = refl
+
+second-close : answer 4 gone (event 0 2 closes) ≡ notThere
+unfolding answerTo firstHit lifeOf latestOf heldOver heldIn tickIn total howMany isHeld onAir isActive droppedAt after sends nthOwed isNth owedWithin isOwed isAwaited isAdmission reach some first inPlan takenFrom laneCell addedChannel isAdded isInG channelCell segment shift floorRem cellOf slot isSlotStart tickOf holdsFilm roundedUp
+second-close = refl
+
+opens-at-once : answer 4 gone (event 0 2 (opens 12 2 4 3)) ≡ done
+unfolding answerTo firstHit lifeOf latestOf heldOver heldIn tickIn total howMany isHeld onAir isActive droppedAt after sends nthOwed isNth owedWithin isOwed isAwaited isAdmission reach some first inPlan takenFrom laneCell addedChannel isAdded isInG channelCell segment shift floorRem cellOf slot isSlotStart tickOf holdsFilm roundedUp
+opens-at-once = refl
+
+-- 01's case 5 in a pool of 4: lane 2 is released at 6, where it used to send padding, and another film opens then
+abbrev released : List Event
+released = event 0 4 (changes 2) ∷ event 0 0 (opens 12 2 4 3) ∷ []
+
+passes-now : answer 4 released (event 1 6 (opens 12 2 4 2)) ≡ done
+unfolding answerTo firstHit lifeOf latestOf heldOver heldIn tickIn total howMany isHeld onAir isActive droppedAt after sends nthOwed isNth owedWithin isOwed isAwaited isAdmission reach some first inPlan takenFrom laneCell addedChannel isAdded isInG channelCell segment shift floorRem cellOf slot isSlotStart tickOf holdsFilm roundedUp
+passes-now = refl
+
+got-nine : formerAnswer 4 released (event 1 6 (opens 12 2 4 2)) ≡ noLanes
+unfolding formerAnswerTo formerlyHeldOver formerlyHeldIn formerlyHeld formerlyOwes formerlyOwed firstHit lifeOf latestOf heldOver heldIn tickIn total howMany isHeld onAir isActive droppedAt after sends nthOwed isNth owedWithin isOwed isAwaited isAdmission reach some first inPlan takenFrom laneCell addedChannel isAdded isInG channelCell segment shift floorRem cellOf slot isSlotStart tickOf holdsFilm roundedUp
+got-nine = refl

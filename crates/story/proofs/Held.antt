@@ -1,5 +1,5 @@
--- A lane is held while it is active and, once dropped, for exactly as many ticks as it owes cells; and what a lane shows
--- at a tick depends on the rule up to that tick alone. Rests on the laws of owed ticks.
+-- A lane is held while it is active and, once dropped, for exactly as many ticks as it owes cells; and what a lane
+-- shows at a tick depends on the rule up to that tick alone. Rests on the laws of owed ticks.
 use mathlib.Core.Path.{_≡_, refl, sym, ap, _∙_}
 use mathlib.Core.Bool.{Bool, true, false, false≢true}
 use mathlib.Core.Logic.{⊎-elim}
@@ -12,8 +12,9 @@ use Rattle.rules.specs.Limits.{both}
 use Rattle.rules.specs.Search.{howMany, after}
 use Rattle.rules.proofs.Tests.{decide, same}
 use Rattle.rules.proofs.Search
-use Rattle.story.specs.Life.{Life, underRule, usualCell, isPlanned, isAdmission, isActive, droppedAt, isAwaited}
-use Rattle.story.specs.Life.{isOwed, reach, owedWithin, owes, isNth, nthOwed, sends, onAir, isCell, isHeld}
+use Rattle.story.specs.Life.{Life, underRule, isFilm, usualCell, isPlanned, isAdmission, isActive, droppedAt}
+use Rattle.story.specs.Life.{isAwaited, isOwed, reach, owedWithin, owes, isNth, nthOwed, sends, onAir, isCell}
+use Rattle.story.specs.Life.{isHeld}
 use Rattle.story.proofs.Owed.{after-between, sends-while, sends-until, air-sends, air-active}
 
 -- the numbers below k, all below m
@@ -108,17 +109,22 @@ module _ (L : Life) (l : ℕ) where
       (λ x. ltb-false t T x)
       (decide (ltb t T)) in
       let d : after p t ≡ T = after-between p u t early le in
-      let sending : u - T < owes L l T = ltb-true (u - T) (owes L l T) (sym (held-sending u (off u le (omega arith))) ∙ h) in
+      let sending : u - T < owes L l T =
+      ltb-true (u - T) (owes L l T) (sym (held-sending u (off u le (omega arith))) ∙ h) in
       held-sending t (off t (omega arith) le) ∙ rw d (lt-ltb (t - T) (owes L l T) (omega arith))
 
 -- what the same title has in common under a rule that agrees with its own on every tick below a bound
 module _ (L : Life) (r : ℕ → ℕ) (l : ℕ) where
+  pub awaited-local : (T c t : ℕ) → ((a : ℕ) → a < T → r a ≡ L .rule a) →
+      isAwaited (underRule L r) T c t ≡ isAwaited L T c t
+  unfolding isAwaited isAdmission
+  awaited-local T c t agree =
+      Search.some-ext (λ a. both (isAdmission (underRule L r) a) (isPlanned (underRule L r) a c t))
+      (λ a. both (isAdmission L a) (isPlanned L a c t)) T (λ a b. rw (agree a b) refl)
+
   pub owed-local : (T t : ℕ) → ((a : ℕ) → a < T → r a ≡ L .rule a) → isOwed (underRule L r) l T t ≡ isOwed L l T t
-  unfolding isOwed isAwaited isAdmission
-  owed-local T t agree =
-      Search.some-ext (λ a. both (isAdmission (underRule L r) a) (isPlanned (underRule L r) a (usualCell L l t) t))
-      (λ a. both (isAdmission L a) (isPlanned L a (usualCell L l t) t)) T
-      (λ a b. rw (agree a b) refl)
+  unfolding isOwed
+  owed-local T t agree = ap (both (isFilm L (usualCell L l t))) (awaited-local T (usualCell L l t) t agree)
 
   pub within-local : (T n : ℕ) → ((a : ℕ) → a < T → r a ≡ L .rule a) →
       owedWithin (underRule L r) l T n ≡ owedWithin L l T n

@@ -1,5 +1,5 @@
--- No box runs dry, for one title's life: each cell that holds film is on air on one of the title's lanes at or after the
--- box's start and no later than the cell's turn, whatever the rule does after the start. Rests on the grid's laws (every
+-- No box runs dry, for one title's life: each cell that holds film is on air on one of the title's lanes at or after
+-- the box's start and no later than the cell's turn, whatever the rule does after it. Rests on the grid's laws (every
 -- such cell is in the plan, on a channel, and so on a lane) and on the laws of owed ticks.
 use mathlib.Core.Path.{_≡_, sym, ap, _∙_}
 use mathlib.Core.Bool.{Bool, true, false, false≢true}
@@ -19,7 +19,8 @@ use Rattle.story.specs.Life.{owedWithin, cell, onAir}
 use Rattle.story.proofs.Ruled.{Ruled, admitted}
 use Rattle.grid.proofs.Lanes.{lane-of-cell}
 use Rattle.grid.proofs.Plan.{in-time, film-taken, taken-out}
-use Rattle.story.proofs.Owed.{after-between, owed-in, owed-reach, sends-owed, rank-le, air-sends, air-active}
+use Rattle.story.proofs.Owed.{after-between, awaited-in, owed-in, owed-reach, sends-owed, rank-le, air-sends}
+use Rattle.story.proofs.Owed.{air-active}
 
 -- a cell in a plan at tick t is on a channel then, and t is no earlier than the start
 pub plan-on-channel : (A K k a c t : ℕ) → inPlan A K k a c t ≡ true → (a ≤ t) × InG A K k t c
@@ -44,12 +45,12 @@ unfolding isActive
 active-below L l t b = lt-ltb l (L .rule t) b
 
 module _ (L : Life) (ruled : Ruled L) where
-  -- a tick of a plan whose lane has been dropped meanwhile is owed, and its cell goes out by then
+  -- a tick of a plan whose cell holds film and whose lane has been dropped meanwhile is owed; its cell goes out by then
   pub dropped-in-time : (a l u : ℕ) → isAdmission L a ≡ true → l < L .rule a →
-      isPlanned L a (usualCell L l u) u ≡ true → isActive L l u ≡ false →
+      isPlanned L a (usualCell L l u) u ≡ true → isFilm L (usualCell L l u) ≡ true → isActive L l u ≡ false →
       (t : ℕ) × (a ≤ t) × (t ≤ u) × (onAir L l t ≡ cell (usualCell L l u))
   unfolding droppedAt
-  dropped-in-time a l u ad b pl off =
+  dropped-in-time a l u ad b pl film off =
       let p : ℕ → Bool = isActive L l in
       let T : ℕ = after p u in
       let up : T ≤ u = Search.after-le p u in
@@ -58,7 +59,8 @@ module _ (L : Life) (ruled : Ruled L) where
       let late : a < T = Search.after-above p u a (earlier p a u start then off) then in
       let o : ℕ = u - T in
       let eo : T + o ≡ u = omega arith in
-      let owed : isOwed L l T (T + o) ≡ true = rw eo (owed-in L l T a u late ad pl) in
+      let owed : isOwed L l T (T + o) ≡ true =
+      rw eo (owed-in L l T u film (awaited-in L T (usualCell L l u) u a late ad pl)) in
       let near : o < reach (L .cap) = omega (arith, owed-reach L l T ruled (T + o) owed) in
       let i : ℕ = owedWithin L l T o in
       let no-later : i ≤ o = rank-le L l T o in
@@ -70,10 +72,11 @@ module _ (L : Life) (ruled : Ruled L) where
       air-sends L l t quiet ∙ rw (same, gone) (sends-owed L l T o near owed) in
       (t, omega arith, omega arith, out ∙ ap (λ (x : ℕ). cell (usualCell L l x)) eo)
 
-  -- every cell in the plan of an admission is on air on a lane, from the start on and no later than its planned tick
-  pub planned-in-time : (a c u : ℕ) → isAdmission L a ≡ true → isPlanned L a c u ≡ true →
+  -- every cell with film in the plan of an admission is on air on a lane, from the start on and no later than its
+  -- planned tick
+  pub planned-in-time : (a c u : ℕ) → isAdmission L a ≡ true → isPlanned L a c u ≡ true → isFilm L c ≡ true →
       (l : ℕ) × (l < L .cap) × (t : ℕ) × (a ≤ t) × (t ≤ u) × (onAir L l t ≡ cell c)
-  planned-in-time a c u ad pl =
+  planned-in-time a c u ad pl film =
       let k : ℕ = L .rule a in
       let high : k ≤ L .cap = ruled .high a in
       let s = plan-on-channel (L .floor) (L .cap) k a c u pl in
@@ -81,14 +84,15 @@ module _ (L : Life) (ruled : Ruled L) where
       let l : ℕ = lane .0 in
       let e : usualCell L l u ≡ c = lane .2 in
       let pl′ : isPlanned L a (usualCell L l u) u ≡ true = rw e pl in
+      let film′ : isFilm L (usualCell L l u) ≡ true = rw e film in
       ⊎-elim
       (λ on. (l, omega (arith, lane .1), u, s .0, omega arith, air-active L l u on ∙ ap cell e))
       (λ off.
-      let d = dropped-in-time a l u ad (lane .1) pl′ off in
+      let d = dropped-in-time a l u ad (lane .1) pl′ film′ off in
       (l, omega (arith, lane .1), d .0, d .1, d .2, d .3 ∙ ap cell e))
       (decide (isActive L l u))
 
-  -- and a cell that holds film no later than its turn to play
+  -- and so no later than its turn to play
   pub film-in-time : (a c : ℕ) → 0 < L .floor → isAdmission L a ≡ true → isFilm L c ≡ true →
       (l : ℕ) × (l < L .cap) × (t : ℕ) × (a ≤ t) × (t ≤ a + c) × (onAir L l t ≡ cell c)
   film-in-time a c pos ad film =
@@ -97,5 +101,5 @@ module _ (L : Life) (ruled : Ruled L) where
       let at = admitted L ruled a ad in
       let taken = film-taken (L .length) (L .floor) (L .cap) k c pos (at .1) high film in
       let plan = in-time (L .floor) (L .cap) k a c (at .1) high (at .2) taken in
-      let on = planned-in-time a c (plan .0) ad (plan .2) in
+      let on = planned-in-time a c (plan .0) ad (plan .2) film in
       (on .0, on .1, on .2, on .3, omega (arith, on .4, plan .1), on .5)

@@ -1,5 +1,5 @@
--- What is read off a stored title is what its life says: at every tick from its latest event on, which lanes are held and
--- what each shows. Rests on `kept-owed`, and on what the events keep true of a title (`Present`).
+-- What is read off a stored title is what its life says: at every tick from its latest event on, which lanes are held
+-- and what each shows. Rests on `kept-owed`, and on what the events keep true of a title (`Present`).
 use mathlib.Core.Path.{_≡_, refl, sym, _∙_}
 use mathlib.Core.Bool.{true, false, false≢true}
 use mathlib.Core.Logic.{_⊎_, ⊎-elim}
@@ -28,6 +28,13 @@ use Rattle.story.proofs.Owed.{air-sends, air-active}
 use Rattle.story.proofs.Held.{dropped-le, held-active, held-sending}
 use Rattle.story.proofs.Stored.{lifeIn, kept-owed, EndsAt}
 
+-- the tick of a title's latest event, and the one at which lane l was last dropped, as they are stored
+abbrev pub lastTick : Title → ℕ
+lastTick t = tickAt t (t .last)
+
+abbrev pub dropTick : Title → ℕ → ℕ
+dropTick t l = getD (t .dropped) l 0
+
 -- the numbers that an accepted opening gives, and the rows' lengths
 pub record Sized (t : Title) : Type 0 where
   pub opened-high : t .opened ≤ eventTimeMax
@@ -52,15 +59,15 @@ pub record Present (t : Title) (r : ℕ → ℕ) : Type 0 where
   pub sized : Sized t
   pub since : t .opened ≤ t .last
   pub on-tick : (t .last - t .opened) % tickOf (t .length) (t .floor) (t .cap) ≡ 0
-  pub steady : (u : ℕ) → tickAt t (t .last) ≤ u → r u ≡ ruling t
+  pub steady : (u : ℕ) → lastTick t ≤ u → r u ≡ ruling t
   pub ruled : Ruled (lifeIn t r)
   pub legal : Legal (lifeIn t r)
   pub ends : (c : ℕ) → t .floor ≤ c → c ≤ t .cap → (ruling t ≡ c → ⊥) →
-      getD (t .ends) c 0 ≡ lastEnd (lifeIn t r) c (tickAt t (t .last))
+      getD (t .ends) c 0 ≡ lastEnd (lifeIn t r) c (lastTick t)
   pub drops : (l : ℕ) → l < t .cap → ruling t ≤ l →
-      getD (t .dropped) l 0 ≡ droppedAt (lifeIn t r) l (tickAt t (t .last))
+      dropTick t l ≡ droppedAt (lifeIn t r) l (lastTick t)
   pub owing : (l : ℕ) → l < t .cap → ruling t ≤ l →
-      getD (t .owed) l 0 ≡ owes (lifeIn t r) l (getD (t .dropped) l 0)
+      getD (t .owed) l 0 ≡ owes (lifeIn t r) l (dropTick t l)
 
 -- what a held lane that is not active shows
 air-held : (L : Life) (l n : ℕ) → isActive L l n ≡ false → isHeld L l n ≡ true →
@@ -69,88 +76,92 @@ unfolding isHeld sends
 air-held L l n off held =
     let air : onAir L l n ≡ sends L l (droppedAt L l n) (n - droppedAt L l n) = air-sends L l n off in
     let i : ℕ = nthOwed L l (droppedAt L l n) (n - droppedAt L l n) in
-    ⊎-elim (λ x. air ∙ rw x refl) (λ x. absurd (false≢true (rw x at (rw air at held)))) (decide (ltb i (reach (L .cap))))
+    ⊎-elim (λ x. air ∙ rw x refl) (λ x. absurd (false≢true (rw x at (rw air at held))))
+    (decide (ltb i (reach (L .cap))))
 
 module _ (t : Title) (r : ℕ → ℕ) (here : Present t r) where
-  pub active-kept : (l n : ℕ) → tickAt t (t .last) ≤ n → isActive (lifeIn t r) l n ≡ ltb l (ruling t)
+  pub active-kept : (l n : ℕ) → lastTick t ≤ n → isActive (lifeIn t r) l n ≡ ltb l (ruling t)
   unfolding isActive
   active-kept l n le = rw (here .steady n le) refl
 
   -- a lane that is not active was dropped at the stored tick
-  pub dropped-kept : (l n : ℕ) → l < t .cap → ruling t ≤ l → tickAt t (t .last) ≤ n →
-      droppedAt (lifeIn t r) l n ≡ getD (t .dropped) l 0
+  pub dropped-kept : (l n : ℕ) → l < t .cap → ruling t ≤ l → lastTick t ≤ n →
+      droppedAt (lifeIn t r) l n ≡ dropTick t l
   unfolding droppedAt
   dropped-kept l n lane off le =
-      Search.after-flat (isActive (lifeIn t r) l) (tickAt t (t .last)) n le
+      Search.after-flat (isActive (lifeIn t r) l) (lastTick t) n le
       (λ i lo hi. active-kept l i lo ∙ le-ltb l (ruling t) off)
       ∙ sym (here .drops l lane off)
 
   -- the lane was not active from its drop on
-  pub off-since : (l v : ℕ) → l < t .cap → ruling t ≤ l → getD (t .dropped) l 0 ≤ v → r v ≤ l
+  pub off-since : (l v : ℕ) → l < t .cap → ruling t ≤ l → dropTick t l ≤ v → r v ≤ l
   unfolding droppedAt isActive
   off-since l v lane off le =
       ⊎-elim
-      (λ x. ltb-false l (r v) (Search.after-none (isActive (lifeIn t r) l) (tickAt t (t .last)) v (rw (here .drops l lane off) at le) (ltb-true v (tickAt t (t .last)) x)))
-      (λ x. rw (here .steady v (ltb-false v (tickAt t (t .last)) x)) off)
-      (decide (ltb v (tickAt t (t .last))))
+      (λ x.
+      let since : droppedAt (lifeIn t r) l (lastTick t) ≤ v = rw (here .drops l lane off) at le in
+      ltb-false l (r v) (Search.after-none (isActive (lifeIn t r) l) (lastTick t) v since (ltb-true v (lastTick t) x)))
+      (λ x. rw (here .steady v (ltb-false v (lastTick t) x)) off)
+      (decide (ltb v (lastTick t)))
 
   -- the stored ends are those before the lane's drop: no count that has the lane has ruled since
-  pub ends-kept : (l : ℕ) → l < t .cap → ruling t ≤ l → EndsAt t r l (getD (t .dropped) l 0)
+  pub ends-kept : (l : ℕ) → l < t .cap → ruling t ≤ l → EndsAt t r l (dropTick t l)
   unfolding lastEnd
   ends-kept l lane off c had low high =
       here .ends c low high (λ e. omega arith)
-      ∙ Search.after-flat (isRuling (lifeIn t r) c) (getD (t .dropped) l 0) (tickAt t (t .last))
-      (rw (here .drops l lane off) (dropped-le (lifeIn t r) l (tickAt t (t .last))))
+      ∙ Search.after-flat (isRuling (lifeIn t r) c) (dropTick t l) (lastTick t)
+      (rw (here .drops l lane off) (dropped-le (lifeIn t r) l (lastTick t)))
       (λ i lo hi. ne-eqb (r i) c (λ e. omega (arith, off-since l i lane off lo)))
 
   -- the stored ends say which of its ticks are owed
-  pub owed-kept : (l u : ℕ) → l < t .cap → ruling t ≤ l → getD (t .dropped) l 0 ≤ u →
-      isOwed (lifeIn t r) l (getD (t .dropped) l 0) u ≡ keptOwed t l u
+  pub owed-kept : (l u : ℕ) → l < t .cap → ruling t ≤ l → dropTick t l ≤ u →
+      isOwed (lifeIn t r) l (dropTick t l) u ≡ keptOwed t l u
   owed-kept l u lane off le =
-      kept-owed t r l (getD (t .dropped) l 0) u (here .ruled) (here .legal) lane
-      (off-since l (getD (t .dropped) l 0) lane off (omega arith)) le (ends-kept l lane off)
+      kept-owed t r l (dropTick t l) u (here .ruled) (here .legal) lane
+      (off-since l (dropTick t l) lane off (omega arith)) le (ends-kept l lane off)
 
   pub within-kept : (l n : ℕ) → l < t .cap → ruling t ≤ l →
-      owedWithin (lifeIn t r) l (getD (t .dropped) l 0) n ≡ keptWithin t l (getD (t .dropped) l 0) n
+      owedWithin (lifeIn t r) l (dropTick t l) n ≡ keptWithin t l (dropTick t l) n
   unfolding owedWithin keptWithin
   within-kept l n lane off =
-      Search.howMany-ext (λ o. isOwed (lifeIn t r) l (getD (t .dropped) l 0) (getD (t .dropped) l 0 + o))
-      (λ o. keptOwed t l (getD (t .dropped) l 0 + o)) n (λ o b. owed-kept l (getD (t .dropped) l 0 + o) lane off (omega arith))
+      Search.howMany-ext (λ o. isOwed (lifeIn t r) l (dropTick t l) (dropTick t l + o))
+      (λ o. keptOwed t l (dropTick t l + o)) n (λ o b. owed-kept l (dropTick t l + o) lane off (omega arith))
 
   -- a lane is held, at any tick from the latest event on, as the stored numbers say
-  pub held-kept : (l n : ℕ) → l < t .cap → tickAt t (t .last) ≤ n → isHeld (lifeIn t r) l n ≡ keptHeld t l n
+  pub held-kept : (l n : ℕ) → l < t .cap → lastTick t ≤ n → isHeld (lifeIn t r) l n ≡ keptHeld t l n
   unfolding keptHeld
   held-kept l n lane le = ⊎-elim on off (decide (ltb l (ruling t)))
     where
       on : ltb l (ruling t) ≡ true →
           isHeld (lifeIn t r) l n
-          ≡ either (ltb l (ruling t)) (ltb n (getD (t .dropped) l 0 + getD (t .owed) l 0))
+          ≡ either (ltb l (ruling t)) (ltb n (dropTick t l + getD (t .owed) l 0))
       on x = held-active (lifeIn t r) l n (active-kept l n le ∙ x) ∙ rw x refl
 
       off : ltb l (ruling t) ≡ false →
           isHeld (lifeIn t r) l n
-          ≡ either (ltb l (ruling t)) (ltb n (getD (t .dropped) l 0 + getD (t .owed) l 0))
+          ≡ either (ltb l (ruling t)) (ltb n (dropTick t l + getD (t .owed) l 0))
       off x =
           let quiet : ruling t ≤ l = ltb-false l (ruling t) x in
-          let d : droppedAt (lifeIn t r) l n ≡ getD (t .dropped) l 0 = dropped-kept l n lane quiet le in
-          let past : getD (t .dropped) l 0 ≤ n = rw d at (dropped-le (lifeIn t r) l n) in
+          let d : droppedAt (lifeIn t r) l n ≡ dropTick t l = dropped-kept l n lane quiet le in
+          let m : ℕ = getD (t .owed) l 0 in
+          let past : dropTick t l ≤ n = rw d at (dropped-le (lifeIn t r) l n) in
           held-sending (lifeIn t r) l n (active-kept l n le ∙ x)
           ∙ rw (d, x, ← here .owing l lane quiet)
-          (same (ltb (n - getD (t .dropped) l 0) (getD (t .owed) l 0)) (ltb n (getD (t .dropped) l 0 + getD (t .owed) l 0))
-          (λ h. lt-ltb n (getD (t .dropped) l 0 + getD (t .owed) l 0) (omega (arith, ltb-true (n - getD (t .dropped) l 0) (getD (t .owed) l 0) h)))
-          (λ h. lt-ltb (n - getD (t .dropped) l 0) (getD (t .owed) l 0) (omega (arith, ltb-true n (getD (t .dropped) l 0 + getD (t .owed) l 0) h))))
+          (same (ltb (n - dropTick t l) m) (ltb n (dropTick t l + m))
+          (λ h. lt-ltb n (dropTick t l + m) (omega (arith, ltb-true (n - dropTick t l) m h)))
+          (λ h. lt-ltb (n - dropTick t l) m (omega (arith, ltb-true n (dropTick t l + m) h))))
 
   -- the tick whose cell goes out is found from the stored ends
   pub nth-kept : (l i : ℕ) → l < t .cap → ruling t ≤ l →
-      nthOwed (lifeIn t r) l (getD (t .dropped) l 0) i
-      ≡ first (keptNth t l (getD (t .dropped) l 0) i) (reach (t .cap))
+      nthOwed (lifeIn t r) l (dropTick t l) i
+      ≡ first (keptNth t l (dropTick t l) i) (reach (t .cap))
   unfolding nthOwed isNth keptNth
   nth-kept l i lane off =
-      Search.first-ext (isNth (lifeIn t r) l (getD (t .dropped) l 0) i) (keptNth t l (getD (t .dropped) l 0) i) (reach (t .cap))
-      (λ o b. rw (owed-kept l (getD (t .dropped) l 0 + o) lane off (omega arith), within-kept l o lane off) refl)
+      Search.first-ext (isNth (lifeIn t r) l (dropTick t l) i) (keptNth t l (dropTick t l) i) (reach (t .cap))
+      (λ o b. rw (owed-kept l (dropTick t l + o) lane off (omega arith), within-kept l o lane off) refl)
 
   -- a held lane shows the cell that the stored numbers give
-  pub shows-kept : (l n : ℕ) → l < t .cap → tickAt t (t .last) ≤ n → isHeld (lifeIn t r) l n ≡ true →
+  pub shows-kept : (l n : ℕ) → l < t .cap → lastTick t ≤ n → isHeld (lifeIn t r) l n ≡ true →
       onAir (lifeIn t r) l n ≡ cell (shows t l n)
   unfolding shows sendingTick
   shows-kept l n lane le held = ⊎-elim on off (decide (ltb l (ruling t)))
@@ -166,16 +177,17 @@ module _ (t : Title) (r : ℕ → ℕ) (here : Present t r) where
       off x =
           let quiet : ruling t ≤ l = ltb-false l (ruling t) x in
           let still : isActive (lifeIn t r) l n ≡ false = active-kept l n le ∙ x in
-          let d : droppedAt (lifeIn t r) l n ≡ getD (t .dropped) l 0 = dropped-kept l n lane quiet le in
-          air-held (lifeIn t r) l n still held ∙ rw (d, nth-kept l (n - getD (t .dropped) l 0) lane quiet, x) refl
+          let d : droppedAt (lifeIn t r) l n ≡ dropTick t l = dropped-kept l n lane quiet le in
+          air-held (lifeIn t r) l n still held ∙ rw (d, nth-kept l (n - dropTick t l) lane quiet, x) refl
 
   -- a stored title's tick is of some length
   pub tick-some : 0 < tickOf (t .length) (t .floor) (t .cap)
   tick-some =
       let z = here .sized in
-      tick-pos (t .length) (t .floor) (t .cap) (omega (arith, z .length-low)) (omega (arith, z .floor-low)) (omega (arith, z .count-low, z .count-high))
+      tick-pos (t .length) (t .floor) (t .cap) (omega (arith, z .length-low)) (omega (arith, z .floor-low))
+      (omega (arith, z .count-low, z .count-high))
 
-  pub later : (τ : ℕ) → t .last ≤ τ → tickAt t (t .last) ≤ tickAt t τ
+  pub later : (τ : ℕ) → t .last ≤ τ → lastTick t ≤ tickAt t τ
   unfolding tickAt
   later τ le = tick-mono (t .opened) (tickOf (t .length) (t .floor) (t .cap)) tick-some (t .last) τ le
 

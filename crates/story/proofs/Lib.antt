@@ -19,5 +19,6 @@ pub mod Lively
 pub mod Pool
 pub mod World
 pub mod Reached
+pub mod Sooner
 pub mod Demands
 pub mod Example

@@ -15,8 +15,8 @@ use Rattle.rules.proofs.Tests.{decide, both-l, both-r, both-in, fails}
 use Rattle.rules.proofs.Search
 use Rattle.grid.proofs.Plan.{window-end}
 use Rattle.story.proofs.Ruled.{Ruled, admitted}
-use Rattle.story.specs.Life.{Life, usualCell, isPlanned, isAdmission, isActive, droppedAt, isAwaited, isOwed}
-use Rattle.story.specs.Life.{reach, owedWithin, owes, isNth, nthOwed, cell, sends, onAir, isCell}
+use Rattle.story.specs.Life.{Life, isFilm, usualCell, isPlanned, isAdmission, isActive, droppedAt, isAwaited}
+use Rattle.story.specs.Life.{isOwed, reach, owedWithin, owes, isNth, nthOwed, cell, sends, onAir, isCell}
 
 -- the tick after the last one that passes is the same, seen from any tick between the two
 pub after-between : (p : ℕ → Bool) (u t : ℕ) → after p u ≤ t → t ≤ u → after p t ≡ after p u
@@ -30,36 +30,48 @@ after-between p u t lo hi = le-antisymm (up (after p t) refl) (down (after p u) 
     down zero e = omega arith
     down (suc m) e = Search.after-above p t m (omega arith) (Search.after-last p u m e)
 
+-- a cell is awaited at a tick where the plan of an admission before the drop has it then, and only there
+pub awaited-in : (L : Life) (T c t a : ℕ) → a < T → isAdmission L a ≡ true → isPlanned L a c t ≡ true →
+    isAwaited L T c t ≡ true
+unfolding isAwaited
+awaited-in L T c t a b ad pl =
+    Search.some-in (λ a. both (isAdmission L a) (isPlanned L a c t)) T a b
+    (both-in (isAdmission L a) (isPlanned L a c t) ad pl)
+
+pub awaited-out : (L : Life) (T c t : ℕ) → isAwaited L T c t ≡ true →
+    (a : ℕ) × (a < T) × (isAdmission L a ≡ true) × (isPlanned L a c t ≡ true)
+unfolding isAwaited
+awaited-out L T c t h =
+    let s = Search.some-out (λ a. both (isAdmission L a) (isPlanned L a c t)) T h in
+    let a = s .0 in (
+      a,
+      s .1,
+      both-l (isAdmission L a) (isPlanned L a c t) (s .2),
+      both-r (isAdmission L a) (isPlanned L a c t) (s .2),
+    )
+
 module _ (L : Life) (l T : ℕ) where
-  -- a cell in the plan of an admission before the drop is owed at its tick
-  pub owed-in : (a t : ℕ) → a < T → isAdmission L a ≡ true → isPlanned L a (usualCell L l t) t ≡ true →
+  -- a cell with film that is awaited when the lane is dropped is owed at its tick
+  pub owed-in : (t : ℕ) → isFilm L (usualCell L l t) ≡ true → isAwaited L T (usualCell L l t) t ≡ true →
       isOwed L l T t ≡ true
-  unfolding isOwed isAwaited
-  owed-in a t b ad pl =
-      Search.some-in (λ a. both (isAdmission L a) (isPlanned L a (usualCell L l t) t)) T a b
-      (both-in (isAdmission L a) (isPlanned L a (usualCell L l t) t) ad pl)
+  unfolding isOwed
+  owed-in t film awaited = both-in (isFilm L (usualCell L l t)) (isAwaited L T (usualCell L l t) t) film awaited
 
   -- and only such a cell
-  pub owed-out : (t : ℕ) → isOwed L l T t ≡ true →
-      (a : ℕ) × (a < T) × (isAdmission L a ≡ true) × (isPlanned L a (usualCell L l t) t ≡ true)
-  unfolding isOwed isAwaited
-  owed-out t h =
-      let s = Search.some-out (λ a. both (isAdmission L a) (isPlanned L a (usualCell L l t) t)) T h in
-      let a = s .0 in (
-        a,
-        s .1,
-        both-l (isAdmission L a) (isPlanned L a (usualCell L l t) t) (s .2),
-        both-r (isAdmission L a) (isPlanned L a (usualCell L l t) t) (s .2),
-      )
+  pub owed-out : (t : ℕ) → isOwed L l T t ≡ true → isAwaited L T (usualCell L l t) t ≡ true
+  unfolding isOwed
+  owed-out t h = both-r (isFilm L (usualCell L l t)) (isAwaited L T (usualCell L l t) t) h
 
   -- no tick is owed as far from the drop as 2^(K-1) ticks: no channel is taken for longer
   pub owed-reach : Ruled L → (t : ℕ) → isOwed L l T t ≡ true → t < T + reach (L .cap)
   unfolding reach
   owed-reach ruled t h =
-      let s = owed-out t h in
+      let s = awaited-out L T (usualCell L l t) t (owed-out t h) in
       let a : ℕ = s .0 in
+      let k : ℕ = L .rule a in
+      let some : 0 < k = admitted L ruled a (s .2) .0 in
       let end : t < a + 2 ^ (L .cap - 1) =
-      window-end (L .floor) (L .cap) (L .rule a) a (usualCell L l t) t (ruled .high a) (admitted L ruled a (s .2) .0) (s .3) in
+      window-end (L .floor) (L .cap) k a (usualCell L l t) t (ruled .high a) some (s .3) in
       omega (arith, s .1)
 
   -- so however many ticks are looked at, no more are owed than within that reach
@@ -76,14 +88,18 @@ module _ (L : Life) (l T : ℕ) where
   unfolding nthOwed owedWithin isNth
   nth-is o b h =
       le-antisymm
-      (Search.first-least nth (reach (L .cap)) o (both-in (isOwed L l T (T + o)) (eqb (howMany own o) (howMany own o)) h (eq-eqb (howMany own o) (howMany own o) refl)))
+      (Search.first-least nth (reach (L .cap)) o
+      (both-in (own o) (ranked o) h (eq-eqb (howMany own o) (howMany own o) refl)))
       (⊎-elim (λ t. absurd (late (ltb-true f o t))) (λ t. ltb-false f o t) (decide (ltb f o)))
     where
       own : ℕ → Bool
       own x = isOwed L l T (T + x)
 
+      ranked : ℕ → Bool
+      ranked x = eqb (howMany own x) (howMany own o)
+
       nth : ℕ → Bool
-      nth x = both (own x) (eqb (howMany own x) (howMany own o))
+      nth x = both (own x) (ranked x)
 
       f : ℕ
       f = first nth (reach (L .cap))
@@ -91,8 +107,11 @@ module _ (L : Life) (l T : ℕ) where
       late : f < o → ⊥
       late c =
           let hit : nth f ≡ true = Search.first-hit nth (reach (L .cap)) (omega arith) in
-          let e : howMany own f ≡ howMany own o = eqb-true (howMany own f) (howMany own o) (both-r (own f) (eqb (howMany own f) (howMany own o)) hit) in
-          omega (arith, Search.howMany-hit own f (both-l (own f) (eqb (howMany own f) (howMany own o)) hit), Search.howMany-mono own (suc f) o c)
+          let e : howMany own f ≡ howMany own o =
+          eqb-true (howMany own f) (howMany own o) (both-r (own f) (ranked f) hit) in
+          let more : howMany own (suc f) ≡ suc (howMany own f) =
+          Search.howMany-hit own f (both-l (own f) (ranked f) hit) in
+          omega (arith, Search.howMany-mono own (suc f) o c)
 
   -- a cell goes out in each tick from the drop on for as many ticks as the lane owes, and in no other
   pub sends-while : (i : ℕ) → i < owes L l T → isCell (sends L l T i) ≡ true

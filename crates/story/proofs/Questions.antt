@@ -50,7 +50,9 @@ lane-held-told L m t l τ (present r e f p) le =
     rw (mode-some t r p, e)
     (⊎-elim
     (λ x. rw x (sym (held-kept t r p l (tickAt t τ) (ltb-true l (t .cap) x) (later t r p τ (omega arith)))))
-    (λ x. rw x (sym (no-lane (lifeIn t r) l (tickAt t τ) (λ u. omega (arith, ltb-false l (t .cap) x, p .ruled .high u)))))
+    (λ x.
+    rw x
+    (sym (no-lane (lifeIn t r) l (tickAt t τ) (λ u. omega (arith, ltb-false l (t .cap) x, p .ruled .high u)))))
     (decide (ltb l (t .cap))))
 
 -- what it shows
@@ -64,7 +66,10 @@ lane-shows-told L m t l τ (present r e f p) le h =
     rw e
     (shows-kept t r p l (tickAt t τ)
     (⊎-elim (λ x. ltb-true l (t .cap) x)
-    (λ x. absurd (false≢true (sym (no-lane (lifeIn t r) l (tickAt t τ) (λ u. omega (arith, ltb-false l (t .cap) x, p .ruled .high u))) ∙ held)))
+    (λ x.
+    let free : isHeld (lifeIn t r) l (tickAt t τ) ≡ false =
+    no-lane (lifeIn t r) l (tickAt t τ) (λ u. omega (arith, ltb-false l (t .cap) x, p .ruled .high u)) in
+    absurd (false≢true (sym free ∙ held)))
     (decide (ltb l (t .cap))))
     (later t r p τ (omega arith)) held)
 

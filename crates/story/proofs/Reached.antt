@@ -2,16 +2,15 @@
 -- one accepted event more is reached too; the events up to a moment were reached then. What is on air at a moment is what
 -- the lane question answers then, and what was answered for a later time stays. Rests on `told` and on accepted sequences.
 use mathlib.Core.Path.{_≡_, refl, sym, ap, _∙_}
-use mathlib.Core.Bool.{Bool, true, false}
-use mathlib.Core.Logic.{inl, inr, ⊎-elim}
+use mathlib.Core.Bool.{true, false}
+use mathlib.Core.Logic.{⊎-elim}
 use mathlib.Core.List.{List, [], _∷_, _++_}
 use Prim.Native.Nat.{ℕ, _≤_, _<_}
 use native.Mathlib.Omega.{arith}
-use lib.Dec.{leb, ltb, eqb}
-use borrow.Author.Tests.{leb-true, leb-false, le-leb, le-ltb, eqb-true, eq-eqb, ltb-true}
-use Rattle.rules.specs.Limits.{both, titlesMax, idMax, laneMax, askedMax, countMax, poolMax}
+use lib.Dec.{leb, eqb}
+use borrow.Author.Tests.{leb-true, leb-false, le-leb, le-ltb, eqb-true, eq-eqb}
+use Rattle.rules.specs.Limits.{titlesMax, idMax, laneMax, askedMax, poolMax}
 use Rattle.rules.specs.Refusals.{pick, firstHit}
-use Rattle.rules.specs.Search.{howMany}
 use Rattle.rules.proofs.Tests.{decide, pick-false}
 use Rattle.story.specs.declared.State.{State}
 use Rattle.story.specs.Life.{Life, Air, cell, isCell, isHeld}

@@ -15,7 +15,7 @@ use Rattle.rules.specs.Refusals.{pick}
 use Rattle.rules.proofs.Tests.{decide}
 use Rattle.story.specs.declared.Title.{Title}
 use Rattle.story.specs.Life.{reach}
-use Rattle.story.specs.Kept.{keptWithin, keptOwed, wants, wantsFrom}
+use Rattle.story.specs.Kept.{keptWithin, keptOwed, keptAwaited, wants, wantsFrom}
 use Rattle.story.specs.Next.{dropLanes, dropLane}
 
 -- the row with f j at each place j below i that p picks
@@ -88,7 +88,7 @@ isDropped t k l = both (leb k l) (ltb l (t .count))
 drop-step : (t s : Title) (n i : ℕ) (d o : List ℕ) (b : Bool) → s ≡ withRows t d o →
     pick b (dropLane s n i) s
     ≡ withRows t (pick b (set d i n) d) (pick b (set o i (keptWithin t i n (reach (t .cap)))) o)
-unfolding keptWithin keptOwed wants wantsFrom
+unfolding keptWithin keptOwed keptAwaited wants wantsFrom
 drop-step t s n i d o true e = ap (λ x. dropLane x n i) e
 drop-step t s n i d o false e = e
 

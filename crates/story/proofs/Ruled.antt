@@ -1,5 +1,5 @@
--- What proofs ask of a life's rule: it keeps to floor and cap, and turns only where 01 permits. What an admission then has.
--- Rests on the definition of an admission.
+-- What proofs ask of a life's rule: it keeps to floor and cap, and turns only where 01 permits; what an admission has
+-- then. Rests on the definition of an admission.
 use mathlib.Core.Path.{_≡_}
 use mathlib.Core.Bool.{Bool, true}
 use Prim.Native.Nat.{ℕ, suc, _≤_, _<_, min, max}

@@ -1,7 +1,7 @@
 -- Owed ticks need no history: of each count the end of its latest admission's slot decides. Shown for any rule that
--- changes only at permitted slot starts: what the stored ends say of a lane's ticks is what 01 says over all admissions.
+-- changes only at permitted slot starts: the stored ends say of a lane's ticks what is defined over all admissions.
 -- Rests on the grid's laws and on the laws of owed ticks.
-use mathlib.Core.Path.{_≡_, refl, sym, _∙_}
+use mathlib.Core.Path.{_≡_, refl, sym, ap, _∙_}
 use mathlib.Core.Bool.{Bool, true}
 use mathlib.Core.Logic.{⊎-elim}
 use Prim.Native.Nat.{ℕ, zero, suc, _+_, _-_, _*_, _/_, _%_, _^_, _≤_, _<_, min, max}
@@ -22,10 +22,10 @@ use Rattle.grid.proofs.Ticks.{slot-pos}
 use Rattle.grid.proofs.Lanes.{lane-not-in}
 use Rattle.grid.proofs.Plan.{taken-in, taken-out}
 use Rattle.story.specs.declared.Title.{Title}
-use Rattle.story.specs.Life.{Life, usualCell, isPlanned, isAdmission, isOwed}
+use Rattle.story.specs.Life.{Life, isFilm, usualCell, isPlanned, isAdmission, isAwaited, isOwed}
 use Rattle.story.proofs.Ruled.{isRuling, lastEnd, Ruled, Legal, admitted}
-use Rattle.story.specs.Kept.{wantsFrom, wants, keptOwed}
-use Rattle.story.proofs.Owed.{owed-in, owed-out}
+use Rattle.story.specs.Kept.{wantsFrom, wants, keptAwaited, keptOwed}
+use Rattle.story.proofs.Owed.{awaited-in, awaited-out}
 
 -- ---- slot starts as remainders
 
@@ -177,11 +177,12 @@ lifeIn t r = record { opened = t .opened; length = t .length; floor = t .floor; 
 abbrev pub EndsAt : Title → (ℕ → ℕ) → ℕ → ℕ → Type 0
 EndsAt t r l T = (c : ℕ) → l < c → t .floor ≤ c → c ≤ t .cap → getD (t .ends) c 0 ≡ lastEnd (lifeIn t r) c T
 
--- what the stored ends say is owed is what 01 says is owed
-pub kept-owed : (t : Title) (r : ℕ → ℕ) (l T u : ℕ) → Ruled (lifeIn t r) → Legal (lifeIn t r) →
-    l < t .cap → r T ≤ l → T ≤ u → EndsAt t r l T → isOwed (lifeIn t r) l T u ≡ keptOwed t l u
-unfolding keptOwed wants wantsFrom
-kept-owed t r l T u ruled legal lane off from ends = same (isOwed L l T u) (some test (suc K)) there back
+-- what the stored ends say is awaited of a lane is what the admissions await
+pub kept-awaited : (t : Title) (r : ℕ → ℕ) (l T u : ℕ) → Ruled (lifeIn t r) → Legal (lifeIn t r) →
+    l < t .cap → r T ≤ l → T ≤ u → EndsAt t r l T →
+    isAwaited (lifeIn t r) T (usualCell (lifeIn t r) l u) u ≡ keptAwaited t l (usualCell (lifeIn t r) l u) u
+unfolding keptAwaited wants wantsFrom
+kept-awaited t r l T u ruled legal lane off from ends = same (isAwaited L T x u) (some test (suc K)) there back
   where
     L : Life
     L = lifeIn t r
@@ -213,9 +214,9 @@ kept-owed t r l T u ruled legal lane off from ends = same (isOwed L l T u) (some
     test : ℕ → Bool
     test c = both (ltb l c) (both (leb A c) (wanted c))
 
-    there : isOwed L l T u ≡ true → some test (suc K) ≡ true
+    there : isAwaited L T x u ≡ true → some test (suc K) ≡ true
     there h =
-        let o = owed-out L l T u h in
+        let o = awaited-out L T x u h in
         let a : ℕ = o .0 in
         let c : ℕ = r a in
         let k = admitted L ruled a (o .2) in
@@ -234,7 +235,7 @@ kept-owed t r l T u ruled legal lane off from ends = same (isOwed L l T u) (some
         (both-in (ltb 0 (end c)) (some (channel c) c) (lt-ltb 0 (end c) (omega (arith, slot-pos K c)))
         (Search.some-in (channel c) c d (s .1 .channel) ch))))
 
-    back : some test (suc K) ≡ true → isOwed L l T u ≡ true
+    back : some test (suc K) ≡ true → isAwaited L T x u ≡ true
     back h =
         let f = Search.some-out test (suc K) h in
         let c : ℕ = f .0 in
@@ -256,4 +257,12 @@ kept-owed t r l T u ruled legal lane off from ends = same (isOwed L l T u) (some
         let pl : inPlan A K c a x u ≡ true =
         taken-in A K c a x u d
         (record { channel = g .1; from = omega (arith, adm .1); before = omega arith; carries = carries }) in
-        owed-in L l T a u (adm .1) (adm .4) (rw (adm .3) pl)
+        awaited-in L T x u a (adm .1) (adm .4) (rw (adm .3) pl)
+
+-- so what they say is owed is what the documents say is owed
+pub kept-owed : (t : Title) (r : ℕ → ℕ) (l T u : ℕ) → Ruled (lifeIn t r) → Legal (lifeIn t r) →
+    l < t .cap → r T ≤ l → T ≤ u → EndsAt t r l T → isOwed (lifeIn t r) l T u ≡ keptOwed t l u
+unfolding isOwed keptOwed
+kept-owed t r l T u ruled legal lane off from ends =
+    ap (both (isFilm (lifeIn t r) (usualCell (lifeIn t r) l u)))
+    (kept-awaited t r l T u ruled legal lane off from ends)

@@ -4,7 +4,7 @@ use mathlib.Core.Path.{_≡_, refl, sym, ap, _∙_}
 use mathlib.Core.Bool.{true, false, false≢true}
 use mathlib.Core.Logic.{inl, ⊎-elim}
 use mathlib.Core.List.{List, _∷_}
-use Prim.Native.Nat.{ℕ, zero, suc, _-_, _/_, _≤_, _<_}
+use Prim.Native.Nat.{ℕ, zero, suc, _+_, _-_, _/_, _≤_, _<_}
 use native.Mathlib.Omega.{arith}
 use native.Mathlib.Nat.{sub-self, zero-mod, zero-div}
 use lib.Dec.{ltb, eqb}
@@ -14,19 +14,20 @@ use borrow.Author.Tests.{lt-ltb, eqb-true, eqb-false, ne-eqb}
 use Rattle.rules.specs.Limits.{either, eventTimeMax, lengthMin, lengthMax, floorMin, floorMax, countMax, titlesMax}
 use Rattle.rules.specs.Limits.{countPlaces, lanePlaces}
 use Rattle.rules.specs.Refusals.{pick}
-use Rattle.rules.specs.Search.{some, howMany, after}
-use Rattle.rules.proofs.Tests.{decide}
+use Rattle.rules.specs.Search.{howMany, after}
+use Rattle.rules.proofs.Tests.{decide, fails}
 use Rattle.rules.proofs.Search
 use Rattle.grid.specs.Ticks.{tickOf}
 use Rattle.story.specs.declared.Title.{Title}
 use Rattle.story.specs.declared.State.{State}
-use Rattle.story.specs.Life.{Life, droppedAt, isAwaited, isOwed, reach, owedWithin, owes}
+use Rattle.story.specs.Life.{Life, usualCell, droppedAt, isOwed, reach, owedWithin, owes}
 use Rattle.story.proofs.Ruled.{lastEnd}
 use Rattle.story.specs.Kept.{titleAt, tickAt, ruling, titleHeld, lanesHeld, isThere}
 use Rattle.story.specs.Next.{openedTitle, withTitle}
 use Rattle.story.specs.Calls.{blankTitle}
 use Rattle.story.specs.Story.{Event, unopened, lifeAfter, lifeOf, latestOf, lastTime, tickIn, countIn, heldIn}
 use Rattle.story.specs.Story.{heldOver, isThereIn}
+use Rattle.story.proofs.Owed.{awaited-out, owed-out}
 use Rattle.story.proofs.Stored.{lifeIn}
 use Rattle.story.proofs.Kept.{Present, title-held-kept, later}
 use Rattle.story.proofs.Turn.{open-ruling}
@@ -38,10 +39,14 @@ zeros (suc n) zero = refl
 zeros (suc n) (suc j) = zeros n j
 
 -- nothing is owed from before the first tick
+none-owed : (L : Life) (l t : ℕ) → isOwed L l 0 t ≡ false
+none-owed L l t =
+    fails (isOwed L l 0 t) (λ h. omega (arith, awaited-out L 0 (usualCell L l t) t (owed-out L l 0 t h) .1))
+
 pub owes-none : (L : Life) (l n : ℕ) → owedWithin L l 0 n ≡ 0
-unfolding owedWithin isOwed isAwaited howMany some
+unfolding owedWithin howMany
 owes-none L l zero = refl
-owes-none L l (suc n) = rw (owes-none L l n) refl
+owes-none L l (suc n) = rw (none-owed L l (0 + n), owes-none L l n) refl
 
 -- a title just opened
 pub opened-present : (τ D A K k : ℕ) → τ ≤ eventTimeMax → lengthMin ≤ D → D ≤ lengthMax → floorMin ≤ A → A ≤ floorMax →

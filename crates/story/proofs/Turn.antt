@@ -27,7 +27,7 @@ use Rattle.story.specs.Story.{turn}
 use Rattle.story.proofs.Clock.{later-tick}
 use Rattle.story.proofs.Held.{dropped-le, owes-local}
 use Rattle.story.proofs.Stored.{lifeIn, kept-owed, EndsAt}
-use Rattle.story.proofs.Kept.{Sized, Present, tick-some}
+use Rattle.story.proofs.Kept.{lastTick, dropTick, Sized, Present, tick-some}
 use Rattle.story.proofs.Rows.{filled, set-high, filled-length, filled-high, filled-in, filled-out, withRows}
 use Rattle.story.proofs.Rows.{isDropped, drop-rows}
 
@@ -88,12 +88,12 @@ turn-from r n q u l = pick-true (leb n u) q (r u) (le-leb n u l)
 
 module _ (t : Title) (r : ℕ → ℕ) (τ q m c : ℕ) (h : Turning t r τ q m c) where
   -- the turn comes in a later tick than the latest event
-  pub after-now : tickAt t (t .last) < tickAt t τ
+  pub after-now : lastTick t < tickAt t τ
   unfolding tickAt
   after-now = later-tick (t .opened) (tickOf (t .length) (t .floor) (t .cap)) (tick-some t r (h .here)) (t .last) τ (h .here .since) (h .later) (h .on-tick)
 
   -- up to the turn the old count has ruled since the latest event
-  pub old-rules : (u : ℕ) → tickAt t (t .last) ≤ u → r u ≡ t .count
+  pub old-rules : (u : ℕ) → lastTick t ≤ u → r u ≡ t .count
   old-rules u le = h .here .steady u le ∙ open-ruling t (h .is-open)
 
   turn-ruled : Ruled (lifeIn t (turn r (tickAt t τ) q))
@@ -164,7 +164,7 @@ module _ (t : Title) (r : ℕ → ℕ) (τ q m c : ℕ) (h : Turning t r τ q m 
           let ne : d ≡ t .count → ⊥ = eqb-false d (t .count) x in
           getD-set-other (t .ends) (t .count) d n 0 ne
           ∙ h .here .ends d lo hi (λ e. ne (sym e ∙ open-ruling t (h .is-open)))
-          ∙ sym (Search.after-flat (isRuling (lifeIn t r) d) (tickAt t (t .last)) n (omega (arith, after-now))
+          ∙ sym (Search.after-flat (isRuling (lifeIn t r) d) (lastTick t) n (omega (arith, after-now))
           (λ i low b. ne-eqb (r i) d (λ e. ne (sym e ∙ old-rules i low))))
           ∙ Search.after-ext (isRuling (lifeIn t r) d) p n agree
 
@@ -200,7 +200,7 @@ module _ (t : Title) (r : ℕ → ℕ) (τ q m c : ℕ) (h : Turning t r τ q m 
       before w =
           filled-out (isDropped t q) (λ l. n) (t .dropped) (t .count) l (w .1)
           ∙ h .here .drops l lane (rw (open-ruling t (h .is-open)) (w .0))
-          ∙ sym (Search.after-flat (isActive (lifeIn t r) l) (tickAt t (t .last)) n (omega (arith, after-now))
+          ∙ sym (Search.after-flat (isActive (lifeIn t r) l) (lastTick t) n (omega (arith, after-now))
           (λ i low b. rw (old-rules i low) (le-ltb l (t .count) (w .0))))
           ∙ Search.after-ext (isActive (lifeIn t r) l) p n (λ i b. ap (λ x. ltb l x) (sym (turn-before r n q i b)))
 
@@ -244,13 +244,13 @@ module _ (t : Title) (r : ℕ → ℕ) (τ q m c : ℕ) (h : Turning t r τ q m 
           getD (owedRow t n q) l 0 ≡ owes L′ l (getD (droppedRow t n q) l 0)
       before w =
           let quiet : ruling t ≤ l = rw (open-ruling t (h .is-open)) (w .0) in
-          let d : getD (t .dropped) l 0 ≡ droppedAt (lifeIn t r) l (tickAt t (t .last)) = h .here .drops l lane quiet in
-          let early : getD (t .dropped) l 0 < n =
-          omega (arith, after-now, d, dropped-le (lifeIn t r) l (tickAt t (t .last))) in
+          let d : dropTick t l ≡ droppedAt (lifeIn t r) l (lastTick t) = h .here .drops l lane quiet in
+          let early : dropTick t l < n =
+          omega (arith, after-now, d, dropped-le (lifeIn t r) l (lastTick t)) in
           filled-out (isDropped t q) count (t .owed) (t .count) l (w .1)
           ∙ rw (filled-out (isDropped t q) (λ l. n) (t .dropped) (t .count) l (w .1))
           (h .here .owing l lane quiet
-          ∙ sym (owes-local (lifeIn t r) r′ l (getD (t .dropped) l 0) (λ a b. turn-before r n q a (omega arith))))
+          ∙ sym (owes-local (lifeIn t r) r′ l (dropTick t l) (λ a b. turn-before r n q a (omega arith))))
 
   turn-sized : Sized (laid t τ q m c)
   unfolding tickAt

@@ -247,8 +247,9 @@ own-turn lanes es high acc i τ k w L a lt r life agree b turns =
 
 -- one more event of the box's own title
 own-event : (lanes : ℕ) (es : List Event) → lanes ≤ poolMax → Accepted lanes es → (i τ : ℕ) (b : Act) →
-    answerTo lanes es (event i τ b) (lifeOf es i) b ≡ 0 → (L : Life) (a : ℕ) → isAdmission L a ≡ true → momentOf L a < τ →
-    (r : ℕ → ℕ) → lifeOf es i ≡ underRule L r → ((u : ℕ) → u ≤ a → r u ≡ L .rule u) → Watched (event i τ b ∷ es) i L a
+    answerTo lanes es (event i τ b) (lifeOf es i) b ≡ 0 → (L : Life) (a : ℕ) → isAdmission L a ≡ true →
+    momentOf L a < τ → (r : ℕ → ℕ) → lifeOf es i ≡ underRule L r → ((u : ℕ) → u ≤ a → r u ≡ L .rule u) →
+    Watched (event i τ b ∷ es) i L a
 unfolding lifeOf sight-received received-skip
 own-event lanes es high acc i τ (opens D A K k) h L a adm lt r life agree =
     let o = opening lanes es i τ D A K k h in

@@ -9,7 +9,7 @@ use Rattle.rules.specs.Limits.{both, either, within, poolMin, poolMax, floorMin
 use Rattle.rules.specs.Limits.{lengthMax, askedMax, titlesMax, countPlaces, lanePlaces}
 use Rattle.rules.specs.Refusals.{pick}
 use Rattle.rules.specs.Search.{some, every, first, howMany, total}
-use Rattle.grid.specs.Ticks.{tickOf, slot}
+use Rattle.grid.specs.Ticks.{tickOf, holdsFilm, slot}
 use Rattle.grid.specs.Channels.{channelCell}
 use Rattle.grid.specs.Lanes.{laneCell}
 use Rattle.story.specs.declared.Title.{Title}
@@ -89,10 +89,15 @@ wantsFrom t x u c d =
 unfoldable pub wants : Title → ℕ → ℕ → ℕ → Bool
 wants t x u c = both (ltb 0 (getD (t .ends) c 0)) (some (wantsFrom t x u c) c)
 
--- of lane l tick u is owed to the boxes of some count that had the lane
+-- the boxes of some count that had lane l still take cell x at tick u
+unfoldable pub keptAwaited : Title → ℕ → ℕ → ℕ → Bool
+keptAwaited t l x u = some (λ c. both (ltb l c) (both (leb (t .floor) c) (wants t x u c))) (suc (t .cap))
+
+-- of lane l tick u is owed: its cell holds film, and is still awaited
 unfoldable pub keptOwed : Title → ℕ → ℕ → Bool
 keptOwed t l u =
-    some (λ c. both (ltb l c) (both (leb (t .floor) c) (wants t (laneCell (t .floor) (t .cap) l u) u c))) (suc (t .cap))
+    both (holdsFilm (t .length) (t .floor) (t .cap) (laneCell (t .floor) (t .cap) l u))
+    (keptAwaited t l (laneCell (t .floor) (t .cap) l u) u)
 
 -- how many of the n ticks from T on lane l owes
 unfoldable pub keptWithin : Title → ℕ → ℕ → ℕ → ℕ

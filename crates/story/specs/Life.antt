@@ -11,8 +11,8 @@ use Rattle.grid.specs.Ticks.{holdsFilm, isSlotStart}
 use Rattle.grid.specs.Lanes.{laneCell}
 use Rattle.grid.specs.Plan.{inPlan}
 
--- a title since its latest opening; the rule gives the ruling count at a tick, 0 once the title is closing: a close is a
--- change to no lanes
+-- a title since its latest opening; its rule gives the ruling count at a tick, 0 once the title is closing: a close is
+-- a change to no lanes
 pub record Life : Type 0 where
   pub opened : ℕ
   pub length : ℕ
@@ -52,9 +52,9 @@ droppedAt L l t = after (isActive L l) t
 unfoldable pub isAwaited : Life → ℕ → ℕ → ℕ → Bool
 isAwaited L T c t = some (λ a. both (isAdmission L a) (isPlanned L a c t)) T
 
--- 01, "Events": of lane l, dropped at T, tick t is owed
+-- 01, "Events", and 02, 5: of lane l, dropped at T, tick t is owed: its cell is awaited then and holds film
 unfoldable pub isOwed : Life → ℕ → ℕ → ℕ → Bool
-isOwed L l T t = isAwaited L T (usualCell L l t) t
+isOwed L l T t = both (isFilm L (usualCell L l t)) (isAwaited L T (usualCell L l t) t)
 
 -- no tick is owed that is this far from the drop: no channel is taken for longer
 unfoldable pub reach : ℕ → ℕ

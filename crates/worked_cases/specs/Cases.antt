@@ -1,5 +1,6 @@
--- 01, "Numbers worked through": the starred cases as one table, what the definitions give beside what 01 prints; case 11
--- by the sum of 02's request 2, with the example given there. All but 10 and 11 are of a film with floor 2, cap 4 and D 12,
+-- 01, "Numbers worked through": the starred cases as one table, what the definitions give beside what 01 prints; cases 5
+-- to 7 without the padding, as 02's request 5 has them, case 9 with the number of its request 4, case 11 by the sum of its
+-- request 2, with the example given there. All but 10 and 11 are of a film with floor 2, cap 4 and D 12,
 -- opened at 0; number 0 is what 01 says of that film beforehand.
 use Prim.Native.Nat.{ℕ, zero, suc}
 use mathlib.Core.Bool.{Bool, true, false, not}
@@ -99,11 +100,11 @@ table =
     ∷ case 3 (upFrom (laneCell floor cap 2) 8) (12 ∷ 13 ∷ 0 ∷ 1 ∷ 4 ∷ 5 ∷ 0 ∷ 1 ∷ [])
     ∷ case 4 (upFrom (planAt floor cap 4 0) filmCells)
     (0 ∷ 1 ∷ 0 ∷ 3 ∷ 0 ∷ 1 ∷ 2 ∷ 3 ∷ 4 ∷ 5 ∷ 6 ∷ 7 ∷ 0 ∷ 1 ∷ 2 ∷ never ∷ [])
-    ∷ case 5 (lane (event 4 (changes 2) ∷ film 3 ∷ []) 2 4 5) (4 ∷ 5 ∷ 12 ∷ 13 ∷ never ∷ [])
-    ∷ case 6 (lane (event 4 (changes 3) ∷ film 4 ∷ []) 3 4 4) (2 ∷ 6 ∷ 14 ∷ never ∷ [])
+    ∷ case 5 (lane (event 4 (changes 2) ∷ film 3 ∷ []) 2 4 3) (4 ∷ 5 ∷ never ∷ [])
+    ∷ case 6 (lane (event 4 (changes 3) ∷ film 4 ∷ []) 3 4 3) (2 ∷ 6 ∷ never ∷ [])
     ∷ case 6 (lane (event 6 (changes 4) ∷ event 4 (changes 3) ∷ film 4 ∷ []) 3 6 1) (6 ∷ [])
     ∷ case 6 (lane (event 6 (changes 4) ∷ event 4 (changes 3) ∷ film 4 ∷ []) 3 10 1) (14 ∷ [])
-    ∷ case 7 (lane (event 8 (changes 3) ∷ film 4 ∷ []) 3 8 3) (2 ∷ 14 ∷ never ∷ [])
+    ∷ case 7 (lane (event 8 (changes 3) ∷ film 4 ∷ []) 3 8 2) (2 ∷ never ∷ [])
     ∷ case 8 (answerAfter (film 3 ∷ []) (event 2 (changes 2)) ∷ answerAfter (film 3 ∷ []) (event 4 (changes 2)) ∷ [])
     (notAtSlot ∷ done ∷ [])
     ∷ case 9

@@ -39,7 +39,7 @@ settle-requires c κs =
     let none = sym (c .before .before .before .before .change-verdict .ensures) ∙ c .before .before .before .if1 .taken in
     let all = all-readable (a .s) (event-state (a .s) (a .id) (a .time) (change-event (a .s) (a .id) (a .time) (a .count) none)) in
     rw (c .with-title .ensures, c .before .changed-title .ensures, c .before .before .title-of .ensures)
-    (with-readable (a .s) (a .id) (a .time) (changedTitle (titleAt (a .s) (a .id)) (a .time) (a .count)) all (λ _. changed-film (titleAt (a .s) (a .id)) (a .time) (a .count) (change-ready (a .s) (a .id) (a .time) (a .count) none .film)), refl)
+    (with-readable (a .s) (a .id) (a .time) (changedTitle (titleAt (a .s) (a .id)) (a .time) (a .count)) all (λ _. changed-film (titleAt (a .s) (a .id)) (a .time) (a .count) (change-ready (a .s) (a .id) (a .time) (a .count) none .owing .film)), refl)
 
 returns : tie.Need-returns
 returns c =

@@ -9,13 +9,13 @@ use Rattle.owed.proofs.sending.sending_tick.Statement.{statement}
 use Rattle.owed.proofs.sending.sending_tick.Tie as tie
 
 dropped-low : (a : tie.Start) → getD (a .args .t1 .dropped) (a .args .lane) 0 ≤ askedMax
-dropped-low a = in-row (a .args .t1 .dropped) lanePlaces (a .args .lane) (a .pre .0 .dropped) (omega (arith, a .pre .0 .owing .cut .high))
+dropped-low a = in-row (a .args .t1 .dropped) lanePlaces (a .args .lane) (a .pre .0 .dropped) (omega (arith, a .pre .0 .owing .film .cut .high))
 
 mul-from : tie.Need-mul-from
-mul-from c = omega (arith, c .pre .0 .owing .cut .high)
+mul-from c = omega (arith, c .pre .0 .owing .film .cut .high)
 
 element-copy-out-from : tie.Need-element-copy-out-from
-element-copy-out-from c = omega (arith, c .pre .0 .owing .cut .high)
+element-copy-out-from c = omega (arith, c .pre .0 .owing .film .cut .high)
 
 since-requires : tie.Need-since-requires
 since-requires c κs = tt

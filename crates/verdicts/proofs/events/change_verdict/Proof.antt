@@ -46,7 +46,7 @@ count-verdict-requires c κs =
     let a = at-if1 .before .before .args in
     let stands = sym (at-standing .standing .ensures) ∙ c .before .if3 .taken in
     let ready = standing-changeable (a .s) (a .id) (a .time) (fits at-if1) stands in
-    rw (c .title-of .ensures) (ready .film, ready .ruled)
+    rw (c .title-of .ensures) (ready .owing .film, ready .ruled)
 
 returns : tie.Need-returns
 unfolding changeBefore numbered

@@ -35,7 +35,7 @@ turn-verdict-requires c κs =
     let a = at-if1 .before .before .args in
     let stands = sym (at-standing .standing .ensures) ∙ c .before .if2 .taken in
     let ready = standing-changeable (a .s) (a .id) (a .time) (fits at-if1) stands in
-    rw (c .title-of .ensures) (ready .film, ready .film .cut .fit)
+    rw (c .title-of .ensures) (ready .owing .film, ready .owing .film .cut .fit)
 
 returns : tie.Need-returns
 unfolding callAnswer numbered

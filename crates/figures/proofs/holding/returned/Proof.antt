@@ -1,0 +1,50 @@
+-- `returned` meets its contract: three calls in turn.
+use Prim.Native.Nat.{_-_}
+use native.Mathlib.Omega.{arith}
+use native.Mathlib.Nat.{mul-le-mul}
+use Rattle.figures.specs.Times.{film}
+use Rattle.figures.specs.Holding.{returnedAt}
+use Rattle.figures.proofs.Sent.{in-turn}
+use borrow.Author.Needs.{needs}
+use Rattle.figures.proofs.holding.returned.Statement.{statement}
+use Rattle.figures.proofs.holding.returned.Tie as tie
+
+fresh-requires : tie.Need-fresh-requires
+fresh-requires c κs = search needs
+
+open-requires : tie.Need-open-requires
+open-requires c κs = search needs
+
+slot-ms-requires : tie.Need-slot-ms-requires
+slot-ms-requires c κs = search needs
+
+mul-change : tie.Need-mul-change
+mul-change c = omega (arith, mul-le-mul (c .before .before .before .pre .1) (c .slot-ms .ensures .high))
+
+sub-change : tie.Need-sub-change
+sub-change c = search needs
+
+change-requires : tie.Need-change-requires
+change-requires c κs = search needs
+
+returns : tie.Need-returns
+unfolding returnedAt
+returns c =
+    let a = c .before .before .before .before .before .args in
+    simp (← c .before .before .slot-ms .ensures .is)
+    (in-turn (a .count) film (a .floor) (a .count) (a .count) _ (a .count - 1) _ _ _
+    (c .before .before .before .before .fresh .ensures .1)
+    (c .before .before .before .«open» .ensures .1)
+    (c .before .change .ensures .1))
+
+pub returned-spec : {M : Type 1} → statement M
+returned-spec =
+    tie.close
+    (tie.spec
+    fresh-requires
+    open-requires
+    slot-ms-requires
+    mul-change
+    sub-change
+    change-requires
+    returns)
