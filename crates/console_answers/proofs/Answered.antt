@@ -9,13 +9,16 @@ use Rattle.rules.specs.Refusals.{pick, done}
 use Rattle.story.specs.declared.State.{State}
 use Rattle.story.specs.Calls.{laneAnswer, laneShows, statusAnswer, statusCount, statusHeld}
 use Rattle.plan.specs.Row.{Planned}
+use Rattle.rom.specs.Lanes.{romLaneAnswer, romLaneShows}
+use Rattle.rom.specs.Plans.{RomPlanned}
 use Rattle.sharing.specs.Verdict.{Answered}
 use Rattle.text.specs.Output.{Page, puts}
 use Rattle.text.proofs.Pages.{puts-append}
 use Rattle.console_answers.specs.Words.{missed}
 use Rattle.console_answers.specs.Entries.{numbersText, cellsText, titlesText}
 use Rattle.console_answers.specs.Outcomes.{doneText, withText, valueText}
-use Rattle.console_answers.specs.Questions.{laneText, statusText, planText, shareText}
+use Rattle.console_answers.specs.Questions.{laneText, statusText, plannedText, planText, romLaneText}
+use Rattle.console_answers.specs.Questions.{romPlanText, shareText}
 
 -- what is told stands behind the 0
 pub told : (p q r : Page) (a x : ℕ) (more : List ℕ) → q ≡ puts p (doneText a x) → a ≡ done → r ≡ puts q more
@@ -34,6 +37,11 @@ module _ (p q r : Page) where
       → r ≡ puts p (valueText a v 0) → r ≡ puts p (laneText s i l τ)
   unfolding laneText
   lane-told s i l τ a v e f g = rw (← e, ← f) g
+
+  pub rom-lane-told : (s : State) (i l τ a v : ℕ) → a ≡ romLaneAnswer s i l τ → v ≡ romLaneShows s i l τ
+      → r ≡ puts p (valueText a v 0) → r ≡ puts p (romLaneText s i l τ)
+  unfolding romLaneText
+  rom-lane-told s i l τ a v e f g = rw (← e, ← f) g
 
   module _ (s : State) (τ a : ℕ) (ids counts held : List ℕ) (lc : length counts ≡ length ids)
       (lh : length held ≡ length ids)
@@ -54,15 +62,24 @@ module _ (p q r : Page) where
         (told p q r a 0 _ g z
         (rw (rw (eq-eqb _ _ z) at ec, rw (eq-eqb _ _ z) at eh) at f))
 
-  module _ (A K k a n : ℕ) (row row' : List ℕ) (e : Planned A K k a row n row')
-      (g : q ≡ puts p (doneText n (missed n A K))) where
-    pub plan-refused : (n ≡ done → ⊥) → q ≡ puts p (planText A K k a row)
-    unfolding planText
-    plan-refused z = rw (sym (e .answer)) (refused p q n (missed n A K) _ g z)
+  module _ (A K n : ℕ) (row : List ℕ) (g : q ≡ puts p (doneText n (missed n A K))) where
+    pub plan-refused : (n ≡ done → ⊥) → q ≡ puts p (plannedText n A K row)
+    unfolding plannedText
+    plan-refused z = refused p q n (missed n A K) _ g z
 
-    pub plan-told : n ≡ done → r ≡ puts q (cellsText row' (2 ^ K)) → r ≡ puts p (planText A K k a row)
+    pub plan-told : n ≡ done → r ≡ puts q (cellsText row (2 ^ K)) → r ≡ puts p (plannedText n A K row)
+    unfolding plannedText
+    plan-told z f = told p q r n (missed n A K) _ g z f
+
+  -- the plan of the computing call, and that of the small box
+  module _ (A K k a n : ℕ) (row row' : List ℕ) (g : r ≡ puts p (plannedText n A K row')) where
+    pub planned-told : Planned A K k a row n row' → r ≡ puts p (planText A K k a row)
     unfolding planText
-    plan-told z f = rw (sym (e .answer)) (told p q r n (missed n A K) _ g z (rw (e .left) at f))
+    planned-told e = rw (← e .answer, ← e .left) g
+
+    pub rom-planned-told : RomPlanned A K k a row n row' → r ≡ puts p (romPlanText A K k a row)
+    unfolding romPlanText
+    rom-planned-told e = rw (← e .answer, ← e .left) g
 
   module _ (pool n : ℕ) (rates lengths floors caps row row' : List ℕ)
       (e : Answered pool rates lengths floors caps row n row')

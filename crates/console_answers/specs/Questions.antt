@@ -1,4 +1,4 @@
--- What the console's questions answer (docs/CONSOLE.md, "Commands": lane, status, plan and share).
+-- What the console's questions answer (docs/CONSOLE.md, "Commands": lane, status, plan, share, romlane and romplan).
 use Prim.Native.Nat.{ℕ, zero, suc, _+_, _-_, _*_, _/_, min}
 use mathlib.Core.List.{List, map}
 use lib.ListN.{length, getD, take, drop, set, replicate}
@@ -7,6 +7,8 @@ use Rattle.story.specs.Calls.{laneAnswer, laneShows, statusAnswer, statusCount,
 use Rattle.grid.specs.Ticks.{cells}
 use Rattle.grid.specs.Plan.{planAnswer}
 use Rattle.plan.specs.Row as plan
+use Rattle.rom.specs.Lanes.{romLaneAnswer, romLaneShows}
+use Rattle.rom.specs.Plans.{romPlanAnswer, romPlanRow}
 use Rattle.sharing.specs.Verdict as sharing
 use Rattle.text.specs.Numbers.{fourBytesMost}
 use Rattle.console_lines.specs.Commands.{idsMost, titlesMost, titleNumbers, placesMost}
@@ -28,11 +30,20 @@ statusText s τ ids =
 unfoldable pub idsIn : List ℕ → ℕ → List ℕ
 idsIn numbers count = take (min (count - 1) idsMost) (drop 1 numbers)
 
--- the 2^K numbers of the plan that a lent row takes; a refusal names the line's own floor or cap
+-- the 2^K numbers of a plan in a row; a refusal names the line's own floor or cap
+unfoldable pub plannedText : ℕ → ℕ → ℕ → List ℕ → List ℕ
+plannedText n A K row = withText n (missed n A K) (cellsText row (cells K))
+
+-- of the plan that a lent row takes
 unfoldable pub planText : ℕ → ℕ → ℕ → ℕ → List ℕ → List ℕ
-planText A K k a row =
-    withText (planAnswer A K k a (length row)) (missed (planAnswer A K k a (length row)) A K)
-    (cellsText (plan.planRow A K k a row) (cells K))
+planText A K k a row = plannedText (planAnswer A K k a (length row)) A K (plan.planRow A K k a row)
+
+-- the lane's cell and the plan, of the small box
+unfoldable pub romLaneText : State → ℕ → ℕ → ℕ → List ℕ
+romLaneText s i l τ = valueText (romLaneAnswer s i l τ) (romLaneShows s i l τ) 0
+
+unfoldable pub romPlanText : ℕ → ℕ → ℕ → ℕ → List ℕ → List ℕ
+romPlanText A K k a row = plannedText (romPlanAnswer A K k a (length row)) A K (romPlanRow A K k a row)
 
 unfoldable pub zeros : ℕ → List ℕ
 zeros n = replicate n 0

@@ -7,6 +7,7 @@ pub mod notices;
 pub mod outcomes;
 pub mod parts;
 pub mod plans;
+pub mod roms;
 pub mod shares;
 pub mod titles;
 pub mod words;

@@ -17,10 +17,11 @@ use Rattle.console_answers.specs.Words.{helpText}
 use Rattle.console_answers.specs.Outcomes.{doneText}
 use Rattle.console_answers.specs.Notices.{readingText}
 use Rattle.console_answers.specs.Questions.{laneText, statusText, idsIn, planText, roomOf, shareIn}
+use Rattle.console_answers.specs.Questions.{romLaneText, romPlanText}
 use Rattle.console_desk.specs.Acts.{numberIn, bytesIn, answerAfter, agentActed}
 use Rattle.console_desk.specs.Named.{namedIn}
 use Rattle.console_desk.specs.Writing.{noticeIn}
-use Rattle.console_desk.specs.Desk.{followedText, actText, tellText, placesIn, askText}
+use Rattle.console_desk.specs.Desk.{followedText, actText, tellText, placesIn, romText, askText}
 
 module _ (l : Line) (s : List ℕ) (p q : Page) where
   pub acts-fresh : (g : Agent) (n : ℕ) → l .command ≡ Commands.doFresh → n ≡ answerAfter g l s
@@ -52,6 +53,22 @@ module _ (l : Line) (s : List ℕ) (p q : Page) where
   tells-bytes n o h e f = rw (ne-eqb _ _ o, ne-eqb _ _ h, ← e) f
 
   module _ (t : State) where
+    pub asks-rom-lane : l .command ≡ Commands.doRomLane
+        → q ≡ puts p (romLaneText t (numberIn l 0) (numberIn l 1) (numberIn l 2)) → q ≡ puts p (romText t l s)
+    unfolding romText
+    asks-rom-lane h e = rw (eq-eqb _ _ h) e
+
+    module _ (no-lane : l .command ≡ Commands.doRomLane → ⊥) where
+      pub asks-rom-plan : (places : ℕ) → l .command ≡ Commands.doRomPlan → places ≡ placesIn l
+          → q ≡ puts p (romPlanText (numberIn l 0) (numberIn l 1) (numberIn l 2) (numberIn l 3) (roomOf places))
+          → q ≡ puts p (romText t l s)
+      unfolding romText
+      asks-rom-plan places h f e = rw (ne-eqb _ _ no-lane, eq-eqb _ _ h, ← f) e
+
+      pub asks-told : (l .command ≡ Commands.doRomPlan → ⊥) → q ≡ puts p (tellText l s) → q ≡ puts p (romText t l s)
+      unfolding romText
+      asks-told h e = rw (ne-eqb _ _ no-lane, ne-eqb _ _ h) e
+
     pub asks-lane : l .command ≡ Commands.doLane → q ≡ puts p (laneText t (numberIn l 0) (numberIn l 1) (numberIn l 2))
         → q ≡ puts p (askText t l s)
     unfolding askText
@@ -77,6 +94,6 @@ module _ (l : Line) (s : List ℕ) (p q : Page) where
           asks-plan places h f e =
               rw (ne-eqb _ _ no-lane, ne-eqb _ _ no-status, ne-eqb _ _ no-share, eq-eqb _ _ h, ← f) e
 
-          pub asks-else : (l .command ≡ Commands.doPlan → ⊥) → q ≡ puts p (tellText l s) → q ≡ puts p (askText t l s)
+          pub asks-else : (l .command ≡ Commands.doPlan → ⊥) → q ≡ puts p (romText t l s) → q ≡ puts p (askText t l s)
           unfolding askText
           asks-else h e = rw (ne-eqb _ _ no-lane, ne-eqb _ _ no-status, ne-eqb _ _ no-share, ne-eqb _ _ h) e

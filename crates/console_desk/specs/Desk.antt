@@ -20,6 +20,7 @@ use Rattle.console_answers.specs.Words.{faultText, helpText}
 use Rattle.console_answers.specs.Outcomes.{doneText, valueText}
 use Rattle.console_answers.specs.Notices.{readingText}
 use Rattle.console_answers.specs.Questions.{laneText, statusText, idsIn, planText, roomOf, shareIn}
+use Rattle.console_answers.specs.Questions.{romLaneText, romPlanText}
 use Rattle.console_desk.specs.Acts.{numberIn, bytesIn, answerAfter, agentActed}
 use Rattle.console_desk.specs.Named.{namedIn}
 use Rattle.console_desk.specs.Writing.{noticeIn}
@@ -49,6 +50,14 @@ tellText l s =
 unfoldable pub placesIn : Line → ℕ
 placesIn l = pick (ltb 4 (l .count)) (numberIn l 4) Commands.placesMost
 
+-- a question to the small box, or what is told
+unfoldable pub romText : State → Line → List ℕ → List ℕ
+romText t l s =
+    pick (eqb (l .command) Commands.doRomLane) (romLaneText t (numberIn l 0) (numberIn l 1) (numberIn l 2))
+    (pick (eqb (l .command) Commands.doRomPlan)
+    (romPlanText (numberIn l 0) (numberIn l 1) (numberIn l 2) (numberIn l 3) (roomOf (placesIn l)))
+    (tellText l s))
+
 -- a question, which changes nothing
 unfoldable pub askText : State → Line → List ℕ → List ℕ
 askText t l s =
@@ -57,7 +66,7 @@ askText t l s =
     (pick (eqb (l .command) Commands.doShare) (shareIn (l .numbers) (l .count))
     (pick (eqb (l .command) Commands.doPlan)
     (planText (numberIn l 0) (numberIn l 1) (numberIn l 2) (numberIn l 3) (roomOf (placesIn l)))
-    (tellText l s))))
+    (romText t l s))))
 
 abbrev pub newline : List ℕ
 newline = 10 ∷ []

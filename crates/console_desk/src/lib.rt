@@ -8,6 +8,7 @@ use console_answers::lanes;
 use console_answers::notices;
 use console_answers::outcomes;
 use console_answers::plans;
+use console_answers::roms;
 use console_answers::shares;
 use console_answers::titles;
 use console_answers::words;
@@ -28,6 +29,7 @@ ghost use Rattle.console_desk.specs.Desk.{
   actText,
   placesIn,
   askText,
+  romText,
   tellText,
   Left,
   afterWhole,
@@ -123,6 +125,22 @@ fn places_of(line: Line) -> u64
     commands::PLACES_MOST as u64
 }
 
+// A question to the small box, or what is told.
+fn ask_rom(state: State, line: Line, s: &[u8], out: &mut [u8], at: usize) -> usize
+    requires { ⌜ length (now s) ≤ longest ⌝ }
+    ensures { λ r. ⌜ Written (now (out .entry)) at (romText state line (now (s .entry))) (now (out .exit)) r ⌝ }
+{
+    let command = line.command;
+    let n = line.numbers;
+    if command == commands::ROM_LANE {
+        return roms::put_lane(out, at, state, n[0], n[1], n[2]);
+    }
+    if command == commands::ROM_PLAN {
+        return roms::put_plan(out, at, n[0], n[1], n[2], n[3], places_of(line));
+    }
+    tell(line, s, out, at)
+}
+
 // A question, which changes nothing.
 fn ask(state: State, line: Line, s: &[u8], out: &mut [u8], at: usize) -> usize
     requires { ⌜ length (now s) ≤ longest ⌝ }
@@ -142,7 +160,7 @@ fn ask(state: State, line: Line, s: &[u8], out: &mut [u8], at: usize) -> usize
     if command == commands::PLAN {
         return plans::put_plan(out, at, n[0], n[1], n[2], n[3], places_of(line));
     }
-    tell(line, s, out, at)
+    ask_rom(state, line, s, out, at)
 }
 
 // A line with nothing wrong.

@@ -14,6 +14,7 @@ use Rattle.console_lines.specs.Commands.{
   enough,
   takesHex,
   takesKind,
+  asksPlan,
   limitsOf,
   limitOf,
   crowded,
@@ -41,7 +42,7 @@ unfoldable pub told : Line → List ℕ
 told l = l .command ∷ l .fault ∷ l .place ∷ take (l .count) (l .numbers)
 
 unfoldable pub each : List String → List (List ℕ)
-unfolding told isSort run runEnd amount tooLarge text same verbOf leastOf mostOf enough takesHex takesKind limitsOf
+unfolding told isSort run runEnd amount tooLarge text same verbOf leastOf mostOf enough takesHex takesKind asksPlan limitsOf
     limitOf crowded oversized blank withFault ended goOn withNumber withKind withHex wordAt withWord step withVerb begun
     readOn meaning
 each [] = []
@@ -56,6 +57,8 @@ lines =
     "open 1 2" ∷
     "status 5x" ∷
     "plan 2 4 4 0 1025" ∷
+    "romlane 3 9 12" ∷
+    "romplan 3 10 4 0 1025" ∷
     "share 8 1 2 3" ∷
     "write 7 close 1 18446744073709551615" ∷
     "write 7 close 1 18446744073709551616" ∷
@@ -75,19 +78,21 @@ meanings =
     (2 ∷ 3 ∷ 8 ∷ 1 ∷ 2 ∷ []) ∷
     (6 ∷ 5 ∷ 8 ∷ []) ∷
     (7 ∷ 11 ∷ 13 ∷ 2 ∷ 4 ∷ 4 ∷ 0 ∷ []) ∷
+    (11 ∷ 0 ∷ 14 ∷ 3 ∷ 9 ∷ 12 ∷ []) ∷
+    (12 ∷ 11 ∷ 17 ∷ 3 ∷ 10 ∷ 4 ∷ 0 ∷ []) ∷
     (8 ∷ 3 ∷ 13 ∷ 8 ∷ 1 ∷ 2 ∷ 3 ∷ []) ∷
-    (15 ∷ 0 ∷ 36 ∷ 7 ∷ 1 ∷ 18446744073709551615 ∷ []) ∷
-    (15 ∷ 6 ∷ 16 ∷ 7 ∷ 1 ∷ []) ∷
-    (11 ∷ 2 ∷ 8 ∷ 7 ∷ []) ∷
+    (17 ∷ 0 ∷ 36 ∷ 7 ∷ 1 ∷ 18446744073709551615 ∷ []) ∷
+    (17 ∷ 6 ∷ 16 ∷ 7 ∷ 1 ∷ []) ∷
+    (13 ∷ 2 ∷ 8 ∷ 7 ∷ []) ∷
     (9 ∷ 0 ∷ 9 ∷ 5 ∷ []) ∷
     (10 ∷ 7 ∷ 7 ∷ []) ∷
     (10 ∷ 8 ∷ 8 ∷ []) ∷
-    (12 ∷ 4 ∷ 5 ∷ []) ∷
+    (14 ∷ 4 ∷ 5 ∷ []) ∷
     []
 
 -- the lines above, one after the other, mean what the list says
 pub shown : each lines ≡ meanings
-unfolding told each isSort run runEnd amount tooLarge text same verbOf leastOf mostOf enough takesHex takesKind limitsOf
+unfolding told each isSort run runEnd amount tooLarge text same verbOf leastOf mostOf enough takesHex takesKind asksPlan limitsOf
     limitOf crowded oversized blank withFault ended goOn withNumber withKind withHex wordAt withWord step withVerb begun
     readOn meaning
 shown = refl

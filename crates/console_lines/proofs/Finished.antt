@@ -65,7 +65,7 @@ crowded-known c =
 
 oversized-known : (c : ℕ) → known (Commands.oversized c)
 unfolding Commands.oversized
-oversized-known c = pick-case known (eqb c Commands.doPlan) _ _ (λ e u. omega arith) (λ e u. omega arith)
+oversized-known c = pick-case known (Commands.asksPlan c) _ _ (λ e u. omega arith) (λ e u. omega arith)
 
 few : (c : ℕ) → Commands.mostOf c ≤ Commands.wordsMost
 unfolding Commands.mostOf allUpTo

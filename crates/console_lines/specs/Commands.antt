@@ -44,21 +44,28 @@ doRead = 9
 abbrev pub doNotice : ℕ
 doNotice = 10
 
+-- lane and plan, asked of the small box
+abbrev pub doRomLane : ℕ
+doRomLane = 11
+
+abbrev pub doRomPlan : ℕ
+doRomPlan = 12
+
 -- a write whose kind has not been read; the kind's number is added to it
 abbrev pub doWrite : ℕ
-doWrite = 11
+doWrite = 13
 
 abbrev pub doHelp : ℕ
-doHelp = 12
+doHelp = 14
 
 abbrev pub writeOpen : ℕ
-writeOpen = 13
+writeOpen = 15
 
 abbrev pub writeChange : ℕ
-writeChange = 14
+writeChange = 16
 
 abbrev pub writeClose : ℕ
-writeClose = 15
+writeClose = 17
 
 -- the command that a word names
 unfoldable pub verbOf : List ℕ → ℕ
@@ -73,8 +80,10 @@ verbOf w =
     (pick (same w (text "share")) doShare
     (pick (same w (text "read")) doRead
     (pick (same w (text "notice")) doNotice
+    (pick (same w (text "romlane")) doRomLane
+    (pick (same w (text "romplan")) doRomPlan
     (pick (same w (text "write")) doWrite
-    (pick (same w (text "help")) doHelp none)))))))))))
+    (pick (same w (text "help")) doHelp none)))))))))))))
 
 -- what a line may name at most: ids of a status, titles of a share, places of a plan. One title more than the product
 -- shares among, so that its own refusal is seen
@@ -97,10 +106,10 @@ wordsMost = 1 + titleNumbers * titlesMost
 
 -- by command: the fewest words after its own, and the most
 abbrev pub leastTable : List ℕ
-leastTable = 0 ∷ 1 ∷ 6 ∷ 3 ∷ 2 ∷ 3 ∷ 1 ∷ 4 ∷ 1 ∷ 1 ∷ 1 ∷ 2 ∷ 0 ∷ 7 ∷ 4 ∷ 3 ∷ []
+leastTable = 0 ∷ 1 ∷ 6 ∷ 3 ∷ 2 ∷ 3 ∷ 1 ∷ 4 ∷ 1 ∷ 1 ∷ 1 ∷ 3 ∷ 4 ∷ 2 ∷ 0 ∷ 7 ∷ 4 ∷ 3 ∷ []
 
 abbrev pub mostTable : List ℕ
-mostTable = 0 ∷ 1 ∷ 6 ∷ 3 ∷ 2 ∷ 3 ∷ (1 + idsMost) ∷ 5 ∷ wordsMost ∷ 1 ∷ 1 ∷ 2 ∷ 0 ∷ 7 ∷ 4 ∷ 3 ∷ []
+mostTable = 0 ∷ 1 ∷ 6 ∷ 3 ∷ 2 ∷ 3 ∷ (1 + idsMost) ∷ 5 ∷ wordsMost ∷ 1 ∷ 1 ∷ 3 ∷ 5 ∷ 2 ∷ 0 ∷ 7 ∷ 4 ∷ 3 ∷ []
 
 unfoldable pub leastOf : ℕ → ℕ
 leastOf c = getD leastTable c 0
@@ -120,11 +129,15 @@ takesHex c = either (eqb c doRead) (eqb c doNotice)
 unfoldable pub takesKind : ℕ → ℕ → Bool
 takesKind c n = both (eqb c doWrite) (eqb n 1)
 
+-- the command asks for a plan, whose places may stand last
+unfoldable pub asksPlan : ℕ → Bool
+asksPlan c = either (eqb c doPlan) (eqb c doRomPlan)
+
 -- the largest value of each number of a command, where a larger one is an error of the line; 0 where any is handed on.
 -- Of a notice's fields (01, "Notices") and of the places lent for a plan
 unfoldable pub limitsOf : ℕ → List ℕ
 limitsOf c =
-    pick (eqb c doPlan) (0 ∷ 0 ∷ 0 ∷ 0 ∷ placesMost ∷ 0 ∷ 0 ∷ [])
+    pick (asksPlan c) (0 ∷ 0 ∷ 0 ∷ 0 ∷ placesMost ∷ 0 ∷ 0 ∷ [])
     (pick (eqb c doWrite) (fourBytesMost ∷ 0 ∷ 0 ∷ 0 ∷ 0 ∷ 0 ∷ 0 ∷ [])
     (pick (eqb c writeOpen) (fourBytesMost ∷ byteMost ∷ top ∷ fourBytesMost ∷ byteMost ∷ byteMost ∷ byteMost ∷ [])
     (pick (eqb c writeChange) (fourBytesMost ∷ byteMost ∷ top ∷ byteMost ∷ 0 ∷ 0 ∷ 0 ∷ [])
@@ -186,4 +199,4 @@ crowded c = pick (eqb c doStatus) tooManyIds (pick (eqb c doShare) tooManyTitles
 
 -- the fault of a number above its limit, by command
 unfoldable pub oversized : ℕ → ℕ
-oversized c = pick (eqb c doPlan) tooManyPlaces tooBig
+oversized c = pick (asksPlan c) tooManyPlaces tooBig

@@ -18,6 +18,7 @@ ghost use Rattle.console_lines.specs.Commands.{
   oversized,
   takesHex,
   takesKind,
+  asksPlan,
   wordsMost,
 };
 
@@ -44,16 +45,21 @@ pub const READ: u8 = 9;
 
 pub const NOTICE: u8 = 10;
 
+// Lane and plan, asked of the small box.
+pub const ROM_LANE: u8 = 11;
+
+pub const ROM_PLAN: u8 = 12;
+
 // A write whose kind has not been read yet; the kind's own number is added to it.
-pub const WRITE: u8 = 11;
+pub const WRITE: u8 = 13;
 
-pub const HELP: u8 = 12;
+pub const HELP: u8 = 14;
 
-pub const WRITE_OPEN: u8 = 13;
+pub const WRITE_OPEN: u8 = 15;
 
-pub const WRITE_CHANGE: u8 = 14;
+pub const WRITE_CHANGE: u8 = 16;
 
-pub const WRITE_CLOSE: u8 = 15;
+pub const WRITE_CLOSE: u8 = 17;
 
 // What can be wrong with a line.
 pub const NO_FAULT: u8 = 0;
@@ -84,7 +90,7 @@ pub const TOO_MANY_PLACES: u8 = 11;
 pub const UNREAD: u8 = 12;
 
 // How many there are.
-const COMMANDS: usize = 16;
+const COMMANDS: usize = 18;
 
 // What a line may name at most: ids of a status, titles of a share, places of a plan. One title more than the product
 // shares among, so that its own refusal is seen.
@@ -103,7 +109,7 @@ const STATUS_MOST: usize = 1 + IDS_MOST;
 const SHARE_MOST: usize = 1 + TITLE_NUMBERS * TITLES_MOST;
 
 // By command: the fewest words after its own, and the most. Read and notice have no number, but HEX, which is a word.
-const LEAST: [usize; COMMANDS] = [0, 1, 6, 3, 2, 3, 1, 4, 1, 1, 1, 2, 0, 7, 4, 3];
+const LEAST: [usize; COMMANDS] = [0, 1, 6, 3, 2, 3, 1, 4, 1, 1, 1, 3, 4, 2, 0, 7, 4, 3];
 
 const MOST: [usize; COMMANDS] = [
     0,
@@ -117,6 +123,8 @@ const MOST: [usize; COMMANDS] = [
     SHARE_MOST,
     1,
     1,
+    3,
+    5,
     2,
     0,
     7,
@@ -140,16 +148,18 @@ pub fn verb(word: &[u8]) -> u8
 {
     let a = named(word, b"help", HELP, NONE);
     let b = named(word, b"write", WRITE, a);
-    let c = named(word, b"notice", NOTICE, b);
-    let d = named(word, b"read", READ, c);
-    let e = named(word, b"share", SHARE, d);
-    let f = named(word, b"plan", PLAN, e);
-    let g = named(word, b"status", STATUS, f);
-    let h = named(word, b"lane", LANE, g);
-    let i = named(word, b"close", CLOSE, h);
-    let j = named(word, b"change", CHANGE, i);
-    let k = named(word, b"open", OPEN, j);
-    named(word, b"fresh", FRESH, k)
+    let c = named(word, b"romplan", ROM_PLAN, b);
+    let d = named(word, b"romlane", ROM_LANE, c);
+    let e = named(word, b"notice", NOTICE, d);
+    let f = named(word, b"read", READ, e);
+    let g = named(word, b"share", SHARE, f);
+    let h = named(word, b"plan", PLAN, g);
+    let i = named(word, b"status", STATUS, h);
+    let j = named(word, b"lane", LANE, i);
+    let k = named(word, b"close", CLOSE, j);
+    let l = named(word, b"change", CHANGE, k);
+    let m = named(word, b"open", OPEN, l);
+    named(word, b"fresh", FRESH, m)
 }
 
 // The most words that a command takes after its own.
@@ -204,6 +214,16 @@ pub fn takes_kind(command: u8, count: usize) -> bool
     false
 }
 
+// Whether a command asks for a plan, whose places may stand last.
+fn asks_plan(command: u8) -> bool
+    ensures { λ r. ⌜ r ≡ asksPlan command ⌝ }
+{
+    if command == PLAN {
+        return true;
+    }
+    command == ROM_PLAN
+}
+
 // No command limits more of its numbers than these.
 const LIMITED: usize = 7;
 
@@ -211,7 +231,7 @@ const LIMITED: usize = 7;
 fn limits(command: u8) -> [u64; LIMITED]
     ensures { λ r. ⌜ r ≡ limitsOf command ⌝ }
 {
-    if command == PLAN {
+    if asks_plan(command) {
         return [0, 0, 0, 0, PLACES_MOST as u64, 0, 0];
     }
     if command == WRITE {
@@ -264,7 +284,7 @@ pub fn crowded_fault(command: u8) -> u8
 pub fn oversized_fault(command: u8) -> u8
     ensures { λ r. ⌜ r ≡ oversized command ⌝ }
 {
-    if command == PLAN {
+    if asks_plan(command) {
         return TOO_MANY_PLACES;
     }
     TOO_LARGE

@@ -1,4 +1,4 @@
 -- Laws of titles that are changed and closed, and of what their boxes want.
 pub mod Fixed
 mod Wanted
-mod Nth
+pub mod Nth

@@ -1,30 +1,32 @@
 -- Under a count a cell goes out on one channel only, so that the latest boxes of the count want it from there or not at
--- all; and once the longest window of theirs is over they want nothing. Rests on the grid's laws of slots and of the
--- plan.
-use mathlib.Core.Path.{_≡_, refl}
-use mathlib.Core.Bool.{true, false}
-use Prim.Native.Nat.{ℕ, _+_, _-_, _*_, _^_, _≤_, _<_}
+-- all: where it goes out, just while they take that channel. A lane's own cell goes out under every count that has the
+-- lane. Rests on the grid's laws of lanes and of the plan.
+use mathlib.Core.Path.{_≡_, refl, sym, _∙_}
+use mathlib.Core.Bool.{Bool, true, false}
+use Prim.Native.Nat.{ℕ, _+_, _*_, _^_, _≤_, _<_}
 use native.Mathlib.Omega.{arith}
-use native.Mathlib.Nat.{mul-le-mul-left}
 use lib.Dec.{ltb, eqb}
 use lib.ListN.{getD}
-use lib.Pow.{pow-mono}
-use borrow.Author.Tests.{eqb-true, le-ltb}
+use borrow.Author.Tests.{eqb-true, ltb-true, lt-ltb}
 use Rattle.rules.specs.Limits.{both}
 use Rattle.rules.specs.Search.{some}
-use Rattle.rules.proofs.Tests.{both-r}
-use Rattle.rules.proofs.Search.{some-none}
+use Rattle.rules.proofs.Tests.{both-l, both-r}
 use Rattle.grid.specs.Ticks.{slot}
 use Rattle.grid.specs.Channels.{channelCell}
+use Rattle.grid.specs.Lanes.{isInG, laneCell}
 use Rattle.grid.specs.Bounds.{Carrier}
-use Rattle.grid.proofs.Ticks.{half-cells}
-use Rattle.grid.proofs.Plan.{carries-only, carrier-one, some-one}
+use Rattle.grid.proofs.Lanes.{isInG-in, cell-of-lane}
+use Rattle.grid.proofs.Plan.{carries-only, carrier-one, some-one, in-carried}
 use Rattle.story.specs.declared.Title.{Title}
 use Rattle.story.specs.Kept.{wantsFrom, wants}
 use Rattle.owed.specs.Owing.{takesFrom, takes}
 
+both-true : (b : Bool) → both b true ≡ b
+both-true true = refl
+both-true false = refl
+
 module _ (A K c end x u : ℕ) where
-  pub takes-carried : (d : ℕ) → Carrier K c x d
+  takes-carried : (d : ℕ) → Carrier K c x d
       → some (takesFrom A K c end x u) c ≡ both (ltb d c) (takesFrom A K c end x u d)
   unfolding takesFrom
   takes-carried d h = some-one (takesFrom A K c end x u) c d only
@@ -37,16 +39,27 @@ module _ (A K c end x u : ℕ) where
           (both-r (ltb (u + w) (end + w * 2 ^ e)) (eqb (channelCell A K c e u) x) b) in
           carrier-one K c x e d (rw on at (carries-only A K c e u (omega arith))) h
 
-  pub takes-ended : c ≤ K → end + 2 ^ (K - 1) ≤ u + slot K c → some (takesFrom A K c end x u) c ≡ false
-  unfolding takesFrom
-  takes-ended high h =
-      let w : ℕ = slot K c in
-      some-none (takesFrom A K c end x u) c
-      (λ d l.
-      let p : w * 2 ^ d ≤ w * 2 ^ (c - 1) = mul-le-mul-left w (pow-mono (omega arith)) in
-      rw (le-ltb (u + w) (end + w * 2 ^ d) (omega (arith, half-cells K c (omega arith) high))) refl)
+  -- and where the cell goes out at the tick, just while they take that channel
+  module _ (d : ℕ) (h : Carrier K c x d) (on : isInG A K c u x ≡ true) where
+    carried : both (ltb d c) (eqb (channelCell A K c d u) x) ≡ true
+    carried = sym (in-carried A K c u x d h) ∙ on
+
+    pub channel-low : d < c
+    channel-low = ltb-true d c (both-l (ltb d c) (eqb (channelCell A K c d u) x) carried)
+
+    pub takes-window : 0 < end → takes A K c end x u ≡ ltb (u + slot K c) (end + slot K c * 2 ^ d)
+    unfolding takes takesFrom
+    takes-window ruled =
+        rw (lt-ltb 0 end ruled)
+        (takes-carried d h
+        ∙ rw (both-l (ltb d c) (eqb (channelCell A K c d u) x) carried, both-r (ltb d c) (eqb (channelCell A K c d u) x) carried)
+        (both-true (ltb (u + slot K c) (end + slot K c * 2 ^ d))))
 
 -- of a title's count
 pub takes-wants : (t : Title) (x u c : ℕ) → takes (t .floor) (t .cap) c (getD (t .ends) c 0) x u ≡ wants t x u c
 unfolding wants wantsFrom takes takesFrom
 takes-wants t x u c = refl
+
+-- and of the counts that have lane l, which all have its cell
+pub own-cell : (A K l k u x : ℕ) → k ≤ K → l < k → x ≡ laneCell A K l u → A ≤ k → isInG A K k u x ≡ true
+own-cell A K l k u x high has e low = rw e (isInG-in A K k u (laneCell A K l u) (cell-of-lane A K k l u low high has))

@@ -1,7 +1,6 @@
 // Which ticks a dropped lane owes, over the boxes of every count (01, "Events").
 
 use grid::carrier;
-use grid::channel_cell;
 use grid::holds_film;
 use grid::lane_cell;
 use grid::pow2;
@@ -11,70 +10,39 @@ use rules::truth::one_if;
 use story::Title;
 ghost use Prim.Native.Nat.{_+_, _^_, _≤_, _<_};
 ghost use mathlib.Core.Path.{_≡_};
+ghost use mathlib.Core.Bool.{true};
 ghost use lib.Dec.{leb};
 ghost use Rattle.rules.specs.Limits.{both, askedMax};
-ghost use Rattle.grid.specs.Bounds.{Exactly, FloorCap, Counted, tickMax};
+ghost use Rattle.grid.specs.Lanes.{isInG, laneCell};
+ghost use Rattle.grid.specs.Bounds.{Exactly, CountCap, IsCell, tickMax};
 ghost use Rattle.story.specs.Kept.{keptAwaited, keptOwed, keptWithin};
-ghost use Rattle.owed.specs.Owing.{Owing, takesFrom, takes as takesOf};
+ghost use Rattle.owed.specs.Owing.{Owing, takes};
 
-// The latest boxes of a count, whose slot ended at tick `end`, take a cell from one of its channels at a tick.
-fn takes_from(
-    floor: u64,
-    cap: u64,
-    count: u64,
-    end: u64,
-    cell: u64,
-    tick: u64,
-    channel: u64,
-) -> bool
-    requires { ⌜ Counted floor cap count ⌝ }
-    requires { ⌜ (end ≤ askedMax) × ((channel < count) × (tick ≤ tickMax)) ⌝ }
-    ensures { λ r. ⌜ r ≡ takesFrom floor cap count end cell tick channel ⌝ }
-{
-    let width = slot(cap, count);
-    if tick + width < end + width * pow2(channel) {
-        return channel_cell(floor, cap, count, channel, tick) == cell;
-    }
-    false
-}
-
-// The latest boxes of a count, whose slot ended at tick `end`, take a cell at a tick, from the one channel that carries
-// it. A count that never ruled has none, and boxes that have all ended take nothing.
-fn takes(floor: u64, cap: u64, count: u64, end: u64, cell: u64, tick: u64) -> bool
-    requires { ⌜ FloorCap floor cap ⌝ }
-    requires { ⌜ Counted floor cap count ⌝ }
-    requires { ⌜ (end ≤ askedMax) × ((cell < 2 ^ cap) × (tick ≤ tickMax)) ⌝ }
-    ensures { λ r. ⌜ r ≡ takesOf floor cap count end cell tick ⌝ }
-{
-    if end == 0 {
-        return false;
-    }
-    if end + pow2(cap - 1) <= tick + slot(cap, count) {
-        return false;
-    }
-    let channel = carrier(cap, count, cell);
-    if count <= channel {
-        return false;
-    }
-    takes_from(floor, cap, count, end, cell, tick, channel)
-}
-
-// A cell at a tick is owed to the boxes of a count, which is none below the floor.
+// A cell that goes out at a tick is owed to the latest boxes of a count, whose slot ended at tick `end`, while they
+// take the channel that carries it. A count below the floor has no boxes, and neither has one that never ruled.
 fn owed_to(floor: u64, cap: u64, count: u64, end: u64, cell: u64, tick: u64) -> bool
-    requires { ⌜ FloorCap floor cap ⌝ }
-    requires { ⌜ (count ≤ cap) × ((end ≤ askedMax) × ((cell < 2 ^ cap) × (tick ≤ tickMax))) ⌝ }
-    ensures { λ r. ⌜ r ≡ both (leb floor count) (takesOf floor cap count end cell tick) ⌝ }
+    requires { ⌜ CountCap count cap ⌝ }
+    requires { ⌜ (end ≤ askedMax) × ((cell < 2 ^ cap) × (tick ≤ tickMax)) ⌝ }
+    requires { ⌜ (floor ≤ count → isInG floor cap count tick cell ≡ true) ⌝ }
+    ensures { λ r. ⌜ r ≡ both (leb floor count) (takes floor cap count end cell tick) ⌝ }
 {
     if count < floor {
         return false;
     }
-    takes(floor, cap, count, end, cell, tick)
+    if end == 0 {
+        return false;
+    }
+    let width = slot(cap, count);
+    let channel = carrier(cap, count, cell);
+    tick + width < end + width * pow2(channel)
 }
 
-// The boxes of some count that had the lane still await a cell at a tick.
-fn is_awaited(t: Title, lane: u64, cell: u64, tick: u64) -> bool
+// The boxes of some count that had the lane still await the lane's cell at a tick. Every such count has that cell on a
+// channel then, so that no other cell is asked for.
+pub fn is_awaited(t: Title, lane: u64, cell: u64, tick: u64) -> bool
     requires { ⌜ Owing t ⌝ }
-    requires { ⌜ (lane < t .cap) × ((cell < 2 ^ t .cap) × (tick ≤ tickMax)) ⌝ }
+    requires { ⌜ (lane < t .cap) × (tick ≤ tickMax) ⌝ }
+    requires { ⌜ IsCell (t .cap) (laneCell (t .floor) (t .cap) lane tick) cell ⌝ }
     ensures { λ r. ⌜ r ≡ keptAwaited t lane cell tick ⌝ }
 {
     let cap = t.cap;

@@ -45,7 +45,7 @@ fn in_limits(floor: u64, cap: u64, count: u64, arrival: u64) -> bool
 }
 
 // The call's answer for a lent row of `places` places, by the order of refusals.
-fn answer(floor: u64, cap: u64, count: u64, arrival: u64, places: usize) -> u8
+pub fn answer(floor: u64, cap: u64, count: u64, arrival: u64, places: usize) -> u8
     ensures { λ r. ⌜ r ≡ planAnswer floor cap count arrival places ⌝ }
 {
     if in_limits(floor, cap, count, arrival) {

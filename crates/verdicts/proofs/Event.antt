@@ -113,7 +113,7 @@ module _ (s : State) (i l τ : ℕ) (none : laneAnswer s i l τ ≡ 0) where
   pub lane-time : τ ≤ askedMax
   lane-time = let ok = lane-numbers in search (both-l, both-r, leb-true) depth 12
 
-  lane-slot : titleAt s i .mode ≡ absentMode → ⊥
+  pub lane-slot : titleAt s i .mode ≡ absentMode → ⊥
   lane-slot e =
       eqb-false (titleAt s i .mode) absentMode
       (not-true (eqb (titleAt s i .mode) absentMode) (both-l _ _ lane-there)) e

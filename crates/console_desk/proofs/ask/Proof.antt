@@ -99,16 +99,16 @@ returns-4 c =
     asks-plan (x .line) (x .s .now) p _ (x .state) (at-if1 .if1 .left) (at-if2 .if2 .left) (at-if3 .if3 .left) _
     (at-if4 .if4 .taken) (at-places-of .places-of .ensures) (at-put-plan .put-plan .ensures)
 
-tell-requires : tie.Need-tell-requires
-tell-requires c κs = search needs
+ask-rom-requires : tie.Need-ask-rom-requires
+ask-rom-requires c κs = search needs
 
 same-length-5 : tie.Need-same-length-5
 same-length-5 c = search needs
 
 returns-5 : tie.Need-returns-5
 returns-5 c =
-    let at-tell = c .before .before in
-    let at-if4 = at-tell .before .before in
+    let at-ask-rom = c .before .before in
+    let at-if4 = at-ask-rom .before .before in
     let at-if3 = at-if4 .before in
     let at-if2 = at-if3 .before in
     let at-if1 = at-if2 .before in
@@ -116,7 +116,7 @@ returns-5 c =
     let x = at-start .args in
     let p = page (x .out .now) (x .at) in
     asks-else (x .line) (x .s .now) p _ (x .state) (at-if1 .if1 .left) (at-if2 .if2 .left) (at-if3 .if3 .left)
-    (at-if4 .if4 .left) (at-tell .tell .ensures)
+    (at-if4 .if4 .left) (at-ask-rom .ask-rom .ensures)
 
 pub ask-spec : {M : Type 1} → statement M
 ask-spec =
@@ -142,6 +142,6 @@ ask-spec =
     put-plan-requires
     same-length-4
     returns-4
-    tell-requires
+    ask-rom-requires
     same-length-5
     returns-5)

@@ -1,27 +1,32 @@
 -- `console_lines::commands::limits` meets its contract: the tests that led to each way out say whose row it is.
+use borrow.Author.Needs.{needs}
 use borrow.Author.Tests.{eq-eqb, ne-eqb}
 use Rattle.console_lines.specs.Commands.{limitsOf}
 use Rattle.console_lines.proofs.commands.limits.Statement.{statement}
 use Rattle.console_lines.proofs.commands.limits.Tie as tie
 
+asks-plan-requires : tie.Need-asks-plan-requires
+asks-plan-requires c κs = search needs
+
 returns : tie.Need-returns
 unfolding limitsOf
-returns c = simp (eq-eqb _ _ (c .if1 .taken))
+returns c = simp (← c .before .asks-plan .ensures, c .if1 .taken)
 
 returns-2 : tie.Need-returns-2
 unfolding limitsOf
-returns-2 c = simp (ne-eqb _ _ (c .before .if1 .left), eq-eqb _ _ (c .if2 .taken))
+returns-2 c = simp (← c .before .before .asks-plan .ensures, c .before .if1 .left, eq-eqb _ _ (c .if2 .taken))
 
 returns-3 : tie.Need-returns-3
 unfolding limitsOf
 returns-3 c =
-    simp (ne-eqb _ _ (c .before .before .if1 .left), ne-eqb _ _ (c .before .if2 .left), eq-eqb _ _ (c .if3 .taken))
+    simp (← c .before .before .before .asks-plan .ensures, c .before .before .if1 .left, ne-eqb _ _ (c .before .if2 .left), eq-eqb _ _ (c .if3 .taken))
 
 returns-4 : tie.Need-returns-4
 unfolding limitsOf
 returns-4 c =
     simp (
-      ne-eqb _ _ (c .before .before .before .if1 .left),
+      ← c .before .before .before .before .asks-plan .ensures,
+      c .before .before .before .if1 .left,
       ne-eqb _ _ (c .before .before .if2 .left),
       ne-eqb _ _
           (c .before .if3 .left),
@@ -32,7 +37,8 @@ returns-5 : tie.Need-returns-5
 unfolding limitsOf
 returns-5 c =
     simp (
-      ne-eqb _ _ (c .before .before .before .before .if1 .left),
+      ← c .before .before .before .before .before .asks-plan .ensures,
+      c .before .before .before .before .if1 .left,
       ne-eqb _ _ (c .before .before .before .if2 .left),
       ne-eqb _ _ (c .before .before .if3 .left),
       ne-eqb _ _ (c .before .if4 .left),
@@ -43,7 +49,8 @@ returns-6 : tie.Need-returns-6
 unfolding limitsOf
 returns-6 c =
     simp (
-      ne-eqb _ _ (c .before .before .before .before .if1 .left),
+      ← c .before .before .before .before .before .asks-plan .ensures,
+      c .before .before .before .before .if1 .left,
       ne-eqb _ _ (c .before .before .before .if2 .left),
       ne-eqb _ _ (c .before .before .if3 .left),
       ne-eqb _ _ (c .before .if4 .left),
@@ -51,4 +58,4 @@ returns-6 c =
     )
 
 pub limits-spec : {M : Type 1} → statement M
-limits-spec = tie.close (tie.spec returns returns-2 returns-3 returns-4 returns-5 returns-6)
+limits-spec = tie.close (tie.spec asks-plan-requires returns returns-2 returns-3 returns-4 returns-5 returns-6)

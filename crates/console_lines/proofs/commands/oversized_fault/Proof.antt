@@ -1,16 +1,19 @@
 -- `console_lines::commands::oversized_fault` meets its contract: the test says which fault it is.
-use borrow.Author.Tests.{eq-eqb, ne-eqb}
+use borrow.Author.Needs.{needs}
 use Rattle.console_lines.specs.Commands.{oversized}
 use Rattle.console_lines.proofs.commands.oversized_fault.Statement.{statement}
 use Rattle.console_lines.proofs.commands.oversized_fault.Tie as tie
 
+asks-plan-requires : tie.Need-asks-plan-requires
+asks-plan-requires c κs = search needs
+
 returns : tie.Need-returns
 unfolding oversized
-returns c = simp (eq-eqb _ _ (c .if1 .taken))
+returns c = simp (← c .before .asks-plan .ensures, c .if1 .taken)
 
 returns-2 : tie.Need-returns-2
 unfolding oversized
-returns-2 c = simp (ne-eqb _ _ (c .if1 .left))
+returns-2 c = simp (← c .before .asks-plan .ensures, c .if1 .left)
 
 pub oversized-fault-spec : {M : Type 1} → statement M
-oversized-fault-spec = tie.close (tie.spec returns returns-2)
+oversized-fault-spec = tie.close (tie.spec asks-plan-requires returns returns-2)

@@ -12,6 +12,8 @@ use Rattle.console_lines.specs.Commands.{
   doShare,
   doRead,
   doNotice,
+  doRomLane,
+  doRomPlan,
   doWrite,
   doHelp,
 }
@@ -95,13 +97,27 @@ slice-aggregate-named-12 c = search needs
 named-requires-12 : tie.Need-named-requires-12
 named-requires-12 c κs = search needs
 
+slice-aggregate-named-13 : tie.Need-slice-aggregate-named-13
+slice-aggregate-named-13 c = search needs
+
+named-requires-13 : tie.Need-named-requires-13
+named-requires-13 c κs = search needs
+
+slice-aggregate-named-14 : tie.Need-slice-aggregate-named-14
+slice-aggregate-named-14 c = search needs
+
+named-requires-14 : tie.Need-named-requires-14
+named-requires-14 c κs = search needs
+
 chosen : (w n : List ℕ) (v : ℕ) {r s x : ℕ} → r ≡ pick (same w n) v s → s ≡ x → r ≡ pick (same w n) v x
 chosen w n v e f = rw (← f) e
 
 returns : tie.Need-returns
 unfolding verbOf text
 returns c =
-    let at-named11 = c .before .before in
+    let at-named13 = c .before .before in
+    let at-named12 = at-named13 .before .before in
+    let at-named11 = at-named12 .before .before in
     let at-named10 = at-named11 .before .before in
     let at-named9 = at-named10 .before .before in
     let at-named8 = at-named9 .before .before in
@@ -114,19 +130,21 @@ returns c =
     let at-named = at-named2 .before .before in
     let at-start = at-named .before .before .before in
     let w = at-start .args .word .now in
-    chosen w (text "fresh") doFresh (c .named12 .ensures)
-    (chosen w (text "open") doOpen (at-named11 .named11 .ensures)
-    (chosen w (text "change") doChange (at-named10 .named10 .ensures)
-    (chosen w (text "close") doClose (at-named9 .named9 .ensures)
-    (chosen w (text "lane") doLane (at-named8 .named8 .ensures)
-    (chosen w (text "status") doStatus (at-named7 .named7 .ensures)
-    (chosen w (text "plan") doPlan (at-named6 .named6 .ensures)
-    (chosen w (text "share") doShare (at-named5 .named5 .ensures)
-    (chosen w (text "read") doRead (at-named4 .named4 .ensures)
-    (chosen w (text "notice") doNotice (at-named3 .named3 .ensures)
+    chosen w (text "fresh") doFresh (c .named14 .ensures)
+    (chosen w (text "open") doOpen (at-named13 .named13 .ensures)
+    (chosen w (text "change") doChange (at-named12 .named12 .ensures)
+    (chosen w (text "close") doClose (at-named11 .named11 .ensures)
+    (chosen w (text "lane") doLane (at-named10 .named10 .ensures)
+    (chosen w (text "status") doStatus (at-named9 .named9 .ensures)
+    (chosen w (text "plan") doPlan (at-named8 .named8 .ensures)
+    (chosen w (text "share") doShare (at-named7 .named7 .ensures)
+    (chosen w (text "read") doRead (at-named6 .named6 .ensures)
+    (chosen w (text "notice") doNotice (at-named5 .named5 .ensures)
+    (chosen w (text "romlane") doRomLane (at-named4 .named4 .ensures)
+    (chosen w (text "romplan") doRomPlan (at-named3 .named3 .ensures)
     (chosen w (text "write") doWrite (at-named2 .named2 .ensures)
     (chosen w (text "help") doHelp (at-named .named .ensures)
-    refl)))))))))))
+    refl)))))))))))))
 
 pub verb-spec : {M : Type 1} → statement M
 verb-spec =
@@ -156,4 +174,8 @@ verb-spec =
     named-requires-11
     slice-aggregate-named-12
     named-requires-12
+    slice-aggregate-named-13
+    named-requires-13
+    slice-aggregate-named-14
+    named-requires-14
     returns)

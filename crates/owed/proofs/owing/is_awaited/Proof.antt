@@ -1,4 +1,5 @@
--- `is_awaited` meets its contract: the loop's value is the test of some count passed, and no count up to the lane had it.
+-- `is_awaited` meets its contract: the loop's value is the test of some count passed, and no count up to the lane had
+-- it. Rests on the law that a count with the lane has its cell.
 use Prim.Native.Nat.{suc, _+_, _-_, _≤_, _<_}
 use mathlib.Core.Path.{_≡_, refl, sym, ap, _∙_}
 use native.Mathlib.Omega.{arith}
@@ -12,7 +13,7 @@ use Rattle.rules.specs.Search.{some}
 use Rattle.rules.proofs.Search.{some-none}
 use Rattle.measures.proofs.Within.{in-row}
 use Rattle.story.specs.Kept.{wants, keptAwaited}
-use Rattle.owed.proofs.Wanted.{takes-wants}
+use Rattle.owed.proofs.Wanted.{takes-wants, own-cell}
 use Rattle.owed.proofs.owing.is_awaited.Statement.{statement}
 use Rattle.owed.proofs.owing.is_awaited.Tie as tie
 
@@ -48,15 +49,15 @@ element-copy-out-end c = search needs
 owed-to-requires : tie.Need-owed-to-requires Inv-loop μ-loop
 owed-to-requires c κs =
     let s = c .before .before .before in
+    let a = s .args in
     let k = c .before .before .loop .count in
-    let low = c .before .loop-test .taken in (
-      s .pre .0 .film .cut,
+    let has = c .before .before .loop .inv .2 in
+    let low = c .before .loop-test .taken in
+    let film = s .pre .0 .film .cut in (
+      record { fit = low; high = film .high },
       (
-        low,
-        (
-          in-row (s .args .t1 .ends) countPlaces k (s .pre .0 .ends) (omega (arith, low, s .pre .0 .film .cut .high)),
-          s .pre .1 .1,
-        ),
+        (in-row (a .t1 .ends) countPlaces k (s .pre .0 .ends) (omega (arith, low, film .high)), (s .pre .1 .1 .within, s .pre .1 .0 .1)),
+        λ floor. own-cell (a .t1 .floor) (a .t1 .cap) (a .lane) k (a .tick) (a .cell) low has (s .pre .1 .1 .is) floor,
       ),
     )
 

@@ -1,0 +1,18 @@
+-- `console_lines::commands::asks_plan` meets its contract: its tests are those of the definition.
+use borrow.Author.Tests.{eq-eqb, ne-eqb}
+use Rattle.console_lines.specs.Commands.{asksPlan}
+use Rattle.console_lines.proofs.commands.asks_plan.Statement.{statement}
+use Rattle.console_lines.proofs.commands.asks_plan.Tie as tie
+
+returns : tie.Need-returns
+unfolding asksPlan
+returns c =
+    simp (eq-eqb _ _ (c .if1 .taken))
+
+returns-2 : tie.Need-returns-2
+unfolding asksPlan
+returns-2 c =
+    simp (ne-eqb _ _ (c .if1 .left))
+
+pub asks-plan-spec : {M : Type 1} → statement M
+asks-plan-spec = tie.close (tie.spec returns returns-2)

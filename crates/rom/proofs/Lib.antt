@@ -1,0 +1,8 @@
+-- Laws of the small box, each file on those above it.
+pub mod Entries
+pub mod Other
+pub mod Showing
+pub mod Noted
+pub mod Planned
+pub mod Answered
+pub mod Unique

@@ -1,0 +1,105 @@
+-- A cell's plan tick is its first showing, from the start on, on lanes 0 to k - 1; a cell that no box takes is never
+-- shown. Once over floor, cap and count. Rests on the grid's laws of lanes and of the plan.
+use mathlib.Core.Path.{_≡_, refl, sym, _∙_}
+use mathlib.Core.Bool.{Bool, true}
+use mathlib.Core.Logic.{⊎-elim}
+use Prim.Native.Nat.{ℕ, suc, _+_, _-_, _*_, _/_, _%_, _^_, _≤_, _<_}
+use native.Mathlib.Omega.{arith}
+use native.Mathlib.Nat.{mod-lt, div-add-mod', mul-le-mul-right}
+use lib.Dec.{ltb, eqb}
+use lib.Pow.{pow-mono}
+use borrow.Author.Tests.{ltb-true, ltb-false, lt-ltb, eqb-true, eq-eqb}
+use Rattle.rules.specs.Refusals.{pick}
+use Rattle.rules.specs.Search.{some, first}
+use Rattle.rules.proofs.Tests.{decide, fails}
+use Rattle.rules.proofs.Search.{some-in, some-out, first-hit, first-least}
+use Rattle.grid.specs.Ticks.{slot, isSlotStart}
+use Rattle.grid.specs.Channels.{channelCell, InG}
+use Rattle.grid.specs.Lanes.{laneCell}
+use Rattle.grid.specs.Bounds.{Carrier}
+use Rattle.grid.specs.Plan.{planAt, never}
+use Rattle.grid.proofs.Ticks.{slot-pos, all-cells}
+use Rattle.grid.proofs.Lanes.{cell-of-lane, lane-of-cell}
+use Rattle.grid.proofs.Plan.{Taken, taken-out, window-end, carries-only, carrier-one, once, plan-in, plan-never}
+
+-- one of lanes 0 to l - 1 shows cell c at tick t
+unfoldable pub isShown : ℕ → ℕ → ℕ → ℕ → ℕ → Bool
+isShown A K l t c = some (λ i. eqb (laneCell A K i t) c) l
+
+-- how many ticks after a that is first so, of n ticks; n where it is at none
+unfoldable pub shownAfter : ℕ → ℕ → ℕ → ℕ → ℕ → ℕ → ℕ
+shownAfter A K k a n c = first (λ o. isShown A K k (a + o) c) n
+
+-- the number of its place after n ticks
+unfoldable pub seen : ℕ → ℕ → ℕ → ℕ → ℕ → ℕ → ℕ
+seen A K k a n c = pick (ltb (shownAfter A K k a n c) n) (shownAfter A K k a n c) never
+
+module _ (A K k : ℕ) (low : A ≤ k) (high : k ≤ K) where
+  shown-in : (t c : ℕ) → InG A K k t c → isShown A K k t c ≡ true
+  unfolding isShown
+  shown-in t c m =
+      let r = lane-of-cell A K k t c low high m in
+      some-in (λ i. eqb (laneCell A K i t) c) k (r .0) (r .1) (eq-eqb (laneCell A K (r .0) t) c (r .2))
+
+  shown-out : (t c : ℕ) → isShown A K k t c ≡ true → InG A K k t c
+  unfolding isShown
+  shown-out t c h =
+      let r = some-out (λ i. eqb (laneCell A K i t) c) k h in
+      let m = cell-of-lane A K k (r .0) t low high (r .1) in
+      (m .0, m .1, m .2 ∙ eqb-true (laneCell A K (r .0) t) c (r .2))
+
+  -- a cell of G(k, t) is on the channel that carries it
+  on-carrier : (t c : ℕ) (m : InG A K k t c) → Carrier K k c (m .0)
+  on-carrier t c m = let l : m .0 < k = m .1 in rw (m .2) at (carries-only A K k (m .0) t (omega arith))
+
+  -- and none of the last w
+  shown-cell : (t c : ℕ) → InG A K k t c → c < 2 ^ K - slot K k
+  shown-cell t c m =
+      let w : ℕ = slot K k in
+      let u : c / w + 1 < 2 ^ suc (m .0) = on-carrier t c m .high in
+      let n : 2 ^ suc (m .0) ≤ 2 ^ k = pow-mono (m .1) in
+      let r : c % w < w = mod-lt c (slot-pos K k) in
+      let p : suc (c / w + 1) * w ≤ 2 ^ k * w = mul-le-mul-right w (omega arith) in
+      omega (arith, div-add-mod' c w, all-cells K k high)
+
+  module _ (a c : ℕ) (floor : 0 < A) (start : isSlotStart K k a ≡ true) where
+    abbrev shownAt : ℕ → Bool
+    shownAt o = isShown A K k (a + o) c
+
+    -- before a cell is taken, no lane shows it
+    taken-first : (o f d : ℕ) → Taken A K k a c (a + o) d → f ≤ o → shownAt f ≡ true → f ≡ o
+    taken-first o f d h l s =
+        let m = shown-out (a + f) c s in
+        let chan : d < k = h .channel in
+        let same : m .0 ≡ d = carrier-one K k c (m .0) d (on-carrier (a + f) c m) (on-carrier (a + o) c (d, chan, h .carries)) in
+        let early : Taken A K k a c (a + f) d =
+        record { channel = chan; from = omega arith; before = omega (arith, h .before); carries = rw same at (m .2) } in
+        omega (arith, once A K k a c (a + f) d (a + o) d start early h .0)
+
+    taken-seen : c < 2 ^ K - slot K k → seen A K k a (2 ^ (K - 1)) c ≡ planAt A K k a c
+    unfolding seen shownAfter
+    taken-seen l =
+        let n : ℕ = 2 ^ (K - 1) in
+        let o : ℕ = planAt A K k a c in
+        let p = plan-in A K k a c high start low l .0 in
+        let r = taken-out A K k a c (a + o) p in
+        let b : o < n = omega (arith, window-end A K k a c (a + o) high (omega arith) p) in
+        let s : shownAt o ≡ true = shown-in (a + o) c (r .0, r .1 .channel, r .1 .carries) in
+        let f : first shownAt n ≤ o = first-least shownAt n o s in
+        let i : first shownAt n < n = omega arith in
+        rw (lt-ltb (first shownAt n) n i) (taken-first o (first shownAt n) (r .0) (r .1) f (first-hit shownAt n i))
+
+    never-seen : 2 ^ K - slot K k ≤ c → seen A K k a (2 ^ (K - 1)) c ≡ planAt A K k a c
+    unfolding seen shownAfter
+    never-seen l =
+        let n : ℕ = 2 ^ (K - 1) in
+        let f : ℕ = first shownAt n in
+        rw (fails (ltb f n)
+        (λ t. omega (arith, shown-cell (a + f) c (shown-out (a + f) c (first-hit shownAt n (ltb-true f n t))))))
+        (sym (plan-never A K k a c high start l))
+
+    -- half as many ticks as there are cells show all that a box takes
+    pub seen-plan : seen A K k a (2 ^ (K - 1)) c ≡ planAt A K k a c
+    seen-plan =
+        ⊎-elim (λ t. taken-seen (ltb-true c (2 ^ K - slot K k) t)) (λ t. never-seen (ltb-false c (2 ^ K - slot K k) t))
+        (decide (ltb c (2 ^ K - slot K k)))

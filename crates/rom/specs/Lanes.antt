@@ -1,0 +1,34 @@
+-- The lane question of the small box (02, request 6): 01's, with 1 for a title of another floor or cap before all
+-- others.
+use Prim.Native.Nat.{ℕ}
+use mathlib.Core.Bool.{Bool, not}
+use mathlib.Core.List.{List, _∷_}
+use mathlib.Core.Path.{_≡_}
+use lib.Dec.{leb, eqb}
+use Rattle.rules.specs.Limits.{both, idMax}
+use Rattle.rules.specs.Refusals.{pick, Rule, refuse, firstHit, outsideLimits}
+use Rattle.story.specs.declared.Title.{Title}
+use Rattle.story.specs.declared.State.{State}
+use Rattle.story.specs.Kept.{absentMode, titleAt}
+use Rattle.story.specs.Calls.{laneRules, laneShows}
+use Rattle.rom.specs.Table.{romFloor, romCap, isOther}
+
+-- a slot's title has another floor or cap; a slot never opened has neither
+abbrev pub isForeign : Title → Bool
+isForeign t = both (not (eqb (t .mode) absentMode)) (isOther (t .floor) (t .cap))
+
+abbrev pub romLaneRules : State → ℕ → ℕ → ℕ → List Rule
+romLaneRules s i l τ =
+    refuse outsideLimits (both (leb i idMax) (isForeign (titleAt s i))) ∷ laneRules s i l τ
+
+unfoldable pub romLaneAnswer : State → ℕ → ℕ → ℕ → ℕ
+romLaneAnswer s i l τ = firstHit (romLaneRules s i l τ)
+
+-- the cell that goes out; 0 beside a refusal
+unfoldable pub romLaneShows : State → ℕ → ℕ → ℕ → ℕ
+romLaneShows s i l τ = pick (eqb (romLaneAnswer s i l τ) 0) (laneShows s i l τ) 0
+
+-- what the functions ask of a title before its cells are looked up
+pub record Own (t : Title) : Type 0 where
+  pub floor : t .floor ≡ romFloor
+  pub cap : t .cap ≡ romCap
