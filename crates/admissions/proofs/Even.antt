@@ -1,7 +1,7 @@
 -- Between two events admissions are evenly spaced, so the next one at or after an arrival, and the last one before an event, are
 -- found by a division, with no search. Rests on division with remainder and on the count that rules the whole stretch.
 use mathlib.Core.Path.{_≡_, sym, ap, _∙_}
-use mathlib.Core.Bool.{true, false, false≢true}
+use mathlib.Core.Bool.{Bool, true, false, not, false≢true}
 use mathlib.Core.Logic.{⊎-elim}
 use Prim.Native.Nat.{ℕ, suc, _+_, _-_, _*_, _/_, _%_, _≤_, _<_, max}
 use native.Mathlib.Nat.{mul-assoc, mul-mod-left, mul-le-mul, mul-le-mul-right, le-of-mul-le-mul-right}
@@ -31,6 +31,11 @@ rounded-least d g m pos h =
 -- q slots of w ticks, of p ms each
 slots-ms : (q w p g : ℕ) → g ≡ w * p → q * w * p ≡ q * g
 slots-ms q w p g h = mul-assoc q w p ∙ ap (λ z. q * z) (sym h)
+
+-- count k admits boxes at tick b: it rules, and the doors are not held
+pub record Admits (L : Life) (k b : ℕ) : Type 0 where
+  pub rule : L .rule b ≡ k
+  pub unheld : L .shut b ≡ false
 
 -- the stretch s is that of count k, from tick n on
 pub record Even (L : Life) (s : Stretch) (n k : ℕ) : Type 0 where
@@ -113,11 +118,13 @@ module _ (L : Life) (s : Stretch) (n k : ℕ) (e : Even L s n k) where
   admission-slot : (b : ℕ) → n ≤ b → L .rule b ≡ k → isAdmission L b ≡ true →
       isSlotStart (L .cap) k b ≡ true
   unfolding isAdmission
-  admission-slot b lo rule h = rw rule at (both-r (ltb 0 (L .rule b)) (isSlotStart (L .cap) (L .rule b) b) h)
+  admission-slot b lo rule h =
+      let start : Bool = isSlotStart (L .cap) (L .rule b) b in
+      rw rule at (both-r (not (L .shut b)) start (both-r (ltb 0 (L .rule b)) (both (not (L .shut b)) start) h))
 
   module _ (from : ℕ) (here : Settled L n from) where
-    -- where count k rules from n up to the tick reached, that tick is the next admission
-    pub reached-next : (x : ℕ) (r : Reached L s n k x) → from ≤ x → ((b : ℕ) → n ≤ b → b ≤ r .tick → L .rule b ≡ k) →
+    -- where count k admits boxes from n up to the tick reached, that tick is the next admission
+    pub reached-next : (x : ℕ) (r : Reached L s n k x) → from ≤ x → ((b : ℕ) → n ≤ b → b ≤ r .tick → Admits L k b) →
         Next L x (r .tick)
     unfolding letsIn isAdmission
     reached-next x r late rules =
@@ -125,7 +132,7 @@ module _ (L : Life) (s : Stretch) (n k : ℕ) (e : Even L s n k) where
           lets-in =
               both-in (leb (L .opened) x) (both (isAdmission L (r .tick)) (leb x (momentOf L (r .tick)))) (le-leb (L .opened) x (omega (arith, here .low)))
               (both-in (isAdmission L (r .tick)) (leb x (momentOf L (r .tick)))
-              (rw (rules (r .tick) (r .since) (omega arith)) (both-in (ltb 0 k) (isSlotStart (L .cap) k (r .tick)) (lt-ltb 0 k (e .count-some)) (r .at-slot)))
+              (rw (rules (r .tick) (r .since) (omega arith) .rule, rules (r .tick) (r .since) (omega arith) .unheld) (both-in (ltb 0 k) (isSlotStart (L .cap) k (r .tick)) (lt-ltb 0 k (e .count-some)) (r .at-slot)))
               (le-leb x (momentOf L (r .tick)) (r .in-time)));
           none-before = λ b lt. fails (letsIn L x b) (λ h. too-soon b lt h (let-in L x b h));
         }
@@ -136,13 +143,13 @@ module _ (L : Life) (s : Stretch) (n k : ℕ) (e : Even L s n k) where
             (λ t. false≢true (sym (here .after x late b (ltb-true b n t)) ∙ h))
             (λ t.
             let lo : n ≤ b = ltb-false b n t in
-            let at : isSlotStart (L .cap) k b ≡ true = admission-slot b lo (rules b lo (omega arith)) (g .admission) in
+            let at : isSlotStart (L .cap) k b ≡ true = admission-slot b lo (rules b lo (omega arith) .rule) (g .admission) in
             omega (arith, r .least b lo at (g .in-time)))
             (decide (ltb b n))
 
     -- ---- a stretch that ends at the start of tick m
 
-    module _ (m τ : ℕ) (on-tick : τ ≡ momentOf L m) (up : n ≤ m) (rules : (b : ℕ) → n ≤ b → b < m → L .rule b ≡ k) where
+    module _ (m τ : ℕ) (on-tick : τ ≡ momentOf L m) (up : n ≤ m) (rules : (b : ℕ) → n ≤ b → b < m → Admits L k b) where
       end : Reached L s n k τ
       end = reached τ
 
@@ -151,7 +158,7 @@ module _ (L : Life) (s : Stretch) (n k : ℕ) (e : Even L s n k) where
           b + slot (L .cap) k ≤ end .tick
       within-stretch b lo lt h =
           let soon : momentOf L b < momentOf L (end .tick) = omega (arith, ticks-on b m lt, end .in-time) in
-          apart b (end .tick) (admission-slot b lo (rules b lo lt) h) (end .at-slot) (ticks-back b (end .tick) soon)
+          apart b (end .tick) (admission-slot b lo (rules b lo lt .rule) h) (end .at-slot) (ticks-back b (end .tick) soon)
 
       -- where no slot of it is whole, it has none
       pub none-within : nextIn s τ < s .start + s .slot → NoneIn L n m

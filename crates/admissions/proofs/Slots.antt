@@ -1,28 +1,29 @@
 -- Laws of whole slots, as the code meets them: where the first admission of a stretch at or after a moment lies.
 -- Rest on division with remainder.
 use mathlib.Core.Path.{_≡_, refl, ap, _∙_}
-use mathlib.Core.Bool.{Bool, true, false}
+use mathlib.Core.Bool.{Bool, true, false, not}
 use mathlib.Core.Logic.{⊎-elim}
 use mathlib.Core.List.{List}
 use Prim.Native.Nat.{ℕ, zero, suc, _+_, _-_, _*_, _/_, _^_, _≤_, _<_, max}
 use native.Mathlib.Omega.{arith}
 use native.Mathlib.Nat.{div-mul-le-self, mul-le-mul}
-use borrow.Author.Tests.{lt-leb, le-leb, lt-ltb, le-ltb, ltb-true, ltb-false, eq-eqb, ne-eqb}
-use lib.Dec.{leb, ltb}
+use borrow.Author.Tests.{lt-leb, le-leb, lt-ltb, le-ltb, ltb-true, ltb-false, eqb-true}
+use lib.Dec.{leb, ltb, eqb}
 use lib.ListN.{getD, length}
 use Rattle.rules.specs.Limits.{both, askedMax, countMax, lengthMax}
 use Rattle.rules.specs.Refusals.{pick}
-use Rattle.rules.proofs.Tests.{decide}
+use Rattle.rules.proofs.Tests.{decide, both-l}
 use Rattle.grid.specs.Ticks.{roundedUp, tickOf, slot as slotOf}
 use Rattle.grid.specs.Bounds.{Exactly}
 use Rattle.grid.proofs.Ticks.{rounded-enough}
 use Rattle.story.specs.declared.Title.{Title}
+use Rattle.story.specs.Kept.{openMode, isShut}
 use Rattle.admissions.specs.declared.Waits.{Waits}
 use Rattle.admissions.specs.declared.Stretch.{Stretch}
 use Rattle.admissions.specs.declared.Tally.{Tally}
 use Rattle.admissions.specs.Waits.{waited, waitMax}
 use Rattle.admissions.specs.Stretches.{Spaced, nextIn, Reaches, Room, Few, Playing, gather, gathered, stretchOf}
-use Rattle.admissions.specs.Stretches.{endedIn, settled, allSettled}
+use Rattle.admissions.specs.Stretches.{endedIn, admitting, settled, allSettled}
 
 -- whole slots that reach d: less than a slot more
 pub rounded-less : (d g : ℕ) → roundedUp d g * g ≤ d + (g - 1)
@@ -158,19 +159,24 @@ module _ (s : Stretch) (τ : ℕ) (xs : List ℕ) (y : Tally) (r : ℕ) (is : r 
   unfolding endedIn
   some-in-it w h all = rw (le-ltb (nextIn s τ) (s .start + s .slot) (rw is at h), all, is)
 
+-- a title that admits boxes is open
+pub admitting-open : (t : Title) → admitting t ≡ true → t .mode ≡ openMode
+unfolding admitting
+admitting-open t h = eqb-true (t .mode) openMode (both-l (eqb (t .mode) openMode) (not (isShut t)) h)
+
 module _ (t : Title) (xs : List ℕ) (y : Tally) where
-  pub not-open : (τ : ℕ) → (t .mode ≡ 1 → ⊥) → y ≡ settled t τ xs y
+  pub not-open : (τ : ℕ) → admitting t ≡ false → y ≡ settled t τ xs y
   unfolding settled
-  not-open τ h = rw (ne-eqb (t .mode) 1 h)
+  not-open τ h = rw h
 
-  pub not-endless : (t .mode ≡ 1 → ⊥) → y .waits ≡ allSettled t xs y
+  pub not-endless : admitting t ≡ false → y .waits ≡ allSettled t xs y
   unfolding allSettled
-  not-endless h = rw (ne-eqb (t .mode) 1 h)
+  not-endless h = rw h
 
-  module _ (is-open : t .mode ≡ 1) (s : Stretch) (same : s ≡ stretchOf t) where
+  module _ (is-open : admitting t ≡ true) (s : Stretch) (same : s ≡ stretchOf t) where
     open-ends : (τ : ℕ) → endedIn s τ xs y ≡ settled t τ xs y
     unfolding settled
-    open-ends τ = rw (eq-eqb (t .mode) 1 is-open) (ap (λ z. endedIn z τ xs y) same)
+    open-ends τ = rw is-open (ap (λ z. endedIn z τ xs y) same)
 
     pub ends-without : (τ r : ℕ) → r ≡ nextIn s τ → r < s .start + s .slot → y ≡ settled t τ xs y
     ends-without τ r is h = none-in-it s τ xs y r is h ∙ open-ends τ
@@ -182,4 +188,4 @@ module _ (t : Title) (xs : List ℕ) (y : Tally) where
     pub never-ends : (w : Waits) → w ≡ gathered s (y .from) askedMax xs (y .waits) (length xs) → w ≡ allSettled t xs y
     unfolding allSettled
     never-ends w all =
-        rw (eq-eqb (t .mode) 1 is-open) (all ∙ ap (λ z. gathered z (y .from) askedMax xs (y .waits) (length xs)) same)
+        rw is-open (all ∙ ap (λ z. gathered z (y .from) askedMax xs (y .waits) (length xs)) same)

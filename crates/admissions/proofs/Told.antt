@@ -2,25 +2,27 @@
 -- the log, counts just the arrivals that the admissions of its life let in. Rests on the state telling the life of each title
 -- (story's `Present`) and on the even spacing of a stretch.
 use mathlib.Core.Path.{_≡_, refl, sym, ap, _∙_}
-use mathlib.Core.Bool.{false}
+use mathlib.Core.Bool.{Bool, true, false, not}
 use mathlib.Core.Logic.{⊎-elim}
 use mathlib.Core.List.{List}
 use Prim.Native.Nat.{ℕ, zero, suc, _+_, _-_, _*_, _%_, _≤_, _<_}
 use native.Mathlib.Omega.{arith}
 use native.Mathlib.Nat.{mul-le-mul-right}
-use borrow.Author.Tests.{lt-leb, ltb-true, ltb-false, eq-eqb, ne-eqb}
-use lib.Dec.{leb, ltb}
+use borrow.Author.Tests.{ltb-true, ltb-false, eq-eqb, not-true, not-false}
+use lib.Dec.{leb, ltb, eqb}
 use lib.ListN.{getD, length}
-use Rattle.rules.specs.Limits.{askedMax}
+use Rattle.rules.specs.Limits.{both, askedMax}
 use Rattle.rules.specs.Search.{first}
-use Rattle.rules.proofs.Tests.{decide}
+use Rattle.rules.proofs.Tests.{decide, both-r}
 use Rattle.rules.proofs.Search
 use Rattle.grid.specs.Ticks.{tickOf}
 use Rattle.story.specs.declared.Title.{Title}
-use Rattle.story.specs.Life.{Life, underRule, isAdmission}
-use Rattle.story.specs.Kept.{tickAt, ruling}
-use Rattle.story.specs.Story.{unopened, tickLength, tickIn, momentOf, turn}
+use Rattle.story.specs.Life.{Life, Course, onCourse, isAdmission}
+use Rattle.story.specs.Kept.{isShut, tickAt, ruling}
+use Rattle.story.specs.Story.{unopened, tickLength, tickIn, momentOf}
+use Rattle.story.proofs.Ruled.{SameAt}
 use Rattle.story.proofs.Clock.{on-its-tick}
+use Rattle.story.specs.Calls.{blankTitle}
 use Rattle.story.proofs.Stored.{lifeIn}
 use Rattle.story.proofs.Kept.{Present, tick-some, later}
 use Rattle.story.proofs.Turn.{open-ruling}
@@ -28,11 +30,11 @@ use Rattle.story.proofs.Tells.{TellsTitle, absent, present, closed-none, open-s
 use Rattle.admissions.specs.declared.Tally.{Tally}
 use Rattle.admissions.specs.Waits.{letsIn, TurnedAway, nobody, waited, rowMax, waitMax, Tallied}
 use Rattle.admissions.specs.Stretches.{Few, Playing, nextIn, gathered, stretchOf, fresh, endedIn, settled}
-use Rattle.admissions.specs.Stretches.{allSettled}
-use Rattle.admissions.proofs.Slots.{not-endless}
+use Rattle.admissions.specs.Stretches.{allSettled, admitting}
+use Rattle.admissions.proofs.Slots.{not-endless, admitting-open}
 use Rattle.admissions.proofs.Below.{plus, gathered-plus, dueBelow, oneBelow, talliedBelow, one-out, Settled}
 use Rattle.admissions.proofs.Below.{NoneIn, still-settled, tally-adds, tally-stays, tally-goes-on, tally-ends}
-use Rattle.admissions.proofs.Even.{Even, reached, reached-next, none-within, lets-within, none-later}
+use Rattle.admissions.proofs.Even.{Admits, Even, reached, reached-next, none-within, lets-within, none-later}
 use Rattle.admissions.proofs.Even.{settled-within}
 
 -- the tally counts the arrivals of a row that the admissions of a life below tick n let in
@@ -67,15 +69,15 @@ never-lets x a = ⊎-elim (λ t. rw t) (λ t. rw t) (decide (leb 0 x))
 pub never-counted : (n : ℕ) (xs : List ℕ) → Counted unopened n xs (fresh 0)
 never-counted n xs = none-counted unopened n xs (λ x a lt. never-lets x a)
 
--- ---- another count from tick n on changes nothing below it
+-- ---- another course from tick n on changes nothing below it
 
-module _ (L : Life) (n k : ℕ) where
+module _ (L : Life) (n : ℕ) (r : Course) (before : (u : ℕ) → u < n → SameAt L r u) where
   abbrev turnedLife : Life
-  turnedLife = underRule L (turn (L .rule) n k)
+  turnedLife = onCourse L r
 
   lets-same : (x a : ℕ) → a < n → letsIn turnedLife x a ≡ letsIn L x a
   unfolding letsIn isAdmission
-  lets-same x a lt = rw (lt-leb n a lt)
+  lets-same x a lt = rw (before a lt .rule, before a lt .shut)
 
   tally-same : (xs : List ℕ) (j : ℕ) → talliedBelow turnedLife n xs j ≡ talliedBelow L n xs j
   unfolding talliedBelow oneBelow dueBelow
@@ -118,7 +120,7 @@ below-few L n xs f (suc j) =
 
 -- ---- a title that is there
 
-module _ (t : Title) (r : ℕ → ℕ) (here : Present t r) where
+module _ (t : Title) (r : Course) (here : Present t r) where
   abbrev since : ℕ
   since = tickIn (lifeIn t r) (t .last)
 
@@ -132,7 +134,7 @@ module _ (t : Title) (r : ℕ → ℕ) (here : Present t r) where
   unfolding tickIn tickAt
   ticks τ le = later t r here τ le
 
-  rules : (u : ℕ) → since ≤ u → r u ≡ ruling t
+  rules : (u : ℕ) → since ≤ u → r .rule u ≡ ruling t
   unfolding tickIn tickAt
   rules u le = here .steady u le
 
@@ -164,10 +166,34 @@ module _ (t : Title) (r : ℕ → ℕ) (here : Present t r) where
         start-is = starts (t .last) (here .since) (here .on-tick);
       }
 
-  -- a closing title admits no more
-  closed : t .mode ≡ 2 → (m : ℕ) → NoneIn (lifeIn t r) since m
-  unfolding isAdmission
-  closed e m b lo lt = rw (rules b lo, closed-none t e)
+  doors : t .mode ≡ 1 → (u : ℕ) → since ≤ u → r .shut u ≡ isShut t
+  unfolding tickIn tickAt
+  doors e u le = here .doors e u le
+
+  -- a title that is closing, or held, admits nobody
+  nobody-begins : admitting t ≡ false → (m : ℕ) → NoneIn (lifeIn t r) since m
+  unfolding isAdmission admitting
+  nobody-begins off m b lo lt =
+      ⊎-elim
+      (λ e.
+      let held : not (isShut t) ≡ false = rw (eq-eqb (t .mode) 1 e) at off in
+      rw (rules b lo, doors e b lo, not-false (isShut t) held) (nothing (ltb 0 (ruling t))))
+      (λ e. rw (rules b lo, closed-none t e))
+      (here .mode)
+    where
+      nothing : (x : Bool) → both x false ≡ false
+      nothing true = refl
+      nothing false = refl
+
+  -- one that admits boxes is open, and its doors are not held
+  admits : admitting t ≡ true → (b : ℕ) → since ≤ b → Admits (lifeIn t r) (t .count) b
+  unfolding admitting
+  admits on b lo =
+      let e : t .mode ≡ 1 = admitting-open t on in
+      record {
+        rule = rules b lo ∙ open-ruling t e;
+        unheld = doors e b lo ∙ not-true (isShut t) (both-r (eqb (t .mode) 1) (not (isShut t)) on);
+      }
 
   module _ (xs : List ℕ) (y : Tally) (c : Counted (lifeIn t r) since xs y) where
     -- ---- an event ends its stretch
@@ -184,9 +210,9 @@ module _ (t : Title) (r : ℕ → ℕ) (here : Present t r) where
             waits = c .waits ∙ sym (tally-stays (lifeIn t r) since until (y .from) (ticks τ late) (c .settles) still xs (length xs));
           }
 
-      open-ends : t .mode ≡ 1 → Counted (lifeIn t r) until xs (endedIn (stretchOf t) τ xs y)
+      open-ends : admitting t ≡ true → Counted (lifeIn t r) until xs (endedIn (stretchOf t) τ xs y)
       unfolding endedIn
-      open-ends e =
+      open-ends on-air =
           ⊎-elim
           (λ h. rw h (quietly (none-within L s since (t .count) ev f set until τ at up same (ltb-true (nextIn s τ) (s .start + s .slot) h))))
           (λ h.
@@ -216,7 +242,7 @@ module _ (t : Title) (r : ℕ → ℕ) (here : Present t r) where
           set = c .settles
 
           ev : Even L s since (t .count)
-          ev = even e
+          ev = even (admitting-open t on-air)
 
           up : since ≤ until
           up = ticks τ late
@@ -224,15 +250,13 @@ module _ (t : Title) (r : ℕ → ℕ) (here : Present t r) where
           at : τ ≡ momentOf L until
           at = starts τ (omega (arith, here .since)) on
 
-          same : (b : ℕ) → since ≤ b → b < until → r b ≡ t .count
-          same b lo lt = rules b lo ∙ open-ruling t e
+          same : (b : ℕ) → since ≤ b → b < until → Admits L (t .count) b
+          same b lo lt = admits on-air b lo
 
       pub present-ends : Counted (lifeIn t r) until xs (settled t τ xs y)
       unfolding settled
       present-ends =
-          ⊎-elim (λ e. rw (eq-eqb (t .mode) 1 e) (open-ends e))
-          (λ e. rw (ne-eqb (t .mode) 1 (λ o. omega arith)) (quietly (closed e until)))
-          (here .mode)
+          ⊎-elim (λ e. rw e (open-ends e)) (λ e. rw e (quietly (nobody-begins e until))) (decide (admitting t))
 
     -- ---- no event follows
 
@@ -241,23 +265,25 @@ module _ (t : Title) (r : ℕ → ℕ) (here : Present t r) where
     present-stays low =
         ⊎-elim
         (λ e.
-        rw (eq-eqb (t .mode) 1 e, gathered-plus (stretchOf t) (y .from) askedMax xs (y .waits) (length xs), c .waits)
+        let ev = even (admitting-open t e) in
+        rw (e, gathered-plus (stretchOf t) (y .from) askedMax xs (y .waits) (length xs), c .waits)
         (tally-goes-on (lifeIn t r) since (y .from) (c .settles) xs (stretchOf t) askedMax
         (λ x late in-time.
-        let got = reached (lifeIn t r) (stretchOf t) since (t .count) (even e) x in (
+        let got = reached (lifeIn t r) (stretchOf t) since (t .count) ev x in (
           got .tick,
-          reached-next (lifeIn t r) (stretchOf t) since (t .count) (even e) (y .from) (c .settles) x got late (λ b lo hi. rules b lo ∙ open-ruling t e),
+          reached-next (lifeIn t r) (stretchOf t) since (t .count) ev (y .from) (c .settles) x got late (λ b lo hi. admits e b lo),
           got .moment,
         ))
         low (length xs)))
         (λ e.
-        rw (ne-eqb (t .mode) 1 (λ o. omega arith), c .waits)
+        let counted : y .waits ≡ allSettled t xs y = not-endless t xs y e in
+        rw (← counted, c .waits)
         (tally-ends (lifeIn t r) since (y .from) (c .settles) xs
         (λ x late a.
         let m : ℕ = suc (a + since) in
-        still-settled (lifeIn t r) since m (y .from) (omega arith) (c .settles) (closed e m) .after x late a (omega arith))
+        still-settled (lifeIn t r) since m (y .from) (omega arith) (c .settles) (nobody-begins e m) .after x late a (omega arith))
         (length xs)))
-        (here .mode)
+        (decide (admitting t))
 
     -- ---- the totals are small
 
@@ -277,6 +303,11 @@ module _ (t : Title) (r : ℕ → ℕ) (here : Present t r) where
 
 -- ---- whether it is there or not
 
+-- an id that no event has named admits nobody
+blank-admits : (t : Title) → t ≡ blankTitle → admitting t ≡ false
+unfolding admitting
+blank-admits t g = rw g refl
+
 module _ (L : Life) (m : ℕ) (t : Title) (told : TellsTitle L m t) where
   pub told-playing : t .mode ≡ 1 → Playing t
   told-playing = go told
@@ -295,10 +326,12 @@ module _ (L : Life) (m : ℕ) (t : Title) (told : TellsTitle L m t) where
             rw all (record { row-short = short; admitted-few = omega arith; sum-low = omega arith })
         go (present r e f p) = present-few t r p xs y (rw (e, f) at c) short
 
-    -- a turn to another count, or to none, ends a stretch
-    pub told-turns : (τ k : ℕ) → m ≤ τ → 0 < L .rule (tickIn L τ) → (τ - L .opened) % tickLength L ≡ 0
-        → Counted (underRule L (turn (L .rule) (tickIn L τ) k)) (tickIn L τ) xs (settled t τ xs y)
-    told-turns τ k late open-then on = turned-counted L (tickIn L τ) k xs (settled t τ xs y) (go told)
+    -- a turn to another count, to none, or of the doors ends a stretch
+    pub told-turns : (τ : ℕ) (r : Course) → ((u : ℕ) → u < tickIn L τ → SameAt L r u) → m ≤ τ →
+        0 < L .rule (tickIn L τ) → (τ - L .opened) % tickLength L ≡ 0 →
+        Counted (onCourse L r) (tickIn L τ) xs (settled t τ xs y)
+    told-turns τ r before late open-then on =
+        turned-counted L (tickIn L τ) r before xs (settled t τ xs y) (go told)
       where
         go : TellsTitle L m t → Counted L (tickIn L τ) xs (settled t τ xs y)
         go (absent e f g) = absurd (let none : 0 < 0 = rw e at open-then in omega arith)
@@ -310,7 +343,7 @@ module _ (L : Life) (m : ℕ) (t : Title) (told : TellsTitle L m t) where
       where
         go : TellsTitle L m t → Tallied L xs (length xs) (allSettled t xs y)
         go (absent e f g) =
-            let none : t .mode ≡ 1 → ⊥ = λ is. omega (arith, ap (λ (z : Title). z .mode) g) in
+            let none : admitting t ≡ false = blank-admits t g in
             let seen : Counted unopened (tickIn unopened m) xs y = rw e at c in
             rw (e, ← not-endless t xs y none, seen .waits)
             (tally-ends unopened (tickIn unopened m) (y .from) (seen .settles) xs (λ x late. never-lets x) (length xs))

@@ -2,6 +2,7 @@
 -- report's contract cites nothing of this; proofs/ shows that it comes to what the events say.
 use Prim.Native.Nat.{ℕ, zero, suc, _+_, _-_, _*_, _^_, _≤_, _<_, max}
 use mathlib.Core.Path.{_≡_}
+use mathlib.Core.Bool.{Bool, not}
 use mathlib.Core.List.{List}
 use lib.Dec.{leb, ltb, eqb}
 use lib.ListN.{getD, length}
@@ -10,6 +11,7 @@ use Rattle.rules.specs.Refusals.{pick}
 use Rattle.grid.specs.Ticks.{roundedUp, tickOf, slot as slotOf}
 use Rattle.grid.specs.Bounds.{Length, FloorCap}
 use Rattle.story.specs.declared.Title.{Title}
+use Rattle.story.specs.Kept.{openMode, isShut}
 use Rattle.admissions.specs.declared.Waits.{Waits}
 use Rattle.admissions.specs.declared.Stretch.{Stretch}
 use Rattle.admissions.specs.declared.Tally.{Tally}
@@ -76,11 +78,15 @@ endedIn s τ xs y =
     (record
     { from = nextIn s τ - s .slot + 1; waits = gathered s (y .from) (nextIn s τ - s .slot) xs (y .waits) (length xs) })
 
--- a title that is not open has no stretch
+-- a title admits boxes while it is open and its doors are not held
+unfoldable pub admitting : Title → Bool
+admitting t = both (eqb (t .mode) openMode) (not (isShut t))
+
+-- a title that admits nobody has no stretch
 unfoldable pub settled : Title → ℕ → List ℕ → Tally → Tally
-settled t τ xs y = pick (eqb (t .mode) 1) (endedIn (stretchOf t) τ xs y) y
+settled t τ xs y = pick (admitting t) (endedIn (stretchOf t) τ xs y) y
 
 -- no event follows, and no arrival is later than 2^41
 unfoldable pub allSettled : Title → List ℕ → Tally → Waits
 allSettled t xs y =
-    pick (eqb (t .mode) 1) (gathered (stretchOf t) (y .from) askedMax xs (y .waits) (length xs)) (y .waits)
+    pick (admitting t) (gathered (stretchOf t) (y .from) askedMax xs (y .waits) (length xs)) (y .waits)

@@ -1,8 +1,10 @@
 // How long arrivals wait for a title's next admission, stretch by stretch. Between two events of a title its admissions are
-// evenly spaced: those who come after the last admission of the stretches before and not after the last of this one get
+// evenly spaced, unless its doors are held: those who come after the last admission of the stretches before and not after the last of this one get
 // in here. These functions are for the crate above, and say in a `requires` what they build on.
 
 use rules::ASKED_MAX;
+use rules::truth::also;
+use story::HELD;
 use story::OPEN;
 use story::Title;
 ghost use Prim.Native.Nat.{_≤_, max};
@@ -21,6 +23,7 @@ ghost use Rattle.admissions.specs.Stretches.{
   fresh,
   settled,
   allSettled,
+  admitting as isAdmitting,
 };
 
 // What a row of arrivals comes to: how many got in, the longest wait and the sum of the waits, in ms.
@@ -117,6 +120,15 @@ fn stretch_of(t: Title) -> Stretch
     }
 }
 
+// Whether a title admits boxes: it is open, and its doors are not held.
+fn admitting(t: Title) -> bool
+    ensures { λ r. ⌜ r ≡ isAdmitting t ⌝ }
+{
+    let mode = t.mode;
+    let mark = t.mark;
+    also(mode == OPEN, mark != HELD)
+}
+
 // An opening: nobody who came before it gets in.
 pub fn opened(time: u64) -> Tally
     ensures { λ r. ⌜ r ≡ fresh time ⌝ }
@@ -139,10 +151,9 @@ pub fn ended(t: Title, until: u64, arrivals: &[u64], tally: Tally) -> Tally
     requires { ⌜ Few (length (now arrivals)) (tally .waits) ⌝ }
     ensures { λ r. ⌜ r ≡ settled t until (now (arrivals .entry)) tally ⌝ }
 {
-    let mode = t.mode;
     let from = tally.from;
     let waits = tally.waits;
-    if mode == OPEN {
+    if admitting(t) {
         let s = stretch_of(t);
         let slot = s.slot;
         let start = s.start;
@@ -160,16 +171,15 @@ pub fn ended(t: Title, until: u64, arrivals: &[u64], tally: Tally) -> Tally
     tally
 }
 
-// No event follows: an open title goes on admitting for ever.
+// No event follows: a title that admits boxes goes on admitting them for ever.
 pub fn endless(t: Title, arrivals: &[u64], tally: Tally) -> Waits
     requires { ⌜ (t .mode ≡ 1 → Playing t) ⌝ }
     requires { ⌜ Few (length (now arrivals)) (tally .waits) ⌝ }
     ensures { λ r. ⌜ r ≡ allSettled t (now (arrivals .entry)) tally ⌝ }
 {
-    let mode = t.mode;
     let from = tally.from;
     let waits = tally.waits;
-    if mode == OPEN {
+    if admitting(t) {
         return admit_all(stretch_of(t), from, ASKED_MAX, arrivals, waits);
     }
     waits

@@ -6,7 +6,7 @@ use mathlib.Core.List.{List}
 use Prim.Native.Nat.{ℕ}
 use Rattle.story.specs.declared.State.{State}
 use Rattle.story.specs.Kept.{lanesHeld}
-use Rattle.story.specs.Calls.{laneAnswer, laneShows, statusAnswer, statusCount, statusHeld}
+use Rattle.story.specs.Calls.{laneAnswer, laneShows, statusAnswer, statusCount, statusHeld, statusMark}
 use Rattle.story.specs.Story.{Event, accepted}
 use Rattle.story.specs.Runs.{stateAfter, lanesOf}
 use Rattle.story.proofs.Demands.{every-run, left-alone}
@@ -29,14 +29,16 @@ module _ (pool : ℕ) (cs : List Event) (bss : List (List ℕ)) (same : accepted
     lanes-alike i l τ = (ap (λ s. laneAnswer s i l τ) alike, ap (λ s. laneShows s i l τ) alike)
 
     -- and status, and lanes held
-    pub status-alike : (τ : ℕ) (ids : List ℕ) (m h i : ℕ) →
-        (statusAnswer (stateAfter pool cs) τ ids m h ≡ statusAnswer (agentAfter pool bss .state) τ ids m h)
+    pub status-alike : (τ : ℕ) (ids : List ℕ) (m h d i : ℕ) →
+        (statusAnswer (stateAfter pool cs) τ ids m h d ≡ statusAnswer (agentAfter pool bss .state) τ ids m h d)
         × (statusCount (stateAfter pool cs) i ≡ statusCount (agentAfter pool bss .state) i)
         × (statusHeld (stateAfter pool cs) i τ ≡ statusHeld (agentAfter pool bss .state) i τ)
+        × (statusMark (stateAfter pool cs) i ≡ statusMark (agentAfter pool bss .state) i)
         × (lanesHeld (stateAfter pool cs) τ ≡ lanesHeld (agentAfter pool bss .state) τ)
-    status-alike τ ids m h i = (
-      ap (λ s. statusAnswer s τ ids m h) alike,
+    status-alike τ ids m h d i = (
+      ap (λ s. statusAnswer s τ ids m h d) alike,
       ap (λ s. statusCount s i) alike,
       ap (λ s. statusHeld s i τ) alike,
+      ap (λ s. statusMark s i) alike,
       ap (λ s. lanesHeld s τ) alike,
     )

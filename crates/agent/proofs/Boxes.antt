@@ -9,11 +9,13 @@ use Prim.Native.Nat.{ℕ, _≤_, _<_}
 use Rattle.rules.specs.Limits.{titlesMax, askedMax}
 use Rattle.story.specs.Life.{isFilm, cell}
 use Rattle.story.specs.Kept.{lanesHeld}
-use Rattle.story.specs.Calls.{laneAnswer, laneShows, statusAnswer, statusCount, statusHeld}
+use Rattle.rules.specs.Refusals.{pick}
+use Rattle.story.specs.Calls.{laneAnswer, laneShows, statusAnswer, statusCount, statusHeld, statusMark}
 use Rattle.story.specs.Story.{Accepted, lifeOf, lifeAt, lastTime, upTo, airAt, countIn, heldIn, heldOver, laneAnswerTo}
-use Rattle.story.specs.Story.{statusAnswerTo, InTick, Received, Begins}
+use Rattle.story.specs.Story.{statusAnswerTo, isMarkedIn, InTick, Received, Begins}
 use Rattle.story.specs.Runs.{stateAfter, lanesOf, Reached}
-use Rattle.story.proofs.Demands.{in-sequence, every-lane, on-air, every-status, every-count, every-held, all-held}
+use Rattle.story.proofs.Demands.{in-sequence, every-lane, on-air, every-status, every-count, every-held, every-mark}
+use Rattle.story.proofs.Demands.{all-held}
 use Rattle.story.proofs.Demands.{boxes, by-the-calls, the-pool}
 use Rattle.agent.specs.declared.Agent.{Agent}
 use Rattle.agent.specs.Series.{agentAfter, eventsHeard}
@@ -42,8 +44,8 @@ module _ (pool : ℕ) (bss : List (List ℕ)) where
   heard-on-air = on-air pool (eventsHeard pool bss) (agentAfter pool bss .state) heard-reached
 
   -- and so are its status and the lanes it holds
-  pub heard-status : (τ : ℕ) (ids : List ℕ) (m h : ℕ) →
-      statusAnswer (agentAfter pool bss .state) τ ids m h ≡ statusAnswerTo (eventsHeard pool bss) τ ids m h
+  pub heard-status : (τ : ℕ) (ids : List ℕ) (m h d : ℕ) →
+      statusAnswer (agentAfter pool bss .state) τ ids m h d ≡ statusAnswerTo (eventsHeard pool bss) τ ids m h d
   heard-status = every-status pool (eventsHeard pool bss) (agentAfter pool bss .state) heard-reached
 
   pub heard-count : (i τ : ℕ) → i < titlesMax → lastTime (eventsHeard pool bss) ≤ τ →
@@ -53,6 +55,10 @@ module _ (pool : ℕ) (bss : List (List ℕ)) where
   pub heard-held : (i τ : ℕ) → i < titlesMax → lastTime (eventsHeard pool bss) ≤ τ →
       statusHeld (agentAfter pool bss .state) i τ ≡ heldIn (lifeOf (eventsHeard pool bss) i) τ
   heard-held = every-held pool (eventsHeard pool bss) (agentAfter pool bss .state) heard-reached
+
+  pub heard-mark : (i τ : ℕ) → i < titlesMax → lastTime (eventsHeard pool bss) ≤ τ →
+      statusMark (agentAfter pool bss .state) i ≡ pick (isMarkedIn (lifeOf (eventsHeard pool bss) i) τ) 1 0
+  heard-mark = every-mark pool (eventsHeard pool bss) (agentAfter pool bss .state) heard-reached
 
   pub heard-all-held : (τ : ℕ) → lastTime (eventsHeard pool bss) ≤ τ →
       lanesHeld (agentAfter pool bss .state) τ ≡ heldOver (eventsHeard pool bss) τ

@@ -2,7 +2,7 @@
 -- the agent hears exactly those events, so the two answer alike. Rests on the codec's round trip, on what accepted events
 -- have passed, and on `alike`.
 use mathlib.Core.Path.{_≡_, refl, sym, ap, _∙_}
-use mathlib.Core.Bool.{true}
+use mathlib.Core.Bool.{true, false}
 use mathlib.Core.List.{List, [], _∷_, map}
 use Prim.Native.Nat.{ℕ, suc, _^_, _≤_, _<_}
 use native.Mathlib.Omega.{arith}
@@ -19,8 +19,8 @@ use Rattle.notice.specs.Encode.{bytesOf}
 use Rattle.notice.specs.Decode.{readOf}
 use Rattle.notice.proofs.RoundTrip.{written-reads}
 use Rattle.notice.proofs.Typed.{typed-fits}
-use Rattle.story.specs.Story.{Act, opens, changes, closes, Event, event, answer, accepted, Accepted, none, more}
-use Rattle.story.specs.Story.{withinLimits, openLimits, actLimits}
+use Rattle.story.specs.Story.{Act, opens, changes, closes, doors, Event, event, answer, accepted, Accepted, none}
+use Rattle.story.specs.Story.{more, withinLimits, openLimits, actLimits}
 use Rattle.story.specs.Runs.{stateAfter, lanesOf}
 use Rattle.story.proofs.Passed.{in-limits}
 use Rattle.story.proofs.Reached.{accepted-is}
@@ -41,11 +41,14 @@ act-typed (changes k) i τ h =
     let k-high : k ≤ countMax = search (both-l, both-r, leb-true) depth 12 in
     omega arith
 act-typed closes i τ h = tt
+act-typed (doors true) i τ h = tt
+act-typed (doors false) i τ h = tt
 
 named : (a : Act) (e : Event) → actLimits a (withinLimits e) ≡ true → withinLimits e ≡ true
 named (opens D A K k) e h = both-l (withinLimits e) (openLimits D A K k) h
 named (changes k) e h = both-l (withinLimits e) (within countMin countMax k) h
 named closes e h = h
+named (doors b) e h = h
 
 typed : (lanes : ℕ) (es : List Event) (e : Event) (q : ℕ) → q < 2 ^ 32 → answer lanes es e ≡ 0 → Typed (noticeFor q e)
 typed lanes es e q small h =
@@ -65,6 +68,8 @@ same-act : (a : Act) → Rattle.agent.specs.Turns.actOf (kindFor a) ≡ 
 same-act (opens D A K k) = refl
 same-act (changes k) = refl
 same-act closes = refl
+same-act (doors true) = refl
+same-act (doors false) = refl
 
 same-event : (q : ℕ) (e : Event) → eventOf (noticeFor q e) ≡ e
 same-event q e = ap (event (e .title) (e .time)) (same-act (e .act))

@@ -2,6 +2,7 @@
 -- from the series alone (01, "Notices": a refused event doesn't advance the sequence).
 use Prim.Native.Nat.{ℕ, suc}
 use mathlib.Core.Path.{_≡_}
+use mathlib.Core.Bool.{true, false}
 use mathlib.Core.List.{List, [], _∷_, map}
 use lib.Dec.{eqb}
 use lib.ListN.{length}
@@ -9,12 +10,12 @@ use Rattle.rules.specs.Limits.{both}
 use Rattle.rules.specs.Refusals.{pick}
 use Rattle.notice.specs.declared.Notice.{Notice}
 use Rattle.notice.specs.declared.Kind.{Kind}
-use Rattle.notice.specs.declared.Kind.the-variants.{Open, Change, Close}
+use Rattle.notice.specs.declared.Kind.the-variants.{Open, Change, Close, Hold, Lift}
 use Rattle.notice.specs.declared.Reading.{Reading}
 use Rattle.notice.specs.declared.Reading.the-variants as reading
 use Rattle.notice.specs.Encode.{bytesOf}
 use Rattle.notice.specs.Decode.{readOf}
-use Rattle.story.specs.Story.{Act, opens, changes, closes, Event, answer}
+use Rattle.story.specs.Story.{Act, opens, changes, closes, doors, Event, answer}
 use Rattle.story.specs.Runs.{lanesOf, Reached}
 use Rattle.agent.specs.declared.Agent.{Agent}
 use Rattle.agent.specs.Turns.{eventOf, freshAgent, noticed}
@@ -40,6 +41,8 @@ abbrev pub kindFor : Act → Kind
 kindFor (opens D A K k) = Open D A K k
 kindFor (changes k) = Change k
 kindFor closes = Close
+kindFor (doors true) = Hold
+kindFor (doors false) = Lift
 
 abbrev pub noticeFor : ℕ → Event → Notice
 noticeFor q e = record { sequence = q; title = e .title; time = e .time; kind = kindFor (e .act) }

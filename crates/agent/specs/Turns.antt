@@ -4,11 +4,11 @@ use lib.Dec.{eqb}
 use Rattle.rules.specs.Refusals.{pick, malformed, outOfTurn}
 use Rattle.notice.specs.declared.Notice.{Notice}
 use Rattle.notice.specs.declared.Kind.{Kind}
-use Rattle.notice.specs.declared.Kind.the-variants.{Open, Change, Close}
+use Rattle.notice.specs.declared.Kind.the-variants.{Open, Change, Close, Hold, Lift}
 use Rattle.notice.specs.declared.Reading.{Reading}
 use Rattle.notice.specs.declared.Reading.the-variants as reading
 use Rattle.story.specs.Calls.{freshNext}
-use Rattle.story.specs.Story.{Act, opens, changes, closes, Event}
+use Rattle.story.specs.Story.{Act, opens, changes, closes, holds, lifts, Event}
 use Rattle.story.specs.Next.{callNext}
 use Rattle.story.specs.Runs.{answered}
 use Rattle.agent.specs.declared.Agent.{Agent}
@@ -18,6 +18,8 @@ abbrev pub actOf : Kind → Act
 actOf (Open d a k n) = opens d a k n
 actOf (Change n) = changes n
 actOf Close = closes
+actOf Hold = holds
+actOf Lift = lifts
 
 -- the event that a notice carries
 abbrev pub eventOf : Notice → Event

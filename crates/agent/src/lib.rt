@@ -70,6 +70,8 @@ pub fn enact(s: State, n: Notice) -> Outcome
         ),
         Kind::Change { count } => scheduler::change(s, id, time, count as u64),
         Kind::Close => scheduler::close(s, id, time),
+        Kind::Hold => scheduler::hold(s, id, time),
+        Kind::Lift => scheduler::lift(s, id, time),
     }
 }
 

@@ -7,7 +7,7 @@ use lib.Dec.{eqb}
 use lib.ListN.{length}
 use Rattle.rules.specs.Refusals.{pick, done}
 use Rattle.story.specs.declared.State.{State}
-use Rattle.story.specs.Calls.{laneAnswer, laneShows, statusAnswer, statusCount, statusHeld}
+use Rattle.story.specs.Calls.{laneAnswer, laneShows, statusAnswer, statusCount, statusHeld, statusMark}
 use Rattle.plan.specs.Row.{Planned}
 use Rattle.rom.specs.Lanes.{romLaneAnswer, romLaneShows}
 use Rattle.rom.specs.Plans.{RomPlanned}
@@ -43,24 +43,25 @@ module _ (p q r : Page) where
   unfolding romLaneText
   rom-lane-told s i l τ a v e f g = rw (← e, ← f) g
 
-  module _ (s : State) (τ a : ℕ) (ids counts held : List ℕ) (lc : length counts ≡ length ids)
-      (lh : length held ≡ length ids)
-      (e : a ≡ statusAnswer s τ ids (length counts) (length held)) (g : q ≡ puts p (doneText a 0)) where
-    same-answer : statusAnswer s τ ids (length ids) (length ids) ≡ a
-    same-answer = sym (rw (lc, lh) at e)
+  module _ (s : State) (τ a : ℕ) (ids counts held marks : List ℕ) (lc : length counts ≡ length ids)
+      (lh : length held ≡ length ids) (lm : length marks ≡ length ids)
+      (e : a ≡ statusAnswer s τ ids (length counts) (length held) (length marks)) (g : q ≡ puts p (doneText a 0)) where
+    same-answer : statusAnswer s τ ids (length ids) (length ids) (length ids) ≡ a
+    same-answer = sym (rw (lc, lh, lm) at e)
 
     pub status-refused : (a ≡ done → ⊥) → q ≡ puts p (statusText s τ ids)
     unfolding statusText
     status-refused z = rw same-answer (refused p q a 0 _ g z)
 
-    pub status-told : (counts' held' : List ℕ) → counts' ≡ pick (eqb a done) (map (λ i. statusCount s i) ids) counts
+    pub status-told : (counts' held' marks' : List ℕ) → counts' ≡ pick (eqb a done) (map (λ i. statusCount s i) ids) counts
         → held' ≡ pick (eqb a done) (map (λ i. statusHeld s i τ) ids) held
-        → a ≡ done → r ≡ puts q (titlesText ids counts' held' (length ids)) → r ≡ puts p (statusText s τ ids)
+        → marks' ≡ pick (eqb a done) (map (λ i. statusMark s i) ids) marks
+        → a ≡ done → r ≡ puts q (titlesText ids counts' held' marks' (length ids)) → r ≡ puts p (statusText s τ ids)
     unfolding statusText
-    status-told counts' held' ec eh z f =
+    status-told counts' held' marks' ec eh em z f =
         rw same-answer
         (told p q r a 0 _ g z
-        (rw (rw (eq-eqb _ _ z) at ec, rw (eq-eqb _ _ z) at eh) at f))
+        (rw (rw (eq-eqb _ _ z) at ec, rw (eq-eqb _ _ z) at eh, rw (eq-eqb _ _ z) at em) at f))
 
   module _ (A K n : ℕ) (row : List ℕ) (g : q ≡ puts p (doneText n (missed n A K))) where
     pub plan-refused : (n ≡ done → ⊥) → q ≡ puts p (plannedText n A K row)

@@ -15,9 +15,9 @@ entry n = text " " ++ decimal n
 unfoldable pub cellEntry : ℕ → List ℕ
 cellEntry n = pick (eqb n never) (text " -") (entry n)
 
--- a title's id, count and lanes held
-unfoldable pub titleEntry : ℕ → ℕ → ℕ → List ℕ
-titleEntry id count held = (entry id ++ entry count) ++ entry held
+-- a title's id, count, lanes held and mark
+unfoldable pub titleEntry : ℕ → ℕ → ℕ → ℕ → List ℕ
+titleEntry id count held mark = ((entry id ++ entry count) ++ entry held) ++ entry mark
 
 -- what stands for each place of a row, for the first n
 unfoldable pub each : (ℕ → List ℕ) → ℕ → List ℕ
@@ -32,6 +32,7 @@ numbersText row n = each (λ (i : ℕ). entry (getD row i 0)) n
 abbrev pub cellsText : List ℕ → ℕ → List ℕ
 cellsText row n = each (λ (i : ℕ). cellEntry (getD row i 0)) n
 
--- the first n titles of three rows
-abbrev pub titlesText : List ℕ → List ℕ → List ℕ → ℕ → List ℕ
-titlesText ids counts held n = each (λ (i : ℕ). titleEntry (getD ids i 0) (getD counts i 0) (getD held i 0)) n
+-- the first n titles of four rows
+abbrev pub titlesText : List ℕ → List ℕ → List ℕ → List ℕ → ℕ → List ℕ
+titlesText ids counts held marks n =
+    each (λ (i : ℕ). titleEntry (getD ids i 0) (getD counts i 0) (getD held i 0) (getD marks i 0)) n

@@ -4,7 +4,7 @@ use mathlib.Core.List.{List, [], _∷_, _++_}
 use Rattle.rules.specs.Refusals.{malformed}
 use Rattle.notice.specs.declared.Notice.{Notice}
 use Rattle.notice.specs.declared.Kind.{Kind}
-use Rattle.notice.specs.declared.Kind.the-variants.{Open, Change, Close}
+use Rattle.notice.specs.declared.Kind.the-variants.{Open, Change, Close, Hold, Lift}
 use Rattle.notice.specs.declared.Reading.{Reading}
 use Rattle.notice.specs.declared.Reading.the-variants as reading
 use Rattle.text.specs.Texts.{text}
@@ -16,6 +16,8 @@ abbrev pub kindText : ℕ → ℕ → Kind → List ℕ
 kindText id time (Open d a k n) = text " open" ++ numbersText (id ∷ time ∷ d ∷ a ∷ k ∷ n ∷ []) 6
 kindText id time (Change n) = text " change" ++ numbersText (id ∷ time ∷ n ∷ []) 3
 kindText id time Close = text " close" ++ numbersText (id ∷ time ∷ []) 2
+kindText id time Hold = text " hold" ++ numbersText (id ∷ time ∷ []) 2
+kindText id time Lift = text " lift" ++ numbersText (id ∷ time ∷ []) 2
 
 unfoldable pub noticeText : Notice → List ℕ
 noticeText n = (text "0" ++ entry (n .sequence)) ++ kindText (n .title) (n .time) (n .kind)

@@ -3,7 +3,7 @@ use Prim.Native.Nat.{ℕ, zero, suc, _+_, _-_, _*_, _/_, min}
 use mathlib.Core.List.{List, map}
 use lib.ListN.{length, getD, take, drop, set, replicate}
 use Rattle.story.specs.declared.State.{State}
-use Rattle.story.specs.Calls.{laneAnswer, laneShows, statusAnswer, statusCount, statusHeld}
+use Rattle.story.specs.Calls.{laneAnswer, laneShows, statusAnswer, statusCount, statusHeld, statusMark}
 use Rattle.grid.specs.Ticks.{cells}
 use Rattle.grid.specs.Plan.{planAnswer}
 use Rattle.plan.specs.Row as plan
@@ -20,11 +20,12 @@ use Rattle.console_answers.specs.Outcomes.{withText, valueText}
 unfoldable pub laneText : State → ℕ → ℕ → ℕ → List ℕ
 laneText s i l τ = valueText (laneAnswer s i l τ) (laneShows s i l τ) 0
 
--- for each id its count and its lanes held
+-- for each id its count, its lanes held and its mark
 unfoldable pub statusText : State → ℕ → List ℕ → List ℕ
 statusText s τ ids =
-    withText (statusAnswer s τ ids (length ids) (length ids)) 0
-    (titlesText ids (map (λ i. statusCount s i) ids) (map (λ i. statusHeld s i τ) ids) (length ids))
+    withText (statusAnswer s τ ids (length ids) (length ids) (length ids)) 0
+    (titlesText ids (map (λ i. statusCount s i) ids) (map (λ i. statusHeld s i τ) ids) (map (λ i. statusMark s i) ids)
+    (length ids))
 
 -- the ids of a line of so many numbers, which follow the time
 unfoldable pub idsIn : List ℕ → ℕ → List ℕ

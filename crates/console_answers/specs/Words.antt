@@ -10,7 +10,7 @@ use Rattle.text.specs.Texts.{text}
 use Rattle.text.specs.Numbers.{top}
 use Rattle.text.specs.Digits.{decimal}
 
--- what each refusal means, in words, by its number
+-- what each refusal means, in words, by its number; 16 is none
 abbrev pub refusals : List (List ℕ)
 refusals =
     text "done" ∷
@@ -28,7 +28,9 @@ refusals =
     text "notice out of turn, expected is " ∷
     text "below the floor, which is " ∷
     text "above the cap, which is " ∷
-    text "floor above its cap" ∷ []
+    text "floor above its cap" ∷
+    text "" ∷
+    text "doors already held or lifted" ∷ []
 
 unfoldable pub refusalWords : ℕ → List ℕ
 refusalWords n = getD refusals n []
@@ -73,4 +75,4 @@ faultText f p = ((text "? " ++ faultWords f) ++ text " at byte ") ++ decimal (fr
 unfoldable pub helpText : List ℕ
 helpText =
     text
-    "fresh POOL\nopen ID TIME LENGTH FLOOR CAP COUNT\nchange ID TIME COUNT\nclose ID TIME\nlane ID LANE TIME\nstatus TIME ID ..\nplan FLOOR CAP COUNT ARRIVAL [PLACES]\nshare POOL RATE LENGTH FLOOR CAP ..\nromlane ID LANE TIME\nromplan FLOOR CAP COUNT ARRIVAL [PLACES]\nwrite SEQ open ID TIME LENGTH FLOOR CAP COUNT\nwrite SEQ change ID TIME COUNT\nwrite SEQ close ID TIME\nread HEX\nnotice HEX\nhelp"
+    "fresh POOL\nopen ID TIME LENGTH FLOOR CAP COUNT\nchange ID TIME COUNT\nclose ID TIME\nhold ID TIME\nlift ID TIME\nlane ID LANE TIME\nstatus TIME ID ..\nplan FLOOR CAP COUNT ARRIVAL [PLACES]\nshare POOL RATE LENGTH FLOOR CAP ..\nromlane ID LANE TIME\nromplan FLOOR CAP COUNT ARRIVAL [PLACES]\nwrite SEQ open ID TIME LENGTH FLOOR CAP COUNT\nwrite SEQ change ID TIME COUNT\nwrite SEQ close ID TIME\nwrite SEQ hold ID TIME\nwrite SEQ lift ID TIME\nread HEX\nnotice HEX\nhelp"

@@ -68,25 +68,34 @@ pub fn put_cells(out: &mut [u8], at: usize, row: &[u16], n: usize) -> usize
     place
 }
 
-// A title's id, count and lanes held.
-fn put_title(out: &mut [u8], at: usize, id: u64, count: u64, held: u64) -> usize
-    ensures { λ r. ⌜ Written (now (out .entry)) at (titleEntry id count held) (now (out .exit)) r ⌝ }
+// A title's id, count, lanes held and mark.
+fn put_title(out: &mut [u8], at: usize, id: u64, count: u64, held: u64, mark: u64) -> usize
+    ensures { λ r. ⌜ Written (now (out .entry)) at (titleEntry id count held mark) (now (out .exit)) r ⌝ }
 {
     let a = put_entry(out, at, id);
     let b = put_entry(out, a, count);
-    put_entry(out, b, held)
+    let c = put_entry(out, b, held);
+    put_entry(out, c, mark)
 }
 
-pub fn put_titles(out: &mut [u8], at: usize, ids: &[u64], counts: &[u64], held: &[u64]) -> usize
-    requires { ⌜ (length (now counts) ≡ length (now ids)) × (length (now held) ≡ length (now ids)) ⌝ }
+pub fn put_titles(
+    out: &mut [u8],
+    at: usize,
+    ids: &[u64],
+    counts: &[u64],
+    held: &[u64],
+    marks: &[u64],
+) -> usize
+    requires { ⌜ (length (now counts) ≡ length (now ids))
+        × ((length (now held) ≡ length (now ids)) × (length (now marks) ≡ length (now ids))) ⌝ }
     ensures { λ r. ⌜ Written (now (out .entry)) at
-        (titlesText (now (ids .entry)) (now (counts .entry)) (now (held .entry)) (length (now (ids .entry))))
+        (titlesText (now (ids .entry)) (now (counts .entry)) (now (held .entry)) (now (marks .entry)) (length (now (ids .entry))))
         (now (out .exit)) r ⌝ }
 {
     let mut place = at;
     let mut i = 0;
     while i < ids.len() {
-        place = put_title(out, place, ids[i], counts[i], held[i]);
+        place = put_title(out, place, ids[i], counts[i], held[i], marks[i]);
         i += 1;
     }
     place

@@ -52,6 +52,14 @@ fn put_kind(out: &mut [u8], at: usize, id: u64, time: u64, kind: Kind) -> usize
             let row = [id, time];
             put_event(out, at, b" close", &row)
         }
+        Kind::Hold => {
+            let row = [id, time];
+            put_event(out, at, b" hold", &row)
+        }
+        Kind::Lift => {
+            let row = [id, time];
+            put_event(out, at, b" lift", &row)
+        }
     }
 }
 

@@ -22,14 +22,16 @@ fn put_rows(
     ids: &[u64],
     counts: &mut [u64],
     held: &mut [u64],
+    marks: &mut [u64],
 ) -> usize
-    requires { ⌜ (length (now counts) ≡ length (now ids)) × (length (now held) ≡ length (now ids)) ⌝ }
+    requires { ⌜ (length (now counts) ≡ length (now ids))
+        × ((length (now held) ≡ length (now ids)) × (length (now marks) ≡ length (now ids))) ⌝ }
     ensures { λ r. ⌜ Written (now (out .entry)) at (statusText s time (now (ids .entry))) (now (out .exit)) r ⌝ }
 {
-    let answer = status::status(s, time, ids, counts, held);
+    let answer = status::status(s, time, ids, counts, held, marks);
     let a = outcomes::put_done(out, at, answer, 0);
     if answer == DONE {
-        return entries::put_titles(out, a, ids, counts, held);
+        return entries::put_titles(out, a, ids, counts, held, marks);
     }
     a
 }
@@ -61,6 +63,7 @@ pub fn put_status(
     let n = ids_of(count);
     let mut counts = [0u64; IDS_MOST];
     let mut held = [0u64; IDS_MOST];
+    let mut marks = [0u64; IDS_MOST];
     let end = n + 1;
     put_rows(
         out,
@@ -70,5 +73,6 @@ pub fn put_status(
         &numbers[1..end],
         &mut counts[..n],
         &mut held[..n],
+        &mut marks[..n],
     )
 }

@@ -18,7 +18,7 @@ ghost use Rattle.console_answers.specs.Words.{
 };
 
 // How many refusals there are, with done, and faults of a line, with none.
-const REFUSAL_COUNT: usize = 16;
+const REFUSAL_COUNT: usize = 18;
 
 const FAULT_COUNT: usize = 12;
 
@@ -41,6 +41,8 @@ const REFUSALS: [usize; REFUSAL_COUNT + 1] = [
     318,
     342,
     361,
+    361,
+    389,
 ];
 
 // The same for the faults of a line, of which 0 is none.
@@ -65,7 +67,8 @@ fn refusal_words(out: &mut [u8], at: usize, number: u8) -> usize
         notice out of turn, expected is \
         below the floor, which is \
         above the cap, which is \
-        floor above its cap";
+        floor above its cap\
+        doors already held or lifted";
     let cuts = REFUSALS;
     put_part(out, at, words, &cuts, number)
 }
@@ -153,6 +156,6 @@ pub fn put_help(out: &mut [u8], at: usize) -> usize
     output::put(
         out,
         at,
-        b"fresh POOL\nopen ID TIME LENGTH FLOOR CAP COUNT\nchange ID TIME COUNT\nclose ID TIME\nlane ID LANE TIME\nstatus TIME ID ..\nplan FLOOR CAP COUNT ARRIVAL [PLACES]\nshare POOL RATE LENGTH FLOOR CAP ..\nromlane ID LANE TIME\nromplan FLOOR CAP COUNT ARRIVAL [PLACES]\nwrite SEQ open ID TIME LENGTH FLOOR CAP COUNT\nwrite SEQ change ID TIME COUNT\nwrite SEQ close ID TIME\nread HEX\nnotice HEX\nhelp",
+        b"fresh POOL\nopen ID TIME LENGTH FLOOR CAP COUNT\nchange ID TIME COUNT\nclose ID TIME\nhold ID TIME\nlift ID TIME\nlane ID LANE TIME\nstatus TIME ID ..\nplan FLOOR CAP COUNT ARRIVAL [PLACES]\nshare POOL RATE LENGTH FLOOR CAP ..\nromlane ID LANE TIME\nromplan FLOOR CAP COUNT ARRIVAL [PLACES]\nwrite SEQ open ID TIME LENGTH FLOOR CAP COUNT\nwrite SEQ change ID TIME COUNT\nwrite SEQ close ID TIME\nwrite SEQ hold ID TIME\nwrite SEQ lift ID TIME\nread HEX\nnotice HEX\nhelp",
     )
 }

@@ -4,7 +4,7 @@ use mathlib.Core.Path.{_≡_, ap}
 use mathlib.Core.List.{List}
 use borrow.Author.Tests.{eq-eqb, ne-eqb}
 use Rattle.story.specs.declared.State.{State}
-use Rattle.story.specs.Story.{Act, opens, changes, closes, Event}
+use Rattle.story.specs.Story.{Act, opens, changes, closes, holds, lifts, Event}
 use Rattle.story.specs.Calls.{freshAnswer}
 use Rattle.story.specs.Runs.{answered, called}
 use Rattle.notice.specs.Decode.{readOf}
@@ -34,9 +34,18 @@ module _ (l : Line) where
   unfolding actIn
   is-change o h = rw (ne-eqb _ _ o, eq-eqb _ _ h)
 
-  pub is-close : (l .command ≡ Commands.doOpen → ⊥) → (l .command ≡ Commands.doChange → ⊥) → actIn l ≡ closes
-  unfolding actIn
-  is-close o h = rw (ne-eqb _ _ o, ne-eqb _ _ h)
+  module _ (o : l .command ≡ Commands.doOpen → ⊥) (c : l .command ≡ Commands.doChange → ⊥) where
+    pub is-hold : l .command ≡ Commands.doHold → actIn l ≡ holds
+    unfolding actIn
+    is-hold h = rw (ne-eqb _ _ o, ne-eqb _ _ c, eq-eqb _ _ h)
+
+    pub is-lift : (l .command ≡ Commands.doHold → ⊥) → l .command ≡ Commands.doLift → actIn l ≡ lifts
+    unfolding actIn
+    is-lift n h = rw (ne-eqb _ _ o, ne-eqb _ _ c, ne-eqb _ _ n, eq-eqb _ _ h)
+
+    pub is-close : (l .command ≡ Commands.doHold → ⊥) → (l .command ≡ Commands.doLift → ⊥) → actIn l ≡ closes
+    unfolding actIn
+    is-close n h = rw (ne-eqb _ _ o, ne-eqb _ _ c, ne-eqb _ _ n, ne-eqb _ _ h)
 
 module _ (g : Agent) (l : Line) (s : List ℕ) (n : ℕ) (after : Agent) where
   -- what is to be shown of each way

@@ -7,7 +7,7 @@ use lib.Dec.{eqb}
 use borrow.Author.Tests.{eq-eqb, ne-eqb}
 use Rattle.rules.specs.Refusals.{pick, outOfTurn}
 use Rattle.story.specs.declared.State.{State}
-use Rattle.story.specs.Story.{changes, closes}
+use Rattle.story.specs.Story.{changes, closes, holds, lifts}
 use Rattle.notice.specs.declared.Notice.{Notice}
 use Rattle.notice.specs.declared.Kind.{Kind}
 use Rattle.notice.specs.declared.Reading.{Reading}
@@ -28,15 +28,20 @@ module _ {x : ℕ} (a : ℕ) (s : State) where
     unfolding actIn
     opening h e = rw (eq-eqb _ _ h) e
 
-    -- a change and a close read their title
+    -- any other event reads its title
     pub other : (l .command ≡ Commands.doOpen → ⊥) → x ≡ missedAt a s (numberIn l 0)
         → x ≡ missedBy a s (eventIn l)
     unfolding actIn
-    other h e = rw (ne-eqb _ _ h) (go (eqb (l .command) Commands.doChange))
+    other h e =
+        rw (ne-eqb _ _ h)
+        (go (eqb (l .command) Commands.doChange) (eqb (l .command) Commands.doHold) (eqb (l .command) Commands.doLift))
       where
-        go : (b : Bool) → x ≡ missedAs a s (numberIn l 0) (pick b (changes (numberIn l 2)) closes)
-        go true = e
-        go false = e
+        go : (b c d : Bool) →
+            x ≡ missedAs a s (numberIn l 0) (pick b (changes (numberIn l 2)) (pick c holds (pick d lifts closes)))
+        go true c d = e
+        go false true d = e
+        go false false true = e
+        go false false false = e
 
   -- of a notice's event, by its kind
   pub by-kind : (n : Notice) (k : Kind) → n .kind ≡ k → x ≡ missedAs a s (n .title) (actOf k)

@@ -8,11 +8,11 @@ use lib.ListN.{length, take, drop}
 use lib.Seq.{take-at}
 use Rattle.notice.specs.declared.Notice.{Notice}
 use Rattle.notice.specs.declared.Kind.{Kind}
-use Rattle.notice.specs.declared.Kind.the-variants.{Open, Change, Close}
+use Rattle.notice.specs.declared.Kind.the-variants.{Open, Change, Close, Hold, Lift}
 use Rattle.notice.specs.Fields.{lengthOf}
 use Rattle.notice.specs.Encode.{kindOf, bytesOf, Writes}
 use Rattle.notice.proofs.Bytes.{length-notice}
-use Rattle.notice.proofs.Worked.{open-length, change-length, close-length}
+use Rattle.notice.proofs.Worked.{open-length, change-length, close-length, hold-length, lift-length}
 use Rattle.console_lines.specs.Commands
 use Rattle.console_lines.specs.declared.lines.Line.{Line}
 use Rattle.console_desk.specs.Acts.{numberIn}
@@ -29,9 +29,18 @@ module _ (l : Line) where
   unfolding kindIn
   kind-change d o h e = rw (ne-eqb _ _ o, eq-eqb _ _ h) (cc)
 
-  pub kind-close : (l .command ≡ Commands.writeOpen → ⊥) → (l .command ≡ Commands.writeChange → ⊥) → Close ≡ kindIn l
-  unfolding kindIn
-  kind-close o h = rw (ne-eqb _ _ o, ne-eqb _ _ h)
+  module _ (o : l .command ≡ Commands.writeOpen → ⊥) (c : l .command ≡ Commands.writeChange → ⊥) where
+    pub kind-hold : l .command ≡ Commands.writeHold → Hold ≡ kindIn l
+    unfolding kindIn
+    kind-hold h = rw (ne-eqb _ _ o, ne-eqb _ _ c, eq-eqb _ _ h)
+
+    pub kind-lift : (l .command ≡ Commands.writeHold → ⊥) → l .command ≡ Commands.writeLift → Lift ≡ kindIn l
+    unfolding kindIn
+    kind-lift n h = rw (ne-eqb _ _ o, ne-eqb _ _ c, ne-eqb _ _ n, eq-eqb _ _ h)
+
+    pub kind-close : (l .command ≡ Commands.writeHold → ⊥) → (l .command ≡ Commands.writeLift → ⊥) → Close ≡ kindIn l
+    unfolding kindIn
+    kind-close n h = rw (ne-eqb _ _ o, ne-eqb _ _ c, ne-eqb _ _ n, ne-eqb _ _ h)
 
   pub notice-made : (a b : ℕ) (k : Kind) → a ≡ fourBytesIn l 0 → b ≡ byteIn l 1 → k ≡ kindIn l
       → record { sequence = a; title = b; time = numberIn l 2; kind = k } ≡ noticeIn l
@@ -43,6 +52,8 @@ short-kind : (k : Kind) → lengthOf (kindOf k) ≤ 45
 short-kind (Open d a k n) = omega (arith, open-length)
 short-kind (Change n) = omega (arith, change-length)
 short-kind Close = omega (arith, close-length)
+short-kind Hold = omega (arith, hold-length)
+short-kind Lift = omega (arith, lift-length)
 
 pub short : (n : Notice) → length (bytesOf n) ≤ 45
 short n = rw length-notice (short-kind (n .kind))

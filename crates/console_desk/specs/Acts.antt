@@ -5,7 +5,7 @@ use lib.Dec.{eqb, ltb}
 use lib.ListN.{length, getD, take, drop}
 use Rattle.rules.specs.Refusals.{pick}
 use Rattle.story.specs.Calls.{freshAnswer}
-use Rattle.story.specs.Story.{Act, opens, changes, closes, Event}
+use Rattle.story.specs.Story.{Act, opens, changes, closes, holds, lifts, Event}
 use Rattle.story.specs.Runs.{answered, called}
 use Rattle.notice.specs.Decode.{readOf}
 use Rattle.agent.specs.declared.Agent.{Agent}
@@ -34,7 +34,9 @@ unfoldable pub actIn : Line → Act
 actIn l =
     pick (eqb (l .command) Commands.doOpen) (opens (numberIn l 2) (numberIn l 3) (numberIn l 4) (numberIn l 5))
     (pick (eqb (l .command) Commands.doChange) (changes (numberIn l 2))
-    closes)
+    (pick (eqb (l .command) Commands.doHold) holds
+    (pick (eqb (l .command) Commands.doLift) lifts
+    closes)))
 
 -- the event of a line: id, time, and what its word says
 abbrev pub eventIn : Line → Event

@@ -27,7 +27,7 @@ use Rattle.console_desk.specs.Writing.{noticeIn}
 
 -- the commands that may change the agent: fresh, the events, notice
 unfoldable pub mayChange : ℕ → Bool
-mayChange c = either (eqb c Commands.doNotice) (within Commands.doFresh Commands.doClose c)
+mayChange c = either (eqb c Commands.doNotice) (within Commands.doFresh Commands.doLift c)
 
 -- what an event or a notice was answered, with the lanes held at its time, which is that of the last accepted event; of
 -- a refusal, the number that its words name

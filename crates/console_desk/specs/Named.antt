@@ -6,7 +6,7 @@ use lib.Dec.{leb, eqb}
 use Rattle.rules.specs.Limits.{idMax}
 use Rattle.rules.specs.Refusals.{pick, outOfTurn}
 use Rattle.story.specs.declared.State.{State}
-use Rattle.story.specs.Story.{Act, opens, changes, closes, Event}
+use Rattle.story.specs.Story.{Act, opens, changes, closes, doors, Event}
 use Rattle.story.specs.Kept.{titleAt}
 use Rattle.notice.specs.declared.Reading.{Reading}
 use Rattle.notice.specs.declared.Reading.the-variants as reading
@@ -27,6 +27,7 @@ abbrev pub missedAs : ℕ → State → ℕ → Act → ℕ
 missedAs a t i (opens D A K k) = missed a A K
 missedAs a t i (changes k) = missedAt a t i
 missedAs a t i closes = missedAt a t i
+missedAs a t i (doors b) = missedAt a t i
 
 abbrev pub missedBy : ℕ → State → Event → ℕ
 missedBy a t e = missedAs a t (e .title) (e .act)

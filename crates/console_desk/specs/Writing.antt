@@ -5,7 +5,7 @@ use lib.Dec.{eqb}
 use Rattle.rules.specs.Refusals.{pick}
 use Rattle.notice.specs.declared.Notice.{Notice}
 use Rattle.notice.specs.declared.Kind.{Kind}
-use Rattle.notice.specs.declared.Kind.the-variants.{Open, Change, Close}
+use Rattle.notice.specs.declared.Kind.the-variants.{Open, Change, Close, Hold, Lift}
 use Rattle.text.specs.Numbers.{byteMost, fourBytesMost}
 use Rattle.console_lines.specs.Commands
 use Rattle.console_lines.specs.declared.lines.Line.{Line}
@@ -21,7 +21,9 @@ unfoldable pub kindIn : Line → Kind
 kindIn l =
     pick (eqb (l .command) (Commands.writeOpen)) (Open (fourBytesIn l 3) (byteIn l 4) (byteIn l 5) (byteIn l 6))
     (pick (eqb (l .command) (Commands.writeChange)) (Change (byteIn l 3))
-    Close)
+    (pick (eqb (l .command) Commands.writeHold) Hold
+    (pick (eqb (l .command) Commands.writeLift) Lift
+    Close)))
 
 unfoldable pub noticeIn : Line → Notice
 noticeIn l = record { sequence = fourBytesIn l 0; title = byteIn l 1; time = numberIn l 2; kind = kindIn l }

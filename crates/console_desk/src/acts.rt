@@ -27,6 +27,12 @@ fn happen(s: State, line: Line) -> Outcome
     if command == commands::CHANGE {
         return scheduler::change(s, n[0], n[1], n[2]);
     }
+    if command == commands::HOLD {
+        return scheduler::hold(s, n[0], n[1]);
+    }
+    if command == commands::LIFT {
+        return scheduler::lift(s, n[0], n[1]);
+    }
     scheduler::close(s, n[0], n[1])
 }
 

@@ -58,7 +58,7 @@ fn may_change(command: u8) -> bool
     }
     rules::within(
         commands::FRESH as u64,
-        commands::CLOSE as u64,
+        commands::LIFT as u64,
         command as u64,
     )
 }

@@ -58,6 +58,8 @@ fn by_notice(answer: u8, s: State, n: Notice) -> u64
         } => words::missed(answer, floor as u64, cap as u64),
         Kind::Change { count: _ } => by_title(answer, s, id),
         Kind::Close => by_title(answer, s, id),
+        Kind::Hold => by_title(answer, s, id),
+        Kind::Lift => by_title(answer, s, id),
     }
 }
 

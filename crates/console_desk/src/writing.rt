@@ -30,6 +30,12 @@ fn kind_of(line: Line) -> Kind
             count: numbers::as_byte(n[3]),
         };
     }
+    if command == commands::WRITE_HOLD {
+        return Kind::Hold;
+    }
+    if command == commands::WRITE_LIFT {
+        return Kind::Lift;
+    }
     Kind::Close
 }
 

@@ -99,13 +99,13 @@ kind-less c v n h g =
     λ q. let z : Commands.doWrite + v ≡ Commands.doWrite = q in omega arith in
     rw (ne-eqb _ _ more, h) (omega arith)
 
--- the kind makes a write one of three commands that are no write without kind
+-- the kind makes a write one of the commands that are no write without kind
 kind-falls : (w : List ℕ) (l : Line) (a e : ℕ) → l .command ≡ Commands.doWrite → Falls l (withKind w l a e)
 unfolding withKind room
 kind-falls w l a e h =
-    pick-case (Falls l) (within Commands.doOpen Commands.doClose (Commands.verbOf w)) _ _
+    pick-case (Falls l) (within Commands.doOpen Commands.doLift (Commands.verbOf w)) _ _
     (λ t u. kind-less (l .command) (Commands.verbOf w) (Commands.wordsMost - l .count) h
-    (leb-true _ _ (both-l (leb Commands.doOpen (Commands.verbOf w)) (leb (Commands.verbOf w) Commands.doClose) t)))
+    (leb-true _ _ (both-l (leb Commands.doOpen (Commands.verbOf w)) (leb (Commands.verbOf w) Commands.doLift) t)))
     (λ t. stops l Commands.unknownWord a (λ u. omega arith))
 
 hex-one : (c : ℕ) → Commands.takesHex c ≡ true → Commands.mostOf c ≡ 1

@@ -22,6 +22,8 @@ use Rattle.console_lines.specs.Commands.{
   unknownWord,
   tooLong,
   unread,
+  doOpen,
+  doLift,
   doWrite,
   mostOf,
   crowded,
@@ -81,15 +83,15 @@ module _ (s : List ℕ) (l : Line) (a e : ℕ) where
   unfolding withHex
   hex-whole p q h o = rw (← q, le-ltb _ _ h, ne-eqb _ _ o)
 
-  pub kind-low : (v : ℕ) → v ≡ verbOf s → v < 2 → withFault l unknownWord a ≡ withKind s l a e
+  pub kind-low : (v : ℕ) → v ≡ verbOf s → v < doOpen → withFault l unknownWord a ≡ withKind s l a e
   unfolding withKind
   kind-low v q h = rw (← q, lt-leb _ _ h)
 
-  pub kind-high : (v : ℕ) → v ≡ verbOf s → 2 ≤ v → 4 < v → withFault l unknownWord a ≡ withKind s l a e
+  pub kind-high : (v : ℕ) → v ≡ verbOf s → doOpen ≤ v → doLift < v → withFault l unknownWord a ≡ withKind s l a e
   unfolding withKind
   kind-high v q h g = rw (← q, le-leb _ _ h, lt-leb _ _ g)
 
-  pub kind-told : (v : ℕ) → v ≡ verbOf s → 2 ≤ v → v ≤ 4
+  pub kind-told : (v : ℕ) → v ≡ verbOf s → doOpen ≤ v → v ≤ doLift
       → record { command = doWrite + v; fault = l .fault; place = e; count = l .count; numbers = l .numbers }
       ≡ withKind s l a e
   unfolding withKind

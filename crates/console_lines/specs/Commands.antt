@@ -5,7 +5,7 @@ use mathlib.Core.Bool.{Bool}
 use mathlib.Core.List.{List, [], _∷_}
 use lib.ListN.{getD}
 use lib.Dec.{eqb, leb, ltb}
-use Rattle.rules.specs.Limits.{both, either}
+use Rattle.rules.specs.Limits.{both, either, within}
 use Rattle.rules.specs.Refusals.{pick}
 use Rattle.text.specs.Texts.{text, same}
 use Rattle.text.specs.Numbers.{byteMost, fourBytesMost, top}
@@ -26,46 +26,59 @@ doChange = 3
 abbrev pub doClose : ℕ
 doClose = 4
 
+abbrev pub doHold : ℕ
+doHold = 5
+
+-- the last of the events
+abbrev pub doLift : ℕ
+doLift = 6
+
 abbrev pub doLane : ℕ
-doLane = 5
+doLane = 7
 
 abbrev pub doStatus : ℕ
-doStatus = 6
+doStatus = 8
 
 abbrev pub doPlan : ℕ
-doPlan = 7
+doPlan = 9
 
 abbrev pub doShare : ℕ
-doShare = 8
+doShare = 10
 
 abbrev pub doRead : ℕ
-doRead = 9
+doRead = 11
 
 abbrev pub doNotice : ℕ
-doNotice = 10
+doNotice = 12
 
 -- lane and plan, asked of the small box
 abbrev pub doRomLane : ℕ
-doRomLane = 11
+doRomLane = 13
 
 abbrev pub doRomPlan : ℕ
-doRomPlan = 12
+doRomPlan = 14
 
 -- a write whose kind has not been read; the kind's number is added to it
 abbrev pub doWrite : ℕ
-doWrite = 13
+doWrite = 15
 
 abbrev pub doHelp : ℕ
-doHelp = 14
+doHelp = 16
 
 abbrev pub writeOpen : ℕ
-writeOpen = 15
+writeOpen = 17
 
 abbrev pub writeChange : ℕ
-writeChange = 16
+writeChange = 18
 
 abbrev pub writeClose : ℕ
-writeClose = 17
+writeClose = 19
+
+abbrev pub writeHold : ℕ
+writeHold = 20
+
+abbrev pub writeLift : ℕ
+writeLift = 21
 
 -- the command that a word names
 unfoldable pub verbOf : List ℕ → ℕ
@@ -74,6 +87,8 @@ verbOf w =
     (pick (same w (text "open")) doOpen
     (pick (same w (text "change")) doChange
     (pick (same w (text "close")) doClose
+    (pick (same w (text "hold")) doHold
+    (pick (same w (text "lift")) doLift
     (pick (same w (text "lane")) doLane
     (pick (same w (text "status")) doStatus
     (pick (same w (text "plan")) doPlan
@@ -83,7 +98,7 @@ verbOf w =
     (pick (same w (text "romlane")) doRomLane
     (pick (same w (text "romplan")) doRomPlan
     (pick (same w (text "write")) doWrite
-    (pick (same w (text "help")) doHelp none)))))))))))))
+    (pick (same w (text "help")) doHelp none)))))))))))))))
 
 -- what a line may name at most: ids of a status, titles of a share, places of a plan. One title more than the product
 -- shares among, so that its own refusal is seen
@@ -106,10 +121,11 @@ wordsMost = 1 + titleNumbers * titlesMost
 
 -- by command: the fewest words after its own, and the most
 abbrev pub leastTable : List ℕ
-leastTable = 0 ∷ 1 ∷ 6 ∷ 3 ∷ 2 ∷ 3 ∷ 1 ∷ 4 ∷ 1 ∷ 1 ∷ 1 ∷ 3 ∷ 4 ∷ 2 ∷ 0 ∷ 7 ∷ 4 ∷ 3 ∷ []
+leastTable = 0 ∷ 1 ∷ 6 ∷ 3 ∷ 2 ∷ 2 ∷ 2 ∷ 3 ∷ 1 ∷ 4 ∷ 1 ∷ 1 ∷ 1 ∷ 3 ∷ 4 ∷ 2 ∷ 0 ∷ 7 ∷ 4 ∷ 3 ∷ 3 ∷ 3 ∷ []
 
 abbrev pub mostTable : List ℕ
-mostTable = 0 ∷ 1 ∷ 6 ∷ 3 ∷ 2 ∷ 3 ∷ (1 + idsMost) ∷ 5 ∷ wordsMost ∷ 1 ∷ 1 ∷ 3 ∷ 5 ∷ 2 ∷ 0 ∷ 7 ∷ 4 ∷ 3 ∷ []
+mostTable =
+    0 ∷ 1 ∷ 6 ∷ 3 ∷ 2 ∷ 2 ∷ 2 ∷ 3 ∷ (1 + idsMost) ∷ 5 ∷ wordsMost ∷ 1 ∷ 1 ∷ 3 ∷ 5 ∷ 2 ∷ 0 ∷ 7 ∷ 4 ∷ 3 ∷ 3 ∷ 3 ∷ []
 
 unfoldable pub leastOf : ℕ → ℕ
 leastOf c = getD leastTable c 0
@@ -141,7 +157,7 @@ limitsOf c =
     (pick (eqb c doWrite) (fourBytesMost ∷ 0 ∷ 0 ∷ 0 ∷ 0 ∷ 0 ∷ 0 ∷ [])
     (pick (eqb c writeOpen) (fourBytesMost ∷ byteMost ∷ top ∷ fourBytesMost ∷ byteMost ∷ byteMost ∷ byteMost ∷ [])
     (pick (eqb c writeChange) (fourBytesMost ∷ byteMost ∷ top ∷ byteMost ∷ 0 ∷ 0 ∷ 0 ∷ [])
-    (pick (eqb c writeClose) (fourBytesMost ∷ byteMost ∷ top ∷ 0 ∷ 0 ∷ 0 ∷ 0 ∷ [])
+    (pick (within writeClose writeLift c) (fourBytesMost ∷ byteMost ∷ top ∷ 0 ∷ 0 ∷ 0 ∷ 0 ∷ [])
     (0 ∷ 0 ∷ 0 ∷ 0 ∷ 0 ∷ 0 ∷ 0 ∷ [])))))
 
 -- no command limits more of its numbers than these

@@ -54,10 +54,10 @@ withNumber s l a e =
     (withFault l (Commands.oversized (l .command)) a)
     (goOn l (amount 0 (drop a s)) e))
 
--- the word is the kind of the notice to write: open, change or close
+-- the word is the kind of the notice to write: that of an event
 unfoldable pub withKind : List ℕ → Line → ℕ → ℕ → Line
 withKind w l a e =
-    pick (within Commands.doOpen Commands.doClose (Commands.verbOf w))
+    pick (within Commands.doOpen Commands.doLift (Commands.verbOf w))
     (record {
       command = Commands.doWrite + Commands.verbOf w;
       fault = l .fault;

@@ -33,33 +33,42 @@ pub const CHANGE: u8 = 3;
 
 pub const CLOSE: u8 = 4;
 
-pub const LANE: u8 = 5;
+pub const HOLD: u8 = 5;
 
-pub const STATUS: u8 = 6;
+// The last of the events.
+pub const LIFT: u8 = 6;
 
-pub const PLAN: u8 = 7;
+pub const LANE: u8 = 7;
 
-pub const SHARE: u8 = 8;
+pub const STATUS: u8 = 8;
 
-pub const READ: u8 = 9;
+pub const PLAN: u8 = 9;
 
-pub const NOTICE: u8 = 10;
+pub const SHARE: u8 = 10;
+
+pub const READ: u8 = 11;
+
+pub const NOTICE: u8 = 12;
 
 // Lane and plan, asked of the small box.
-pub const ROM_LANE: u8 = 11;
+pub const ROM_LANE: u8 = 13;
 
-pub const ROM_PLAN: u8 = 12;
+pub const ROM_PLAN: u8 = 14;
 
 // A write whose kind has not been read yet; the kind's own number is added to it.
-pub const WRITE: u8 = 13;
+pub const WRITE: u8 = 15;
 
-pub const HELP: u8 = 14;
+pub const HELP: u8 = 16;
 
-pub const WRITE_OPEN: u8 = 15;
+pub const WRITE_OPEN: u8 = 17;
 
-pub const WRITE_CHANGE: u8 = 16;
+pub const WRITE_CHANGE: u8 = 18;
 
-pub const WRITE_CLOSE: u8 = 17;
+pub const WRITE_CLOSE: u8 = 19;
+
+pub const WRITE_HOLD: u8 = 20;
+
+pub const WRITE_LIFT: u8 = 21;
 
 // What can be wrong with a line.
 pub const NO_FAULT: u8 = 0;
@@ -90,7 +99,7 @@ pub const TOO_MANY_PLACES: u8 = 11;
 pub const UNREAD: u8 = 12;
 
 // How many there are.
-const COMMANDS: usize = 18;
+const COMMANDS: usize = 22;
 
 // What a line may name at most: ids of a status, titles of a share, places of a plan. One title more than the product
 // shares among, so that its own refusal is seen.
@@ -109,13 +118,38 @@ const STATUS_MOST: usize = 1 + IDS_MOST;
 const SHARE_MOST: usize = 1 + TITLE_NUMBERS * TITLES_MOST;
 
 // By command: the fewest words after its own, and the most. Read and notice have no number, but HEX, which is a word.
-const LEAST: [usize; COMMANDS] = [0, 1, 6, 3, 2, 3, 1, 4, 1, 1, 1, 3, 4, 2, 0, 7, 4, 3];
+const LEAST: [usize; COMMANDS] = [
+    0,
+    1,
+    6,
+    3,
+    2,
+    2,
+    2,
+    3,
+    1,
+    4,
+    1,
+    1,
+    1,
+    3,
+    4,
+    2,
+    0,
+    7,
+    4,
+    3,
+    3,
+    3,
+];
 
 const MOST: [usize; COMMANDS] = [
     0,
     1,
     6,
     3,
+    2,
+    2,
     2,
     3,
     STATUS_MOST,
@@ -129,6 +163,8 @@ const MOST: [usize; COMMANDS] = [
     0,
     7,
     4,
+    3,
+    3,
     3,
 ];
 
@@ -156,10 +192,12 @@ pub fn verb(word: &[u8]) -> u8
     let h = named(word, b"plan", PLAN, g);
     let i = named(word, b"status", STATUS, h);
     let j = named(word, b"lane", LANE, i);
-    let k = named(word, b"close", CLOSE, j);
-    let l = named(word, b"change", CHANGE, k);
-    let m = named(word, b"open", OPEN, l);
-    named(word, b"fresh", FRESH, m)
+    let k = named(word, b"lift", LIFT, j);
+    let l = named(word, b"hold", HOLD, k);
+    let m = named(word, b"close", CLOSE, l);
+    let n = named(word, b"change", CHANGE, m);
+    let o = named(word, b"open", OPEN, n);
+    named(word, b"fresh", FRESH, o)
 }
 
 // The most words that a command takes after its own.
@@ -251,7 +289,7 @@ fn limits(command: u8) -> [u64; LIMITED]
     if command == WRITE_CHANGE {
         return [FOUR_BYTES_MOST, BYTE_MOST, TOP, BYTE_MOST, 0, 0, 0];
     }
-    if command == WRITE_CLOSE {
+    if rules::within(WRITE_CLOSE as u64, WRITE_LIFT as u64, command as u64) {
         return [FOUR_BYTES_MOST, BYTE_MOST, TOP, 0, 0, 0, 0];
     }
     [0, 0, 0, 0, 0, 0, 0]

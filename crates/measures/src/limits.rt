@@ -16,6 +16,7 @@ use rules::truth::row_within;
 use rules::within;
 use story::ABSENT;
 use story::CLOSING;
+use story::HELD;
 use story::State;
 use story::Title;
 ghost use mathlib.Core.Path.{_≡_};
@@ -61,6 +62,9 @@ fn numbers_ok(t: Title) -> bool
         return false;
     }
     if t.count > COUNT_MAX {
+        return false;
+    }
+    if t.mark > HELD {
         return false;
     }
     if t.last > ASKED_MAX {

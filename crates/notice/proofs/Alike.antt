@@ -1,6 +1,6 @@
 -- Bytes that agree from two places on read alike there. So a notice may be read from its own part of
 -- a log. Which bytes of a log matter at a place is in Part.
--- Rests on the definitions of a reading and on the field table's laws.
+-- Rests on the definitions of a reading, on the field table's laws, and on rows making a notice.
 use mathlib.Core.Path.{_≡_, refl, sym, ap, _∙_}
 use mathlib.Core.Bool.{Bool, true, false}
 use mathlib.Core.List.{List}
@@ -17,12 +17,14 @@ use Rattle.notice.specs.declared.Notice.{Notice}
 use Rattle.notice.specs.declared.Reading.the-variants as reading
 use Rattle.notice.specs.declared.Found.{Found}
 use Rattle.notice.specs.declared.Found.the-variants as found
-use Rattle.notice.specs.Fields.{table, sizeOf, isCarried, isKnown, startOf, lengthOf, rows}
+use Rattle.notice.specs.Fields.{sizeOf, isCarried, isKnown, startOf, lengthOf, rows}
 use Rattle.notice.specs.Numbers.{numberAt}
-use Rattle.notice.specs.Decode.{headStands, rowStands, standsTo, valueAt, kindIn, noticeIn, kindAt, isWhole}
+use Rattle.notice.specs.Encode.{kindOf, valuesIn}
+use Rattle.notice.specs.Decode.{headStands, rowStands, standsTo, valueAt, noticeIn, kindAt, isWhole}
 use Rattle.notice.specs.Decode.{readAt, readOf}
 use Rattle.rules.proofs.Tests.{both-l}
-use Rattle.notice.proofs.Table.{by-kind, value-inside}
+use Rattle.notice.proofs.Table.{value-inside}
+use Rattle.notice.proofs.Made.{Shows, notice-back, kind-same, values-same}
 use Rattle.notice.proofs.There.{there, inside}
 
 -- the m bytes from p on in bs are those from q on in cs
@@ -72,36 +74,15 @@ module _ (bs cs : List ℕ) (p q k : ℕ) (same : Agree bs p cs q (lengthOf k)) 
       go true c = head-alike i (omega arith) c
       go false c = refl
 
-kind-alike : (bs cs : List ℕ) (p q k : ℕ) → isKnown k ≡ true → Agree bs p cs q (lengthOf k)
-    → kindIn bs p k ≡ kindIn cs q k
-unfolding kindIn table
-kind-alike bs cs p q =
-    by-kind (λ (k : ℕ). Agree bs p cs q (lengthOf k) → kindIn bs p k ≡ kindIn cs q k)
-    (λ h.
-    let v = value-alike bs cs p q 1 h in
-    rw (v 4 (omega arith) refl, v 5 (omega arith) refl, v 6 (omega arith) refl, v 7 (omega arith) refl))
-    (λ h. rw (value-alike bs cs p q 2 h 7 (omega arith) refl))
-    (λ h. refl)
-
--- the rows that every kind carries
-abbrev Common : ℕ → Type 0
-Common k = (isCarried k 1 ≡ true) × ((isCarried k 2 ≡ true) × (isCarried k 3 ≡ true))
-
-common : (k : ℕ) → isKnown k ≡ true → Common k
-unfolding table
-common = by-kind Common (refl, (refl, refl)) (refl, (refl, refl)) (refl, (refl, refl))
-
-notice-alike : (bs cs : List ℕ) (p q k : ℕ) → isKnown k ≡ true → Agree bs p cs q (lengthOf k)
+-- the rows at p have the values of the notice at q, so they make it
+notice-alike : (bs cs : List ℕ) (p q k : ℕ) → isKnown k ≡ true → kindAt cs q ≡ k → Agree bs p cs q (lengthOf k)
     → noticeIn bs p k ≡ noticeIn cs q k
-unfolding noticeIn
-notice-alike bs cs p q k known h =
-    let c = common k known in
-    rw (
-      value-alike bs cs p q k h 1 (omega arith) (c .0),
-      value-alike bs cs p q k h 2 (omega arith) (c .1 .0),
-      value-alike bs cs p q k h 3 (omega arith) (c .1 .1),
-      kind-alike bs cs p q k known h,
-    )
+notice-alike bs cs p q k known at h =
+    let m = noticeIn cs q k in
+    let same : kindOf (m .kind) ≡ k = kind-same cs q k known in
+    let shows : Shows bs p k (valuesIn m) =
+    λ i row c. value-alike bs cs p q k h i row c ∙ values-same cs q k known at i row c in
+    notice-back bs p k m same shows
 
 -- ---- a place of a log
 
@@ -125,7 +106,7 @@ module _ (bs cs : List ℕ) (p q : ℕ) (a : Alike bs p cs q) where
   same-notice : isWhole bs p ≡ true → noticeIn bs p (kindAt bs p) ≡ noticeIn cs q (kindAt cs q)
   same-notice w =
       let known = both-l _ _ w in
-      notice-alike bs cs p q (kindAt bs p) known (a .bytes known) ∙ ap (noticeIn cs q) (a .kind)
+      notice-alike bs cs p q (kindAt bs p) known (sym (a .kind)) (a .bytes known) ∙ ap (noticeIn cs q) (a .kind)
 
 -- what is found, d bytes further on
 abbrev pub further : ℕ → Found → Found

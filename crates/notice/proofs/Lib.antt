@@ -7,6 +7,7 @@ pub mod Digits
 pub mod Each
 pub mod Has
 pub mod Held
+pub mod Made
 pub mod Part
 pub mod ReadBack
 pub mod Refused

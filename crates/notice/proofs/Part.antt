@@ -38,10 +38,10 @@ module _ (before bs : List ℕ) (p : ℕ) where
       (record {
         kind = at 3 (omega arith);
         room = λ known.
-            let short = longest-kind (kindAt bs p) known in
+            let short = longest-kind (kindAt bs p) in
             same-order (p + lengthOf (kindAt bs p)) (length bs) (length before + p + lengthOf (kindAt bs p)) (length cs)
             (λ h. omega arith) (λ h. omega arith);
-        bytes = λ known j lt. at j (omega (arith, lt, longest-kind (kindAt bs p) known));
+        bytes = λ known j lt. at j (omega (arith, lt, longest-kind (kindAt bs p)));
       })
       (same-order (length bs) p (length cs) (length before + p) (λ h. omega arith) (λ h. omega arith))
 

@@ -1,5 +1,5 @@
 -- What reads as a notice writes back as the same bytes, so no two strings of bytes read as one notice.
--- Rests on the field table's laws, on bytes at a place, and on the cases of a reading.
+-- Rests on the notice that rows make having their values, on bytes at a place, and on the cases of a reading.
 use mathlib.Core.Path.{_≡_, refl, sym, ap, subst, _∙_}
 use mathlib.Core.Bool.{Bool, true, false}
 use mathlib.Core.List.{List, [], _∷_, _++_}
@@ -15,21 +15,19 @@ use Rattle.notice.specs.declared.Notice.{Notice}
 use Rattle.notice.specs.declared.Reading.the-variants as reading
 use Rattle.notice.specs.declared.Found.{Found}
 use Rattle.notice.specs.declared.Found.the-variants as found
-use Rattle.notice.specs.Fields.{table, tagOf, sizeOf, isCarried, isKnown, startOf, lengthOf, rows}
+use Rattle.notice.specs.Fields.{tagOf, sizeOf, isCarried, isKnown, startOf, lengthOf, rows}
 use Rattle.notice.specs.Numbers.{bigEndian, numberAt}
 use Rattle.notice.specs.Encode.{kindOf, valuesIn, fieldBytes, rowBytes, bytesTo, bytesOf}
-use Rattle.notice.specs.Decode.{headStands, rowStands, standsTo, valueAt, kindIn, noticeIn, kindAt, readAt}
+use Rattle.notice.specs.Decode.{headStands, rowStands, standsTo, valueAt, noticeIn, kindAt, readAt}
 use Rattle.notice.specs.Decode.{readOf}
 use Rattle.notice.specs.Log.{Bytes}
 use Rattle.rules.proofs.Tests.{both-l, both-r}
-use Rattle.notice.proofs.Table.{by-kind}
+use Rattle.notice.proofs.Made.{Shows, kind-same, values-same}
 use Rattle.notice.proofs.There.{there}
 use Rattle.notice.proofs.Alike.{by-itself}
-use Rattle.notice.proofs.Each.{each, false-true}
 use Rattle.notice.proofs.Bytes.{length-big, length-bytes, length-notice}
 use Rattle.notice.proofs.Has.{Has, has-both, has-part, bytes-back}
 use Rattle.notice.proofs.Cases.{only, alone}
-use Rattle.notice.proofs.RoundTrip.{first-value}
 
 -- ---- one field
 
@@ -55,7 +53,7 @@ field-stands bs small at i stands =
 -- ---- all rows of a kind
 
 module _ (bs : List ℕ) (small : Bytes bs) (p k : ℕ) (vs : List ℕ)
-    (same : (i : ℕ) → i < rows → isCarried k i ≡ true → getD vs i 0 ≡ valueAt bs p k i) where
+    (same : Shows bs p k vs) where
   rows-stand : (i : ℕ) → i ≤ rows → standsTo bs p k i ≡ true → Has bs p (bytesTo k vs i)
   unfolding standsTo rowStands bytesTo rowBytes valueAt
   rows-stand zero h s = λ j lt. absurd (omega arith)
@@ -66,44 +64,8 @@ module _ (bs : List ℕ) (small : Bytes bs) (p k : ℕ) (vs : List ℕ)
     where
       go : (b : Bool) → isCarried k i ≡ b → pick b (headStands bs (p + startOf k i) i) true ≡ true
           → Has bs (p + startOf k i) (pick b (fieldBytes i (getD vs i 0)) [])
-      go true c t = rw (same i h c) (field-stands bs small (p + startOf k i) i t)
+      go true c t = rw (← same i h c) (field-stands bs small (p + startOf k i) i t)
       go false c t = λ j lt. absurd (omega arith)
-
--- ---- the kind and the notice
-
--- the notice that is made of a kind's values has those values
-kind-same : (bs : List ℕ) (p k : ℕ) → isKnown k ≡ true → kindOf (noticeIn bs p k .kind) ≡ k
-unfolding noticeIn kindIn
-kind-same bs p = by-kind (λ (k : ℕ). kindOf (noticeIn bs p k .kind) ≡ k) refl refl refl
-
-module _ (bs : List ℕ) (p : ℕ) where
-  -- kind k's own data, rows 4 to 7
-  abbrev Same : ℕ → ℕ → Type 0
-  Same k i = isCarried k i ≡ true → getD (valuesIn (noticeIn bs p k)) i 0 ≡ valueAt bs p k i
-
-  data-same : (k : ℕ) → isKnown k ≡ true → Same k 4 × (Same k 5 × (Same k 6 × Same k 7))
-  unfolding table noticeIn kindIn
-  data-same =
-      by-kind (λ (k : ℕ). Same k 4 × (Same k 5 × (Same k 6 × Same k 7)))
-      ((λ _. refl), ((λ _. refl), ((λ _. refl), (λ _. refl))))
-      (false-true, (false-true, (false-true, (λ _. refl))))
-      (false-true, (false-true, (false-true, false-true)))
-
-  values-same : (k : ℕ) → isKnown k ≡ true → kindAt bs p ≡ k → (i : ℕ) → i < rows → Same k i
-  unfolding noticeIn
-  values-same k known at =
-      let d = data-same k known in
-      each (Same k) 8
-      ((
-        (
-          (
-            (((((tt, λ _. kind-same bs p k known ∙ (sym at ∙ sym (first-value bs p k))), λ _. refl), λ _. refl), λ _. refl), d .0),
-            d .1 .0,
-          ),
-          d .1 .1 .0,
-        ),
-        d .1 .1 .1,
-      ))
 
 -- ---- the theorems
 

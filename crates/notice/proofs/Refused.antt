@@ -1,9 +1,9 @@
 -- Bad input gets 11 and nothing else: each way in which bytes can fail to be a notice.
 -- Rests on the cases of a reading and on the field table.
-use mathlib.Core.Path.{_≡_, refl, sym, _∙_}
+use mathlib.Core.Path.{_≡_, refl, sym, ap, _∙_}
 use mathlib.Core.Bool.{Bool, true, false}
 use mathlib.Core.List.{List, [], _∷_, _++_}
-use Prim.Native.Nat.{ℕ, zero, suc, _+_, _-_, _<_}
+use Prim.Native.Nat.{ℕ, zero, suc, _+_, _-_, _≤_, _<_}
 use native.Mathlib.Nat.{zero-add, add-suc}
 use native.Mathlib.Omega.{arith}
 use lib.Dec.{eqb}
@@ -13,17 +13,18 @@ use borrow.Author.Tests.{ne-eqb}
 use Rattle.rules.specs.Limits.{both}
 use Rattle.notice.specs.declared.Notice.{Notice}
 use Rattle.notice.specs.declared.Reading.the-variants as reading
+use Rattle.notice.specs.declared.Found.{Found}
 use Rattle.notice.specs.declared.Found.the-variants as found
-use Rattle.notice.specs.Fields.{table, tagOf, sizeOf, isCarried, isKnown, startOf, lengthOf, rows}
+use Rattle.notice.specs.Fields.{openKind, table, tagOf, sizeOf, isCarried, startOf, lengthOf, rows}
 use Rattle.notice.specs.Numbers.{numberAt}
 use Rattle.notice.specs.Encode.{kindOf, bytesOf}
-use Rattle.notice.specs.Decode.{headStands, rowStands, standsTo, kindAt, isWhole, readAt, readOf}
+use Rattle.notice.specs.Decode.{headStands, rowStands, standsTo, kindAt, isWhole, readAt, placeAfter, readOf}
 use Rattle.notice.specs.Log.{FitsFields}
 use Rattle.notice.proofs.Bytes.{length-notice}
 use Rattle.notice.proofs.Each.{by-order}
 use Rattle.notice.proofs.Cases.{at-none, no-kind, no-rows, no-room, unknown}
 use Rattle.notice.proofs.RoundTrip.{kind-at, past-kind}
-use Rattle.notice.proofs.Table.{by-kind}
+use Rattle.notice.proofs.Table.{lastKind, no-kind-of}
 
 -- ---- from the tests to the answer
 
@@ -38,13 +39,9 @@ refused bs w = simp w
 
 -- ---- each way to fail, at any place
 
-pub unknown-kind : (bs : List ℕ) (p : ℕ) → (kindAt bs p ≡ 1 → ⊥) → (kindAt bs p ≡ 2 → ⊥) → (kindAt bs p ≡ 3 → ⊥)
-    → isWhole bs p ≡ false
-unknown-kind bs p a b c = unknown bs p (go (isKnown (kindAt bs p)) refl)
-  where
-    go : (t : Bool) → isKnown (kindAt bs p) ≡ t → isKnown (kindAt bs p) ≡ false
-    go true e = absurd (by-kind (λ (k : ℕ). kindAt bs p ≡ k → ⊥) a b c (kindAt bs p) e refl)
-    go false e = e
+-- a number that is no kind's
+pub unknown-kind : (bs : List ℕ) (p : ℕ) → (openKind ≤ kindAt bs p → kindAt bs p ≤ lastKind → ⊥) → isWhole bs p ≡ false
+unknown-kind bs p out = unknown bs p (no-kind-of (kindAt bs p) out)
 
 never : (a : Bool) → both a false ≡ false
 never true = refl
@@ -82,11 +79,25 @@ module _ (bs : List ℕ) (p i : ℕ) (row : i < rows) (has : isCarried (kindAt b
 pub cut : (bs : List ℕ) (p : ℕ) → length bs < p + lengthOf (kindAt bs p) → isWhole bs p ≡ false
 cut = no-room
 
+-- ---- kinds of a later release
+
+-- where a kind with a number after the last stands, a log answers 11 and is read no further
+pub later-kind : (bs : List ℕ) (p : ℕ) → p < length bs → lastKind < kindAt bs p
+    → (readAt bs p ≡ found.Malformed) × (placeAfter (readAt bs p) p ≡ p)
+later-kind bs p there late =
+    let is : readAt bs p ≡ found.Malformed =
+    refused-at bs p there (unknown-kind bs p (λ low high. absurd (omega arith))) in
+    (is, ap (λ (f : Found). placeAfter f p) is)
+
 -- ---- for a reading of all
 
 pub empty : readOf [] ≡ reading.Malformed
 unfolding table
 empty = refused [] (no-kind [] 0 (omega arith))
+
+-- a kind of a later release
+pub later-alone : (bs : List ℕ) → lastKind < kindAt bs 0 → readOf bs ≡ reading.Malformed
+later-alone bs late = refused bs (unknown-kind bs 0 (λ low high. absurd (omega arith)))
 
 -- fewer or more bytes than the kind says
 pub wrong-length : (bs : List ℕ) → (lengthOf (kindAt bs 0) ≡ length bs → ⊥) → readOf bs ≡ reading.Malformed

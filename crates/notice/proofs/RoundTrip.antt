@@ -1,5 +1,5 @@
 -- What is written reads back as the same notice, wherever its bytes stand.
--- Rests on the field table's laws, on bytes at a place, and on the cases of a reading.
+-- Rests on the field table's laws, on rows making a notice, on bytes at a place, and on the cases of a reading.
 use mathlib.Core.Path.{_≡_, refl, sym, ap, _∙_}
 use mathlib.Core.Bool.{Bool, true, false}
 use mathlib.Core.List.{List, [], _∷_, _++_, append-nil, append-assoc}
@@ -10,17 +10,16 @@ use lib.ListN.{length, getD, length-append}
 use borrow.Author.Tests.{eq-eqb}
 use Rattle.rules.specs.Refusals.{pick}
 use Rattle.notice.specs.declared.Notice.{Notice}
-use Rattle.notice.specs.declared.Kind.{Kind}
-use Rattle.notice.specs.declared.Kind.the-variants.{Open, Change, Close}
 use Rattle.notice.specs.declared.Reading.the-variants as reading
 use Rattle.notice.specs.declared.Found.the-variants as found
-use Rattle.notice.specs.Fields.{table, tagOf, sizeOf, isCarried, isKnown, startOf, lengthOf, rows}
+use Rattle.notice.specs.Fields.{table, tagOf, sizeOf, isCarried, startOf, lengthOf, rows}
 use Rattle.notice.specs.Numbers.{bigEndian, numberAt}
-use Rattle.notice.specs.Encode.{kindOf, dataIn, valuesIn, fieldBytes, rowBytes, bytesTo, bytesOf}
-use Rattle.notice.specs.Decode.{headStands, rowStands, standsTo, valueAt, kindIn, noticeIn, kindAt, isWhole}
+use Rattle.notice.specs.Encode.{kindOf, valuesIn, fieldBytes, rowBytes, bytesTo, bytesOf}
+use Rattle.notice.specs.Decode.{headStands, rowStands, standsTo, valueAt, kindAt, isWhole}
 use Rattle.notice.specs.Decode.{readAt, readOf}
 use Rattle.notice.specs.Log.{FitsFields, AllFit, none, more, logOf, Gives, ends, next}
 use Rattle.notice.proofs.Table.{sound, value-inside}
+use Rattle.notice.proofs.Made.{Shows, kind-known, first-value, notice-back}
 use Rattle.notice.proofs.Bytes.{length-big, length-bytes, length-notice}
 use Rattle.notice.proofs.Has.{Has, has-left, has-right, has-middle, number-back}
 use Rattle.notice.proofs.Cases.{at-end, at-whole, whole, only, alone}
@@ -82,55 +81,19 @@ module _ (bs : List ℕ) (p k : ℕ) (vs : List ℕ) where
 
 -- ---- the kind and the notice
 
--- every kind is known, and its number is the value of the first field
-pub kind-known : (d : Kind) → isKnown (kindOf d) ≡ true
-unfolding table
-kind-known (Open l a k n) = refl
-kind-known (Change n) = refl
-kind-known Close = refl
-
--- so a notice goes on past the place of its kind
+-- a notice goes on past the place of its kind
 pub past-kind : (n : Notice) → 3 < length (bytesOf n)
 unfolding table
 past-kind n = omega (arith, length-notice n, value-inside (kindOf (n .kind)) 0 (omega arith) (kind-known (n .kind)))
 
-pub first-value : (bs : List ℕ) (p k : ℕ) → valueAt bs p k 0 ≡ kindAt bs p
-unfolding valueAt numberAt startOf table
-first-value bs p k =
-    let e : p + 0 + 3 + 0 ≡ p + 3 = omega arith in
-    rw e (omega arith)
-
--- the data of a kind comes back from the values of its rows
-kind-back : (bs : List ℕ) (p : ℕ) (d : Kind) (s t u : ℕ)
-    → ((i : ℕ) → i < rows → isCarried (kindOf d) i ≡ true
-    → valueAt bs p (kindOf d) i ≡ getD (kindOf d ∷ s ∷ t ∷ u ∷ dataIn d) i 0)
-    → kindIn bs p (kindOf d) ≡ d
-unfolding kindIn table
-kind-back bs p (Open l a k n) s t u v =
-    simp (v 4 (omega arith) refl, v 5 (omega arith) refl, v 6 (omega arith) refl, v 7 (omega arith) refl)
-kind-back bs p (Change n) s t u v = simp (v 7 (omega arith) refl)
-kind-back bs p Close s t u v = refl
-
 module _ (bs : List ℕ) (p : ℕ) (n : Notice) (fits : FitsFields n) (has : Has bs p (bytesOf n))
     (room : p + length (bytesOf n) ≤ length bs) where
-  value : (i : ℕ) → i < rows → isCarried (kindOf (n .kind)) i ≡ true
-      → valueAt bs p (kindOf (n .kind)) i ≡ getD (valuesIn n) i 0
+  value : Shows bs p (kindOf (n .kind)) (valuesIn n)
   unfolding bytesOf
   value i h c = values-back bs p (kindOf (n .kind)) (valuesIn n) has i h c (fits i h c)
 
   pub kind-at : kindAt bs p ≡ kindOf (n .kind)
   kind-at = sym (first-value bs p (kindOf (n .kind))) ∙ value 0 (omega arith) (kind-known (n .kind))
-
-  notice-back : noticeIn bs p (kindOf (n .kind)) ≡ n
-  unfolding noticeIn table
-  notice-back =
-      let known = kind-known (n .kind) in
-      simp (
-        value 1 (omega arith) known,
-        value 2 (omega arith) known,
-        value 3 (omega arith) known,
-        kind-back bs p (n .kind) (n .sequence) (n .title) (n .time) value,
-      )
 
   stand-back : standsTo bs p (kindOf (n .kind)) rows ≡ true
   unfolding bytesOf
@@ -143,7 +106,7 @@ module _ (bs : List ℕ) (p : ℕ) (n : Notice) (fits : FitsFields n) (has : Has
       let known = kind-known (n .kind) in
       let some = value-inside (kindOf (n .kind)) 0 (omega arith) known in
       let all : isWhole bs p ≡ true = whole bs p (rw kind-at known) (rw kind-at long) (rw kind-at stand-back) in
-      sym (at-whole bs p (omega arith) all) ∙ rw (kind-at, notice-back, length-notice)
+      sym (at-whole bs p (omega arith) all) ∙ rw (kind-at, notice-back bs p (kindOf (n .kind)) n refl value, length-notice)
 
 -- alone, a notice's bytes read as that notice
 pub written-reads : (n : Notice) → FitsFields n → readOf (bytesOf n) ≡ reading.Whole n

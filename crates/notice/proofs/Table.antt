@@ -3,10 +3,10 @@
 use mathlib.Core.Path.{_≡_, refl, sym, _∙_}
 use mathlib.Core.Bool.{Bool, true, false}
 use mathlib.Core.List.{List, [], _∷_}
-use Prim.Native.Nat.{ℕ, zero, suc, _+_, _*_, _-_, _≤_, _<_, _^_, _/_}
+use Prim.Native.Nat.{ℕ, zero, suc, _+_, _*_, _-_, _≤_, _<_, _^_, _/_, _%_}
 use native.Mathlib.Nat.{le-of-suc-le-suc, not-suc-le-zero, div-eq-of-lt, lt-of-lt-of-le, add-suc, add-zero}
 use native.Mathlib.Omega.{arith}
-use lib.Dec.{leb, ltb}
+use lib.Dec.{eqb, leb, ltb}
 use lib.ListN.{length, getD}
 use lib.Pow.{pow-mono}
 use borrow.Author.Tests.{leb-true, ltb-true}
@@ -15,7 +15,7 @@ use Rattle.rules.specs.Refusals.{pick}
 use Rattle.rules.proofs.Tests.{both-l, both-r}
 use Rattle.notice.specs.declared.fields.Field.{Field}
 use Rattle.notice.specs.Fields.{table, rows, row, fieldOf, isCarried, isKnown, spanOf, startOf, lengthOf}
-use Rattle.notice.specs.Fields.{longestNotice}
+use Rattle.notice.specs.Fields.{openKind, changeKind, closeKind, holdKind, liftKind, longestNotice}
 use Rattle.notice.proofs.Each.{by-order, each, false-true}
 
 -- the test passes at every row of a list
@@ -49,22 +49,46 @@ sound i h =
       bits = ltb-true _ _ (both-r (ltb (fieldOf i .tag) 256) _ (both-r (leb (fieldOf i .size) 8) _ t));
     }
 
--- the table has no bit for a kind from 8 on
-pub no-bit : (k i : ℕ) → i < rows → 8 ≤ k → isCarried k i ≡ false
-no-bit k i h far =
-    let top : 256 ≤ 2 ^ k = pow-mono far in
-    let none : fieldOf i .kinds / 2 ^ k ≡ 0 = div-eq-of-lt (lt-of-lt-of-le (sound i h .bits) top) in
+-- ---- kinds
+
+-- a row whose bits lie below kind m is carried by no kind from m on
+beyond : (i m k : ℕ) → fieldOf i .kinds < 2 ^ m → m ≤ k → isCarried k i ≡ false
+beyond i m k below far =
+    let top : 2 ^ m ≤ 2 ^ k = pow-mono far in
+    let none : fieldOf i .kinds / 2 ^ k ≡ 0 = div-eq-of-lt (lt-of-lt-of-le below top) in
     rw none
 
--- a fact of each kind of the table is a fact of every kind that it knows: only eight could have a bit
-pub by-kind : (P : ℕ → Type 0) → P 1 → P 2 → P 3 → (k : ℕ) → isKnown k ≡ true → P k
+-- the table has no bit for a kind from 8 on
+pub no-bit : (k i : ℕ) → i < rows → 8 ≤ k → isCarried k i ≡ false
+no-bit k i h far = beyond i 8 k (sound i h .bits) far
+
+-- the kinds are numbered from open on; this is the last
+abbrev pub lastKind : ℕ
+lastKind = liftKind
+
+-- no other number is a kind's
+pub no-kind-of : (k : ℕ) → (openKind ≤ k → k ≤ lastKind → ⊥) → isKnown k ≡ false
 unfolding table
-by-kind P a b c k e =
+no-kind-of k out =
+    by-order k openKind
+    (λ none. let e : k ≡ 0 = omega arith in rw e)
+    (λ some. by-order lastKind k (λ far. beyond 0 (suc lastKind) k (omega arith) far) (λ le. absurd (out some le)))
+
+-- a fact of each kind, in the order of their numbers
+abbrev pub OfKinds : (ℕ → Type 0) → Type 0
+OfKinds P = P openKind × (P changeKind × (P closeKind × (P holdKind × P liftKind)))
+
+-- is a fact of every kind that the table knows: only eight could have a bit
+pub by-kind : (P : ℕ → Type 0) → OfKinds P → (k : ℕ) → isKnown k ≡ true → P k
+unfolding table
+by-kind P (a, (b, (c, (d, f)))) k e =
     by-order k 8
     (λ lt.
     each (λ (j : ℕ). isKnown j ≡ true → P j) 8
-    ((((((((tt, false-true), (λ _. a)), (λ _. b)), (λ _. c)), false-true), false-true), false-true), false-true) k lt e)
+    ((((((((tt, false-true), (λ _. a)), (λ _. b)), (λ _. c)), (λ _. d)), (λ _. f)), false-true), false-true) k lt e)
     (λ far. false-true (sym (no-bit k 0 (omega arith) far) ∙ e))
+
+-- ---- places
 
 pub span-small : (k i : ℕ) → i < rows → spanOf k i ≤ 11
 unfolding spanOf
@@ -97,7 +121,25 @@ pub value-inside : (k i : ℕ) → i < rows → isCarried k i ≡ true → start
 unfolding spanOf
 value-inside k i h has = rw has at (row-inside k i h)
 
--- no kind's notices are longer than an open
-pub longest-kind : (k : ℕ) → isKnown k ≡ true → lengthOf k ≤ longestNotice
-unfolding table startOf spanOf
-longest-kind = by-kind (λ (k : ℕ). lengthOf k ≤ longestNotice) (omega arith) (omega arith) (omega arith)
+-- an open carries the row
+opened : Field → Bool
+opened f = eqb (f .kinds / 2 ^ openKind % 2) 1
+
+-- it carries them all
+open-carries : (i : ℕ) → i < rows → isCarried openKind i ≡ true
+unfolding table opened every
+open-carries i h = at opened table refl i h
+
+-- so no row of any kind stands later than in an open, and no notice is longer
+start-most : (k i : ℕ) → i ≤ rows → startOf k i ≤ startOf openKind i
+unfolding startOf spanOf
+start-most k zero h = omega arith
+start-most k (suc i) h =
+    rw (open-carries i h) (omega (arith, start-most k i (omega arith), go (isCarried k i)))
+  where
+    go : (b : Bool) → pick b (3 + fieldOf i .size) 0 ≤ 3 + fieldOf i .size
+    go true = omega arith
+    go false = omega arith
+
+pub longest-kind : (k : ℕ) → lengthOf k ≤ longestNotice
+longest-kind k = start-most k rows (omega arith)

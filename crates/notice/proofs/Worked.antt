@@ -1,4 +1,4 @@
--- Worked numbers of 01, "Notices": the three lengths, case 12, and values outside the limits.
+-- Worked numbers of 01, "Notices", and of 02's request 7: each kind's length, case 12, and values outside the limits.
 -- Rests on the table and on the round trip.
 use mathlib.Core.Path.{_≡_, refl}
 use mathlib.Core.List.{[], _∷_}
@@ -8,16 +8,17 @@ use lib.ListN.{length}
 use Rattle.notice.specs.declared.Notice.{Notice}
 use Rattle.notice.specs.declared.Kind.the-variants.{Open, Change}
 use Rattle.notice.specs.declared.Reading.the-variants as reading
-use Rattle.notice.specs.Fields.{table, openKind, changeKind, closeKind, spanOf, startOf, lengthOf, longestNotice}
+use Rattle.notice.specs.Fields.{table, openKind, changeKind, closeKind, holdKind, liftKind, spanOf, startOf}
+use Rattle.notice.specs.Fields.{lengthOf, longestNotice}
 use Rattle.notice.specs.Numbers.{bigEndian}
 use Rattle.notice.specs.Encode.{kindOf, fieldBytes, rowBytes, bytesTo, bytesOf}
 use Rattle.notice.specs.Decode.{readOf}
-use Rattle.notice.proofs.RoundTrip.{written-reads, kind-known}
+use Rattle.notice.proofs.RoundTrip.{written-reads}
 use Rattle.notice.proofs.Table.{longest-kind}
 use Rattle.notice.proofs.Bytes.{length-notice}
 use Rattle.notice.proofs.Typed.{typed-fits}
 
--- the lengths of the three kinds
+-- the lengths of the kinds
 pub open-length : lengthOf openKind ≡ 45
 unfolding table startOf spanOf
 open-length = refl
@@ -29,6 +30,14 @@ change-length = refl
 pub close-length : lengthOf closeKind ≡ 26
 unfolding table startOf spanOf
 close-length = refl
+
+pub hold-length : lengthOf holdKind ≡ 26
+unfolding table startOf spanOf
+hold-length = refl
+
+pub lift-length : lengthOf liftKind ≡ 26
+unfolding table startOf spanOf
+lift-length = refl
 
 -- sequence 2, title 0, time 4, count 3
 pub case-12 : bytesOf (record { sequence = 2; title = 0; time = 4; kind = Change 3 })
@@ -53,4 +62,4 @@ outside-survive =
 
 -- no notice is longer than an open
 pub none-longer : (n : Notice) → length (bytesOf n) ≤ longestNotice
-none-longer n = rw length-notice (longest-kind (kindOf (n .kind)) (kind-known (n .kind)))
+none-longer n = rw length-notice (longest-kind (kindOf (n .kind)))

@@ -1,4 +1,4 @@
--- The bytes of a notice, field by field (01, "Notices").
+-- The bytes of a notice, field by field (01, "Notices"; hold and lift by 02, request 7).
 use Prim.Native.Nat.{ℕ, zero, suc}
 use mathlib.Core.Path.{_≡_}
 use mathlib.Core.Bool.{Bool}
@@ -8,20 +8,25 @@ use lib.ListN.{length, drop, getD}
 use Rattle.rules.specs.Refusals.{pick, firstHit, refuse, wrongRows}
 use Rattle.notice.specs.declared.Notice.{Notice}
 use Rattle.notice.specs.declared.Kind.{Kind}
-use Rattle.notice.specs.declared.Kind.the-variants.{Open, Change, Close}
-use Rattle.notice.specs.Fields.{openKind, changeKind, closeKind, tagOf, sizeOf, isCarried, rows}
+use Rattle.notice.specs.declared.Kind.the-variants.{Open, Change, Close, Hold, Lift}
+use Rattle.notice.specs.Fields.{openKind, changeKind, closeKind, holdKind, liftKind, tagOf, sizeOf, isCarried}
+use Rattle.notice.specs.Fields.{rows}
 use Rattle.notice.specs.Numbers.{bigEndian}
 
 abbrev pub kindOf : Kind → ℕ
 kindOf (Open d a k n) = openKind
 kindOf (Change n) = changeKind
 kindOf Close = closeKind
+kindOf Hold = holdKind
+kindOf Lift = liftKind
 
 -- length, floor, cap and count, 0 where the kind has none
 abbrev pub dataIn : Kind → List ℕ
 dataIn (Open d a k n) = d ∷ a ∷ k ∷ n ∷ []
 dataIn (Change n) = 0 ∷ 0 ∷ 0 ∷ n ∷ []
 dataIn Close = 0 ∷ 0 ∷ 0 ∷ 0 ∷ []
+dataIn Hold = 0 ∷ 0 ∷ 0 ∷ 0 ∷ []
+dataIn Lift = 0 ∷ 0 ∷ 0 ∷ 0 ∷ []
 
 -- what goes into each row of the table
 abbrev pub valuesIn : Notice → List ℕ

@@ -1,4 +1,5 @@
--- The field table (01, "Notices"), and what follows from it. A later kind is a bit in the rows that it carries.
+-- The field table (01, "Notices"; hold and lift by 02, request 7), and what follows from it. A later kind is a bit in
+-- the rows that it carries.
 use Prim.Native.Nat.{ℕ, zero, suc, _+_, _/_, _%_, _^_}
 use mathlib.Core.Bool.{Bool}
 use mathlib.Core.List.{List, [], _∷_}
@@ -17,12 +18,18 @@ changeKind = 2
 abbrev pub closeKind : ℕ
 closeKind = 3
 
+abbrev pub holdKind : ℕ
+holdKind = 4
+
+abbrev pub liftKind : ℕ
+liftKind = 5
+
 -- one row: the tag, the bytes of its value, and the sum of 2 ^ k over the kinds k that carry it
 abbrev pub row : ℕ → ℕ → ℕ → Field
 row t s ks = record { tag = t; size = s; kinds = ks }
 
 abbrev pub allKinds : ℕ
-allKinds = 2 ^ openKind + 2 ^ changeKind + 2 ^ closeKind
+allKinds = 2 ^ openKind + 2 ^ changeKind + 2 ^ closeKind + 2 ^ holdKind + 2 ^ liftKind
 
 -- kind, sequence, title id, time, length, floor, cap, count
 unfoldable pub table : List Field

@@ -1,6 +1,8 @@
 // From bytes to a notice: the heads of all fields that the kind carries, then their values.
 
 use super::CHANGE;
+use super::CLOSE;
+use super::HOLD;
 use super::Kind;
 use super::Notice;
 use super::OPEN;
@@ -95,7 +97,13 @@ fn kind_in(bytes: &[u8], place: usize, kind: u8) -> Kind
         let count = value(bytes, place, kind, COUNT) as u8;
         return Kind::Change { count };
     }
-    Kind::Close
+    if kind == CLOSE {
+        return Kind::Close;
+    }
+    if kind == HOLD {
+        return Kind::Hold;
+    }
+    Kind::Lift
 }
 
 // The notice whose fields stand from a place on.

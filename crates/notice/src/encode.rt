@@ -2,7 +2,9 @@
 
 use super::CHANGE;
 use super::CLOSE;
+use super::HOLD;
 use super::Kind;
+use super::LIFT;
 use super::Notice;
 use super::OPEN;
 use super::fields::HEAD;
@@ -44,6 +46,8 @@ pub fn values(n: Notice) -> [u64; ROWS]
         ],
         Kind::Change { count } => [CHANGE as u64, sequence, title, time, 0, 0, 0, count as u64],
         Kind::Close => [CLOSE as u64, sequence, title, time, 0, 0, 0, 0],
+        Kind::Hold => [HOLD as u64, sequence, title, time, 0, 0, 0, 0],
+        Kind::Lift => [LIFT as u64, sequence, title, time, 0, 0, 0, 0],
     }
 }
 

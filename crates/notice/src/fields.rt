@@ -34,46 +34,49 @@ pub const COUNT: usize = 7;
 // Tag and two bytes of length stand before each value.
 pub const HEAD: usize = 3;
 
+// The bits of the rows that every kind carries: one for each kind that there is.
+const ALL: u8 = 0b0011_1110;
+
 const FIELDS: [Field; ROWS] = [
     Field {
         tag: 1,
         size: 1,
-        kinds: 0b1110,
+        kinds: ALL,
     },
     Field {
         tag: 2,
         size: 4,
-        kinds: 0b1110,
+        kinds: ALL,
     },
     Field {
         tag: 3,
         size: 1,
-        kinds: 0b1110,
+        kinds: ALL,
     },
     Field {
         tag: 4,
         size: 8,
-        kinds: 0b1110,
+        kinds: ALL,
     },
     Field {
         tag: 5,
         size: 4,
-        kinds: 0b0010,
+        kinds: 0b0000_0010,
     },
     Field {
         tag: 6,
         size: 1,
-        kinds: 0b0010,
+        kinds: 0b0000_0010,
     },
     Field {
         tag: 7,
         size: 1,
-        kinds: 0b0010,
+        kinds: 0b0000_0010,
     },
     Field {
         tag: 8,
         size: 1,
-        kinds: 0b0110,
+        kinds: 0b0000_0110,
     },
 ];
 

@@ -1,5 +1,6 @@
-// The notices that carry the head-end's events to every box (01, "Notices"): one record in memory, its bytes, and a
-// reader of logs. Every record can be written, since each part has exactly the width of its field in the table.
+// The notices that carry the head-end's events to every box (01, "Notices"; hold and lift by 02, request 7): one record
+// in memory, its bytes, and a reader of logs. Every record can be written, since each part has exactly the width of its
+// field in the table.
 // No public function has a `requires`: any bytes and any place have an answer.
 
 use decode::notice_in;
@@ -40,6 +41,8 @@ pub enum Kind {
         count: u8,
     },
     Close,
+    Hold,
+    Lift,
 }
 
 // The kinds by their numbers.
@@ -48,6 +51,10 @@ pub const OPEN: u8 = 1;
 pub const CHANGE: u8 = 2;
 
 pub const CLOSE: u8 = 3;
+
+pub const HOLD: u8 = 4;
+
+pub const LIFT: u8 = 5;
 
 // The bytes of the longest notice, an open.
 pub const LONGEST: usize = 45;
@@ -64,6 +71,8 @@ pub fn kind_number(kind: Kind) -> u8
         } => OPEN,
         Kind::Change { count: _ } => CHANGE,
         Kind::Close => CLOSE,
+        Kind::Hold => HOLD,
+        Kind::Lift => LIFT,
     }
 }
 

@@ -1,5 +1,6 @@
 // Runs notices through the product's calls and prints what they answer, for the gate to compare: case 12 of 01 and its
-// neighbours of 29 and 31 bytes, a room that is too short, a log read to its end, and notices with one thing wrong.
+// neighbours of 29 and 31 bytes, a hold and a lift (02, request 7), a room that is too short, a log read to its end,
+// and notices with one thing wrong.
 
 use libc::STDOUT_FILENO;
 use notice::Found;
@@ -49,6 +50,69 @@ fn case_12() -> [u8; 31]
     ]
 }
 
+// A hold of sequence 5 and a lift of sequence 6, both of title 3, at 8 and at 12, as worked out by hand.
+fn hold_bytes() -> [u8; 26] {
+    [
+        1,
+        0,
+        1,
+        4,
+        2,
+        0,
+        4,
+        0,
+        0,
+        0,
+        5,
+        3,
+        0,
+        1,
+        3,
+        4,
+        0,
+        8,
+        0,
+        0,
+        0,
+        0,
+        0,
+        0,
+        0,
+        8,
+    ]
+}
+
+fn lift_bytes() -> [u8; 26] {
+    [
+        1,
+        0,
+        1,
+        5,
+        2,
+        0,
+        4,
+        0,
+        0,
+        0,
+        6,
+        3,
+        0,
+        1,
+        3,
+        4,
+        0,
+        8,
+        0,
+        0,
+        0,
+        0,
+        0,
+        0,
+        0,
+        12,
+    ]
+}
+
 // A call's answer starts a line, and each number after it has a space before it.
 fn print_answer(n: u8) {
     io::print_decimal(STDOUT_FILENO, n as u64);
@@ -80,10 +144,11 @@ fn wide(b: u8) -> u64 {
 
 // Sequence, kind, title and time, then what the kind carries.
 fn print_notice(n: Notice) {
-    print_number(n.sequence as u64);
-    let title = n.title;
-    let time = n.time;
     let kind = n.kind;
+    print_number(n.sequence as u64);
+    print_number(notice::kind_number(kind) as u64);
+    print_number(n.title as u64);
+    print_number(n.time);
     match kind {
         Kind::Open {
             length,
@@ -91,25 +156,15 @@ fn print_notice(n: Notice) {
             cap,
             count,
         } => {
-            print_number(1);
-            print_number(title as u64);
-            print_number(time);
             print_number(length as u64);
             print_number(floor as u64);
             print_number(cap as u64);
             print_number(count as u64);
         }
-        Kind::Change { count } => {
-            print_number(2);
-            print_number(title as u64);
-            print_number(time);
-            print_number(count as u64);
-        }
-        Kind::Close => {
-            print_number(3);
-            print_number(title as u64);
-            print_number(time);
-        }
+        Kind::Change { count } => print_number(count as u64),
+        Kind::Close => {}
+        Kind::Hold => {}
+        Kind::Lift => {}
     }
 }
 
@@ -169,6 +224,28 @@ fn written() {
     let mut short = [255u8; 29];
     print_answer(notice::write(n, &mut short));
     print_bytes(&short);
+}
+
+// A hold and a lift read from their bytes, whole and cut, and written again: the room's last byte stays.
+fn doors() {
+    let hold = hold_bytes();
+    print_first(&hold, 26);
+    print_first(&hold, 25);
+    print_first(&lift_bytes(), 26);
+    print_written(5, 8, Kind::Hold);
+    print_written(6, 12, Kind::Lift);
+}
+
+fn print_written(sequence: u32, time: u64, kind: Kind) {
+    let n = Notice {
+        sequence,
+        title: 3,
+        time,
+        kind,
+    };
+    let mut room = [255u8; 27];
+    print_answer(notice::write(n, &mut room));
+    print_bytes(&room);
 }
 
 // Case 12 with one byte changed.
@@ -240,8 +317,11 @@ fn print_log(bytes: &[u8]) {
 fn main() {
     neighbours();
     written();
-    // an unknown kind, another tag, a descending tag, and another length in either byte
+    doors();
+    // an unknown kind, a hold and a lift with a count, another tag, a descending tag, and another length in either byte
+    changed(3, 7);
     changed(3, 4);
+    changed(3, 5);
     changed(4, 9);
     changed(11, 1);
     changed(6, 5);

@@ -11,7 +11,7 @@ use Rattle.rules.specs.Limits.{both, askedMax, countPlaces}
 use Rattle.rules.specs.Refusals.{pick}
 use Rattle.rules.proofs.Search.{every-in}
 use Rattle.story.specs.declared.Title.{Title}
-use Rattle.story.specs.Kept.{absentMode, rowOk, titleOk, tickAt}
+use Rattle.story.specs.Kept.{absentMode, isShut, rowOk, titleOk, tickAt}
 use Rattle.story.specs.Next.{ended, dropLane, dropLanes, changedTitle}
 use Rattle.measures.specs.Film.{Film}
 use Rattle.measures.proofs.Within.{in-row, readable, count-fit, ends-ok, dropped-ok}
@@ -57,7 +57,14 @@ stored-row row n i v l ok =
     (λ j below. le-leb (getD (set row i v) j 0) askedMax (stored (λ x. x ≤ askedMax) row i j v 0 l (in-row row n j ok below)))
 
 pub ended-owing : (t : Title) (n : ℕ) → n ≤ askedMax → Owing t → Owing (ended t n)
-ended-owing t n l o = record { film = record { sized = o .film .sized; cut = o .film .cut }; ends = stored-row (t .ends) countPlaces (t .count) n l (o .ends) }
+ended-owing t n l o =
+    record {
+      film = record { sized = o .film .sized; cut = o .film .cut };
+      ends = elim (isShut t) as (λ b. rowOk (pick b (t .ends) (set (t .ends) (t .count) n)) countPlaces ≡ true) [
+        | true ↦ o .ends
+        | false ↦ stored-row (t .ends) countPlaces (t .count) n l (o .ends)
+      ];
+    }
 
 -- below the old count a lane is dropped or not by the new count alone
 pub drop-more : (t q : Title) (n k i : ℕ) → q ≡ dropLanes t n k i → i < t .count →

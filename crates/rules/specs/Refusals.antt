@@ -66,6 +66,10 @@ aboveCap = 14
 abbrev pub floorAboveCap : ℕ
 floorAboveCap = 15
 
+-- a held title is held, or one that isn't is lifted
+abbrev pub doorsUnchanged : ℕ
+doorsUnchanged = 17
+
 -- one of two values, by a test
 abbrev pub pick : {A : Type 0} → Bool → A → A → A
 pick true a b = a

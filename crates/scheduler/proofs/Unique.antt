@@ -13,6 +13,10 @@ use Rattle.scheduler.proofs.change.Kinds as change-kinds
 use Rattle.scheduler.proofs.change.Reads as change-call
 use Rattle.scheduler.proofs.close.Kinds as close-kinds
 use Rattle.scheduler.proofs.close.Reads as close-call
+use Rattle.scheduler.proofs.hold.Kinds as hold-kinds
+use Rattle.scheduler.proofs.hold.Reads as hold-call
+use Rattle.scheduler.proofs.lift.Kinds as lift-kinds
+use Rattle.scheduler.proofs.lift.Reads as lift-call
 use Rattle.scheduler.proofs.lane.Kinds as lane-kinds
 use Rattle.scheduler.proofs.lane.Reads as lane-call
 use Rattle.scheduler.proofs.held.Kinds as held-kinds
@@ -36,6 +40,12 @@ change-one-outcome κs a x y e f p q = both-told x y p q
 
 pub close-one-outcome : OneOutcome 0 close-kinds.ps close-kinds.r close-call.Learnt
 close-one-outcome κs a x y e f p q = both-told x y p q
+
+pub hold-one-outcome : OneOutcome 0 hold-kinds.ps hold-kinds.r hold-call.Learnt
+hold-one-outcome κs a x y e f p q = both-told x y p q
+
+pub lift-one-outcome : OneOutcome 0 lift-kinds.ps lift-kinds.r lift-call.Learnt
+lift-one-outcome κs a x y e f p q = both-told x y p q
 
 pub lane-one-outcome : OneOutcome 0 lane-kinds.ps lane-kinds.r lane-call.Learnt
 lane-one-outcome κs a x y e f p q =

@@ -6,6 +6,7 @@ use measures::slots::title_of;
 use measures::ticks::tick_at;
 use owed::dropping::changed_title;
 use owed::dropping::closed_title;
+use owed::dropping::doors_title;
 use owed::sending::shows;
 use rules::COUNT_PLACES;
 use rules::DONE;
@@ -17,21 +18,24 @@ use rules::POOL_MIN;
 use rules::TITLES_MAX;
 use rules::within;
 use story::ABSENT;
+use story::CLEAR;
 use story::OPEN;
 use story::State;
 use story::Title;
 use verdicts::events::change_verdict;
 use verdicts::events::close_verdict;
+use verdicts::events::doors_verdict;
 use verdicts::events::open_verdict;
 use verdicts::questions::asked_verdict;
 use verdicts::questions::lane_verdict;
 ghost use Prim.Native.Nat.{ℕ, _≤_, _<_};
 ghost use mathlib.Core.Path.{_≡_};
+ghost use mathlib.Core.Bool.{true, false};
 ghost use lib.Dec.{eqb};
 ghost use Rattle.rules.specs.Limits.{idMax};
 ghost use Rattle.rules.specs.Refusals.{pick};
 ghost use Rattle.story.specs.Kept.{titleAt};
-ghost use Rattle.story.specs.Next.{openedTitle, withTitle, openNext, changeNext, closeNext};
+ghost use Rattle.story.specs.Next.{openedTitle, withTitle, openNext, changeNext, closeNext, doorsNext};
 ghost use Rattle.story.specs.Calls.{
   blankTitle,
   emptyPool,
@@ -41,6 +45,7 @@ ghost use Rattle.story.specs.Calls.{
   openAnswer,
   changeAnswer,
   closeAnswer,
+  doorsAnswer,
   laneAnswer,
   laneShows,
 };
@@ -82,6 +87,7 @@ fn blank_title() -> Title
         floor: 0,
         cap: 0,
         count: 0,
+        mark: CLEAR,
         last: 0,
         ends: [0; COUNT_PLACES],
         dropped: [0; LANE_PLACES],
@@ -142,6 +148,7 @@ fn opened_title(time: u64, length: u64, floor: u64, cap: u64, count: u64) -> Tit
         floor: floor,
         cap: cap,
         count: count,
+        mark: CLEAR,
         last: time,
         ends: [0; COUNT_PLACES],
         dropped: [0; LANE_PLACES],
@@ -217,6 +224,41 @@ pub fn close(s: State, id: u64, time: u64) -> Outcome
         answer: answer,
         state: s,
     }
+}
+
+// Holds the doors of a title or lifts them. It needs no lanes.
+fn doors(s: State, id: u64, time: u64, held: bool) -> Outcome
+    ensures { λ r. ⌜ r .answer ≡ doorsAnswer s id time held ⌝ }
+    ensures { λ r. ⌜ r .state ≡ pick (eqb (doorsAnswer s id time held) 0) (doorsNext s id time held) s ⌝ }
+{
+    let answer = doors_verdict(s, id, time, held);
+    if answer == DONE {
+        let next = with_title(s, id, doors_title(title_of(s, id), time, held), time);
+        return Outcome {
+            answer: DONE,
+            state: next,
+        };
+    }
+    Outcome {
+        answer: answer,
+        state: s,
+    }
+}
+
+// Holds the doors of a title: no box may begin from that moment on.
+pub fn hold(s: State, id: u64, time: u64) -> Outcome
+    ensures { λ r. ⌜ r .answer ≡ doorsAnswer s id time true ⌝ }
+    ensures { λ r. ⌜ r .state ≡ pick (eqb (doorsAnswer s id time true) 0) (doorsNext s id time true) s ⌝ }
+{
+    doors(s, id, time, true)
+}
+
+// Lifts the hold: boxes may begin again, at that very moment for the first.
+pub fn lift(s: State, id: u64, time: u64) -> Outcome
+    ensures { λ r. ⌜ r .answer ≡ doorsAnswer s id time false ⌝ }
+    ensures { λ r. ⌜ r .state ≡ pick (eqb (doorsAnswer s id time false) 0) (doorsNext s id time false) s ⌝ }
+{
+    doors(s, id, time, false)
 }
 
 // Which cell goes out on a lane of a title in the tick that holds a time.

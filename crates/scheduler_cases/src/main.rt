@@ -1,4 +1,4 @@
-// Runs 01's worked cases 5 to 9 through the calls, one where a lane owes to the boxes of an earlier count alone, and status. Each
+// Runs 01's worked cases 5 to 9 through the calls, two where a lane owes to the boxes of an earlier count alone, and status. Each
 // line has the case, the answers of its events, and what a lane shows at each time from one to another: a cell, or "r"
 // and the number of a refusal.
 
@@ -116,29 +116,53 @@ fn two_counts() {
     line();
 }
 
-// Count and lanes held of titles 0, 1 and 0 while a lane sends; then an id that is none, whose row stays as it was.
+// The doors are held at 7 and the count goes from 4 to 3 behind them: lane 1 then owes to the boxes of count 4 alone. A second hold, a
+// hold in a slot of count 3 and a lift of what is not held are refused.
+fn behind_doors() {
+    io::write_all(STDOUT, b"doors");
+    let s = opened(4);
+    let t = told(scheduler::hold(s, 0, 7));
+    let u = told(scheduler::hold(t, 0, 8));
+    let v = told(scheduler::change(u, 0, 8, 3));
+    let w = told(scheduler::lift(v, 0, 9));
+    let x = told(scheduler::close(w, 0, 12));
+    show_from(x, 1, 12, 15);
+    let y = told(scheduler::lift(x, 0, 13));
+    let z = told(scheduler::lift(s, 0, 8));
+    show_held(y, 12);
+    show_held(z, 0);
+    line();
+}
+
+// Count, lanes held and mark of a title.
+fn row(count: u64, held: u64, mark: u64) {
+    word(count);
+    word(held);
+    word(mark);
+}
+
+// Titles 0, 1 and 0 while a lane sends and the doors are held; then an id that is none, whose rows stay as they were.
 fn asked() {
     io::write_all(STDOUT, b"status");
     let s = opened(4);
     let t = told(scheduler::change(s, 0, 4, 3));
+    let u = told(scheduler::hold(t, 0, 6));
     let ids = [0u64, 1, 0];
     let mut counts = [9u64; 3];
     let mut held = [9u64; 3];
-    let answer = status::status(t, 5, &ids, &mut counts, &mut held);
+    let mut marks = [9u64; 3];
+    let answer = status::status(u, 6, &ids, &mut counts, &mut held, &mut marks);
     word(answer as u64);
-    word(counts[0]);
-    word(held[0]);
-    word(counts[1]);
-    word(held[1]);
-    word(counts[2]);
-    word(held[2]);
+    row(counts[0], held[0], marks[0]);
+    row(counts[1], held[1], marks[1]);
+    row(counts[2], held[2], marks[2]);
     let none = [16u64];
     let mut count = [9u64];
     let mut lanes = [9u64];
-    let refused = status::status(t, 5, &none, &mut count, &mut lanes);
+    let mut mark = [9u64];
+    let refused = status::status(u, 6, &none, &mut count, &mut lanes, &mut mark);
     word(refused as u64);
-    word(count[0]);
-    word(lanes[0]);
+    row(count[0], lanes[0], mark[0]);
     line();
 }
 
@@ -149,5 +173,6 @@ fn main() {
     case8();
     case9();
     two_counts();
+    behind_doors();
     asked();
 }

@@ -18,20 +18,26 @@ use Rattle.rules.proofs.Refusals.{hitsOf, numbered, cleared, behind-clear}
 use Rattle.verdicts.proofs.Asked.{asked-state, asked-others}
 use Rattle.status.specs.Rows.{idsOk}
 
-module _ (s : State) (τ : ℕ) (ids : List ℕ) (m h : ℕ) (none : statusAnswer s τ ids m h ≡ 0) where
-  rows : both (eqb m (length ids)) (eqb h (length ids)) ≡ true
+module _ (s : State) (τ : ℕ) (ids : List ℕ) (m h d : ℕ) (none : statusAnswer s τ ids m h d ≡ 0) where
+  rows : both (eqb m (length ids)) (both (eqb h (length ids)) (eqb d (length ids))) ≡ true
   unfolding statusAnswer hitsOf numbered
-  rows = not-false _ (cleared (statusRules s τ ids m h) refl none wrongRows)
+  rows = not-false _ (cleared (statusRules s τ ids m h d) refl none wrongRows)
 
   pub count-row : m ≡ length ids
-  count-row = eqb-true m (length ids) (both-l (eqb m (length ids)) (eqb h (length ids)) rows)
+  count-row = eqb-true m (length ids) (both-l (eqb m (length ids)) (both (eqb h (length ids)) (eqb d (length ids))) rows)
+
+  others : both (eqb h (length ids)) (eqb d (length ids)) ≡ true
+  others = both-r (eqb m (length ids)) (both (eqb h (length ids)) (eqb d (length ids))) rows
 
   pub held-row : h ≡ length ids
-  held-row = eqb-true h (length ids) (both-r (eqb m (length ids)) (eqb h (length ids)) rows)
+  held-row = eqb-true h (length ids) (both-l (eqb h (length ids)) (eqb d (length ids)) others)
+
+  pub mark-row : d ≡ length ids
+  mark-row = eqb-true d (length ids) (both-r (eqb h (length ids)) (eqb d (length ids)) others)
 
   rest : askedAnswer s τ (idsOk ids) ≡ 0
   unfolding statusAnswer askedAnswer idsOk numbered
-  rest = behind-clear wrongRows (statusRules s τ ids m h) refl none
+  rest = behind-clear wrongRows (statusRules s τ ids m h d) refl none
 
   pub rows-state : stateOk s ≡ true
   rows-state = asked-state s τ (idsOk ids) rest

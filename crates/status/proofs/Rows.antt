@@ -15,22 +15,23 @@ use Rattle.rules.specs.Refusals.{pick, firstHit}
 use Rattle.rules.specs.Search.{every}
 use Rattle.rules.proofs.Search.{below-suc, every-out}
 use Rattle.story.specs.declared.State.{State}
-use Rattle.story.specs.Calls.{statusAnswer, statusCount, statusHeld}
+use Rattle.story.specs.Calls.{statusAnswer, statusCount, statusHeld, statusMark}
 use Rattle.verdicts.specs.Asked.{askedAnswer}
 use Rattle.verdicts.proofs.Asked.{asked-state, asked-time, asked-others, asked-late}
 use Rattle.status.specs.declared.Record.{Record}
 use Rattle.status.specs.Records.{noRecord, recordIdsOk, recordsAnswer, filledRecord, recordFor}
 use Rattle.status.proofs.Filled.{every-place}
 
-pub one-row : (s : State) (τ : ℕ) (r : Record) (a : ℕ) (cs hs : List ℕ) → a ≡ statusAnswer s τ (r .id ∷ []) 1 1
+pub one-row : (s : State) (τ : ℕ) (r : Record) (a : ℕ) (cs hs ms : List ℕ) → a ≡ statusAnswer s τ (r .id ∷ []) 1 1 1
     → cs ≡ pick (eqb a 0) (map (λ i. statusCount s i) (r .id ∷ [])) (r .count ∷ [])
     → hs ≡ pick (eqb a 0) (map (λ i. statusHeld s i τ) (r .id ∷ [])) (r .held ∷ [])
-    → _≡_ {A = Record} (record { id = r .id; count = getD cs 0 0; held = getD hs 0 0 }) (recordFor s τ r)
+    → ms ≡ pick (eqb a 0) (map (λ i. statusMark s i) (r .id ∷ [])) (r .mark ∷ [])
+    → _≡_ {A = Record} (record { id = r .id; count = getD cs 0 0; held = getD hs 0 0; mark = getD ms 0 0 }) (recordFor s τ r)
 unfolding recordFor
-one-row s τ r a cs hs e c h = rw (c, h, ← e) (go (eqb a 0))
+one-row s τ r a cs hs ms e c h m = rw (c, h, m, ← e) (go (eqb a 0))
   where
     go : (b : Bool) →
-        _≡_ {A = Record} (record { id = r .id; count = getD (pick b (statusCount s (r .id) ∷ []) (r .count ∷ [])) 0 0; held = getD (pick b (statusHeld s (r .id) τ ∷ []) (r .held ∷ [])) 0 0 }) (pick b (filledRecord s τ r) r)
+        _≡_ {A = Record} (record { id = r .id; count = getD (pick b (statusCount s (r .id) ∷ []) (r .count ∷ [])) 0 0; held = getD (pick b (statusHeld s (r .id) τ ∷ []) (r .held ∷ [])) 0 0; mark = getD (pick b (statusMark s (r .id) ∷ []) (r .mark ∷ [])) 0 0 }) (pick b (filledRecord s τ r) r)
     go true = refl
     go false = refl
 
@@ -67,7 +68,7 @@ records-filled s τ xs ls none len each =
 
 -- the answer over records is the flat call's over their ids, in rows of one length
 pub flat-answer : (s : State) (τ : ℕ) (rows : List Record) →
-    recordsAnswer s τ rows ≡ statusAnswer s τ (map (λ r. r .id) rows) (length rows) (length rows)
+    recordsAnswer s τ rows ≡ statusAnswer s τ (map (λ r. r .id) rows) (length rows) (length rows) (length rows)
 unfolding recordsAnswer askedAnswer recordIdsOk statusAnswer firstHit
 flat-answer s τ rows =
     let rows-long : length (map (λ r. r .id) rows) ≡ length rows = length-map rows (λ r. r .id) in

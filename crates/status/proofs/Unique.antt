@@ -13,14 +13,14 @@ use Rattle.status.specs.Records.{recordsAnswer, filledRecord}
 use Rattle.status.proofs.status.Kinds as status-kinds
 use Rattle.status.proofs.status.Reads as status-call
 
--- the rows of counts and of lanes held, parameters 3 and 4, from 0
+-- the rows of counts, of lanes held and of marks, parameters 3 to 5, from 0
 pub status-one-outcome :
-    OneEnd 3 status-kinds.ps status-kinds.r
-    (λ κs e f. (now (e .1 .1 .1 .0) ≡ now (f .1 .1 .1 .0)) × (now (e .1 .1 .1 .1 .0) ≡ now (f .1 .1 .1 .1 .0)))
+    OneEnd 4 status-kinds.ps status-kinds.r
+    (λ κs e f. (now (e .1 .1 .1 .0) ≡ now (f .1 .1 .1 .0)) × ((now (e .1 .1 .1 .1 .0) ≡ now (f .1 .1 .1 .1 .0)) × (now (e .1 .1 .1 .1 .1 .0) ≡ now (f .1 .1 .1 .1 .1 .0))))
     status-call.Learnt
 status-one-outcome κs a x y e f p q =
     let same : x ≡ y = p .0 ∙ sym (q .0) in
-    (same, (rw same at (p .1 .0) ∙ sym (q .1 .0), rw same at (p .1 .1) ∙ sym (q .1 .1)))
+    (same, (rw same at (p .1 .0) ∙ sym (q .1 .0), (rw same at (p .1 .1 .0) ∙ sym (q .1 .1 .0), rw same at (p .1 .1 .1) ∙ sym (q .1 .1 .1))))
 
 -- what the contract of status over records admits: it is proved by a walk, and the checker reads no plain form off it
 abbrev Gives : State → ℕ → List Record → ℕ → List Record → Type 0

@@ -8,12 +8,12 @@ use Rattle.rules.specs.Limits.{idMax}
 use Rattle.rules.specs.Refusals.{pick}
 use Rattle.rules.specs.Search.{every}
 use Rattle.story.specs.declared.State.{State}
-use Rattle.story.specs.Calls.{statusAnswer, statusCount, statusHeld}
+use Rattle.story.specs.Calls.{statusAnswer, statusCount, statusHeld, statusMark}
 use Rattle.verdicts.specs.Asked.{askedAnswer}
 use Rattle.status.specs.declared.Record.{Record}
 
 abbrev pub noRecord : Record
-noRecord = record { id = 0; count = 0; held = 0 }
+noRecord = record { id = 0; count = 0; held = 0; mark = 0 }
 
 -- the first n records have ids
 unfoldable pub recordIdsOk : List Record → ℕ → Bool
@@ -22,10 +22,11 @@ recordIdsOk rows n = every (λ j. leb (getD rows j noRecord .id) idMax) n
 unfoldable pub recordsAnswer : State → ℕ → List Record → ℕ
 recordsAnswer s τ rows = askedAnswer s τ (recordIdsOk rows (length rows))
 
--- a record with its title's count and lanes held
+-- a record with its title's count, lanes held and mark
 abbrev pub filledRecord : State → ℕ → Record → Record
-filledRecord s τ r = record { id = r .id; count = statusCount s (r .id); held = statusHeld s (r .id) τ }
+filledRecord s τ r =
+    record { id = r .id; count = statusCount s (r .id); held = statusHeld s (r .id) τ; mark = statusMark s (r .id) }
 
 -- what the flat call makes of a record
 unfoldable pub recordFor : State → ℕ → Record → Record
-recordFor s τ r = pick (eqb (statusAnswer s τ (r .id ∷ []) 1 1) 0) (filledRecord s τ r) r
+recordFor s τ r = pick (eqb (statusAnswer s τ (r .id ∷ []) 1 1 1) 0) (filledRecord s τ r) r

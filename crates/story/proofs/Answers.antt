@@ -12,37 +12,41 @@ use borrow.Author.Tests.{ltb-true, ltb-false, leb-true, eqb-true, eqb-false, not
 use Rattle.rules.specs.Limits.{both, either, within, idMax, eventTimeMax, lengthMin, lengthMax, floorMin, floorMax}
 use Rattle.rules.specs.Limits.{countMin, countMax}
 use Rattle.rules.specs.Refusals.{Rule, refuse, firstHit, outsideLimits, tooEarly, notThere, idTaken, isClosing}
-use Rattle.rules.specs.Refusals.{floorAboveCap, belowFloor, aboveCap, unchanged, secondEvent, notAtSlot, noLanes}
+use Rattle.rules.specs.Refusals.{floorAboveCap, belowFloor, aboveCap, unchanged, doorsUnchanged, secondEvent, notAtSlot}
+use Rattle.rules.specs.Refusals.{pick, noLanes}
 use Rattle.rules.proofs.Tests.{decide, both-l, both-r}
 use Rattle.rules.proofs.Refusals.{hitsOf, numbered, cleared, hit-same}
 use Rattle.grid.specs.Ticks.{tickOf, isSlotStart}
 use Rattle.story.specs.declared.Title.{Title}
 use Rattle.story.specs.declared.State.{State}
-use Rattle.story.specs.Kept.{openMode, closingMode, titleAt, stateOk, tickAt, atTickStart, lanesHeld, isThere}
+use Rattle.story.specs.Kept.{openMode, closingMode, clearMark, heldMark, isShut, titleAt, stateOk}
+use Rattle.story.specs.Kept.{tickAt, atTickStart, lanesHeld, isThere}
 use Rattle.story.specs.Next.{openedTitle, withTitle, openNext, changedTitle, changeNext, closedTitle, closeNext}
-use Rattle.story.specs.Next.{turnedTitle, callNext}
+use Rattle.story.specs.Next.{ended, turned, turnedTitle, doorsTitle, doorsNext, callNext}
 use Rattle.story.specs.Calls.{eventOk, tooMany, atSlotStart, testsIn, callAnswer}
-use Rattle.story.specs.Life.{Life}
-use Rattle.story.specs.Story.{Act, opens, changes, closes, Event, event, lifeAfter, lifeOf, latestOf, lastTime}
+use Rattle.story.specs.Life.{Life, Course}
+use Rattle.story.specs.Story.{Act, opens, changes, closes, doors, Event, event, lifeAfter, lifeOf, latestOf, lastTime}
 use Rattle.story.specs.Story.{tickIn, countIn, isSlotIn, isThereIn, withinLimits, openLimits, overfull, orderOf}
-use Rattle.story.specs.Story.{answerTo, turn}
+use Rattle.story.specs.Story.{isShutIn, answerTo, turn}
 use Rattle.story.proofs.Stored.{lifeIn}
-use Rattle.story.proofs.Kept.{Present}
-use Rattle.story.proofs.Turn.{Turning, turned-laid, turn-present, open-ruling}
+use Rattle.story.proofs.Kept.{Present, later}
+use Rattle.story.proofs.Turn.{Turning, turned-laid, turn-present, turn-before, turn-from, open-ruling}
+use Rattle.story.proofs.Rows.{drop-none}
 use Rattle.story.proofs.Passed.{within-low, within-high}
 use Rattle.story.proofs.Tells.{TellsTitle, absent, present, Tells, opened-present, count-told, there-told}
-use Rattle.story.proofs.Tells.{closing-told, lanes-told, told-with, blank-away}
+use Rattle.story.proofs.Tells.{fromStart, closing-told, doors-told, lanes-told, told-with, blank-away}
 
 -- ---- an open title, told from its life
 
--- a title that is open: the rule of its life, its count and its latest event
+-- a title that is open: the course of its life, its count, its doors and its latest event
 record Open (L : Life) (m : ℕ) (t : Title) (τ : ℕ) : Type 0 where
-  rule : ℕ → ℕ
-  life : L ≡ lifeIn t rule
+  course : Course
+  life : L ≡ lifeIn t course
   latest : m ≡ t .last
-  here : Present t rule
+  here : Present t course
   mode : t .mode ≡ openMode
   count : countIn L τ ≡ t .count
+  doors : isShutIn L τ ≡ isShut t
 
 open-title : (L : Life) (m : ℕ) (t : Title) (τ : ℕ) → TellsTitle L m t → m ≤ τ → isThere t τ ≡ true →
     eqb (t .mode) closingMode ≡ false → Open L m t τ
@@ -50,8 +54,15 @@ open-title L m t τ (absent e f g) le there off =
     absurd (false≢true (sym (blank-away τ) ∙ ap (λ x. isThere x τ) (sym g) ∙ there))
 open-title L m t τ (present r e f p) le there off =
     let o : t .mode ≡ openMode = ⊎-elim (λ x. x) (λ x. absurd (eqb-false (t .mode) closingMode off x)) (p .mode) in
-    record
-    { rule = r; life = e; latest = f; here = p; mode = o; count = count-told L m t τ (present r e f p) le ∙ open-ruling t o }
+    record {
+      course = r;
+      life = e;
+      latest = f;
+      here = p;
+      mode = o;
+      count = count-told L m t τ (present r e f p) le ∙ open-ruling t o;
+      doors = doors-told L m t τ (present r e f p) le there off;
+    }
 
 -- a slot start of an open title, told from its life
 slot-told : (L : Life) (m : ℕ) (t : Title) (τ k : ℕ) → Open L m t τ → atSlotStart t k τ ≡ isSlotIn L k τ
@@ -65,9 +76,29 @@ change-slot A c k p q = omega arith
 close-slot : (A c : ℕ) → max A (min c 0) ≡ A
 close-slot A c = omega arith
 
+doors-slot : (A c : ℕ) → A ≤ c → max A (min c c) ≡ c
+doors-slot A c p = omega arith
+
+-- the mark says how the doors stand
+marked : (b : Bool) → b ≡ eqb (pick b heldMark clearMark) heldMark
+marked true = refl
+marked false = refl
+
+mark-limit : (b : Bool) → pick b heldMark clearMark ≤ heldMark
+mark-limit true = omega arith
+mark-limit false = omega arith
+
 -- the life that a turned title tells has the title's own numbers
-life-turned : (t : Title) (τ q m c : ℕ) (r : ℕ → ℕ) → lifeIn (turnedTitle t τ q m c) r ≡ lifeIn t r
-life-turned t τ q m c r = ap (λ x. lifeIn x r) (turned-laid t τ q m c)
+life-turned : (t : Title) (τ q m c d : ℕ) (r : Course) → lifeIn (turnedTitle t τ q m c d) r ≡ lifeIn t r
+life-turned t τ q m c d r = ap (λ x. lifeIn x r) (turned-laid t τ q m c d)
+
+-- a hold and a lift are turns to as many lanes
+doors-turned : (t : Title) (τ : ℕ) (b : Bool) →
+    turnedTitle t τ (t .count) openMode (t .count) (pick b heldMark clearMark) ≡ doorsTitle t τ b
+unfolding doorsTitle
+doors-turned t τ b =
+    ap (λ x. turned x openMode (t .count) (pick b heldMark clearMark) τ)
+    (drop-none (ended t (tickAt t τ)) (tickAt t τ) (t .count) (t .count) (omega arith))
 
 -- ---- the answers, and the states after them
 
@@ -117,7 +148,7 @@ module _ (lanes : ℕ) (es : List Event) (s : State) (w : Tells lanes es s) wher
         let a : A-ok ≡ true = both-l A-ok (both K-ok k-ok) rest in
         let c : K-ok ≡ true = both-l K-ok k-ok (both-r A-ok (both K-ok k-ok) rest) in
         told-with lanes es s (event i τ (opens D A K k)) (openedTitle τ D A K k) w (omega arith) late limit
-        (present (λ t. k) refl refl
+        (present (fromStart k) refl refl
         (opened-present τ D A K k limit (within-low lengthMin lengthMax D d) (within-high lengthMin lengthMax D d) (within-low floorMin floorMax A a) (within-high floorMin floorMax A a) (within-high countMin countMax K c) (ltb-false k A low) (ltb-false K k high)))
 
     open-told : (D A K k : ℕ) →
@@ -142,15 +173,19 @@ module _ (lanes : ℕ) (es : List Event) (s : State) (w : Tells lanes es s) wher
         (λ t9. refl)))))))
 
     -- a turn of an open title
-    turn-next : (t : Title) (q m c : ℕ) (a : Act) → titleAt s i ≡ t → (o : Open (lifeOf es i) (latestOf es i) t τ) →
-        i ≤ idMax → τ ≤ eventTimeMax → lastTime es ≤ τ → Turning t (o .rule) τ q m c →
-        lifeAfter (lifeIn t (o .rule)) τ a ≡ lifeIn t (turn (o .rule) (tickAt t τ) q) →
-        Tells lanes (event i τ a ∷ es) (withTitle s i (turnedTitle t τ q m c) τ)
-    turn-next t q m c a e o id limit late turning same =
-        told-with lanes es s (event i τ a) (turnedTitle t τ q m c) w (omega arith) late limit
-        (present (turn (o .rule) (tickAt t τ) q)
-        (ap (λ L. lifeAfter L τ a) (o .life) ∙ same ∙ sym (life-turned t τ q m c (turn (o .rule) (tickAt t τ) q)))
-        refl (turn-present t (o .rule) τ q m c turning))
+    turn-next : (t : Title) (r : Course) (q m c d : ℕ) (a : Act) → (o : Open (lifeOf es i) (latestOf es i) t τ) →
+        i ≤ idMax → τ ≤ eventTimeMax → lastTime es ≤ τ → Turning t (o .course) r τ q m c d →
+        lifeAfter (lifeIn t (o .course)) τ a ≡ lifeIn t r →
+        Tells lanes (event i τ a ∷ es) (withTitle s i (turnedTitle t τ q m c d) τ)
+    turn-next t r q m c d a o id limit late turning same =
+        told-with lanes es s (event i τ a) (turnedTitle t τ q m c d) w (omega arith) late limit
+        (present r (ap (λ L. lifeAfter L τ a) (o .life) ∙ same ∙ sym (life-turned t τ q m c d r)) refl
+        (turn-present t (o .course) r τ q m c d turning))
+
+    -- how the doors stand from the latest event on
+    doors-since : (t : Title) (o : Open (lifeOf es i) (latestOf es i) t τ) → t .last < τ → (u : ℕ) → tickAt t τ ≤ u →
+        o .course .shut u ≡ isShut t
+    doors-since t o lt u le = o .here .doors (o .mode) u (omega (arith, later t (o .course) (o .here) τ (omega arith)))
 
     -- the tests of a slot start, a later moment and a new count, as facts
     later-out : (t : Title) → Open (lifeOf es i) (latestOf es i) t τ → lastTime es ≤ τ → eqb τ (t .last) ≡ false →
@@ -171,31 +206,36 @@ module _ (lanes : ℕ) (es : List Event) (s : State) (w : Tells lanes es s) wher
 
     change-next : (k : ℕ) (o : Open (lifeOf es i) (latestOf es i) (titleAt s i) τ) → i ≤ idMax → τ ≤ eventTimeMax →
         lastTime es ≤ τ → ltb k (titleAt s i .floor) ≡ false → ltb (titleAt s i .cap) k ≡ false →
-        eqb k (titleAt s i .count) ≡ false → eqb τ (titleAt s i .last) ≡ false →
+        eqb τ (titleAt s i .last) ≡ false →
         not (atSlotStart (titleAt s i) (min (titleAt s i .count) k) τ) ≡ false →
         Tells lanes (event i τ (changes k) ∷ es) (changeNext s i τ k)
     unfolding changedTitle tickIn tickAt
-    change-next k o id limit late t13 t14 t6 t7 t8 =
+    change-next k o id limit late t13 t14 t7 t8 =
         let t : Title = titleAt s i in
         let low : t .floor ≤ k = ltb-false k (t .floor) t13 in
         let high : k ≤ t .cap = ltb-false (t .cap) k t14 in
-        let other : k ≡ t .count → ⊥ = eqb-false k (t .count) t6 in
         let z = o .here .sized in
-        turn-next t k openMode k (changes k) refl o id limit late
+        let lt : t .last < τ = later-out t o late t7 in
+        let n : ℕ = tickAt t τ in
+        let r : Course = o .course in
+        turn-next t (record { rule = turn (r .rule) n k; shut = r .shut }) k openMode k (t .mark) (changes k) o id limit late
         (record {
           here = o .here;
           is-open = o .mode;
-          later = later-out t o late t7;
+          later = lt;
           limit = limit;
           on-tick = tick-out t (min (t .count) k) t8 .0;
-          new = λ e. other (sym e);
           low = λ p. low;
           high = high;
           at-slot = rw (change-slot (t .floor) (t .count) k (z .count-low) low) (tick-out t (min (t .count) k) t8 .1);
           mode = inl refl;
           count-low = low;
           count-high = high;
+          mark-high = z .mark-high;
           rules = refl;
+          before = λ u b. record { rule = turn-before (r .rule) n k u b; shut = refl };
+          from = λ u le. turn-from (r .rule) n k u le;
+          doors = λ e u le. doors-since t o lt u le;
         })
         refl
 
@@ -207,32 +247,70 @@ module _ (lanes : ℕ) (es : List Event) (s : State) (w : Tells lanes es s) wher
     close-next o id limit late t7 t8 =
         let t : Title = titleAt s i in
         let z = o .here .sized in
-        turn-next t 0 closingMode (t .count) closes refl o id limit late
+        let n : ℕ = tickAt t τ in
+        let r : Course = o .course in
+        turn-next t (record { rule = turn (r .rule) n 0; shut = r .shut }) 0 closingMode (t .count) clearMark closes o id limit late
         (record {
           here = o .here;
           is-open = o .mode;
           later = later-out t o late t7;
           limit = limit;
           on-tick = tick-out t (t .floor) t8 .0;
-          new = λ e. omega (arith, z .floor-low, z .count-low);
           low = λ p. absurd (omega arith);
           high = omega arith;
           at-slot = rw (close-slot (t .floor) (t .count)) (tick-out t (t .floor) t8 .1);
           mode = inr refl;
           count-low = z .count-low;
           count-high = z .count-high;
+          mark-high = omega arith;
           rules = refl;
+          before = λ u b. record { rule = turn-before (r .rule) n 0 u b; shut = refl };
+          from = λ u le. turn-from (r .rule) n 0 u le;
+          doors = λ e u le. absurd (omega (arith, e));
         })
         refl
 
-    -- the tests that a change and a close share: there, and not closing
+    doors-next : (b : Bool) (o : Open (lifeOf es i) (latestOf es i) (titleAt s i) τ) → i ≤ idMax → τ ≤ eventTimeMax →
+        lastTime es ≤ τ → eqb τ (titleAt s i .last) ≡ false →
+        not (atSlotStart (titleAt s i) (titleAt s i .count) τ) ≡ false →
+        Tells lanes (event i τ (doors b) ∷ es) (doorsNext s i τ b)
+    unfolding tickIn tickAt
+    doors-next b o id limit late t7 t8 =
+        let t : Title = titleAt s i in
+        let z = o .here .sized in
+        let lt : t .last < τ = later-out t o late t7 in
+        let n : ℕ = tickAt t τ in
+        let r : Course = o .course in
+        rw (← doors-turned t τ b)
+        (turn-next t (record { rule = r .rule; shut = turn (r .shut) n b }) (t .count) openMode (t .count) (pick b heldMark clearMark) (doors b) o id limit late
+        (record {
+          here = o .here;
+          is-open = o .mode;
+          later = lt;
+          limit = limit;
+          on-tick = tick-out t (t .count) t8 .0;
+          low = λ p. z .count-low;
+          high = z .count-high;
+          at-slot = rw (doors-slot (t .floor) (t .count) (z .count-low)) (tick-out t (t .count) t8 .1);
+          mode = inl refl;
+          count-low = z .count-low;
+          count-high = z .count-high;
+          mark-high = mark-limit b;
+          rules = refl;
+          before = λ u l. record { rule = refl; shut = turn-before (r .shut) n b u l };
+          from = λ u le. o .here .steady u (omega (arith, later t r (o .here) τ (omega arith))) ∙ open-ruling t (o .mode);
+          doors = λ e u le. turn-from (r .shut) n b u le ∙ marked b;
+        })
+        refl)
+
+    -- the tests that all but openings share: there, and not closing
     opened-told : i ≤ idMax → lastTime es ≤ τ → not (isThere (titleAt s i) τ) ≡ false →
         eqb (titleAt s i .mode) closingMode ≡ false → Open (lifeOf es i) (latestOf es i) (titleAt s i) τ
     opened-told id late t3 t5 =
         open-title (lifeOf es i) (latestOf es i) (titleAt s i) τ (w .title i (omega arith)) (seen late)
         (not-false (isThere (titleAt s i) τ) t3) t5
 
-    -- the rungs that a change and a close climb alike: in order, there, and not closing; behind them the title is open
+    -- the rungs that all but openings climb alike: in order, there, and not closing; behind them the title is open
     standing-told : (x y : Bool) (rs qs : List Rule) → x ≡ y → (x ≡ true → (i ≤ idMax) × (τ ≤ eventTimeMax)) →
         (i ≤ idMax → τ ≤ eventTimeMax → lastTime es ≤ τ → Open (lifeOf es i) (latestOf es i) (titleAt s i) τ → firstHit rs ≡ firstHit qs) →
         firstHit (refuse outsideLimits (not x) ∷ refuse tooEarly (ltb τ (s .last)) ∷ refuse notThere (not (isThere (titleAt s i) τ)) ∷ refuse isClosing (eqb (titleAt s i .mode) closingMode) ∷ rs)
@@ -269,7 +347,7 @@ module _ (lanes : ℕ) (es : List Event) (s : State) (w : Tells lanes es s) wher
         (rw (o .count) (ap not (slot-told (lifeOf es i) (latestOf es i) (titleAt s i) τ (min (titleAt s i .count) k) o)))
         (λ t8.
         hit-same noLanes _ _ _ _
-        (full-told (event i τ (changes k)) (changeNext s i τ k) (change-next k o id limit late t13 t14 t6 t7 t8))
+        (full-told (event i τ (changes k)) (changeNext s i τ k) (change-next k o id limit late t13 t14 t7 t8))
         (λ t9. refl)))))))
 
     close-told : callAnswer s i τ closes ≡ answerTo lanes es (event i τ closes) (lifeOf es i) closes
@@ -283,12 +361,27 @@ module _ (lanes : ℕ) (es : List Event) (s : State) (w : Tells lanes es s) wher
         (ap not (slot-told (lifeOf es i) (latestOf es i) (titleAt s i) τ (titleAt s i .floor) o) ∙ rw (ap (λ (L : Life). L .floor) (o .life)) refl)
         (λ t8. refl)))
 
+    doors-answered : (b : Bool) →
+        callAnswer s i τ (doors b) ≡ answerTo lanes es (event i τ (doors b)) (lifeOf es i) (doors b)
+    unfolding callAnswer answerTo
+    doors-answered b =
+        standing-told (eventOk s i τ) (withinLimits (event i τ (doors b))) _ _ (rw ok refl) event-out
+        (λ id limit late o.
+        hit-same doorsUnchanged _ _ _ _ (ap (λ x. pick b x (not x)) (sym (o .doors)))
+        (λ t17.
+        hit-same secondEvent _ _ _ _ (ap (λ x. eqb τ x) (sym (o .latest)))
+        (λ t7.
+        hit-same notAtSlot _ _ _ _
+        (rw (o .count) (ap not (slot-told (lifeOf es i) (latestOf es i) (titleAt s i) τ (titleAt s i .count) o)))
+        (λ t8. refl))))
+
   module _ (ok : stateOk s ≡ true) where
     -- every event is answered as the sequence says
     pub answer-told : (i τ : ℕ) (a : Act) → callAnswer s i τ a ≡ answerTo lanes es (event i τ a) (lifeOf es i) a
     answer-told i τ (opens D A K k) = open-told ok i τ D A K k
     answer-told i τ (changes k) = change-told ok i τ k
     answer-told i τ closes = close-told ok i τ
+    answer-told i τ (doors b) = doors-answered ok i τ b
 
     -- and an accepted one, which clears every refusal, leaves a state that tells the longer sequence
     clears : (i τ : ℕ) (a : Act) → callAnswer s i τ a ≡ 0 → (n : ℕ) → hitsOf n (orderOf a (testsIn s i τ a)) ≡ false
@@ -296,6 +389,7 @@ module _ (lanes : ℕ) (es : List Event) (s : State) (w : Tells lanes es s) wher
     clears i τ (opens D A K k) h = cleared (orderOf (opens D A K k) (testsIn s i τ (opens D A K k))) refl h
     clears i τ (changes k) h = cleared (orderOf (changes k) (testsIn s i τ (changes k))) refl h
     clears i τ closes h = cleared (orderOf closes (testsIn s i τ closes)) refl h
+    clears i τ (doors b) h = cleared (orderOf (doors b) (testsIn s i τ (doors b))) refl h
 
     pub next-told : (i τ : ℕ) (a : Act) → callAnswer s i τ a ≡ 0 → Tells lanes (event i τ a ∷ es) (callNext s i τ a)
     unfolding hitsOf
@@ -307,9 +401,14 @@ module _ (lanes : ℕ) (es : List Event) (s : State) (w : Tells lanes es s) wher
         let clear = clears i τ (changes k) h in
         let n = limits-out ok i τ (within countMin countMax k) (clear outsideLimits) in
         let late = late-out ok i τ (clear tooEarly) in
-        change-next ok i τ k (opened-told ok i τ (n .0) late (clear notThere) (clear isClosing)) (n .0) (n .1) late (clear belowFloor) (clear aboveCap) (clear unchanged) (clear secondEvent) (clear notAtSlot)
+        change-next ok i τ k (opened-told ok i τ (n .0) late (clear notThere) (clear isClosing)) (n .0) (n .1) late (clear belowFloor) (clear aboveCap) (clear secondEvent) (clear notAtSlot)
     next-told i τ closes h =
         let clear = clears i τ closes h in
         let n = event-out ok i τ (not-false (eventOk s i τ) (clear outsideLimits)) in
         let late = late-out ok i τ (clear tooEarly) in
         close-next ok i τ (opened-told ok i τ (n .0) late (clear notThere) (clear isClosing)) (n .0) (n .1) late (clear secondEvent) (clear notAtSlot)
+    next-told i τ (doors b) h =
+        let clear = clears i τ (doors b) h in
+        let n = event-out ok i τ (not-false (eventOk s i τ) (clear outsideLimits)) in
+        let late = late-out ok i τ (clear tooEarly) in
+        doors-next ok i τ b (opened-told ok i τ (n .0) late (clear notThere) (clear isClosing)) (n .0) (n .1) late (clear secondEvent) (clear notAtSlot)

@@ -11,14 +11,15 @@ use native.Mathlib.Omega.{arith}
 use lib.Dec.{lit<}
 use borrow.Author.Tests.{ltb-true}
 use Rattle.rules.specs.Limits.{titlesMax, idMax, laneMax, askedMax}
-use Rattle.rules.specs.Refusals.{noLanes}
+use Rattle.rules.specs.Refusals.{pick, noLanes}
 use Rattle.rules.specs.Search.{howMany}
 use Rattle.rules.proofs.Refusals.{hitsOf, distinct, isListed, first-hit}
 use Rattle.story.specs.declared.State.{State}
 use Rattle.story.specs.Life.{Life, isFilm, isActive, isOwed, reach, owedWithin, owes, cell, isHeld}
 use Rattle.story.specs.Kept.{stateOk, lanesHeld}
-use Rattle.story.specs.Calls.{laneAnswer, laneShows, statusAnswer, statusCount, statusHeld}
-use Rattle.story.specs.Story.{Act, opens, changes, closes, Event, lifeOf, lastTime, upTo, countIn, airAt, heldIn}
+use Rattle.story.specs.Calls.{laneAnswer, laneShows, statusAnswer, statusCount, statusHeld, statusMark}
+use Rattle.story.specs.Story.{Act, opens, changes, closes, doors, Event, lifeOf, lastTime, upTo, countIn}
+use Rattle.story.specs.Story.{isMarkedIn, airAt, heldIn}
 use Rattle.story.specs.Story.{heldOver, testsTo, orderOf, answerTo, answer, accepted, Accepted, more}
 use Rattle.story.specs.Story.{laneAnswerTo, statusAnswerTo, lifeAt, InTick, Received, Begins, Dropped, Quiet}
 use Rattle.story.specs.Runs.{answered, stateAfter, lanesOf, Reached}
@@ -28,7 +29,7 @@ use Rattle.story.proofs.Held.{held-exactly, held-throughout}
 use Rattle.story.proofs.Tells.{lanes-told}
 use Rattle.story.proofs.Runs.{lanes-limit, told-answer, sound-state}
 use Rattle.story.proofs.Questions.{lane-answer-told, lane-late, lane-cell-told, status-answer-told}
-use Rattle.story.proofs.Questions.{status-count-told, status-held-told}
+use Rattle.story.proofs.Questions.{status-count-told, status-held-told, status-mark-told}
 use Rattle.story.proofs.Lively.{lively}
 use Rattle.story.proofs.World.{no-box-runs-dry}
 use Rattle.story.proofs.Pool.{never-exceeded, upTo-all}
@@ -49,6 +50,8 @@ wanting lanes es e (changes k) h =
     ltb-true lanes (heldOver (e ∷ es) (e .time)) (first-hit (orderOf (changes k) (testsTo lanes es e (lifeOf es (e .title)) (changes k))) refl noLanes (lit< tt) h .0)
 wanting lanes es e closes h =
     absurd (false≢true (first-hit (orderOf closes (testsTo lanes es e (lifeOf es (e .title)) closes)) refl noLanes (lit< tt) h .0))
+wanting lanes es e (doors b) h =
+    absurd (false≢true (first-hit (orderOf (doors b) (testsTo lanes es e (lifeOf es (e .title)) (doors b))) refl noLanes (lit< tt) h .0))
 
 module _ (pool : ℕ) (es : List Event) (s : State) (run : Reached pool es s) where
   -- 1. The state tells the story. The accepted events are an accepted sequence, and alone they leave the same state;
@@ -77,8 +80,8 @@ module _ (pool : ℕ) (es : List Event) (s : State) (run : Reached pool es s) wh
       ap (λ L. Rattle.story.specs.Story.airIn L l τ) (as-it-stands es i τ late)
       ∙ lane-cell-told (lanesOf pool) (lanes-limit pool) es s told i l τ h
 
-  -- and status, with every count and number of lanes held, for any time from the last event on
-  pub every-status : (τ : ℕ) (ids : List ℕ) (m h : ℕ) → statusAnswer s τ ids m h ≡ statusAnswerTo es τ ids m h
+  -- and status, with every count, number of lanes held and mark, for any time from the last event on
+  pub every-status : (τ : ℕ) (ids : List ℕ) (m h d : ℕ) → statusAnswer s τ ids m h d ≡ statusAnswerTo es τ ids m h d
   every-status = status-answer-told (lanesOf pool) (lanes-limit pool) es s (run-told pool es s run)
 
   pub every-count : (i τ : ℕ) → i < titlesMax → lastTime es ≤ τ → statusCount s i ≡ countIn (lifeOf es i) τ
@@ -86,6 +89,9 @@ module _ (pool : ℕ) (es : List Event) (s : State) (run : Reached pool es s) wh
 
   pub every-held : (i τ : ℕ) → i < titlesMax → lastTime es ≤ τ → statusHeld s i τ ≡ heldIn (lifeOf es i) τ
   every-held = status-held-told (lanesOf pool) (lanes-limit pool) es s (run-told pool es s run)
+
+  pub every-mark : (i τ : ℕ) → i < titlesMax → lastTime es ≤ τ → statusMark s i ≡ pick (isMarkedIn (lifeOf es i) τ) 1 0
+  every-mark = status-mark-told (lanesOf pool) (lanes-limit pool) es s (run-told pool es s run)
 
   pub all-held : (τ : ℕ) → lastTime es ≤ τ → lanesHeld s τ ≡ heldOver es τ
   all-held τ late = sym (lanes-told (lanesOf pool) es s τ (run-told pool es s run .tells) late)

@@ -1,14 +1,15 @@
 -- Sequences that meet the theorems' hypotheses, computed from the definitions: a film opens, gains a lane, loses it,
 -- closes, and its id opens again with other numbers; one call of it is refused. Its boxes and lanes at chosen moments,
 -- a lane that is dropped and not raised, one that is raised while it sends, events that leave an answer true, an id
--- that is gone at its own closing moment, and an opening that passes since padding is owed to nobody.
+-- that is gone at its own closing moment, an opening that passes since padding is owed to nobody, and boxes of an earlier,
+-- larger count that are all that a lane owes to, behind doors that are held.
 use mathlib.Core.Path.{_≡_, refl, _∙_}
 use mathlib.Core.Bool.{true, not}
 use mathlib.Core.List.{List, [], _∷_}
 use Prim.Native.Nat.{ℕ, _+_, _≤_}
 use native.Mathlib.Omega.{arith}
 use borrow.Author.Tests.{not-true}
-use Rattle.rules.specs.Refusals.{firstHit, done, notThere, noLanes}
+use Rattle.rules.specs.Refusals.{firstHit, done, notThere, noLanes, doorsUnchanged}
 use Rattle.rules.specs.Search.{some, every, first, howMany, after, total}
 use Rattle.rules.proofs.Search.{every-out}
 use Rattle.grid.specs.Ticks.{tickOf, holdsFilm, roundedUp, slot, isSlotStart, cellOf}
@@ -17,10 +18,9 @@ use Rattle.grid.specs.Lanes.{isInG, isAdded, addedChannel, laneCell}
 use Rattle.grid.specs.Plan.{takenFrom, inPlan}
 use Rattle.story.specs.Life.{Life, isAdmission, isActive, droppedAt, isAwaited, isOwed, reach, owedWithin, owes}
 use Rattle.story.specs.Life.{isNth, nthOwed, Air, nothing, cell, sends, onAir, isHeld}
-use Rattle.story.specs.Story.{opens, changes, closes, Event, event, tickIn, lifeOf, latestOf, upTo, heldIn}
-use Rattle.story.specs.Story.{heldOver, answerTo, answer, accepted, lifeAt, airAt, Begins, Dropped, Quiet}
-use Rattle.story.specs.Story.{nothing-new}
-use Rattle.story.specs.Story.{elsewhere}
+use Rattle.story.specs.Story.{opens, changes, closes, holds, lifts, Event, event, tickIn, lifeOf, latestOf}
+use Rattle.story.specs.Story.{upTo, heldIn, heldOver, answerTo, answer, accepted, lifeAt, airAt, Begins, Dropped, Quiet}
+use Rattle.story.specs.Story.{nothing-new, elsewhere}
 use Rattle.story.proofs.Sooner.{formerlyOwed, formerlyOwes, formerlyHeld, formerlyHeldIn, formerlyHeldOver}
 use Rattle.story.proofs.Sooner.{formerAnswerTo, formerAnswer}
 use Rattle.story.proofs.Demands.{exactly, throughout}
@@ -165,3 +165,35 @@ passes-now = refl
 got-nine : formerAnswer 4 released (event 1 6 (opens 12 2 4 2)) ≡ noLanes
 unfolding formerAnswerTo formerlyHeldOver formerlyHeldIn formerlyHeld formerlyOwes formerlyOwed firstHit lifeOf latestOf heldOver heldIn tickIn total howMany isHeld onAir isActive droppedAt after sends nthOwed isNth owedWithin isOwed isAwaited isAdmission reach some first inPlan takenFrom laneCell addedChannel isAdded isInG channelCell segment shift floorRem cellOf slot isSlotStart tickOf holdsFilm roundedUp
 got-nine = refl
+
+-- the doors are held at 7, and the count goes from 4 to 3 at 8, before the close at 12: no box of count 3 ever began, and lane 1
+-- still sends what the boxes of count 4 await
+abbrev behind-doors : List Event
+behind-doors =
+    event 0 12 closes ∷ event 0 8 (changes 3) ∷ event 0 7 holds ∷ event 0 0 (opens 12 2 4 4) ∷ []
+
+behind-doors-accepted : accepted 4 behind-doors ≡ behind-doors
+unfolding accepted answerTo firstHit lifeOf latestOf heldOver heldIn tickIn total howMany isHeld onAir isActive droppedAt after sends nthOwed isNth owedWithin isOwed isAwaited isAdmission reach some first inPlan takenFrom laneCell addedChannel isAdded isInG channelCell segment shift floorRem cellOf slot isSlotStart tickOf holdsFilm roundedUp
+behind-doors-accepted = refl
+
+-- a hold's own tick is no admission, nor is any later one
+nobody-begins : howMany (λ j. isAdmission (lifeOf behind-doors 0) (7 + j)) 8 ≡ 0
+unfolding howMany lifeOf tickIn isAdmission isSlotStart slot tickOf roundedUp
+nobody-begins = refl
+
+sent-to-count-four : (airAt behind-doors 0 1 12 ≡ cell 8) × (airAt behind-doors 0 1 13 ≡ cell 9) × (airAt behind-doors 0 1 14 ≡ nothing)
+unfolding upTo lifeOf latestOf heldOver heldIn tickIn total howMany isHeld onAir isActive droppedAt after sends nthOwed isNth owedWithin isOwed isAwaited isAdmission reach some first inPlan takenFrom laneCell addedChannel isAdded isInG channelCell segment shift floorRem cellOf slot isSlotStart tickOf holdsFilm roundedUp
+sent-to-count-four = (refl, refl, refl)
+
+-- a second hold gets 17, and so does a lift of what is not held; a lift's own tick is an admission again
+held-twice : answer 4 (event 0 7 holds ∷ event 0 0 (opens 12 2 4 4) ∷ []) (event 0 8 holds) ≡ doorsUnchanged
+unfolding answerTo firstHit lifeOf latestOf heldOver heldIn tickIn total howMany isHeld onAir isActive droppedAt after sends nthOwed isNth owedWithin isOwed isAwaited isAdmission reach some first inPlan takenFrom laneCell addedChannel isAdded isInG channelCell segment shift floorRem cellOf slot isSlotStart tickOf holdsFilm roundedUp
+held-twice = refl
+
+never-held : answer 4 (event 0 0 (opens 12 2 4 4) ∷ []) (event 0 8 lifts) ≡ doorsUnchanged
+unfolding answerTo firstHit lifeOf latestOf heldOver heldIn tickIn total howMany isHeld onAir isActive droppedAt after sends nthOwed isNth owedWithin isOwed isAwaited isAdmission reach some first inPlan takenFrom laneCell addedChannel isAdded isInG channelCell segment shift floorRem cellOf slot isSlotStart tickOf holdsFilm roundedUp
+never-held = refl
+
+lifted : isAdmission (lifeOf (event 0 9 lifts ∷ event 0 7 holds ∷ event 0 0 (opens 12 2 4 4) ∷ []) 0) 9 ≡ true
+unfolding lifeOf tickIn isAdmission isSlotStart slot tickOf roundedUp
+lifted = refl

@@ -1,5 +1,5 @@
 -- A lane is held while it is active and, once dropped, for exactly as many ticks as it owes cells; and what a lane
--- shows at a tick depends on the rule up to that tick alone. Rests on the laws of owed ticks.
+-- shows at a tick depends on the course up to that tick alone. Rests on the laws of owed ticks.
 use mathlib.Core.Path.{_≡_, refl, sym, ap, _∙_}
 use mathlib.Core.Bool.{Bool, true, false, false≢true}
 use mathlib.Core.Logic.{⊎-elim}
@@ -12,9 +12,10 @@ use Rattle.rules.specs.Limits.{both}
 use Rattle.rules.specs.Search.{howMany, after}
 use Rattle.rules.proofs.Tests.{decide, same}
 use Rattle.rules.proofs.Search
-use Rattle.story.specs.Life.{Life, underRule, isFilm, usualCell, isPlanned, isAdmission, isActive, droppedAt}
+use Rattle.story.specs.Life.{Life, Course, onCourse, isFilm, usualCell, isPlanned, isAdmission, isActive, droppedAt}
 use Rattle.story.specs.Life.{isAwaited, isOwed, reach, owedWithin, owes, isNth, nthOwed, sends, onAir, isCell}
 use Rattle.story.specs.Life.{isHeld}
+use Rattle.story.proofs.Ruled.{SameAt}
 use Rattle.story.proofs.Owed.{after-between, sends-while, sends-until, air-sends, air-active}
 
 -- the numbers below k, all below m
@@ -113,51 +114,51 @@ module _ (L : Life) (l : ℕ) where
       ltb-true (u - T) (owes L l T) (sym (held-sending u (off u le (omega arith))) ∙ h) in
       held-sending t (off t (omega arith) le) ∙ rw d (lt-ltb (t - T) (owes L l T) (omega arith))
 
--- what the same title has in common under a rule that agrees with its own on every tick below a bound
-module _ (L : Life) (r : ℕ → ℕ) (l : ℕ) where
-  pub awaited-local : (T c t : ℕ) → ((a : ℕ) → a < T → r a ≡ L .rule a) →
-      isAwaited (underRule L r) T c t ≡ isAwaited L T c t
+-- what the same title has in common on a course that agrees with its own on every tick below a bound
+module _ (L : Life) (r : Course) (l : ℕ) where
+  pub awaited-local : (T c t : ℕ) → ((a : ℕ) → a < T → SameAt L r a) →
+      isAwaited (onCourse L r) T c t ≡ isAwaited L T c t
   unfolding isAwaited isAdmission
   awaited-local T c t agree =
-      Search.some-ext (λ a. both (isAdmission (underRule L r) a) (isPlanned (underRule L r) a c t))
-      (λ a. both (isAdmission L a) (isPlanned L a c t)) T (λ a b. rw (agree a b) refl)
+      Search.some-ext (λ a. both (isAdmission (onCourse L r) a) (isPlanned (onCourse L r) a c t))
+      (λ a. both (isAdmission L a) (isPlanned L a c t)) T (λ a b. rw (agree a b .rule, agree a b .shut) refl)
 
-  pub owed-local : (T t : ℕ) → ((a : ℕ) → a < T → r a ≡ L .rule a) → isOwed (underRule L r) l T t ≡ isOwed L l T t
+  pub owed-local : (T t : ℕ) → ((a : ℕ) → a < T → SameAt L r a) → isOwed (onCourse L r) l T t ≡ isOwed L l T t
   unfolding isOwed
   owed-local T t agree = ap (both (isFilm L (usualCell L l t))) (awaited-local T (usualCell L l t) t agree)
 
-  pub within-local : (T n : ℕ) → ((a : ℕ) → a < T → r a ≡ L .rule a) →
-      owedWithin (underRule L r) l T n ≡ owedWithin L l T n
+  pub within-local : (T n : ℕ) → ((a : ℕ) → a < T → SameAt L r a) →
+      owedWithin (onCourse L r) l T n ≡ owedWithin L l T n
   unfolding owedWithin
   within-local T n agree =
-      Search.howMany-ext (λ o. isOwed (underRule L r) l T (T + o)) (λ o. isOwed L l T (T + o)) n
+      Search.howMany-ext (λ o. isOwed (onCourse L r) l T (T + o)) (λ o. isOwed L l T (T + o)) n
       (λ o b. owed-local T (T + o) agree)
 
-  pub owes-local : (T : ℕ) → ((a : ℕ) → a < T → r a ≡ L .rule a) → owes (underRule L r) l T ≡ owes L l T
+  pub owes-local : (T : ℕ) → ((a : ℕ) → a < T → SameAt L r a) → owes (onCourse L r) l T ≡ owes L l T
   unfolding owes
   owes-local T agree = within-local T (reach (L .cap)) agree
 
-  pub sends-local : (T i : ℕ) → ((a : ℕ) → a < T → r a ≡ L .rule a) → sends (underRule L r) l T i ≡ sends L l T i
+  pub sends-local : (T i : ℕ) → ((a : ℕ) → a < T → SameAt L r a) → sends (onCourse L r) l T i ≡ sends L l T i
   unfolding sends nthOwed isNth
   sends-local T i agree =
-      let e : nthOwed (underRule L r) l T i ≡ nthOwed L l T i =
-      Search.first-ext (isNth (underRule L r) l T i) (isNth L l T i) (reach (L .cap))
+      let e : nthOwed (onCourse L r) l T i ≡ nthOwed L l T i =
+      Search.first-ext (isNth (onCourse L r) l T i) (isNth L l T i) (reach (L .cap))
       (λ o b. rw (owed-local T (T + o) agree, within-local T o agree) refl) in
       rw e refl
 
-  pub dropped-local : (t : ℕ) → ((a : ℕ) → a < t → r a ≡ L .rule a) → droppedAt (underRule L r) l t ≡ droppedAt L l t
+  pub dropped-local : (t : ℕ) → ((a : ℕ) → a < t → SameAt L r a) → droppedAt (onCourse L r) l t ≡ droppedAt L l t
   unfolding droppedAt isActive
-  dropped-local t agree = Search.after-ext (isActive (underRule L r) l) (isActive L l) t (λ a b. rw (agree a b) refl)
+  dropped-local t agree = Search.after-ext (isActive (onCourse L r) l) (isActive L l) t (λ a b. rw (agree a b .rule) refl)
 
-  -- what is on air at a tick depends on the rule up to that tick alone
-  pub air-local : (t : ℕ) → ((a : ℕ) → a ≤ t → r a ≡ L .rule a) → onAir (underRule L r) l t ≡ onAir L l t
+  -- what is on air at a tick depends on the course up to that tick alone
+  pub air-local : (t : ℕ) → ((a : ℕ) → a ≤ t → SameAt L r a) → onAir (onCourse L r) l t ≡ onAir L l t
   unfolding onAir isActive
   air-local t agree =
       let T : ℕ = droppedAt L l t in
-      let d : droppedAt (underRule L r) l t ≡ T = dropped-local t (λ a b. agree a (omega arith)) in
+      let d : droppedAt (onCourse L r) l t ≡ T = dropped-local t (λ a b. agree a (omega arith)) in
       let le : T ≤ t = dropped-le L l t in
-      rw (d, agree t (omega arith), sends-local T (t - T) (λ a b. agree a (omega arith))) refl
+      rw (d, agree t (omega arith) .rule, sends-local T (t - T) (λ a b. agree a (omega arith))) refl
 
-  pub held-local : (t : ℕ) → ((a : ℕ) → a ≤ t → r a ≡ L .rule a) → isHeld (underRule L r) l t ≡ isHeld L l t
+  pub held-local : (t : ℕ) → ((a : ℕ) → a ≤ t → SameAt L r a) → isHeld (onCourse L r) l t ≡ isHeld L l t
   unfolding isHeld
   held-local t agree = ap isCell (air-local t agree)

@@ -80,7 +80,7 @@ module _ (L : Life) (ruled : Ruled L) where
       let k : ℕ = L .rule a in
       let high : k ≤ L .cap = ruled .high a in
       let s = plan-on-channel (L .floor) (L .cap) k a c u pl in
-      let lane = lane-of-cell (L .floor) (L .cap) k u c (admitted L ruled a ad .1) high (s .1) in
+      let lane = lane-of-cell (L .floor) (L .cap) k u c (admitted L ruled a ad .low) high (s .1) in
       let l : ℕ = lane .0 in
       let e : usualCell L l u ≡ c = lane .2 in
       let pl′ : isPlanned L a (usualCell L l u) u ≡ true = rw e pl in
@@ -99,7 +99,7 @@ module _ (L : Life) (ruled : Ruled L) where
       let k : ℕ = L .rule a in
       let high : k ≤ L .cap = ruled .high a in
       let at = admitted L ruled a ad in
-      let taken = film-taken (L .length) (L .floor) (L .cap) k c pos (at .1) high film in
-      let plan = in-time (L .floor) (L .cap) k a c (at .1) high (at .2) taken in
+      let taken = film-taken (L .length) (L .floor) (L .cap) k c pos (at .low) high film in
+      let plan = in-time (L .floor) (L .cap) k a c (at .low) high (at .start) taken in
       let on = planned-in-time a c (plan .0) ad (plan .2) film in
       (on .0, on .1, on .2, on .3, omega (arith, on .4, plan .1), on .5)

@@ -17,16 +17,16 @@ use Rattle.rules.proofs.Search
 use Rattle.grid.specs.Ticks.{tickOf}
 use Rattle.grid.specs.Lanes.{laneCell}
 use Rattle.story.specs.declared.Title.{Title}
-use Rattle.story.specs.Life.{Life, usualCell, isActive, droppedAt, isOwed, reach, owedWithin, owes, isNth}
+use Rattle.story.specs.Life.{Life, Course, usualCell, isActive, droppedAt, isOwed, reach, owedWithin, owes, isNth}
 use Rattle.story.specs.Life.{nthOwed, cell, sends, onAir, isHeld}
-use Rattle.story.proofs.Ruled.{Ruled, Legal, isRuling, lastEnd}
-use Rattle.story.specs.Kept.{tickAt, ruling, keptOwed, keptWithin, keptHeld, titleHeld, keptNth, sendingTick}
-use Rattle.story.specs.Kept.{shows}
+use Rattle.story.proofs.Ruled.{Ruled, Legal, admits, isAdmitting, lastEnd}
+use Rattle.story.specs.Kept.{heldMark, isShut, tickAt, ruling, keptOwed, keptWithin, keptHeld, titleHeld, keptNth}
+use Rattle.story.specs.Kept.{sendingTick, shows}
 use Rattle.story.specs.Story.{tickIn, heldIn}
 use Rattle.story.proofs.Clock.{tick-pos, tick-mono}
 use Rattle.story.proofs.Owed.{air-sends, air-active}
 use Rattle.story.proofs.Held.{dropped-le, held-active, held-sending}
-use Rattle.story.proofs.Stored.{lifeIn, kept-owed, EndsAt}
+use Rattle.story.proofs.Stored.{admits-le, lifeIn, kept-owed, EndsAt}
 
 -- the tick of a title's latest event, and the one at which lane l was last dropped, as they are stored
 abbrev pub lastTick : Title → ℕ
@@ -45,6 +45,7 @@ pub record Sized (t : Title) : Type 0 where
   pub cap-high : t .cap ≤ countMax
   pub count-low : t .floor ≤ t .count
   pub count-high : t .count ≤ t .cap
+  pub mark-high : t .mark ≤ heldMark
   pub last-high : t .last ≤ eventTimeMax
   pub ends-long : length (t .ends) ≡ countPlaces
   pub dropped-long : length (t .dropped) ≡ lanePlaces
@@ -53,17 +54,17 @@ pub record Sized (t : Title) : Type 0 where
   pub dropped-high : (j : ℕ) → getD (t .dropped) j 0 ≤ askedMax
   pub owed-high : (j : ℕ) → getD (t .owed) j 0 ≤ askedMax
 
--- a title, open or closing, whose stored numbers tell the rule r up to its latest event, and that r is steady since
-pub record Present (t : Title) (r : ℕ → ℕ) : Type 0 where
+-- a title, open or closing, whose stored numbers tell the course r up to its latest event, and that r is steady since
+pub record Present (t : Title) (r : Course) : Type 0 where
   pub mode : (t .mode ≡ 1) ⊎ (t .mode ≡ 2)
   pub sized : Sized t
   pub since : t .opened ≤ t .last
   pub on-tick : (t .last - t .opened) % tickOf (t .length) (t .floor) (t .cap) ≡ 0
-  pub steady : (u : ℕ) → lastTick t ≤ u → r u ≡ ruling t
+  pub steady : (u : ℕ) → lastTick t ≤ u → r .rule u ≡ ruling t
+  pub doors : t .mode ≡ 1 → (u : ℕ) → lastTick t ≤ u → r .shut u ≡ isShut t
   pub ruled : Ruled (lifeIn t r)
   pub legal : Legal (lifeIn t r)
-  pub ends : (c : ℕ) → t .floor ≤ c → c ≤ t .cap → (ruling t ≡ c → ⊥) →
-      getD (t .ends) c 0 ≡ lastEnd (lifeIn t r) c (lastTick t)
+  pub ends : (c : ℕ) → t .floor ≤ c → c ≤ t .cap → getD (t .ends) c 0 ≡ lastEnd (lifeIn t r) c (lastTick t)
   pub drops : (l : ℕ) → l < t .cap → ruling t ≤ l →
       dropTick t l ≡ droppedAt (lifeIn t r) l (lastTick t)
   pub owing : (l : ℕ) → l < t .cap → ruling t ≤ l →
@@ -79,7 +80,7 @@ air-held L l n off held =
     ⊎-elim (λ x. air ∙ rw x refl) (λ x. absurd (false≢true (rw x at (rw air at held))))
     (decide (ltb i (reach (L .cap))))
 
-module _ (t : Title) (r : ℕ → ℕ) (here : Present t r) where
+module _ (t : Title) (r : Course) (here : Present t r) where
   pub active-kept : (l n : ℕ) → lastTick t ≤ n → isActive (lifeIn t r) l n ≡ ltb l (ruling t)
   unfolding isActive
   active-kept l n le = rw (here .steady n le) refl
@@ -94,24 +95,24 @@ module _ (t : Title) (r : ℕ → ℕ) (here : Present t r) where
       ∙ sym (here .drops l lane off)
 
   -- the lane was not active from its drop on
-  pub off-since : (l v : ℕ) → l < t .cap → ruling t ≤ l → dropTick t l ≤ v → r v ≤ l
+  pub off-since : (l v : ℕ) → l < t .cap → ruling t ≤ l → dropTick t l ≤ v → r .rule v ≤ l
   unfolding droppedAt isActive
   off-since l v lane off le =
       ⊎-elim
       (λ x.
       let since : droppedAt (lifeIn t r) l (lastTick t) ≤ v = rw (here .drops l lane off) at le in
-      ltb-false l (r v) (Search.after-none (isActive (lifeIn t r) l) (lastTick t) v since (ltb-true v (lastTick t) x)))
+      ltb-false l (r .rule v) (Search.after-none (isActive (lifeIn t r) l) (lastTick t) v since (ltb-true v (lastTick t) x)))
       (λ x. rw (here .steady v (ltb-false v (lastTick t) x)) off)
       (decide (ltb v (lastTick t)))
 
-  -- the stored ends are those before the lane's drop: no count that has the lane has ruled since
+  -- the stored ends are those before the lane's drop: no count that has the lane has admitted a box since
   pub ends-kept : (l : ℕ) → l < t .cap → ruling t ≤ l → EndsAt t r l (dropTick t l)
   unfolding lastEnd
   ends-kept l lane off c had low high =
-      here .ends c low high (λ e. omega arith)
-      ∙ Search.after-flat (isRuling (lifeIn t r) c) (dropTick t l) (lastTick t)
+      here .ends c low high
+      ∙ Search.after-flat (isAdmitting (lifeIn t r) c) (dropTick t l) (lastTick t)
       (rw (here .drops l lane off) (dropped-le (lifeIn t r) l (lastTick t)))
-      (λ i lo hi. ne-eqb (r i) c (λ e. omega (arith, off-since l i lane off lo)))
+      (λ i lo hi. ne-eqb (admits (lifeIn t r) i) c (λ e. omega (arith, admits-le (lifeIn t r) i, off-since l i lane off lo)))
 
   -- the stored ends say which of its ticks are owed
   pub owed-kept : (l u : ℕ) → l < t .cap → ruling t ≤ l → dropTick t l ≤ u →

@@ -16,8 +16,8 @@ use Rattle.rules.proofs.Tests.{both-in, either-l, either-r}
 use Rattle.rules.proofs.Search
 use Rattle.story.specs.declared.Title.{Title}
 use Rattle.story.specs.declared.State.{State}
-use Rattle.story.specs.Kept.{titleAt, rowOk, numbersOk, orderOk, titleOk, stateOk}
-use Rattle.story.specs.Life.{Life}
+use Rattle.story.specs.Kept.{heldMark, titleAt, rowOk, numbersOk, orderOk, titleOk, stateOk}
+use Rattle.story.specs.Life.{Life, Course}
 use Rattle.story.specs.Story.{Event, lifeOf, latestOf}
 use Rattle.story.proofs.Kept.{Present}
 use Rattle.story.proofs.Tells.{TellsTitle, absent, present, Tells}
@@ -25,7 +25,7 @@ use Rattle.story.proofs.Tells.{TellsTitle, absent, present, Tells}
 row-ok : (row : List ℕ) (n : ℕ) → ((j : ℕ) → getD row j 0 ≤ askedMax) → rowOk row n ≡ true
 row-ok row n f = Search.every-in (λ j. leb (getD row j 0) askedMax) n (λ j b. le-leb (getD row j 0) askedMax (f j))
 
-numbers-ok : (t : Title) (r : ℕ → ℕ) → Present t r → numbersOk t ≡ true
+numbers-ok : (t : Title) (r : Course) → Present t r → numbersOk t ≡ true
 unfolding numbersOk
 numbers-ok t r p =
     let z = p .sized in
@@ -37,6 +37,7 @@ numbers-ok t r p =
       le-leb (t .floor) floorMax (z .floor-high),
       le-leb (t .cap) countMax (z .cap-high),
       le-leb (t .count) countMax (omega (arith, z .count-high, z .cap-high)),
+      le-leb (t .mark) heldMark (z .mark-high),
       le-leb (t .last) askedMax (omega (arith, z .last-high)),
       row-ok (t .ends) countPlaces (z .ends-high),
       row-ok (t .dropped) lanePlaces (z .dropped-high),
@@ -44,7 +45,7 @@ numbers-ok t r p =
     )
     refl
 
-order-ok : (t : Title) (r : ℕ → ℕ) → Present t r → orderOk t ≡ true
+order-ok : (t : Title) (r : Course) → Present t r → orderOk t ≡ true
 unfolding orderOk
 order-ok t r p =
     let z = p .sized in

@@ -12,7 +12,7 @@ use Rattle.story.proofs.Ruled.{Ruled}
 use Rattle.story.specs.Kept.{titleAt, tickAt}
 use Rattle.story.specs.Calls.{emptyPool}
 use Rattle.story.specs.Next.{callNext}
-use Rattle.story.specs.Life.{Life}
+use Rattle.story.specs.Life.{Life, Course}
 use Rattle.story.specs.Story.{Event, unopened, tickLength, tickIn, lifeOf, latestOf, lastTime, Accepted, none}
 use Rattle.story.specs.Story.{more}
 use Rattle.story.proofs.Stored.{lifeIn}
@@ -29,7 +29,7 @@ pub record Lively (L : Life) (m : ℕ) : Type 0 where
   pub since : L .opened ≤ m
   pub steady : (u v : ℕ) → tickIn L m ≤ u → tickIn L m ≤ v → L .rule u ≡ L .rule v
 
-stored : (t : Title) (r : ℕ → ℕ) → Present t r → Lively (lifeIn t r) (t .last)
+stored : (t : Title) (r : Course) → Present t r → Lively (lifeIn t r) (t .last)
 unfolding tickIn tickAt
 stored t r p =
     record {

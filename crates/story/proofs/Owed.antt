@@ -69,7 +69,7 @@ module _ (L : Life) (l T : ℕ) where
       let s = awaited-out L T (usualCell L l t) t (owed-out t h) in
       let a : ℕ = s .0 in
       let k : ℕ = L .rule a in
-      let some : 0 < k = admitted L ruled a (s .2) .0 in
+      let some : 0 < k = admitted L ruled a (s .2) .some in
       let end : t < a + 2 ^ (L .cap - 1) =
       window-end (L .floor) (L .cap) k a (usualCell L l t) t (ruled .high a) some (s .3) in
       omega (arith, s .1)

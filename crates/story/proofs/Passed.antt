@@ -15,7 +15,7 @@ use Rattle.rules.proofs.Refusals.{hitsOf, numbered, cleared}
 use Rattle.grid.proofs.Numbers.{ne-zero-pos}
 use Rattle.grid.specs.Ticks.{isSlotStart}
 use Rattle.story.specs.Life.{Life}
-use Rattle.story.specs.Story.{Act, opens, changes, closes, Event, event, tickLength, tickIn, lifeOf, latestOf}
+use Rattle.story.specs.Story.{Act, opens, changes, closes, doors, Event, event, tickLength, tickIn, lifeOf, latestOf}
 use Rattle.story.specs.Story.{lastTime, countIn, heldOver, isThereIn, isSlotIn, withinLimits, openLimits}
 use Rattle.story.specs.Story.{actLimits, testsTo, orderOf, answerTo}
 
@@ -41,7 +41,7 @@ pub record Opening (lanes : ℕ) (es : List Event) (i τ D A K k : ℕ) : Type 0
   pub high : k ≤ K
   pub room : heldOver (event i τ (opens D A K k) ∷ es) τ ≤ lanes
 
--- an accepted change or close: of a title that is open, at a later moment than its latest event
+-- an accepted change, close, hold or lift: of a title that is open, at a later moment than its latest event
 pub record Turned (es : List Event) (i τ : ℕ) : Type 0 where
   pub timely : Timely es i τ
   pub there : isThereIn (lifeOf es i) τ ≡ true
@@ -72,6 +72,7 @@ module _ (lanes : ℕ) (es : List Event) (i τ : ℕ) where
   clears (opens D A K k) h = cleared (orderOf (opens D A K k) (testsTo lanes es (event i τ (opens D A K k)) (lifeOf es i) (opens D A K k))) refl h
   clears (changes k) h = cleared (orderOf (changes k) (testsTo lanes es (event i τ (changes k)) (lifeOf es i) (changes k))) refl h
   clears closes h = cleared (orderOf closes (testsTo lanes es (event i τ closes) (lifeOf es i) closes)) refl h
+  clears (doors b) h = cleared (orderOf (doors b) (testsTo lanes es (event i τ (doors b)) (lifeOf es i) (doors b))) refl h
 
   -- so all its numbers are within their limits
   pub in-limits : (a : Act) → answerTo lanes es (event i τ a) (lifeOf es i) a ≡ 0 →
@@ -80,6 +81,7 @@ module _ (lanes : ℕ) (es : List Event) (i τ : ℕ) where
   in-limits (opens D A K k) h = not-false _ (clears (opens D A K k) h outsideLimits)
   in-limits (changes k) h = not-false _ (clears (changes k) h outsideLimits)
   in-limits closes h = not-false _ (clears closes h outsideLimits)
+  in-limits (doors b) h = not-false _ (clears (doors b) h outsideLimits)
 
   pub opening : (D A K k : ℕ) → answerTo lanes es (event i τ (opens D A K k)) (lifeOf es i) (opens D A K k) ≡ 0 →
       Opening lanes es i τ D A K k
@@ -103,7 +105,7 @@ module _ (lanes : ℕ) (es : List Event) (i τ : ℕ) where
         room = ltb-false lanes (heldOver (e ∷ es) τ) (clear noLanes);
       }
 
-  -- what a change and a close have passed alike: there, open, later than the latest event, at a slot start
+  -- what they all have passed alike: there, open, later than the latest event, at a slot start
   turned : (a : Act) (k : ℕ) → withinLimits (event i τ a) ≡ true → ltb τ (lastTime es) ≡ false →
       not (isThereIn (lifeOf es i) τ) ≡ false → eqb (countIn (lifeOf es i) τ) 0 ≡ false →
       eqb τ (latestOf es i) ≡ false → not (isSlotIn (lifeOf es i) k τ) ≡ false → Turned es i τ
@@ -133,8 +135,15 @@ module _ (lanes : ℕ) (es : List Event) (i τ : ℕ) where
       let clear = clears closes h in
       turned closes (lifeOf es i .floor) (in-limits closes h) (clear tooEarly) (clear notThere) (clear isClosing) (clear secondEvent) (clear notAtSlot)
 
+  pub doored : (b : Bool) → answerTo lanes es (event i τ (doors b)) (lifeOf es i) (doors b) ≡ 0 → Turned es i τ
+  unfolding hitsOf
+  doored b h =
+      let clear = clears (doors b) h in
+      turned (doors b) (countIn (lifeOf es i) τ) (in-limits (doors b) h) (clear tooEarly) (clear notThere) (clear isClosing) (clear secondEvent) (clear notAtSlot)
+
   -- whatever it does
   pub in-order : (a : Act) → answerTo lanes es (event i τ a) (lifeOf es i) a ≡ 0 → Timely es i τ
   in-order (opens D A K k) h = opening D A K k h .timely
   in-order (changes k) h = changing k h .0 .timely
   in-order closes h = closing h .timely
+  in-order (doors b) h = doored b h .timely

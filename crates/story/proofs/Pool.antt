@@ -1,8 +1,9 @@
 -- The pool is never exceeded: at every moment, not only at events, the lanes held as counted from the sequence are at most
--- the pool. An opening or a change is accepted only so; a close holds no lane more; between events lanes are only released.
+-- the pool. An opening or a change is accepted only so; a close, a hold and a lift hold no lane more; between events lanes are
+-- only released.
 -- Rests on the laws of held lanes and on what accepted sequences keep true of a life.
 use mathlib.Core.Path.{_≡_, refl, sym, ap, _∙_}
-use mathlib.Core.Bool.{true, false}
+use mathlib.Core.Bool.{Bool, true, false}
 use mathlib.Core.Logic.{⊎-elim}
 use mathlib.Core.List.{List, [], _∷_}
 use Prim.Native.Nat.{ℕ, _≤_, _<_}
@@ -14,10 +15,12 @@ use Rattle.rules.specs.Refusals.{pick}
 use Rattle.rules.specs.Search.{howMany, total}
 use Rattle.rules.proofs.Tests.{decide}
 use Rattle.rules.proofs.Search
-use Rattle.story.specs.Life.{Life, underRule, isActive, droppedAt, owes, isHeld}
-use Rattle.story.specs.Story.{Act, opens, changes, closes, Event, event, unopened, tickLength, tickIn, turn}
+use Rattle.story.specs.Life.{Life, Course, onCourse, isActive, droppedAt, owes, isHeld}
+use Rattle.story.specs.Story.{Act, opens, changes, closes, doors, Event, event, unopened, tickLength, tickIn}
+use Rattle.story.specs.Story.{turn, ruledFrom, doorsFrom}
 use Rattle.story.specs.Story.{lifeAfter, lifeOf, latestOf, lastTime, upTo, isHeldIn, heldIn, heldOver, answerTo}
 use Rattle.story.specs.Story.{Accepted, none, more}
+use Rattle.story.proofs.Ruled.{SameAt}
 use Rattle.story.proofs.Clock.{tick-mono}
 use Rattle.story.proofs.Held.{dropped-le, held-active, held-sending, held-falls, owes-local, dropped-local}
 use Rattle.story.proofs.Turn.{turn-before, turn-from}
@@ -59,33 +62,58 @@ over-falls lanes es high acc τ υ from le =
     (lively lanes es high acc i b))
 
 -- a lane that a close leaves held was held before
-close-lane : (L : Life) (l n : ℕ) → isHeld (underRule L (turn (L .rule) n 0)) l n ≡ true → isHeld L l n ≡ true
+close-lane : (L : Life) (l n : ℕ) → isHeld (ruledFrom L n 0) l n ≡ true → isHeld L l n ≡ true
 unfolding isActive
 close-lane L l n held =
-    let r : ℕ → ℕ = turn (L .rule) n 0 in
+    let r : Course = record { rule = turn (L .rule) n 0; shut = L .shut } in
     let T : ℕ = droppedAt L l n in
-    let below : (a : ℕ) → a < n → r a ≡ L .rule a = turn-before (L .rule) n 0 in
-    let d : droppedAt (underRule L r) l n ≡ T = dropped-local L r l n below in
-    let same : owes (underRule L r) l T ≡ owes L l T =
+    let below : (a : ℕ) → a < n → SameAt L r a = λ a b. record { rule = turn-before (L .rule) n 0 a b; shut = refl } in
+    let d : droppedAt (onCourse L r) l n ≡ T = dropped-local L r l n below in
+    let same : owes (onCourse L r) l T ≡ owes L l T =
     owes-local L r l T (λ a b. below a (omega (arith, dropped-le L l n))) in
-    let quiet : isActive (underRule L r) l n ≡ false =
+    let quiet : isActive (onCourse L r) l n ≡ false =
     ap (λ k. ltb l k) (turn-from (L .rule) n 0 n (omega arith)) ∙ le-ltb l 0 (omega arith) in
     ⊎-elim (λ x. held-active L l n x)
-    (λ x. held-sending L l n x ∙ rw (d, same) at (sym (held-sending (underRule L r) l n quiet) ∙ held))
+    (λ x. held-sending L l n x ∙ rw (d, same) at (sym (held-sending (onCourse L r) l n quiet) ∙ held))
     (decide (isActive L l n))
 
--- a close holds no lane more
-close-lowers : (es : List Event) (i τ : ℕ) → heldOver (event i τ closes ∷ es) τ ≤ heldOver es τ
-unfolding heldOver lifeOf heldIn tickIn
-close-lowers es i τ =
-    Search.total-le (λ j. heldIn (lifeOf (event i τ closes ∷ es) j) τ) (λ j. heldIn (lifeOf es j) τ) titlesMax
+-- a lane that a hold or a lift leaves held was held before: what a lane owes is settled when it is dropped
+doors-lane : (L : Life) (b : Bool) (l n : ℕ) → isHeld (doorsFrom L n b) l n ≡ true → isHeld L l n ≡ true
+unfolding isActive
+doors-lane L b l n held =
+    let r : Course = record { rule = L .rule; shut = turn (L .shut) n b } in
+    let T : ℕ = droppedAt L l n in
+    let below : (a : ℕ) → a < n → SameAt L r a = λ a c. record { rule = refl; shut = turn-before (L .shut) n b a c } in
+    let d : droppedAt (onCourse L r) l n ≡ T = dropped-local L r l n below in
+    let same : owes (onCourse L r) l T ≡ owes L l T =
+    owes-local L r l T (λ a c. below a (omega (arith, dropped-le L l n))) in
+    ⊎-elim (λ x. held-active L l n x)
+    (λ x. held-sending L l n x ∙ rw (d, same) at (sym (held-sending (onCourse L r) l n x) ∙ held))
+    (decide (isActive L l n))
+
+-- an event that leaves no lane held that was not held before holds no lane more
+lowers : (es : List Event) (i τ : ℕ) (a : Act) →
+    ((L : Life) → (lifeAfter L τ a .cap ≡ L .cap) × ((l : ℕ) → isHeldIn (lifeAfter L τ a) l τ ≡ true → isHeldIn L l τ ≡ true)) →
+    heldOver (event i τ a ∷ es) τ ≤ heldOver es τ
+unfolding heldOver lifeOf heldIn
+lowers es i τ a f =
+    Search.total-le (λ j. heldIn (lifeOf (event i τ a ∷ es) j) τ) (λ j. heldIn (lifeOf es j) τ) titlesMax
     (λ j b.
-    elim (eqb i j) as (λ x. heldIn (pick x (lifeAfter (lifeOf es j) τ closes) (lifeOf es j)) τ ≤ heldIn (lifeOf es j) τ) [
+    elim (eqb i j) as (λ x. heldIn (pick x (lifeAfter (lifeOf es j) τ a) (lifeOf es j)) τ ≤ heldIn (lifeOf es j) τ) [
       | true ↦
-          Search.howMany-wider (λ l. isHeldIn (lifeAfter (lifeOf es j) τ closes) l τ) (λ l. isHeldIn (lifeOf es j) l τ) (lifeOf es j .cap)
-          (λ l c held. close-lane (lifeOf es j) l (tickIn (lifeOf es j) τ) held)
+          rw (f (lifeOf es j) .0)
+          (Search.howMany-wider (λ l. isHeldIn (lifeAfter (lifeOf es j) τ a) l τ) (λ l. isHeldIn (lifeOf es j) l τ) (lifeOf es j .cap)
+          (λ l c held. f (lifeOf es j) .1 l held))
       | false ↦ omega arith
     ])
+
+close-lowers : (es : List Event) (i τ : ℕ) → heldOver (event i τ closes ∷ es) τ ≤ heldOver es τ
+unfolding tickIn
+close-lowers es i τ = lowers es i τ closes (λ L. (refl, λ l held. close-lane L l (tickIn L τ) held))
+
+doors-lowers : (es : List Event) (i τ : ℕ) (b : Bool) → heldOver (event i τ (doors b) ∷ es) τ ≤ heldOver es τ
+unfolding tickIn
+doors-lowers es i τ b = lowers es i τ (doors b) (λ L. (refl, λ l held. doors-lane L b l (tickIn L τ) held))
 
 -- all events are up to the moment of the last one
 pub upTo-all : (τ : ℕ) (es : List Event) → lastTime es ≤ τ → upTo τ es ≡ es
@@ -99,6 +127,7 @@ at-event : (lanes : ℕ) (es : List Event) (i τ : ℕ) (a : Act) → answerTo l
 at-event lanes es i τ (opens D A K k) h before = opening lanes es i τ D A K k h .room
 at-event lanes es i τ (changes k) h before = changing lanes es i τ k h .1
 at-event lanes es i τ closes h before = omega (arith, close-lowers es i τ)
+at-event lanes es i τ (doors b) h before = omega (arith, doors-lowers es i τ b)
 
 -- demand 3: at every moment the lanes held, counted from the sequence, are at most the pool
 pub never-exceeded : (lanes : ℕ) (es : List Event) → lanes ≤ poolMax → Accepted lanes es → (τ : ℕ) →

@@ -4,12 +4,12 @@ use mathlib.Core.Path.{_≡_, refl, sym, ap, _∙_}
 use mathlib.Core.Bool.{Bool, true, false, not, false≢true}
 use mathlib.Core.Logic.{⊎-elim}
 use mathlib.Core.List.{List}
-use Prim.Native.Nat.{ℕ, _-_, _≤_, _<_}
+use Prim.Native.Nat.{ℕ, zero, suc, _-_, _≤_, _<_}
 use native.Mathlib.Omega.{arith}
-use lib.Dec.{ltb, leb}
-use borrow.Author.Tests.{ltb-true, ltb-false, le-ltb, leb-true, eq-eqb, not-false}
+use lib.Dec.{ltb, leb, eqb}
+use borrow.Author.Tests.{ltb-true, ltb-false, lt-ltb, le-ltb, leb-true, eq-eqb, ne-eqb, not-false}
 use Rattle.rules.specs.Limits.{both, poolMax, idMax, laneMax, askedMax, titlesMax}
-use Rattle.rules.specs.Refusals.{outsideLimits, tooEarly, notThere, wrongRows}
+use Rattle.rules.specs.Refusals.{pick, outsideLimits, tooEarly, notThere, wrongRows}
 use Rattle.rules.specs.Search.{after}
 use Rattle.rules.proofs.Tests.{decide, both-l, both-r}
 use Rattle.rules.proofs.Search
@@ -17,14 +17,16 @@ use Rattle.rules.proofs.Refusals.{hitsOf, numbered, cleared, hit-same}
 use Rattle.story.specs.declared.Title.{Title}
 use Rattle.story.specs.declared.State.{State}
 use Rattle.story.specs.Life.{Life, isActive, droppedAt, reach, owes, cell, isHeld}
-use Rattle.story.specs.Kept.{titleAt, stateOk, tickAt, shows}
+use Rattle.story.specs.Kept.{clearMark, heldMark, titleAt, stateOk, tickAt, ruling, shows}
 use Rattle.story.specs.Calls.{laneHeld, laneAnswer, laneShows, statusAnswer, statusCount, statusHeld}
+use Rattle.story.specs.Calls.{statusMark}
 use Rattle.story.specs.Story.{Event, unopened, lifeOf, latestOf, lastTime, tickIn, countIn, airIn, isHeldIn}
-use Rattle.story.specs.Story.{heldIn, laneRulesTo, laneAnswerTo, statusAnswerTo}
+use Rattle.story.specs.Story.{heldIn, isMarkedIn, laneRulesTo, laneAnswerTo, statusAnswerTo}
 use Rattle.story.proofs.Held.{held-sending}
 use Rattle.story.proofs.Stored.{lifeIn}
-use Rattle.story.proofs.Kept.{later, held-kept, shows-kept, mode-some}
+use Rattle.story.proofs.Kept.{lastTick, later, held-kept, shows-kept, mode-some}
 use Rattle.story.proofs.Tells.{TellsTitle, absent, present, owes-none, count-told, held-told}
+use Rattle.story.proofs.Tells.{open-some, closed-none}
 use Rattle.story.proofs.Runs.{Told, sound-state}
 
 -- a lane that no count has is never held
@@ -73,6 +75,29 @@ lane-shows-told L m t l τ (present r e f p) le h =
     (decide (ltb l (t .cap))))
     (later t r p τ (omega arith)) held)
 
+-- a mark within its limit is the number of its test
+mark-number : (n : ℕ) → n ≤ heldMark → n ≡ pick (eqb n heldMark) 1 0
+mark-number zero h = refl
+mark-number (suc zero) h = refl
+mark-number (suc (suc n)) h = absurd (omega arith)
+
+-- the mark that status shows
+mark-told : (L : Life) (m : ℕ) (t : Title) (τ : ℕ) → TellsTitle L m t → m ≤ τ →
+    pick (eqb (ruling t) 0) clearMark (t .mark) ≡ pick (isMarkedIn L τ) 1 0
+unfolding tickIn tickAt ruling
+mark-told L m t τ (absent e f g) le = rw (e, g) refl
+mark-told L m t τ (present r e f p) le =
+    let now : lastTick t ≤ tickAt t τ = later t r p τ (omega arith) in
+    let count : r .rule (tickAt t τ) ≡ ruling t = p .steady (tickAt t τ) now in
+    rw (e, count)
+    (⊎-elim
+    (λ x.
+    let some : 0 < ruling t = open-some t r p x in
+    rw (ne-eqb (ruling t) 0 (λ z. omega arith), lt-ltb 0 (ruling t) some, p .doors x (tickAt t τ) now)
+    (mark-number (t .mark) (p .sized .mark-high)))
+    (λ x. rw (closed-none t x) refl)
+    (p .mode))
+
 module _ (lanes : ℕ) (high : lanes ≤ poolMax) (es : List Event) (s : State) (w : Told lanes es s) where
   pub lane-answer-told : (i l τ : ℕ) → laneAnswer s i l τ ≡ laneAnswerTo es i l τ
   unfolding laneAnswer laneAnswerTo
@@ -111,9 +136,10 @@ module _ (lanes : ℕ) (high : lanes ≤ poolMax) (es : List Event) (s : State) 
       (not-false (isHeldIn (lifeOf es i) l τ) (clear notThere))
       ∙ ap cell (sym (rw (eq-eqb (laneAnswer s i l τ) 0 h) refl))
 
-  pub status-answer-told : (τ : ℕ) (ids : List ℕ) (m h : ℕ) → statusAnswer s τ ids m h ≡ statusAnswerTo es τ ids m h
+  pub status-answer-told : (τ : ℕ) (ids : List ℕ) (m h d : ℕ) →
+      statusAnswer s τ ids m h d ≡ statusAnswerTo es τ ids m h d
   unfolding statusAnswer statusAnswerTo
-  status-answer-told τ ids m h =
+  status-answer-told τ ids m h d =
       hit-same wrongRows _ _ _ _ refl
       (λ t1.
       hit-same outsideLimits _ _ _ _ (rw (sound-state lanes high es s w) refl)
@@ -126,3 +152,8 @@ module _ (lanes : ℕ) (high : lanes ≤ poolMax) (es : List Event) (s : State) 
   pub status-held-told : (i τ : ℕ) → i < titlesMax → lastTime es ≤ τ → statusHeld s i τ ≡ heldIn (lifeOf es i) τ
   status-held-told i τ id late =
       sym (held-told (lifeOf es i) (latestOf es i) (titleAt s i) τ (w .tells .title i id) (omega (arith, w .tells .newest i)))
+
+  pub status-mark-told : (i τ : ℕ) → i < titlesMax → lastTime es ≤ τ →
+      statusMark s i ≡ pick (isMarkedIn (lifeOf es i) τ) 1 0
+  status-mark-told i τ id late =
+      mark-told (lifeOf es i) (latestOf es i) (titleAt s i) τ (w .tells .title i id) (omega (arith, w .tells .newest i))

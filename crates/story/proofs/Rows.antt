@@ -9,7 +9,7 @@ use native.Mathlib.Omega.{arith}
 use lib.Dec.{ltb, leb, eqb}
 use lib.ListN.{getD, set, length, length-set}
 use lib.Seq.{getD-set-same, getD-set-other}
-use borrow.Author.Tests.{eqb-true, eqb-false}
+use borrow.Author.Tests.{lt-leb, eqb-true, eqb-false}
 use Rattle.rules.specs.Limits.{both}
 use Rattle.rules.specs.Refusals.{pick}
 use Rattle.rules.proofs.Tests.{decide}
@@ -78,11 +78,17 @@ module _ (p : ℕ → Bool) (f : ℕ → ℕ) (row : List ℕ) where
 abbrev pub withRows : Title → List ℕ → List ℕ → Title
 withRows t d o =
     record
-    { mode = t .mode; opened = t .opened; length = t .length; floor = t .floor; cap = t .cap; count = t .count; last = t .last; ends = t .ends; dropped = d; owed = o }
+    { mode = t .mode; opened = t .opened; length = t .length; floor = t .floor; cap = t .cap; count = t .count; mark = t .mark; last = t .last; ends = t .ends; dropped = d; owed = o }
 
 -- a lane from k up to the count
 abbrev pub isDropped : Title → ℕ → ℕ → Bool
 isDropped t k l = both (leb k l) (ltb l (t .count))
+
+-- a turn to as many lanes drops none
+pub drop-none : (t : Title) (n k i : ℕ) → i ≤ k → dropLanes t n k i ≡ t
+unfolding dropLanes
+drop-none t n k zero le = refl
+drop-none t n k (suc i) le = rw (lt-leb k i (omega arith)) (drop-none t n k i (omega arith))
 
 -- one lane's turn
 drop-step : (t s : Title) (n i : ℕ) (d o : List ℕ) (b : Bool) → s ≡ withRows t d o →

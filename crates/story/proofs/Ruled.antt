@@ -1,38 +1,63 @@
--- What proofs ask of a life's rule: it keeps to floor and cap, and turns only where 01 permits; what an admission has
--- then. Rests on the definition of an admission.
+-- What proofs ask of a life: its rule keeps to floor and cap, and the count that admits boxes turns only at its own slot
+-- starts; what an admission has then. Rests on the definition of an admission.
 use mathlib.Core.Path.{_≡_}
-use mathlib.Core.Bool.{Bool, true}
-use Prim.Native.Nat.{ℕ, suc, _≤_, _<_, min, max}
+use mathlib.Core.Bool.{Bool, true, false, not}
+use Prim.Native.Nat.{ℕ, suc, _≤_, _<_}
 use lib.Dec.{ltb, eqb}
-use borrow.Author.Tests.{ltb-true}
+use borrow.Author.Tests.{ltb-true, not-true}
+use Rattle.rules.specs.Limits.{both}
+use Rattle.rules.specs.Refusals.{pick}
 use Rattle.rules.specs.Search.{after}
 use Rattle.rules.proofs.Tests.{both-l, both-r}
 use Rattle.grid.specs.Ticks.{isSlotStart}
-use Rattle.story.specs.Life.{Life, isAdmission}
+use Rattle.story.specs.Life.{Life, Course, isAdmission}
 
 -- a rule that keeps to floor and cap, closing apart
 pub record Ruled (L : Life) : Type 0 where
   pub low : (t : ℕ) → 0 < L .rule t → L .floor ≤ L .rule t
   pub high : (t : ℕ) → L .rule t ≤ L .cap
 
--- the count changes only at slot starts of the smaller count, of count A where the title closes
+-- the count that admits boxes at a tick, 0 while the doors are held
+abbrev pub admits : Life → ℕ → ℕ
+admits L t = pick (L .shut t) 0 (L .rule t)
+
+-- a count begins and ends to admit boxes only at slot starts of its own
 pub record Legal (L : Life) : Type 0 where
-  pub turns : (t : ℕ) → (L .rule t ≡ L .rule (suc t) → ⊥) →
-      isSlotStart (L .cap) (max (L .floor) (min (L .rule t) (L .rule (suc t)))) (suc t) ≡ true
+  pub ends : (t : ℕ) → 0 < admits L t → (admits L t ≡ admits L (suc t) → ⊥) →
+      isSlotStart (L .cap) (admits L t) (suc t) ≡ true
+  pub begins : (t : ℕ) → 0 < admits L (suc t) → (admits L t ≡ admits L (suc t) → ⊥) →
+      isSlotStart (L .cap) (admits L (suc t)) (suc t) ≡ true
 
--- count c rules at tick t
-abbrev pub isRuling : Life → ℕ → ℕ → Bool
-isRuling L c t = eqb (L .rule t) c
+-- count c admits boxes at tick t
+abbrev pub isAdmitting : Life → ℕ → ℕ → Bool
+isAdmitting L c t = eqb (admits L t) c
 
--- the tick at which count c last stopped ruling, seen from tick T; 0 where it never ruled before
+-- the tick at which count c last stopped to admit boxes, seen from tick T; 0 where it never did before
 unfoldable pub lastEnd : Life → ℕ → ℕ → ℕ
-lastEnd L c T = after (isRuling L c) T
+lastEnd L c T = after (isAdmitting L c) T
 
--- the ruling count at an admission, and that it is a slot start
-pub admitted : (L : Life) → Ruled L → (a : ℕ) → isAdmission L a ≡ true →
-    (0 < L .rule a) × (L .floor ≤ L .rule a) × (isSlotStart (L .cap) (L .rule a) a ≡ true)
+-- the ruling count at an admission, that it is a slot start, and that this count admits
+pub record Admitted (L : Life) (a : ℕ) : Type 0 where
+  pub some : 0 < L .rule a
+  pub low : L .floor ≤ L .rule a
+  pub start : isSlotStart (L .cap) (L .rule a) a ≡ true
+  pub unheld : L .shut a ≡ false
+
+pub admitted : (L : Life) → Ruled L → (a : ℕ) → isAdmission L a ≡ true → Admitted L a
 unfolding isAdmission
 admitted L ruled a h =
     let k : ℕ = L .rule a in
-    let on : 0 < k = ltb-true 0 k (both-l (ltb 0 k) (isSlotStart (L .cap) k a) h) in
-    (on, ruled .low a on, both-r (ltb 0 k) (isSlotStart (L .cap) k a) h)
+    let start : Bool = isSlotStart (L .cap) k a in
+    let rest : both (not (L .shut a)) start ≡ true = both-r (ltb 0 k) (both (not (L .shut a)) start) h in
+    let on : 0 < k = ltb-true 0 k (both-l (ltb 0 k) (both (not (L .shut a)) start) h) in
+    record {
+      some = on;
+      low = ruled .low a on;
+      start = both-r (not (L .shut a)) start rest;
+      unheld = not-true (L .shut a) (both-l (not (L .shut a)) start rest);
+    }
+
+-- a course has the same rule and the same doors as a life at a tick
+pub record SameAt (L : Life) (r : Course) (t : ℕ) : Type 0 where
+  pub rule : r .rule t ≡ L .rule t
+  pub shut : r .shut t ≡ L .shut t

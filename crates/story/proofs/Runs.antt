@@ -18,7 +18,7 @@ use Rattle.story.specs.declared.State.{State}
 use Rattle.story.specs.Life.{Life, isActive}
 use Rattle.story.specs.Kept.{noTitle, stateOk}
 use Rattle.story.specs.Calls.{blankTitle, emptyPool}
-use Rattle.story.specs.Story.{Act, opens, changes, closes, Event, event, unopened, lifeOf, latestOf, isHeldIn}
+use Rattle.story.specs.Story.{Act, opens, changes, closes, doors, Event, event, unopened, lifeOf, latestOf, isHeldIn}
 use Rattle.story.specs.Story.{heldIn, heldOver, isThereIn, answerTo, answer, taking, accepted}
 use Rattle.story.specs.Next.{callNext}
 use Rattle.story.specs.Runs.{answered, called, stateAfter, lanesOf}
@@ -26,7 +26,7 @@ use Rattle.story.proofs.Held.{held-active}
 use Rattle.story.proofs.Tells.{absent, Tells}
 use Rattle.story.proofs.Limits.{Funded, state-ok}
 use Rattle.story.proofs.Answers.{answer-told, next-told}
-use Rattle.story.proofs.Passed.{opening, changing, closing}
+use Rattle.story.proofs.Passed.{opening, changing, closing, doored}
 
 pub lanes-limit : (pool : ℕ) → lanesOf pool ≤ poolMax
 lanes-limit pool =
@@ -57,7 +57,7 @@ opened-holds : (es : List Event) (i τ D A K k : ℕ) → i < titlesMax → 0 < 
 unfolding heldOver lifeOf heldIn isActive
 opened-holds es i τ D A K k id pos high =
     let e : Event = event i τ (opens D A K k) in
-    let L : Life = record { opened = τ; length = D; floor = A; cap = K; rule = λ t. k } in
+    let L : Life = record { opened = τ; length = D; floor = A; cap = K; rule = λ t. k; shut = λ t. false } in
     let same : lifeOf (e ∷ es) i ≡ L = rw (eq-eqb i i refl) refl in
     let one : 0 < heldIn L τ = Search.howMany-some (λ l. isHeldIn L l τ) K 0 (omega arith) (held-active L 0 (Rattle.story.specs.Story.tickIn L τ) (lt-ltb 0 k pos)) in
     let part : heldIn (lifeOf (e ∷ es) i) τ ≤ heldOver (e ∷ es) τ = Search.total-at (λ j. heldIn (lifeOf (e ∷ es) j) τ) titlesMax i id in
@@ -76,6 +76,7 @@ funded-next lanes es i τ (opens D A K k) (inr e) h =
     omega (arith, opened-holds es i τ D A K k (omega (arith, o .timely .id)) (o .some) (o .high), o .room)
 funded-next lanes es i τ (changes k) (inr e) h = absurd (nobody-there es i τ e (changing lanes es i τ k h .0 .there))
 funded-next lanes es i τ closes (inr e) h = absurd (nobody-there es i τ e (closing lanes es i τ h .there))
+funded-next lanes es i τ (doors b) (inr e) h = absurd (nobody-there es i τ e (doored lanes es i τ b h .there))
 
 -- one more call: its answer is the sequence's, and what it leaves tells what is accepted then
 pub record Told (lanes : ℕ) (es : List Event) (s : State) : Type 0 where

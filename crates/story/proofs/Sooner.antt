@@ -12,7 +12,7 @@ use lib.Dec.{ltb, eqb}
 use borrow.Author.Tests.{ltb-true, ltb-false, lt-ltb, le-ltb, eqb-false}
 use Rattle.rules.specs.Limits.{either, titlesMax}
 use Rattle.rules.specs.Refusals.{firstHit, outsideLimits, tooEarly, idTaken, isClosing, floorAboveCap, belowFloor, aboveCap, unchanged}
-use Rattle.rules.specs.Refusals.{secondEvent}
+use Rattle.rules.specs.Refusals.{doorsUnchanged, secondEvent}
 use Rattle.rules.specs.Refusals.{notAtSlot, noLanes}
 use Rattle.rules.specs.Search.{howMany, total}
 use Rattle.rules.proofs.Tests.{decide, either-l, either-r, either-false, either-false-l, either-false-r}
@@ -22,7 +22,7 @@ use Rattle.grid.proofs.Numbers.{ne-zero-pos}
 use Rattle.story.specs.Life.{Life, usualCell, isActive, droppedAt, isAwaited, isOwed, reach, owedWithin, owes}
 use Rattle.story.specs.Life.{isHeld}
 use Rattle.story.specs.Orders.{Tests}
-use Rattle.story.specs.Story.{Act, opens, changes, closes, Event, tickIn, lifeOf, countIn, isHeldIn, heldIn}
+use Rattle.story.specs.Story.{Act, opens, changes, closes, doors, Event, tickIn, lifeOf, countIn, isHeldIn, heldIn}
 use Rattle.story.specs.Story.{heldOver}
 use Rattle.story.specs.Story.{isThereIn, testsTo, orderOf, answerTo, answer}
 use Rattle.story.proofs.Owed.{owed-out}
@@ -59,6 +59,7 @@ formerTests pool es e L a =
       below = now .below;
       above = now .above;
       same = now .same;
+      sameDoors = now .sameDoors;
       second = now .second;
       off = now .off;
       full = ltb pool (formerlyHeldOver (e ∷ es) (e .time));
@@ -145,6 +146,7 @@ module _ (pool : ℕ) (es : List Event) (e : Event) (L : Life) where
   clears (opens D A K k) h = cleared (orderOf (opens D A K k) (formerTests pool es e L (opens D A K k))) refl h
   clears (changes k) h = cleared (orderOf (changes k) (formerTests pool es e L (changes k))) refl h
   clears closes h = cleared (orderOf closes (formerTests pool es e L closes)) refl h
+  clears (doors b) h = cleared (orderOf (doors b) (formerTests pool es e L (doors b))) refl h
 
   still : (a : Act) → formerAnswerTo pool es e L a ≡ 0 → answerTo pool es e L a ≡ 0
   unfolding answerTo firstHit hitsOf
@@ -173,6 +175,18 @@ module _ (pool : ℕ) (es : List Event) (e : Event) (L : Life) where
         clear secondEvent,
         clear notAtSlot,
         still-room pool (e ∷ es) (e .time) (clear noLanes),
+      )
+      refl
+  still (doors b) h =
+      let clear = clears (doors b) h in
+      rw (
+        clear outsideLimits,
+        clear tooEarly,
+        open-there L (e .time) (clear isClosing),
+        clear isClosing,
+        clear doorsUnchanged,
+        clear secondEvent,
+        clear notAtSlot,
       )
       refl
   still closes h =

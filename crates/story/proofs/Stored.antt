@@ -1,18 +1,19 @@
--- Owed ticks need no history: of each count the end of its latest admission's slot decides. Shown for any rule that
--- changes only at permitted slot starts: the stored ends say of a lane's ticks what is defined over all admissions.
+-- Owed ticks need no history: of each count the end of its latest admission's slot decides. Shown for any life whose
+-- counts begin and end to admit boxes only at slot starts of their own: the stored ends say of a lane's ticks what is defined over all admissions.
 -- Rests on the grid's laws and on the laws of owed ticks.
 use mathlib.Core.Path.{_≡_, refl, sym, ap, _∙_}
-use mathlib.Core.Bool.{Bool, true}
+use mathlib.Core.Bool.{Bool, true, false}
 use mathlib.Core.Logic.{⊎-elim}
-use Prim.Native.Nat.{ℕ, zero, suc, _+_, _-_, _*_, _/_, _%_, _^_, _≤_, _<_, min, max}
+use Prim.Native.Nat.{ℕ, zero, suc, _+_, _-_, _*_, _/_, _%_, _^_, _≤_, _<_}
 use native.Mathlib.Omega.{arith}
 use native.Mathlib.Nat.{div-add-mod', mul-le-mul-right}
 use lib.Dec.{ltb, leb, eqb}
 use lib.ListN.{getD}
 use borrow.Author.Tests.{ltb-true, ltb-false, lt-ltb, leb-true, le-leb, eqb-true, eqb-false, eq-eqb}
 use Rattle.rules.specs.Limits.{both}
+use Rattle.rules.specs.Refusals.{pick}
 use Rattle.rules.specs.Search.{some}
-use Rattle.rules.proofs.Tests.{decide, both-l, both-r, both-in, same}
+use Rattle.rules.proofs.Tests.{decide, both-l, both-r, both-in, same, pick-true, pick-false}
 use Rattle.rules.proofs.Search
 use Rattle.grid.specs.Ticks.{slot, isSlotStart}
 use Rattle.grid.specs.Channels.{channelCell}
@@ -22,8 +23,8 @@ use Rattle.grid.proofs.Ticks.{slot-pos}
 use Rattle.grid.proofs.Lanes.{lane-not-in}
 use Rattle.grid.proofs.Plan.{taken-in, taken-out}
 use Rattle.story.specs.declared.Title.{Title}
-use Rattle.story.specs.Life.{Life, isFilm, usualCell, isPlanned, isAdmission, isAwaited, isOwed}
-use Rattle.story.proofs.Ruled.{isRuling, lastEnd, Ruled, Legal, admitted}
+use Rattle.story.specs.Life.{Life, Course, isFilm, usualCell, isPlanned, isAdmission, isAwaited, isOwed}
+use Rattle.story.proofs.Ruled.{Ruled, Legal, admits, isAdmitting, lastEnd, admitted}
 use Rattle.story.specs.Kept.{wantsFrom, wants, keptAwaited, keptOwed}
 use Rattle.story.proofs.Owed.{awaited-in, awaited-out}
 
@@ -61,17 +62,13 @@ multiple-less w e p ze l =
 
 -- ---- where a count last ended
 
-module _ (L : Life) (legal : Legal L) (c : ℕ) (low : L .floor ≤ c) where
+module _ (L : Life) (legal : Legal L) (c : ℕ) (some : 0 < c) where
   -- a count begins and ends at its own slot starts
-  ends-at : (m : ℕ) → L .rule m ≡ c → (L .rule (suc m) ≡ c → ⊥) → isSlotStart (L .cap) c (suc m) ≡ true
-  ends-at m h f =
-      slot-start-larger (L .cap) (max (L .floor) (min (L .rule m) (L .rule (suc m)))) c (suc m) (omega arith)
-      (legal .turns m (λ e. f (sym e ∙ h)))
+  ends-at : (m : ℕ) → admits L m ≡ c → (admits L (suc m) ≡ c → ⊥) → isSlotStart (L .cap) c (suc m) ≡ true
+  ends-at m h f = rw (← h) (legal .ends m (omega arith) (λ e. f (sym e ∙ h)))
 
-  begins-at : (m : ℕ) → L .rule (suc m) ≡ c → (L .rule m ≡ c → ⊥) → isSlotStart (L .cap) c (suc m) ≡ true
-  begins-at m h f =
-      slot-start-larger (L .cap) (max (L .floor) (min (L .rule m) (L .rule (suc m)))) c (suc m) (omega arith)
-      (legal .turns m (λ e. f (e ∙ h)))
+  begins-at : (m : ℕ) → admits L (suc m) ≡ c → (admits L m ≡ c → ⊥) → isSlotStart (L .cap) c (suc m) ≡ true
+  begins-at m h f = rw (← h) (legal .begins m (omega arith) (λ e. f (e ∙ h)))
 
   -- no start of a slot lies inside another
   inside : (w m j : ℕ) → suc m % w ≡ 0 → suc j < w → suc j ≤ m → (m - j) % w ≡ 0 → ⊥
@@ -80,48 +77,63 @@ module _ (L : Life) (legal : Legal L) (c : ℕ) (low : L .floor ≤ c) where
       let e : suc m % w ≡ suc j = mod-unique w (suc j) (suc m) 0 ((m - j) / w) lt (omega arith) in
       omega arith
 
-  -- a count that rules at the end of one of its slots rules in the whole slot
-  pub whole-slot : (m j : ℕ) → isSlotStart (L .cap) c (suc m) ≡ true → L .rule m ≡ c → j < slot (L .cap) c →
-      slot (L .cap) c ≤ suc m → L .rule (m - j) ≡ c
+  -- a count that admits boxes at the end of one of its slots does in the whole slot
+  pub whole-slot : (m j : ℕ) → isSlotStart (L .cap) c (suc m) ≡ true → admits L m ≡ c → j < slot (L .cap) c →
+      slot (L .cap) c ≤ suc m → admits L (m - j) ≡ c
   whole-slot m zero s h b w = let e : m - 0 ≡ m = omega arith in rw e h
   whole-slot m (suc j) s h b w =
-      let before : L .rule (m - j) ≡ c = whole-slot m j s h (omega arith) w in
+      let before : admits L (m - j) ≡ c = whole-slot m j s h (omega arith) w in
       let i : ℕ = m - suc j in
       let e : m - j ≡ suc i = omega arith in
-      ⊎-elim (λ t. eqb-true (L .rule i) c t)
+      ⊎-elim (λ t. eqb-true (admits L i) c t)
       (λ t.
-      let start : isSlotStart (L .cap) c (suc i) ≡ true = begins-at i (rw e at before) (eqb-false (L .rule i) c t) in
+      let start : isSlotStart (L .cap) c (suc i) ≡ true = begins-at i (rw e at before) (eqb-false (admits L i) c t) in
       absurd
       (inside (slot (L .cap) c) m j (slot-start-zero (L .cap) c (suc m) s) b (omega arith)
       (rw e (slot-start-zero (L .cap) c (suc i) start))))
-      (decide (eqb (L .rule i) c))
+      (decide (eqb (admits L i) c))
 
-  -- the end of a count's latest rule before T is a slot start of it, unless it rules at T
-  pub end-slot : (T m : ℕ) → (L .rule T ≡ c → ⊥) → lastEnd L c T ≡ suc m →
-      (L .rule m ≡ c) × (isSlotStart (L .cap) c (suc m) ≡ true)
+  -- where a count last stopped before T is a slot start of it, unless it admits boxes at T
+  pub end-slot : (T m : ℕ) → (admits L T ≡ c → ⊥) → lastEnd L c T ≡ suc m →
+      (admits L m ≡ c) × (isSlotStart (L .cap) c (suc m) ≡ true)
   unfolding lastEnd
   end-slot T m off e =
-      let last : L .rule m ≡ c = eqb-true (L .rule m) c (Search.after-last (isRuling L c) T m e) in (
+      let last : admits L m ≡ c = eqb-true (admits L m) c (Search.after-last (isAdmitting L c) T m e) in (
         last,
         ends-at m last
             (⊎-elim
-            (λ b. eqb-false (L .rule (suc m)) c (Search.after-none (isRuling L c) T (suc m) (omega arith) b))
+            (λ b. eqb-false (admits L (suc m)) c (Search.after-none (isAdmitting L c) T (suc m) (omega arith) b))
             (λ q. rw q off)
-            (Search.below-suc (suc m) T (omega (arith, Search.after-le (isRuling L c) T)))),
+            (Search.below-suc (suc m) T (omega (arith, Search.after-le (isAdmitting L c) T)))),
       )
 
 pub lastEnd-le : (L : Life) (c T : ℕ) → lastEnd L c T ≤ T
 unfolding lastEnd
-lastEnd-le L c T = Search.after-le (isRuling L c) T
+lastEnd-le L c T = Search.after-le (isAdmitting L c) T
 
-pub lastEnd-above : (L : Life) (c T a : ℕ) → a < T → L .rule a ≡ c → a < lastEnd L c T
+pub lastEnd-above : (L : Life) (c T a : ℕ) → a < T → admits L a ≡ c → a < lastEnd L c T
 unfolding lastEnd
-lastEnd-above L c T a b e = Search.after-above (isRuling L c) T a b (eq-eqb (L .rule a) c e)
+lastEnd-above L c T a b e = Search.after-above (isAdmitting L c) T a b (eq-eqb (admits L a) c e)
+
+-- no more lanes admit than rule, and without a hold just those
+pub admits-le : (L : Life) (t : ℕ) → admits L t ≤ L .rule t
+admits-le L t =
+    elim (L .shut t) as (λ b. pick b 0 (L .rule t) ≤ L .rule t) [ true ↦ omega arith | false ↦ omega arith ]
+
+pub admits-rule : (L : Life) (t : ℕ) → L .shut t ≡ false → admits L t ≡ L .rule t
+admits-rule L t h = pick-false (L .shut t) 0 (L .rule t) h
+
+-- a count that admits boxes at a tick rules there, and its doors are not held
+rules-unheld : (L : Life) (t c : ℕ) → 0 < c → admits L t ≡ c → (L .rule t ≡ c) × (L .shut t ≡ false)
+rules-unheld L t c pos h =
+    ⊎-elim (λ x. let z : 0 ≡ c = sym (pick-true (L .shut t) 0 (L .rule t) x) ∙ h in absurd (omega arith))
+    (λ x. (sym (admits-rule L t x) ∙ h, x))
+    (decide (L .shut t))
 
 -- a lane l that is not active at T, the tick of its drop
 module _ (L : Life) (ruled : Ruled L) (legal : Legal L) (l T u : ℕ) (lane : l < L .cap) (off : L .rule T ≤ l)
     (from : T ≤ u) where
-  -- an admission that awaits the lane's cell had the lane, and its slot ends by the end of its count's rule
+  -- an admission that awaits the lane's cell had the lane, and its slot ends by where its count last stopped
   pub awaited-end : (a : ℕ) → a < T → isAdmission L a ≡ true → isPlanned L a (usualCell L l u) u ≡ true →
       (l < L .rule a) × (a + slot (L .cap) (L .rule a) ≤ lastEnd L (L .rule a) T)
   awaited-end a b ad pl =
@@ -133,16 +145,16 @@ module _ (L : Life) (ruled : Ruled L) (legal : Legal L) (l T u : ℕ) (lane : l 
       ⊎-elim (λ x. ltb-true l c x)
       (λ x.
       absurd
-      (lane-not-in (L .floor) (L .cap) c l u (k .1) (ltb-false l c x) lane (t .0, t .1 .channel, t .1 .carries)))
+      (lane-not-in (L .floor) (L .cap) c l u (k .low) (ltb-false l c x) lane (t .0, t .1 .channel, t .1 .carries)))
       (decide (ltb l c)) in
       let e : ℕ = lastEnd L c T in
-      let above : a < e = lastEnd-above L c T a b refl in
+      let above : a < e = lastEnd-above L c T a b (admits-rule L a (k .unheld)) in
       let q : e ≡ suc (e - 1) = omega arith in
-      let s = end-slot L legal c (k .1) T (e - 1) (λ same. omega arith) q in
+      let s = end-slot L legal c (k .some) T (e - 1) (λ same. omega (arith, admits-le L T)) q in
       let ze : e % w ≡ 0 = rw q (slot-start-zero (L .cap) c (suc (e - 1)) (s .1)) in
-      (had, multiples w a e (slot-pos (L .cap) c) (slot-start-zero (L .cap) c a (k .2)) ze above)
+      (had, multiples w a e (slot-pos (L .cap) c) (slot-start-zero (L .cap) c a (k .start)) ze above)
 
-  -- the other way round, a slot before the end of a count's rule there is an admission
+  -- the other way round, a slot before a count last stopped there is an admission
   pub end-admission : (c : ℕ) → l < c → L .floor ≤ c → 0 < lastEnd L c T →
       (a : ℕ) × (a < T) × (a + slot (L .cap) c ≡ lastEnd L c T) × (L .rule a ≡ c) × (isAdmission L a ≡ true)
   unfolding isAdmission
@@ -151,35 +163,38 @@ module _ (L : Life) (ruled : Ruled L) (legal : Legal L) (l T u : ℕ) (lane : l 
       let w : ℕ = slot (L .cap) c in
       let wp : 0 < w = slot-pos (L .cap) c in
       let q : e ≡ suc (e - 1) = omega arith in
-      let s = end-slot L legal c low T (e - 1) (λ same. omega arith) q in
+      let pos : 0 < c = omega arith in
+      let s = end-slot L legal c pos T (e - 1) (λ same. omega (arith, admits-le L T)) q in
       let ze : e % w ≡ 0 = rw q (slot-start-zero (L .cap) c (suc (e - 1)) (s .1)) in
       let fits : w ≤ e = omega (arith, multiples w 0 e wp (native.Mathlib.Nat.zero-mod w) ze some) in
       let a : ℕ = e - w in
       let back : e - 1 - (w - 1) ≡ a = omega arith in
-      let rule : L .rule a ≡ c =
-      rw back at (whole-slot L legal c low (e - 1) (w - 1) (s .1) (s .0) (omega arith) (omega arith)) in
+      let admitting : admits L a ≡ c =
+      rw back at (whole-slot L legal c pos (e - 1) (w - 1) (s .1) (s .0) (omega arith) (omega arith)) in
+      let on = rules-unheld L a c pos admitting in
       let start : isSlotStart (L .cap) c a ≡ true = zero-slot-start (L .cap) c a (multiple-less w e wp ze fits) in
       let le : e ≤ T = lastEnd-le L c T in (
         a,
         omega arith,
         omega arith,
-        rule,
-        rw rule (both-in (ltb 0 c) (isSlotStart (L .cap) c a) (lt-ltb 0 c (omega arith)) start),
+        on .0,
+        rw (on .0, on .1) (both-in (ltb 0 c) (isSlotStart (L .cap) c a) (lt-ltb 0 c pos) start),
       )
 
 -- ---- the stored numbers
 
--- the life that a stored title tells, under a rule
-abbrev pub lifeIn : Title → (ℕ → ℕ) → Life
-lifeIn t r = record { opened = t .opened; length = t .length; floor = t .floor; cap = t .cap; rule = r }
+-- the life that a stored title tells, on a course
+abbrev pub lifeIn : Title → Course → Life
+lifeIn t r =
+    record { opened = t .opened; length = t .length; floor = t .floor; cap = t .cap; rule = r .rule; shut = r .shut }
 
--- the stored ends, of the counts that had lane l, are the ends of those counts' rules before its drop at T
-abbrev pub EndsAt : Title → (ℕ → ℕ) → ℕ → ℕ → Type 0
+-- the stored ends, of the counts that had lane l, are where those counts last stopped before its drop at T
+abbrev pub EndsAt : Title → Course → ℕ → ℕ → Type 0
 EndsAt t r l T = (c : ℕ) → l < c → t .floor ≤ c → c ≤ t .cap → getD (t .ends) c 0 ≡ lastEnd (lifeIn t r) c T
 
 -- what the stored ends say is awaited of a lane is what the admissions await
-pub kept-awaited : (t : Title) (r : ℕ → ℕ) (l T u : ℕ) → Ruled (lifeIn t r) → Legal (lifeIn t r) →
-    l < t .cap → r T ≤ l → T ≤ u → EndsAt t r l T →
+pub kept-awaited : (t : Title) (r : Course) (l T u : ℕ) → Ruled (lifeIn t r) → Legal (lifeIn t r) →
+    l < t .cap → r .rule T ≤ l → T ≤ u → EndsAt t r l T →
     isAwaited (lifeIn t r) T (usualCell (lifeIn t r) l u) u ≡ keptAwaited t l (usualCell (lifeIn t r) l u) u
 unfolding keptAwaited wants wantsFrom
 kept-awaited t r l T u ruled legal lane off from ends = same (isAwaited L T x u) (some test (suc K)) there back
@@ -218,12 +233,12 @@ kept-awaited t r l T u ruled legal lane off from ends = same (isAwaited L T x u)
     there h =
         let o = awaited-out L T x u h in
         let a : ℕ = o .0 in
-        let c : ℕ = r a in
+        let c : ℕ = r .rule a in
         let k = admitted L ruled a (o .2) in
         let e = awaited-end L ruled legal l T u lane off from a (o .1) (o .2) (o .3) in
         let s = taken-out A K c a x u (o .3) in
         let d : ℕ = s .0 in
-        let same-end : end c ≡ lastEnd L c T = ends c (e .0) (k .1) (ruled .high a) in
+        let same-end : end c ≡ lastEnd L c T = ends c (e .0) (k .low) (ruled .high a) in
         let before : u < a + slot K c * 2 ^ d = s .1 .before in
         let by : a + slot K c ≤ lastEnd L c T = e .1 in
         let ch : channel c d ≡ true =
@@ -231,7 +246,7 @@ kept-awaited t r l T u ruled legal lane off from ends = same (isAwaited L T x u)
         (eq-eqb (channelCell A K c d u) x (s .1 .carries)) in
         Search.some-in test (suc K) c (omega (arith, ruled .high a))
         (both-in (ltb l c) (both (leb A c) (wanted c)) (lt-ltb l c (e .0))
-        (both-in (leb A c) (wanted c) (le-leb A c (k .1))
+        (both-in (leb A c) (wanted c) (le-leb A c (k .low))
         (both-in (ltb 0 (end c)) (some (channel c) c) (lt-ltb 0 (end c) (omega (arith, slot-pos K c)))
         (Search.some-in (channel c) c d (s .1 .channel) ch))))
 
@@ -260,8 +275,8 @@ kept-awaited t r l T u ruled legal lane off from ends = same (isAwaited L T x u)
         awaited-in L T x u a (adm .1) (adm .4) (rw (adm .3) pl)
 
 -- so what they say is owed is what the documents say is owed
-pub kept-owed : (t : Title) (r : ℕ → ℕ) (l T u : ℕ) → Ruled (lifeIn t r) → Legal (lifeIn t r) →
-    l < t .cap → r T ≤ l → T ≤ u → EndsAt t r l T → isOwed (lifeIn t r) l T u ≡ keptOwed t l u
+pub kept-owed : (t : Title) (r : Course) (l T u : ℕ) → Ruled (lifeIn t r) → Legal (lifeIn t r) →
+    l < t .cap → r .rule T ≤ l → T ≤ u → EndsAt t r l T → isOwed (lifeIn t r) l T u ≡ keptOwed t l u
 unfolding isOwed keptOwed
 kept-owed t r l T u ruled legal lane off from ends =
     ap (both (isFilm (lifeIn t r) (usualCell (lifeIn t r) l u)))

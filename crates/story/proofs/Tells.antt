@@ -20,13 +20,13 @@ use Rattle.rules.proofs.Search
 use Rattle.grid.specs.Ticks.{tickOf}
 use Rattle.story.specs.declared.Title.{Title}
 use Rattle.story.specs.declared.State.{State}
-use Rattle.story.specs.Life.{Life, usualCell, droppedAt, isOwed, reach, owedWithin, owes}
+use Rattle.story.specs.Life.{Life, Course, usualCell, droppedAt, isOwed, reach, owedWithin, owes}
 use Rattle.story.proofs.Ruled.{lastEnd}
-use Rattle.story.specs.Kept.{titleAt, tickAt, ruling, titleHeld, lanesHeld, isThere}
+use Rattle.story.specs.Kept.{titleAt, isShut, tickAt, ruling, titleHeld, lanesHeld, isThere}
 use Rattle.story.specs.Next.{openedTitle, withTitle}
 use Rattle.story.specs.Calls.{blankTitle}
 use Rattle.story.specs.Story.{Event, unopened, lifeAfter, lifeOf, latestOf, lastTime, tickIn, countIn, heldIn}
-use Rattle.story.specs.Story.{heldOver, isThereIn}
+use Rattle.story.specs.Story.{isShutIn, heldOver, isThereIn}
 use Rattle.story.proofs.Owed.{awaited-out, owed-out}
 use Rattle.story.proofs.Stored.{lifeIn}
 use Rattle.story.proofs.Kept.{Present, title-held-kept, later}
@@ -48,9 +48,13 @@ unfolding owedWithin howMany
 owes-none L l zero = refl
 owes-none L l (suc n) = rw (none-owed L l (0 + n), owes-none L l n) refl
 
+-- the course of an opening
+abbrev pub fromStart : ℕ → Course
+fromStart k = record { rule = λ t. k; shut = λ t. false }
+
 -- a title just opened
 pub opened-present : (τ D A K k : ℕ) → τ ≤ eventTimeMax → lengthMin ≤ D → D ≤ lengthMax → floorMin ≤ A → A ≤ floorMax →
-    K ≤ countMax → A ≤ k → k ≤ K → Present (openedTitle τ D A K k) (λ t. k)
+    K ≤ countMax → A ≤ k → k ≤ K → Present (openedTitle τ D A K k) (fromStart k)
 unfolding tickAt ruling lastEnd after droppedAt owes
 opened-present τ D A K k late d d′ a a′ K′ low high =
     let start : (τ - τ) / tickOf D A K ≡ 0 = rw sub-self (zero-div (tickOf D A K)) in
@@ -66,6 +70,7 @@ opened-present τ D A K k late d d′ a a′ K′ low high =
             cap-high = K′;
             count-low = low;
             count-high = high;
+            mark-high = omega arith;
             last-high = late;
             ends-long = refl;
             dropped-long = refl;
@@ -77,17 +82,18 @@ opened-present τ D A K k late d d′ a a′ K′ low high =
       since = omega arith;
       on-tick = rw sub-self (zero-mod (tickOf D A K));
       steady = λ u le. refl;
+      doors = λ e u le. refl;
       ruled = record { low = λ u p. low; high = λ u. high };
-      legal = record { turns = λ u f. absurd (f refl) };
-      ends = λ c lo hi other. zeros countPlaces c ∙ rw start refl;
+      legal = record { ends = λ u p f. absurd (f refl); begins = λ u p f. absurd (f refl) };
+      ends = λ c lo hi. zeros countPlaces c ∙ rw start refl;
       drops = λ l lane off. zeros lanePlaces l ∙ rw start refl;
-      owing = λ l lane off. zeros lanePlaces l ∙ rw (zeros lanePlaces l) (sym (owes-none (lifeIn (openedTitle τ D A K k) (λ t. k)) l (reach K)));
+      owing = λ l lane off. zeros lanePlaces l ∙ rw (zeros lanePlaces l) (sym (owes-none (lifeIn (openedTitle τ D A K k) (fromStart k)) l (reach K)));
     }
 
--- what a slot keeps of an id: nothing, where no event has named it, or the rule of its life
+-- what a slot keeps of an id: nothing, where no event has named it, or the course of its life
 pub data TellsTitle (L : Life) (m : ℕ) (t : Title) : Type 0 where
   absent : L ≡ unopened → m ≡ 0 → t ≡ blankTitle → TellsTitle L m t
-  present : (r : ℕ → ℕ) → L ≡ lifeIn t r → m ≡ t .last → Present t r → TellsTitle L m t
+  present : (r : Course) → L ≡ lifeIn t r → m ≡ t .last → Present t r → TellsTitle L m t
 
 -- what the state keeps of a sequence of accepted events
 pub record Tells (lanes : ℕ) (es : List Event) (s : State) : Type 0 where
@@ -111,7 +117,7 @@ count-told L m t τ (absent e f g) le = rw (e, g) refl
 count-told L m t τ (present r e f p) le = rw e (p .steady (tickAt t τ) (later t r p τ (omega arith)))
 
 -- an open title's count is some lanes
-pub open-some : (t : Title) (r : ℕ → ℕ) → Present t r → t .mode ≡ 1 → 0 < ruling t
+pub open-some : (t : Title) (r : Course) → Present t r → t .mode ≡ 1 → 0 < ruling t
 open-some t r p e = omega (arith, open-ruling t e, p .sized .floor-low, p .sized .count-low)
 
 pub closed-none : (t : Title) → t .mode ≡ 2 → ruling t ≡ 0
@@ -146,6 +152,16 @@ closing-told L m t τ w le here = rw (count-told L m t τ w le) (go w)
         (λ x. ap (λ n. eqb n 2) x ∙ sym (ne-eqb (ruling t) 0 (λ z. omega (arith, open-some t r p x))))
         (λ x. ap (λ n. eqb n 2) x ∙ sym (ap (λ n. eqb n 0) (closed-none t x)))
         (p .mode)
+
+-- whether the doors of a title that is there and not closing are held
+pub doors-told : (L : Life) (m : ℕ) (t : Title) (τ : ℕ) → TellsTitle L m t → m ≤ τ → isThere t τ ≡ true →
+    eqb (t .mode) 2 ≡ false → isShutIn L τ ≡ isShut t
+unfolding tickIn tickAt
+doors-told L m t τ (absent e f g) le here off =
+    absurd (false≢true (sym (blank-away τ) ∙ ap (λ x. isThere x τ) (sym g) ∙ here))
+doors-told L m t τ (present r e f p) le here off =
+    let on : t .mode ≡ 1 = ⊎-elim (λ x. x) (λ x. absurd (eqb-false (t .mode) 2 off x)) (p .mode) in
+    rw e (p .doors on (tickAt t τ) (later t r p τ (omega arith)))
 
 -- how many lanes are held over all titles, from the last event on
 pub lanes-told : (pool : ℕ) (es : List Event) (s : State) (τ : ℕ) → Tells pool es s → lastTime es ≤ τ →

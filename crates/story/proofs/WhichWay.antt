@@ -12,8 +12,8 @@ use Rattle.rules.specs.Refusals.{isClosing, secondEvent, notAtSlot, noLanes}
 use Rattle.rules.proofs.Refusals.{hit-same}
 use Rattle.rules.proofs.Former.{formerly, formerly-done, renumbered, former-hit, joined, outside}
 use Rattle.story.specs.declared.State.{State}
-use Rattle.story.specs.Orders.{Tests, openOrder, changeOrder, closeOrder}
-use Rattle.story.specs.Story.{Act, opens, changes, closes, Event}
+use Rattle.story.specs.Orders.{Tests, openOrder, changeOrder, closeOrder, doorsOrder}
+use Rattle.story.specs.Story.{Act, opens, changes, closes, doors, Event}
 use Rattle.story.specs.Kept.{titleAt}
 use Rattle.story.specs.Next.{callNext}
 use Rattle.story.specs.Calls.{testsIn, callAnswer, freshNext}
@@ -27,6 +27,7 @@ abbrev pub countWrong : Act → ℕ → ℕ → ℕ → Bool
 countWrong (opens D A K k) _ _ _ = either (ltb K A) (not (within A K k))
 countWrong (changes n) A K k = either (not (within A K n)) (eqb n k)
 countWrong closes A K k = false
+countWrong (doors b) A K k = false
 
 -- the orders as they stood, 1 2 4 6 9 and 1 2 3 5 6 7 8 9, of a count that is wrong or not
 abbrev pub formerOpen : Tests → Bool → List Rule
@@ -54,6 +55,7 @@ abbrev pub formerOrder : Act → Tests → Bool → List Rule
 formerOrder (opens D A K k) = formerOpen
 formerOrder (changes k) = formerChange
 formerOrder closes = λ t wrong. closeOrder t
+formerOrder (doors b) = λ t wrong. doorsOrder t
 
 -- what a call answered
 unfoldable pub formerAnswer : State → ℕ → ℕ → Act → ℕ
@@ -104,6 +106,7 @@ same-place s i τ (changes k) =
     let t = titleAt s i in
     change-place (testsIn s i τ (changes k)) _ (ap (λ b. either b (eqb k (t .count))) (outside (t .floor) (t .cap) k))
 same-place s i τ closes = former-hit (closeOrder (testsIn s i τ closes))
+same-place s i τ (doors b) = former-hit (doorsOrder (testsIn s i τ (doors b)))
 
 -- what was accepted is accepted, what was refused is refused
 pub same-calls : (s : State) (i τ : ℕ) (a : Act) → eqb (formerAnswer s i τ a) done ≡ eqb (callAnswer s i τ a) done

@@ -1,38 +1,40 @@
--- No box runs dry, over any accepted sequence: later changes, closings and re-openings included. What a life says of a
+-- No box runs dry, over any accepted sequence: later changes, holds, closings and re-openings included. What a life says of a
 -- tick is what was on air then, since later events turn later ticks; and an id opens again only when no lane of the
 -- earlier opening is held, so every cell that its boxes still awaited has gone out by then.
 -- Rests on `film-in-time` for one life, and on what accepted sequences keep true of lives.
 use mathlib.Core.Path.{_≡_, refl, sym, ap, _∙_}
-use mathlib.Core.Bool.{true, false, false≢true}
+use mathlib.Core.Bool.{Bool, true, false, not, false≢true}
 use mathlib.Core.Logic.{⊎-elim}
-use mathlib.Core.List.{List, _∷_}
+use mathlib.Core.List.{List, [], _∷_}
 use Prim.Native.Nat.{ℕ, suc, _+_, _-_, _*_, _/_, _%_, _≤_, _<_}
 use native.Mathlib.Omega.{arith}
 use native.Mathlib.Nat.{mul-le-mul-right}
 use lib.Dec.{ltb, leb, eqb}
 use borrow.Author.Tests.{ltb-true, ltb-false, le-ltb, leb-false, lt-leb, eqb-true, eq-eqb}
-use Rattle.rules.specs.Limits.{poolMax, titlesMax}
+use Rattle.rules.specs.Limits.{both, poolMax, titlesMax}
 use Rattle.rules.proofs.Tests.{decide, both-l, either-false-l, either-false-r}
 use Rattle.rules.proofs.Search
 use Rattle.grid.specs.Ticks.{isSlotStart}
-use Rattle.story.specs.Life.{Life, underRule, isFilm, isAdmission, isActive, cell, onAir, isHeld}
-use Rattle.story.specs.Story.{Act, opens, changes, closes, Event, event, tickLength, tickIn, momentOf, turn}
+use Rattle.story.specs.Life.{Life, Course, onCourse, isFilm, isAdmission, isActive, cell, onAir, isHeld}
+use Rattle.story.specs.Story.{Act, opens, changes, closes, doors, Event, event, tickLength, tickIn}
+use Rattle.story.specs.Story.{momentOf, turn}
 use Rattle.story.specs.Story.{lifeAfter, lifeOf, latestOf, lastTime, upTo, countIn, isHeldIn, heldIn, isThereIn}
 use Rattle.story.specs.Story.{answerTo, answer, Accepted, none, more, lifeAt, airAt, InTick, Received, Begins}
+use Rattle.story.proofs.Ruled.{SameAt}
 use Rattle.story.proofs.Clock.{tick-mono, in-tick, begun, on-its-tick}
 use Rattle.story.proofs.InTime.{film-in-time}
 use Rattle.story.proofs.Held.{air-local, held-falls}
 use Rattle.story.proofs.Turn.{turn-before}
-use Rattle.story.proofs.Passed.{Turned, opening, changing, closing, in-order}
+use Rattle.story.proofs.Passed.{Turned, opening, changing, closing, doored, in-order}
 use Rattle.story.proofs.Lively.{Lively, lively, newest}
 
 -- ---- what stood at a moment
 
--- the life as it stood at an earlier moment is the same opening, and its rule the same up to that moment
+-- the life as it stood at an earlier moment is the same opening, and its course the same up to that moment
 pub record Stood (L M : Life) (τ : ℕ) : Type 0 where
-  pub rule : ℕ → ℕ
-  pub life : M ≡ underRule L rule
-  pub agree : (u : ℕ) → momentOf L u ≤ τ → rule u ≡ L .rule u
+  pub course : Course
+  pub life : M ≡ onCourse L course
+  pub agree : (u : ℕ) → momentOf L u ≤ τ → SameAt L course u
 
 -- an event of a title turns no tick that began before it
 earlier-tick : (L : Life) (τ υ u : ℕ) → 0 < tickLength L → L .opened ≤ υ → (υ - L .opened) % tickLength L ≡ 0 → τ < υ →
@@ -45,7 +47,7 @@ earlier-tick L τ υ u pos since on lt le =
     (λ x. let m : (υ - L .opened) / p * p ≤ u * p = mul-le-mul-right p (ltb-false u ((υ - L .opened) / p) x) in absurd (omega arith))
     (decide (ltb u ((υ - L .opened) / p)))
 
--- a title that an accepted change or close names is lively
+-- a title that an accepted event other than an opening names is lively
 turned-lively : (lanes : ℕ) (es : List Event) → lanes ≤ poolMax → Accepted lanes es → (i τ : ℕ) → Turned es i τ →
     Lively (lifeOf es i) (latestOf es i)
 turned-lively lanes es high acc i τ w =
@@ -55,14 +57,39 @@ turned-lively lanes es high acc i τ w =
     (lively lanes es high acc i (omega (arith, w .timely .id)))
 
 -- a turn after a moment leaves what stood at it
-turn-stood : (L M : Life) (τ υ k : ℕ) → 0 < tickLength L → L .opened ≤ υ → (υ - L .opened) % tickLength L ≡ 0 → τ < υ →
-    Stood L M τ → Stood (underRule L (turn (L .rule) (tickIn L υ) k)) M τ
-turn-stood L M τ υ k pos since on lt w =
+turn-stood : (L M : Life) (r : Course) (τ υ : ℕ) → 0 < tickLength L → L .opened ≤ υ →
+    (υ - L .opened) % tickLength L ≡ 0 → τ < υ → ((u : ℕ) → u < tickIn L υ → SameAt L r u) → Stood L M τ →
+    Stood (onCourse L r) M τ
+turn-stood L M r τ υ pos since on lt before w =
     record {
-      rule = w .rule;
+      course = w .course;
       life = w .life;
-      agree = λ u le. w .agree u le ∙ sym (turn-before (L .rule) (tickIn L υ) k u (earlier-tick L τ υ u pos since on lt le));
+      agree = λ u le.
+          let b = before u (earlier-tick L τ υ u pos since on lt le) in
+          record { rule = w .agree u le .rule ∙ sym (b .rule); shut = w .agree u le .shut ∙ sym (b .shut) };
     }
+
+-- the course that a title takes by an event other than an opening, and that it turns no earlier tick
+abbrev pub courseAfter : Life → ℕ → Act → Course
+courseAfter L n (opens D A K k) = record { rule = L .rule; shut = L .shut }
+courseAfter L n (changes k) = record { rule = turn (L .rule) n k; shut = L .shut }
+courseAfter L n closes = record { rule = turn (L .rule) n 0; shut = L .shut }
+courseAfter L n (doors b) = record { rule = L .rule; shut = turn (L .shut) n b }
+
+pub same-before : (L : Life) (n : ℕ) (a : Act) (u : ℕ) → u < n → SameAt L (courseAfter L n a) u
+same-before L n (opens D A K k) u b = record { rule = refl; shut = refl }
+same-before L n (changes k) u b = record { rule = turn-before (L .rule) n k u b; shut = refl }
+same-before L n closes u b = record { rule = turn-before (L .rule) n 0 u b; shut = refl }
+same-before L n (doors d) u b = record { rule = refl; shut = turn-before (L .shut) n d u b }
+
+turned-stood : (lanes : ℕ) (es : List Event) → lanes ≤ poolMax → Accepted lanes es → (i υ : ℕ) → Turned es i υ →
+    (a : Act) (M : Life) (τ : ℕ) → τ < υ → lifeOf es i .opened ≤ τ → Stood (lifeOf es i) M τ →
+    Stood (onCourse (lifeOf es i) (courseAfter (lifeOf es i) (tickIn (lifeOf es i) υ) a)) M τ
+turned-stood lanes es high acc i υ t a M τ lt since w =
+    let L : Life = lifeOf es i in
+    let l = turned-lively lanes es high acc i υ t in
+    turn-stood L M (courseAfter L (tickIn L υ) a) τ υ (l .tick-some) (omega arith) (t .on-tick) lt
+    (same-before L (tickIn L υ) a) w
 
 -- one event of the title itself
 event-stood : (lanes : ℕ) (es : List Event) → lanes ≤ poolMax → Accepted lanes es → (i υ : ℕ) (a : Act) →
@@ -71,13 +98,20 @@ event-stood : (lanes : ℕ) (es : List Event) → lanes ≤ poolMax → Accepted
     Stood (lifeAfter (lifeOf es i) υ a) M τ
 event-stood lanes es high acc i υ (opens D A K k) h M τ lt since w = absurd (omega arith)
 event-stood lanes es high acc i υ (changes k) h M τ lt since w =
-    let t = changing lanes es i υ k h .0 in
-    let l = turned-lively lanes es high acc i υ t in
-    turn-stood (lifeOf es i) M τ υ k (l .tick-some) (omega arith) (t .on-tick) lt (w since)
+    turned-stood lanes es high acc i υ (changing lanes es i υ k h .0) (changes k) M τ lt since (w since)
 event-stood lanes es high acc i υ closes h M τ lt since w =
-    let t = closing lanes es i υ h in
-    let l = turned-lively lanes es high acc i υ t in
-    turn-stood (lifeOf es i) M τ υ 0 (l .tick-some) (omega arith) (t .on-tick) lt (w since)
+    turned-stood lanes es high acc i υ (closing lanes es i υ h) closes M τ lt since (w since)
+event-stood lanes es high acc i υ (doors b) h M τ lt since w =
+    turned-stood lanes es high acc i υ (doored lanes es i υ b h) (doors b) M τ lt since (w since)
+
+-- a life stands as it does
+itself : (L : Life) (τ : ℕ) → Stood L L τ
+itself L τ =
+    record {
+      course = record { rule = L .rule; shut = L .shut };
+      life = refl;
+      agree = λ u le. record { rule = refl; shut = refl };
+    }
 
 -- one more event of any title
 stood-more : (lanes : ℕ) (e : Event) (es : List Event) → lanes ≤ poolMax → Accepted lanes es → answer lanes es e ≡ 0 →
@@ -87,7 +121,7 @@ stood-more : (lanes : ℕ) (e : Event) (es : List Event) → lanes ≤ poolMax �
 unfolding upTo lifeOf
 stood-more lanes e es high acc h i τ since was =
     ⊎-elim
-    (λ x. rw x (record { rule = lifeOf (e ∷ es) i .rule; life = refl; agree = λ u le. refl }))
+    (λ x. rw x (itself (lifeOf (e ∷ es) i) τ))
     (λ x.
     let lt : τ < e .time = leb-false (e .time) τ x in
     rw x
@@ -105,7 +139,7 @@ stood-more lanes e es high acc h i τ since was =
 pub stood : (lanes : ℕ) (es : List Event) → lanes ≤ poolMax → Accepted lanes es → (i τ : ℕ) → lifeOf es i .opened ≤ τ →
     Stood (lifeOf es i) (lifeAt es i τ) τ
 unfolding upTo lifeOf
-stood lanes es high none i τ since = record { rule = λ u. 0; life = refl; agree = λ u le. refl }
+stood lanes es high none i τ since = itself (lifeOf [] i) τ
 stood lanes es high (more {e = e} {es = es′} acc h) i τ since =
     stood-more lanes e es′ high acc h i τ since (λ j was. stood lanes es′ high acc j τ was)
 
@@ -117,7 +151,7 @@ air-stood lanes es high acc i l t τ pos h =
     let L : Life = lifeOf es i in
     let w = stood lanes es high acc i τ (omega (arith, h .from)) in
     rw (w .life, in-tick (L .opened) (tickLength L) pos τ t (h .from) (h .until))
-    (air-local L (w .rule) l t
+    (air-local L (w .course) l t
     (λ u le. w .agree u (let m : u * tickLength L ≤ t * tickLength L = mul-le-mul-right (tickLength L) le in omega (arith, h .from))))
 
 -- ---- a box, seen after more events
@@ -125,7 +159,7 @@ air-stood lanes es high acc i l t τ pos h =
 -- a box of the life L, begun at tick a, seen after more events: the opening is still the id's latest, or it is over and
 -- every cell of the film has been received before the last event
 data Watched (es : List Event) (i : ℕ) (L : Life) (a : ℕ) : Type 0 where
-  current : (r : ℕ → ℕ) → lifeOf es i ≡ underRule L r → ((u : ℕ) → u ≤ a → r u ≡ L .rule u) → Watched es i L a
+  current : (r : Course) → lifeOf es i ≡ onCourse L r → ((u : ℕ) → u ≤ a → SameAt L r u) → Watched es i L a
   over : ((c : ℕ) → isFilm L c ≡ true → (f : Received es i L a c) × (momentOf L (suc (f .tick)) ≤ lastTime es)) →
       Watched es i L a
 
@@ -160,30 +194,31 @@ record Sight (L : Life) (a c : ℕ) : Type 0 where
 nobody : (L : Life) (a : ℕ) → L .rule a ≡ 0 → isAdmission L a ≡ true → ⊥
 unfolding isAdmission
 nobody L a e h =
-    false≢true (sym (rw e refl) ∙ both-l (ltb 0 (L .rule a)) (isSlotStart (L .cap) (L .rule a) a) h)
+    let rest : Bool = both (not (L .shut a)) (isSlotStart (L .cap) (L .rule a) a) in
+    false≢true (sym (rw e refl) ∙ both-l (ltb 0 (L .rule a)) rest h)
 
 module _ (lanes : ℕ) (es : List Event) (high : lanes ≤ poolMax) (acc : Accepted lanes es) (i : ℕ) (id : i < titlesMax)
-    (L : Life) (a : ℕ) (adm : isAdmission L a ≡ true) (r : ℕ → ℕ) (life : lifeOf es i ≡ underRule L r)
-    (agree : (u : ℕ) → u ≤ a → r u ≡ L .rule u) where
-  still-admitted : isAdmission (underRule L r) a ≡ true
+    (L : Life) (a : ℕ) (adm : isAdmission L a ≡ true) (r : Course) (life : lifeOf es i ≡ onCourse L r)
+    (agree : (u : ℕ) → u ≤ a → SameAt L r u) where
+  still-admitted : isAdmission (onCourse L r) a ≡ true
   unfolding isAdmission
-  still-admitted = rw (agree a (omega arith)) adm
+  still-admitted = rw (agree a (omega arith) .rule, agree a (omega arith) .shut) adm
 
   -- an id never opened admits nobody
-  alive : Lively (underRule L r) (latestOf es i)
+  alive : Lively (onCourse L r) (latestOf es i)
   alive =
       ⊎-elim
-      (λ e. absurd (nobody (underRule L r) a (ap (λ (X : Life). X .rule a) (sym life ∙ e)) still-admitted))
+      (λ e. absurd (nobody (onCourse L r) a (ap (λ (X : Life). X .rule a) (sym life ∙ e)) still-admitted))
       (λ w. rw life at w)
       (lively lanes es high acc i id)
 
-  sight : (c : ℕ) → isFilm L c ≡ true → Sight (underRule L r) a c
+  sight : (c : ℕ) → isFilm L c ≡ true → Sight (onCourse L r) a c
   sight c film =
-      let f = film-in-time (underRule L r) (alive .ruled) a c (alive .floor-some) still-admitted film in
+      let f = film-in-time (onCourse L r) (alive .ruled) a c (alive .floor-some) still-admitted film in
       record { lane = f .0; tick = f .2; lane-low = f .1; from-start = f .3; by-turn = f .4; carries = f .5 }
 
   -- what is seen in the life was on air then
-  sight-received : (c : ℕ) → Sight (underRule L r) a c → Received es i L a c
+  sight-received : (c : ℕ) → Sight (onCourse L r) a c → Received es i L a c
   sight-received c g =
       let pos : 0 < tickLength (lifeOf es i) = rw life (alive .tick-some) in
       let then : (τ : ℕ) → InTick L (g .tick) τ → InTick (lifeOf es i) (g .tick) τ = λ τ h. rw life (record { from = h .from; until = h .until }) in
@@ -195,21 +230,21 @@ module _ (lanes : ℕ) (es : List Event) (high : lanes ≤ poolMax) (acc : Accep
         by-turn = g .by-turn;
         same-opening = λ τ h.
             let w = stood lanes es high acc i τ (omega (arith, then τ h .from)) in
-            ap (λ (X : Life). X .opened) (w .life ∙ ap (λ X. underRule X (w .rule)) life);
+            ap (λ (X : Life). X .opened) (w .life ∙ ap (λ X. onCourse X (w .course)) life);
         carries = λ τ h. air-stood lanes es high acc i (g .lane) (g .tick) τ pos (then τ h) ∙ rw life (g .carries);
       }
 
   -- where the id may open again, the cell was seen before
-  seen-before : (c τ : ℕ) → lastTime es ≤ τ → isThereIn (lifeOf es i) τ ≡ false → (g : Sight (underRule L r) a c) →
+  seen-before : (c τ : ℕ) → lastTime es ≤ τ → isThereIn (lifeOf es i) τ ≡ false → (g : Sight (onCourse L r) a c) →
       momentOf L (suc (g .tick)) ≤ τ
   unfolding isHeld isActive tickIn heldIn
   seen-before c τ late away g =
-      let X : Life = underRule L r in
+      let X : Life = onCourse L r in
       let p : ℕ = tickLength L in
       let n : ℕ = tickIn X τ in
       let gone : isThereIn X τ ≡ false = rw life at away in
-      let none-rules : r n ≤ 0 = ltb-false 0 (r n) (either-false-l (ltb 0 (r n)) (ltb 0 (heldIn X τ)) gone) in
-      let none-held : heldIn X τ ≤ 0 = ltb-false 0 (heldIn X τ) (either-false-r (ltb 0 (r n)) (ltb 0 (heldIn X τ)) gone) in
+      let none-rules : r .rule n ≤ 0 = ltb-false 0 (r .rule n) (either-false-l (ltb 0 (r .rule n)) (ltb 0 (heldIn X τ)) gone) in
+      let none-held : heldIn X τ ≤ 0 = ltb-false 0 (heldIn X τ) (either-false-r (ltb 0 (r .rule n)) (ltb 0 (heldIn X τ)) gone) in
       let from : latestOf es i ≤ τ = omega (arith, newest lanes es high acc i) in
       let now : tickIn X (latestOf es i) ≤ n = tick-mono (L .opened) p (alive .tick-some) (latestOf es i) τ from in
       let start : L .opened + n * p ≤ τ = begun (L .opened) p (alive .tick-some) τ n (omega (arith, alive .since)) (omega arith) in
@@ -220,35 +255,36 @@ module _ (lanes : ℕ) (es : List Event) (high : lanes ≤ poolMax) (acc : Accep
       (λ x.
       let held : isHeldIn X (g .lane) τ ≡ true =
       held-falls X (g .lane) n (g .tick) (ltb-false (g .tick) n x)
-      (λ v lo hi. le-ltb (g .lane) (r v) (omega (arith, alive .steady v n (omega arith) now))) then in
+      (λ v lo hi. le-ltb (g .lane) (r .rule v) (omega (arith, alive .steady v n (omega arith) now))) then in
       absurd (omega (arith, Search.howMany-some (λ l. isHeldIn X l τ) (L .cap) (g .lane) (g .lane-low) held)))
       (decide (ltb (g .tick) n))
 
 -- ---- one more event
 
--- a change or a close after the box's start turns only later ticks
-own-turn : (lanes : ℕ) (es : List Event) → lanes ≤ poolMax → Accepted lanes es → (i τ k : ℕ) → Turned es i τ →
-    (L : Life) (a : ℕ) → momentOf L a < τ → (r : ℕ → ℕ) → lifeOf es i ≡ underRule L r →
-    ((u : ℕ) → u ≤ a → r u ≡ L .rule u) → (b : Act) →
-    ((X : Life) → lifeAfter X τ b ≡ underRule X (turn (X .rule) (tickIn X τ) k)) → Watched (event i τ b ∷ es) i L a
+-- an event after the box's start, other than an opening, turns only later ticks
+own-turn : (lanes : ℕ) (es : List Event) → lanes ≤ poolMax → Accepted lanes es → (i τ : ℕ) → Turned es i τ →
+    (L : Life) (a : ℕ) → momentOf L a < τ → (r : Course) → lifeOf es i ≡ onCourse L r →
+    ((u : ℕ) → u ≤ a → SameAt L r u) → (b : Act) →
+    ((X : Life) → lifeAfter X τ b ≡ onCourse X (courseAfter X (tickIn X τ) b)) → Watched (event i τ b ∷ es) i L a
 unfolding lifeOf
-own-turn lanes es high acc i τ k w L a lt r life agree b turns =
-    let X : Life = underRule L r in
+own-turn lanes es high acc i τ w L a lt r life agree b turns =
+    let X : Life = onCourse L r in
     let l = turned-lively lanes es high acc i τ w in
     let pos : 0 < tickLength X = rw life at (l .tick-some) in
     let since : L .opened ≤ τ = omega arith in
     let on : (τ - L .opened) % tickLength X ≡ 0 = rw life at (w .on-tick) in
-    current (turn r (tickIn X τ) k)
-    (rw (eq-eqb i i refl) (turns (lifeOf es i) ∙ ap (λ Y. underRule Y (turn (Y .rule) (tickIn Y τ) k)) life))
+    current (courseAfter X (tickIn X τ) b)
+    (rw (eq-eqb i i refl) (turns (lifeOf es i) ∙ ap (λ Y. onCourse Y (courseAfter Y (tickIn Y τ) b)) life))
     (λ u le.
-    turn-before r (tickIn X τ) k u
-    (earlier-tick X (momentOf L a) τ u pos since on lt (let m : u * tickLength L ≤ a * tickLength L = mul-le-mul-right (tickLength L) le in omega arith))
-    ∙ agree u le)
+    let below : u < tickIn X τ =
+    earlier-tick X (momentOf L a) τ u pos since on lt (let m : u * tickLength L ≤ a * tickLength L = mul-le-mul-right (tickLength L) le in omega arith) in
+    let s = same-before X (tickIn X τ) b u below in
+    record { rule = s .rule ∙ agree u le .rule; shut = s .shut ∙ agree u le .shut })
 
 -- one more event of the box's own title
 own-event : (lanes : ℕ) (es : List Event) → lanes ≤ poolMax → Accepted lanes es → (i τ : ℕ) (b : Act) →
     answerTo lanes es (event i τ b) (lifeOf es i) b ≡ 0 → (L : Life) (a : ℕ) → isAdmission L a ≡ true →
-    momentOf L a < τ → (r : ℕ → ℕ) → lifeOf es i ≡ underRule L r → ((u : ℕ) → u ≤ a → r u ≡ L .rule u) →
+    momentOf L a < τ → (r : Course) → lifeOf es i ≡ onCourse L r → ((u : ℕ) → u ≤ a → SameAt L r u) →
     Watched (event i τ b ∷ es) i L a
 unfolding lifeOf sight-received received-skip
 own-event lanes es high acc i τ (opens D A K k) h L a adm lt r life agree =
@@ -260,9 +296,11 @@ own-event lanes es high acc i τ (opens D A K k) h L a adm lt r life agree =
     let before : momentOf L (suc (g .tick)) ≤ τ = seen-before lanes es high acc i id L a adm r life agree c τ (o .timely .late) (o .away) g in
     (received-skip (event i τ (opens D A K k)) es i L a c (sight-received lanes es high acc i id L a adm r life agree c g) before, before))
 own-event lanes es high acc i τ (changes k) h L a adm lt r life agree =
-    own-turn lanes es high acc i τ k (changing lanes es i τ k h .0) L a lt r life agree (changes k) (λ X. refl)
+    own-turn lanes es high acc i τ (changing lanes es i τ k h .0) L a lt r life agree (changes k) (λ X. refl)
 own-event lanes es high acc i τ closes h L a adm lt r life agree =
-    own-turn lanes es high acc i τ 0 (closing lanes es i τ h) L a lt r life agree closes (λ X. refl)
+    own-turn lanes es high acc i τ (closing lanes es i τ h) L a lt r life agree closes (λ X. refl)
+own-event lanes es high acc i τ (doors b) h L a adm lt r life agree =
+    own-turn lanes es high acc i τ (doored lanes es i τ b h) L a lt r life agree (doors b) (λ X. refl)
 
 -- one more event of any title, after the box's start
 follow-more : (lanes : ℕ) (e : Event) (es : List Event) → lanes ≤ poolMax → Accepted lanes es → answer lanes es e ≡ 0 →
@@ -289,7 +327,7 @@ begun-or-more : (lanes : ℕ) (e : Event) (es : List Event) → lanes ≤ poolMa
 unfolding upTo
 begun-or-more lanes e es high acc h i τ a b was =
     ⊎-elim
-    (λ x. rw x (current (lifeOf (e ∷ es) i .rule) refl (λ u le. refl)))
+    (λ x. let L : Life = lifeOf (e ∷ es) i in rw x (current (record { rule = L .rule; shut = L .shut }) refl (λ u le. record { rule = refl; shut = refl })))
     (λ x.
     let lt : τ < e .time = leb-false (e .time) τ x in
     let q : upTo τ (e ∷ es) ≡ upTo τ es = upTo-skip τ e es lt in
@@ -302,7 +340,8 @@ begun-or-more lanes e es high acc h i τ a b was =
 follows : (lanes : ℕ) (es : List Event) → lanes ≤ poolMax → Accepted lanes es → (i τ a : ℕ) → Begins es i τ a →
     Watched es i (lifeAt es i τ) a
 unfolding upTo lifeOf
-follows lanes es high none i τ a b = current (λ u. 0) refl (λ u le. refl)
+follows lanes es high none i τ a b =
+    current (record { rule = λ u. 0; shut = λ u. false }) refl (λ u le. record { rule = refl; shut = refl })
 follows lanes es high (more {e = e} {es = es′} acc h) i τ a b = begun-or-more lanes e es′ high acc h i τ a b (follows lanes es′ high acc i τ a)
 
 -- ---- the demand

@@ -12,9 +12,9 @@ use Rattle.grid.specs.Ticks.{isSlotStart}
 use Rattle.story.specs.declared.Title.{Title}
 use Rattle.story.specs.declared.State.{State}
 use Rattle.story.specs.Orders.{Tests, laneOrder, statusOrder}
-use Rattle.story.specs.Story.{Act, opens, changes, closes, actLimits, permitted, orderOf}
-use Rattle.story.specs.Story.{isCrossed, isBelow, isAbove, isSame}
-use Rattle.story.specs.Kept.{absentMode, closingMode, titleAt, stateOk, tickAt, atTickStart, ruling, keptHeld}
+use Rattle.story.specs.Story.{Act, opens, changes, closes, doors, actLimits, permitted, orderOf}
+use Rattle.story.specs.Story.{isCrossed, isBelow, isAbove, isSame, isSameDoors}
+use Rattle.story.specs.Kept.{absentMode, closingMode, clearMark, titleAt, isShut, stateOk, tickAt, atTickStart, ruling, keptHeld}
 use Rattle.story.specs.Kept.{titleHeld, lanesHeld, isThere, shows}
 use Rattle.story.specs.Next.{callNext}
 
@@ -22,7 +22,7 @@ use Rattle.story.specs.Next.{callNext}
 abbrev pub blankTitle : Title
 blankTitle =
     record
-    { mode = absentMode; opened = 0; length = 0; floor = 0; cap = 0; count = 0; last = 0; ends = replicate countPlaces 0; dropped = replicate lanePlaces 0; owed = replicate lanePlaces 0 }
+    { mode = absentMode; opened = 0; length = 0; floor = 0; cap = 0; count = 0; mark = clearMark; last = 0; ends = replicate countPlaces 0; dropped = replicate lanePlaces 0; owed = replicate lanePlaces 0 }
 
 -- a pool without titles
 abbrev pub emptyPool : ℕ → State
@@ -59,6 +59,7 @@ testsIn s i τ a =
       below = isBelow a (titleAt s i .floor);
       above = isAbove a (titleAt s i .cap);
       same = isSame a (titleAt s i .count);
+      sameDoors = isSameDoors a (isShut (titleAt s i));
       second = eqb τ (titleAt s i .last);
       off = not (atSlotStart (titleAt s i) (permitted a (titleAt s i .floor) (titleAt s i .count)) τ);
       full = tooMany (callNext s i τ a) τ;
@@ -77,6 +78,9 @@ changeAnswer s i τ k = callAnswer s i τ (changes k)
 abbrev pub closeAnswer : State → ℕ → ℕ → ℕ
 closeAnswer s i τ = callAnswer s i τ closes
 
+abbrev pub doorsAnswer : State → ℕ → ℕ → Bool → ℕ
+doorsAnswer s i τ b = callAnswer s i τ (doors b)
+
 -- lane l of a title is held at a time
 abbrev pub laneHeld : Title → ℕ → ℕ → Bool
 laneHeld t l τ = both (not (eqb (t .mode) absentMode)) (both (ltb l (t .cap)) (keptHeld t l (tickAt t τ)))
@@ -94,19 +98,23 @@ laneAnswer s i l τ = firstHit (laneRules s i l τ)
 unfoldable pub laneShows : State → ℕ → ℕ → ℕ → ℕ
 laneShows s i l τ = pick (eqb (laneAnswer s i l τ) 0) (shows (titleAt s i) l (tickAt (titleAt s i) τ)) 0
 
--- status over a row of n ids, with rows of m counts and h numbers of lanes held
-abbrev pub statusRules : State → ℕ → List ℕ → ℕ → ℕ → List Rule
-statusRules s τ ids m h =
-    statusOrder (not (both (eqb m (length ids)) (eqb h (length ids))))
+-- status over a row of ids, with rows of m counts, h numbers of lanes held and d marks
+abbrev pub statusRules : State → ℕ → List ℕ → ℕ → ℕ → ℕ → List Rule
+statusRules s τ ids m h d =
+    statusOrder (not (both (eqb m (length ids)) (both (eqb h (length ids)) (eqb d (length ids)))))
     (not (both (stateOk s) (both (leb τ askedMax) (every (λ j. leb (getD ids j 0) idMax) (length ids)))))
     (ltb τ (s .last))
 
-unfoldable pub statusAnswer : State → ℕ → List ℕ → ℕ → ℕ → ℕ
-statusAnswer s τ ids m h = firstHit (statusRules s τ ids m h)
+unfoldable pub statusAnswer : State → ℕ → List ℕ → ℕ → ℕ → ℕ → ℕ
+statusAnswer s τ ids m h d = firstHit (statusRules s τ ids m h d)
 
--- what status fills in for an id: its count, 0 where it isn't open, and the lanes it holds
+-- what status fills in for an id: its count, 0 where it isn't open, the lanes it holds, and its mark, unset where the count
+-- shows 0
 abbrev pub statusCount : State → ℕ → ℕ
 statusCount s i = ruling (titleAt s i)
 
 abbrev pub statusHeld : State → ℕ → ℕ → ℕ
 statusHeld s i τ = titleHeld (titleAt s i) τ
+
+abbrev pub statusMark : State → ℕ → ℕ
+statusMark s i = pick (eqb (statusCount s i) 0) clearMark (titleAt s i .mark)

@@ -26,10 +26,20 @@ openMode = 1
 abbrev pub closingMode : ℕ
 closingMode = 2
 
+-- the held mark: the doors are not held, or they are
+abbrev pub clearMark : ℕ
+clearMark = 0
+
+abbrev pub heldMark : ℕ
+heldMark = 1
+
+abbrev pub isShut : Title → Bool
+isShut t = eqb (t .mark) heldMark
+
 abbrev pub noTitle : Title
 noTitle =
     record
-    { mode = absentMode; opened = 0; length = 0; floor = 0; cap = 0; count = 0; last = 0; ends = []; dropped = []; owed = [] }
+    { mode = absentMode; opened = 0; length = 0; floor = 0; cap = 0; count = 0; mark = clearMark; last = 0; ends = []; dropped = []; owed = [] }
 
 -- the slot of an id
 abbrev pub titleAt : State → ℕ → Title
@@ -48,8 +58,9 @@ numbersOk t =
     (both (leb (t .floor) floorMax)
     (both (leb (t .cap) countMax)
     (both (leb (t .count) countMax)
+    (both (leb (t .mark) heldMark)
     (both (leb (t .last) askedMax)
-    (both (rowOk (t .ends) countPlaces) (both (rowOk (t .dropped) lanePlaces) (rowOk (t .owed) lanePlaces)))))))))
+    (both (rowOk (t .ends) countPlaces) (both (rowOk (t .dropped) lanePlaces) (rowOk (t .owed) lanePlaces))))))))))
 
 -- a title that is there has its lower limits too, a floor no higher than its cap and a count from floor to cap
 unfoldable pub orderOk : Title → Bool

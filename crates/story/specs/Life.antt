@@ -1,8 +1,8 @@
--- One title's life since its latest opening: its numbers, the count that rules at each tick, and what follows from them
--- alone: admissions, drops, owed ticks, what is on air on a lane, and whether the lane is held (01, "Events").
+-- One title's life since its latest opening: its numbers, the count that rules and the doors at each tick, and what follows
+-- from them alone: admissions, drops, owed ticks, what is on air on a lane, and whether the lane is held (01, "Events").
 -- Nothing here reads what the scheduler stores.
 use Prim.Native.Nat.{ℕ, _+_, _-_, _^_}
-use mathlib.Core.Bool.{Bool, true, false}
+use mathlib.Core.Bool.{Bool, true, false, not}
 use lib.Dec.{ltb, eqb}
 use Rattle.rules.specs.Limits.{both}
 use Rattle.rules.specs.Refusals.{pick}
@@ -19,10 +19,18 @@ pub record Life : Type 0 where
   pub floor : ℕ
   pub cap : ℕ
   pub rule : ℕ → ℕ
+  -- the doors are held at a tick: no box may begin then
+  pub shut : ℕ → Bool
 
--- the same title under another rule
-abbrev pub underRule : Life → (ℕ → ℕ) → Life
-underRule L r = record { opened = L .opened; length = L .length; floor = L .floor; cap = L .cap; rule = r }
+-- what events turn: the rule and the doors
+pub record Course : Type 0 where
+  pub rule : ℕ → ℕ
+  pub shut : ℕ → Bool
+
+-- the same title on another course
+abbrev pub onCourse : Life → Course → Life
+onCourse L r =
+    record { opened = L .opened; length = L .length; floor = L .floor; cap = L .cap; rule = r .rule; shut = r .shut }
 
 -- what the grid says of the title: cell c holds film,
 abbrev pub isFilm : Life → ℕ → Bool
@@ -36,9 +44,10 @@ usualCell L l t = laneCell (L .floor) (L .cap) l t
 abbrev pub isPlanned : Life → ℕ → ℕ → ℕ → Bool
 isPlanned L a c t = inPlan (L .floor) (L .cap) (L .rule a) a c t
 
--- 01, "Events": a slot start under the count ruling at that tick, while the title is open and not closing
+-- 01, "Events", and 02, 7: a slot start under the count ruling at that tick, while the title is open and not closing, and
+-- its doors are not held
 unfoldable pub isAdmission : Life → ℕ → Bool
-isAdmission L a = both (ltb 0 (L .rule a)) (isSlotStart (L .cap) (L .rule a) a)
+isAdmission L a = both (ltb 0 (L .rule a)) (both (not (L .shut a)) (isSlotStart (L .cap) (L .rule a) a))
 
 -- 01, "Lanes are ours": with count k lanes 0 to k - 1 are active
 unfoldable pub isActive : Life → ℕ → ℕ → Bool

@@ -4,6 +4,7 @@ use mathlib.Core.Bool.{Bool, not}
 use mathlib.Core.List.{List, [], _∷_}
 use Rattle.rules.specs.Refusals.{Rule, refuse, outsideLimits, tooEarly, notThere, idTaken, isClosing, floorAboveCap}
 use Rattle.rules.specs.Refusals.{belowFloor, aboveCap, unchanged, secondEvent, notAtSlot, noLanes, wrongRows}
+use Rattle.rules.specs.Refusals.{doorsUnchanged}
 
 -- what the refusals of an event ask
 pub record Tests : Type 0 where
@@ -23,6 +24,8 @@ pub record Tests : Type 0 where
   pub above : Bool
   -- 6: the count is unchanged
   pub same : Bool
+  -- 17: the doors are held already, or not held
+  pub sameDoors : Bool
   -- 7: a second event of the title at one moment
   pub second : Bool
   -- 8: the time is no permitted slot start
@@ -61,6 +64,18 @@ closeOrder t =
     ∷ refuse tooEarly (t .early)
     ∷ refuse notThere (not (t .there))
     ∷ refuse isClosing (t .closing)
+    ∷ refuse secondEvent (t .second)
+    ∷ refuse notAtSlot (t .off)
+    ∷ []
+
+-- of a hold and of a lift
+abbrev pub doorsOrder : Tests → List Rule
+doorsOrder t =
+    refuse outsideLimits (t .outside)
+    ∷ refuse tooEarly (t .early)
+    ∷ refuse notThere (not (t .there))
+    ∷ refuse isClosing (t .closing)
+    ∷ refuse doorsUnchanged (t .sameDoors)
     ∷ refuse secondEvent (t .second)
     ∷ refuse notAtSlot (t .off)
     ∷ []

@@ -11,14 +11,23 @@ use Rattle.rules.specs.Limits.{lengthMax, eventTimeMax, askedMax, laneMax, titl
 use Rattle.rules.specs.Refusals.{pick, Rule, firstHit}
 use Rattle.rules.specs.Search.{every, howMany, total}
 use Rattle.grid.specs.Ticks.{tickOf, isSlotStart}
-use Rattle.story.specs.Life.{Life, underRule, isAdmission, isActive, Air, cell, onAir, isHeld}
-use Rattle.story.specs.Orders.{Tests, openOrder, changeOrder, closeOrder, laneOrder, statusOrder}
+use Rattle.story.specs.Life.{Life, Course, onCourse, isAdmission, isActive, Air, cell, onAir, isHeld}
+use Rattle.story.specs.Orders.{Tests, openOrder, changeOrder, closeOrder, doorsOrder}
+use Rattle.story.specs.Orders.{laneOrder, statusOrder}
 
--- 01, "Events": what an event does: open with length, floor, cap and count; change to a count; close
+-- 01, "Events", and 02, 7: what an event does: open with length, floor, cap and count; change to a count; close; hold the doors,
+-- or lift them
 pub data Act : Type 0 where
   opens : ℕ → ℕ → ℕ → ℕ → Act
   changes : ℕ → Act
   closes : Act
+  doors : Bool → Act
+
+abbrev pub holds : Act
+holds = doors true
+
+abbrev pub lifts : Act
+lifts = doors false
 
 -- an event: its time, the title's id, what it does
 pub record Event : Type 0 where
@@ -31,7 +40,7 @@ event i τ a = record { time = τ; title = i; act = a }
 
 -- an id that was never opened: no cells, no lanes
 abbrev pub unopened : Life
-unopened = record { opened = 0; length = 0; floor = 0; cap = 0; rule = λ t. 0 }
+unopened = record { opened = 0; length = 0; floor = 0; cap = 0; rule = λ t. 0; shut = λ t. false }
 
 -- the title's tick in ms
 abbrev pub tickLength : Life → ℕ
@@ -45,15 +54,23 @@ tickIn L τ = (τ - L .opened) / tickLength L
 abbrev pub momentOf : Life → ℕ → ℕ
 momentOf L t = L .opened + t * tickLength L
 
--- from tick n on count k rules; an event's own tick belongs to the new count
-abbrev pub turn : (ℕ → ℕ) → ℕ → ℕ → ℕ → ℕ
+-- from tick n on it is k; an event's own tick belongs to what it brings
+abbrev pub turn : {A : Type 0} → (ℕ → A) → ℕ → A → ℕ → A
 turn r n k t = pick (leb n t) k (r t)
+
+-- from tick n on count k rules, or the doors are held or not
+abbrev pub ruledFrom : Life → ℕ → ℕ → Life
+ruledFrom L n k = onCourse L (record { rule = turn (L .rule) n k; shut = L .shut })
+
+abbrev pub doorsFrom : Life → ℕ → Bool → Life
+doorsFrom L n b = onCourse L (record { rule = L .rule; shut = turn (L .shut) n b })
 
 -- the title after an event of its own
 abbrev pub lifeAfter : Life → ℕ → Act → Life
-lifeAfter L τ (opens D A K k) = record { opened = τ; length = D; floor = A; cap = K; rule = λ t. k }
-lifeAfter L τ (changes k) = underRule L (turn (L .rule) (tickIn L τ) k)
-lifeAfter L τ closes = underRule L (turn (L .rule) (tickIn L τ) 0)
+lifeAfter L τ (opens D A K k) = record { opened = τ; length = D; floor = A; cap = K; rule = λ t. k; shut = λ t. false }
+lifeAfter L τ (changes k) = ruledFrom L (tickIn L τ) k
+lifeAfter L τ closes = ruledFrom L (tickIn L τ) 0
+lifeAfter L τ (doors b) = doorsFrom L (tickIn L τ) b
 
 -- the life of an id after a sequence of events
 unfoldable pub lifeOf : List Event → ℕ → Life
@@ -78,6 +95,14 @@ upTo τ (e ∷ es) = pick (leb (e .time) τ) (e ∷ es) (upTo τ es)
 -- the ruling count of a title at a moment, 0 once it is closing
 abbrev pub countIn : Life → ℕ → ℕ
 countIn L τ = L .rule (tickIn L τ)
+
+-- its doors are held at a moment
+abbrev pub isShutIn : Life → ℕ → Bool
+isShutIn L τ = L .shut (tickIn L τ)
+
+-- 02, 7: status marks a title that is open, not closing, and held
+abbrev pub isMarkedIn : Life → ℕ → Bool
+isMarkedIn L τ = both (ltb 0 (countIn L τ)) (isShutIn L τ)
 
 -- what is on air on lane l of a title at a moment
 abbrev pub airIn : Life → ℕ → ℕ → Air
@@ -117,6 +142,7 @@ abbrev pub actLimits : Act → Bool → Bool
 actLimits (opens D A K k) b = both b (openLimits D A K k)
 actLimits (changes k) b = both b (within countMin countMax k)
 actLimits closes b = b
+actLimits (doors d) b = b
 
 -- which way the count of an event is wrong, for a title with floor A, cap K and count k: an opening has its own floor
 -- and cap, whose order is asked besides
@@ -124,28 +150,40 @@ abbrev pub isCrossed : Act → Bool
 isCrossed (opens D A K n) = ltb K A
 isCrossed (changes n) = false
 isCrossed closes = false
+isCrossed (doors b) = false
 
 abbrev pub isBelow : Act → ℕ → Bool
 isBelow (opens D A K n) _ = ltb n A
 isBelow (changes n) A = ltb n A
 isBelow closes A = false
+isBelow (doors b) A = false
 
 abbrev pub isAbove : Act → ℕ → Bool
 isAbove (opens D A K n) _ = ltb K n
 isAbove (changes n) K = ltb K n
 isAbove closes K = false
+isAbove (doors b) K = false
 
 abbrev pub isSame : Act → ℕ → Bool
 isSame (opens D A K n) k = false
 isSame (changes n) k = eqb n k
 isSame closes k = false
+isSame (doors b) k = false
+
+-- the doors of a title are held as the event wants them, or not
+abbrev pub isSameDoors : Act → Bool → Bool
+isSameDoors (opens D A K n) s = false
+isSameDoors (changes n) s = false
+isSameDoors closes s = false
+isSameDoors (doors b) s = pick b s (not s)
 
 -- the count at whose slot starts an event is permitted, for a title with floor A and count k: the smaller count of a
--- change, the floor of a close; an opening may come at any time
+-- change, the floor of a close, the ruling count of a hold and a lift; an opening may come at any time
 abbrev pub permitted : Act → ℕ → ℕ → ℕ
 permitted (opens D A K n) _ k = n
 permitted (changes n) A k = min k n
 permitted closes A k = A
+permitted (doors b) A k = k
 
 -- more than the pool is held after a sequence, at a moment
 abbrev pub overfull : ℕ → List Event → ℕ → Bool
@@ -163,6 +201,7 @@ testsTo pool es e L a =
       below = isBelow a (L .floor);
       above = isAbove a (L .cap);
       same = isSame a (countIn L (e .time));
+      sameDoors = isSameDoors a (isShutIn L (e .time));
       second = eqb (e .time) (latestOf es (e .title));
       off = not (isSlotIn L (permitted a (L .floor) (countIn L (e .time))) (e .time));
       full = overfull pool (e ∷ es) (e .time);
@@ -173,6 +212,7 @@ abbrev pub orderOf : Act → Tests → List Rule
 orderOf (opens D A K k) = openOrder
 orderOf (changes k) = changeOrder
 orderOf closes = closeOrder
+orderOf (doors b) = doorsOrder
 
 -- what an event is answered after the accepted events es
 unfoldable pub answerTo : ℕ → List Event → Event → Life → Act → ℕ
@@ -205,11 +245,11 @@ laneRulesTo es i l τ =
 unfoldable pub laneAnswerTo : List Event → ℕ → ℕ → ℕ → ℕ
 laneAnswerTo es i l τ = firstHit (laneRulesTo es i l τ)
 
--- what status is answered after es, over a row of ids beside rows of m and h places
-unfoldable pub statusAnswerTo : List Event → ℕ → List ℕ → ℕ → ℕ → ℕ
-statusAnswerTo es τ ids m h =
+-- what status is answered after es, over a row of ids beside rows of m, h and d places
+unfoldable pub statusAnswerTo : List Event → ℕ → List ℕ → ℕ → ℕ → ℕ → ℕ
+statusAnswerTo es τ ids m h d =
     firstHit
-    (statusOrder (not (both (eqb m (length ids)) (eqb h (length ids))))
+    (statusOrder (not (both (eqb m (length ids)) (both (eqb h (length ids)) (eqb d (length ids)))))
     (not (both (leb τ askedMax) (every (λ j. leb (getD ids j 0) idMax) (length ids))))
     (ltb τ (lastTime es)))
 

@@ -12,6 +12,11 @@ pub const OPEN: u64 = 1;
 
 pub const CLOSING: u64 = 2;
 
+// The held mark of a title: its doors are not held, or they are.
+pub const CLEAR: u64 = 0;
+
+pub const HELD: u64 = 1;
+
 // One title. A tick is counted from the opening; a row of counts has a place for each count up to the largest, a row of
 // lanes one for each lane.
 pub struct Title {
@@ -21,9 +26,11 @@ pub struct Title {
     pub floor: u64,
     pub cap: u64,
     pub count: u64,
+    // whether its doors are held
+    pub mark: u64,
     // the time of its latest accepted event
     pub last: u64,
-    // for each count, the end of the slot of its latest admission, 0 where it never ruled
+    // for each count, the end of the slot of its latest admission, 0 where it never admitted a box
     pub ends: [u64; COUNT_PLACES],
     // for each lane, the tick at which it was last dropped, and how many cells it owed then
     pub dropped: [u64; LANE_PLACES],

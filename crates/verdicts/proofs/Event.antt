@@ -1,7 +1,7 @@
 -- What an event's numbers and its standing give of the title: that it is there, within its limits.
 -- Rests on the laws of tests, of the refusals' order and of states within their limits.
 use mathlib.Core.Path.{_≡_, refl}
-use mathlib.Core.Bool.{true, false, not, false≢true}
+use mathlib.Core.Bool.{Bool, true, false, not, false≢true}
 use Prim.Native.Nat.{ℕ, _≤_, _<_}
 use native.Mathlib.Omega.{arith}
 use borrow.Author.Tests.{leb-true, ltb-true, ltb-false, eqb-false, not-false, not-true}
@@ -13,8 +13,9 @@ use Rattle.story.specs.declared.Title.{Title}
 use Rattle.story.specs.declared.State.{State}
 use Rattle.story.specs.Kept.{absentMode, titleAt, stateOk, titleOk, titleHeld, isThere}
 use Rattle.story.specs.Next.{openedTitle}
-use Rattle.story.specs.Story.{openLimits}
-use Rattle.story.specs.Calls.{eventOk, callAnswer, closeAnswer, laneHeld, laneRules, laneAnswer}
+use Rattle.story.specs.Orders.{doorsOrder}
+use Rattle.story.specs.Story.{openLimits, doors}
+use Rattle.story.specs.Calls.{eventOk, testsIn, callAnswer, closeAnswer, doorsAnswer, laneHeld, laneRules, laneAnswer}
 use Rattle.measures.specs.Film.{Film, Readable}
 use Rattle.measures.proofs.Within.{title-ok, readable}
 use Rattle.owed.specs.Owing.{Sending, Changeable}
@@ -96,6 +97,16 @@ module _ (s : State) (i τ : ℕ) (none : closeAnswer s i τ ≡ 0) where
   pub close-ready : Changeable (titleAt s i)
   unfolding callAnswer hitsOf numbered
   close-ready = there-changeable s i τ close-event (cleared (closeRules s i τ) refl none notThere)
+
+-- a hold or a lift that is taken
+module _ (s : State) (i τ : ℕ) (b : Bool) (none : doorsAnswer s i τ b ≡ 0) where
+  pub doors-event : eventOk s i τ ≡ true
+  unfolding callAnswer hitsOf numbered
+  doors-event = not-false (eventOk s i τ) (cleared (doorsOrder (testsIn s i τ (doors b))) refl none outsideLimits)
+
+  pub doors-ready : Changeable (titleAt s i)
+  unfolding callAnswer hitsOf numbered
+  doors-ready = there-changeable s i τ doors-event (cleared (doorsOrder (testsIn s i τ (doors b))) refl none notThere)
 
 -- a lane question that is answered
 module _ (s : State) (i l τ : ℕ) (none : laneAnswer s i l τ ≡ 0) where

@@ -1,15 +1,15 @@
 -- The parts of the orders of refusals that the verdicts answer one by one: what an event answers before the lanes of the
 -- next state are counted, and what of that is asked of the state and what of the title (01, "Numbers that calls give back").
 use Prim.Native.Nat.{ℕ, min}
-use mathlib.Core.Bool.{false, not}
+use mathlib.Core.Bool.{Bool, false, not}
 use mathlib.Core.List.{List}
 use lib.Dec.{eqb}
 use Rattle.rules.specs.Refusals.{Rule, firstHit, before, behind, outsideLimits, isClosing, secondEvent, noLanes}
 use Rattle.story.specs.declared.Title.{Title}
 use Rattle.story.specs.declared.State.{State}
-use Rattle.story.specs.Orders.{Tests, openOrder, changeOrder, closeOrder}
-use Rattle.story.specs.Story.{Act, opens, changes, closes, isCrossed, isBelow, isAbove, isSame}
-use Rattle.story.specs.Kept.{closingMode, isThere}
+use Rattle.story.specs.Orders.{Tests, openOrder, changeOrder, closeOrder, doorsOrder}
+use Rattle.story.specs.Story.{Act, opens, changes, closes, doors, isCrossed, isBelow, isAbove, isSame, isSameDoors}
+use Rattle.story.specs.Kept.{closingMode, isShut, isThere}
 use Rattle.story.specs.Calls.{atSlotStart, testsIn}
 
 -- of an opening, before the want of lanes, and what of it is left where its numbers are within their limits
@@ -34,7 +34,7 @@ changeBefore s i τ k = firstHit (changeRules s i τ k)
 abbrev pub closeRules : State → ℕ → ℕ → List Rule
 closeRules s i τ = closeOrder (testsIn s i τ closes)
 
--- whether a title can be changed or closed at a time at all
+-- whether a title can have an event other than an opening at a time at all
 abbrev pub standingRules : State → ℕ → ℕ → List Rule
 standingRules s i τ = behind outsideLimits (before secondEvent (closeRules s i τ))
 
@@ -50,6 +50,7 @@ titleTests t τ a k =
       below = isBelow a (t .floor);
       above = isAbove a (t .cap);
       same = isSame a (t .count);
+      sameDoors = isSameDoors a (isShut t);
       second = eqb τ (t .last);
       off = not (atSlotStart t k τ);
       full = false;
@@ -63,3 +64,7 @@ turnRules t k τ = behind isClosing (closeOrder (titleTests t τ closes k))
 abbrev pub countRules : Title → ℕ → ℕ → List Rule
 countRules t k τ =
     behind isClosing (before noLanes (changeOrder (titleTests t τ (changes k) (min (t .count) k))))
+
+-- whether the doors of an open title can be held at a time, or lifted
+abbrev pub doorsRules : Title → Bool → ℕ → List Rule
+doorsRules t b τ = behind isClosing (doorsOrder (titleTests t τ (doors b) (t .count)))

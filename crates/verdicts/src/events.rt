@@ -12,6 +12,7 @@ use rules::BELOW_FLOOR;
 use rules::COUNT_MAX;
 use rules::COUNT_MIN;
 use rules::DONE;
+use rules::DOORS_UNCHANGED;
 use rules::EVENT_TIME_MAX;
 use rules::FLOOR_ABOVE_CAP;
 use rules::FLOOR_MAX;
@@ -30,16 +31,19 @@ use rules::truth::also;
 use rules::truth::smaller;
 use rules::within;
 use story::CLOSING;
+use story::HELD;
 use story::State;
 use story::Title;
 ghost use Prim.Native.Nat.{_≤_};
 ghost use mathlib.Core.Path.{_≡_};
 ghost use mathlib.Core.Bool.{true};
 ghost use Rattle.rules.specs.Refusals.{firstHit};
-ghost use Rattle.story.specs.Story.{openLimits};
-ghost use Rattle.story.specs.Calls.{eventOk, atSlotStart, closeAnswer};
+ghost use Rattle.story.specs.Story.{openLimits, doors, isSameDoors};
+ghost use Rattle.story.specs.Kept.{isShut};
+ghost use Rattle.story.specs.Calls.{eventOk, atSlotStart, closeAnswer, doorsAnswer};
 ghost use Rattle.measures.specs.Film.{Film};
 ghost use Rattle.verdicts.specs.Before.{openLater, openBefore, standingRules, turnRules, countRules, changeBefore};
+ghost use Rattle.verdicts.specs.Before.{doorsRules};
 
 // The numbers that every event has.
 pub fn event_ok(s: State, id: u64, time: u64) -> bool
@@ -114,7 +118,7 @@ pub fn open_verdict(
     OUTSIDE_LIMITS
 }
 
-// Whether a title can be changed or closed at a time at all.
+// Whether a title can have an event other than an opening at a time at all.
 fn standing(s: State, id: u64, time: u64) -> u8
     requires { ⌜ eventOk s id time ≡ true ⌝ }
     ensures { λ r. ⌜ r ≡ firstHit (standingRules s id time) ⌝ }
@@ -190,6 +194,40 @@ pub fn close_verdict(s: State, id: u64, time: u64) -> u8
         if first == DONE {
             let t = title_of(s, id);
             return turn_verdict(t, t.floor, time);
+        }
+        return first;
+    }
+    OUTSIDE_LIMITS
+}
+
+// Whether the doors of a title stand already as an event wants them.
+fn same_doors(t: Title, held: bool) -> bool
+    ensures { λ r. ⌜ r ≡ isSameDoors (doors held) (isShut t) ⌝ }
+{
+    let mark = t.mark;
+    if held { mark == HELD } else { mark != HELD }
+}
+
+// Whether the doors of an open title can be held at a time, or lifted.
+fn held_verdict(t: Title, held: bool, time: u64) -> u8
+    requires { ⌜ Film t ⌝ }
+    requires { ⌜ t .count ≤ t .cap ⌝ }
+    ensures { λ r. ⌜ r ≡ firstHit (doorsRules t held time) ⌝ }
+{
+    if same_doors(t, held) {
+        return DOORS_UNCHANGED;
+    }
+    turn_verdict(t, t.count, time)
+}
+
+// Of a hold, or of a lift.
+pub fn doors_verdict(s: State, id: u64, time: u64, held: bool) -> u8
+    ensures { λ r. ⌜ r ≡ doorsAnswer s id time held ⌝ }
+{
+    if event_ok(s, id, time) {
+        let first = standing(s, id, time);
+        if first == DONE {
+            return held_verdict(title_of(s, id), held, time);
         }
         return first;
     }

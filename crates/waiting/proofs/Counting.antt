@@ -15,14 +15,15 @@ use Rattle.rules.specs.Refusals.{pick, outOfTurn}
 use Rattle.rules.proofs.Tests.{decide}
 use Rattle.notice.specs.declared.Notice.{Notice}
 use Rattle.notice.specs.declared.Kind.{Kind}
-use Rattle.notice.specs.declared.Kind.the-variants.{Open, Change, Close}
+use Rattle.notice.specs.declared.Kind.the-variants.{Open, Change, Close, Hold, Lift}
 use Rattle.notice.specs.declared.Reading.the-variants as reading
 use Rattle.story.specs.declared.State.{State}
 use Rattle.story.specs.Kept.{titleAt}
-use Rattle.story.specs.Life.{Life, underRule}
-use Rattle.story.specs.Story.{Event, event, unopened, turn, lifeAfter, lifeOf, latestOf, lastTime}
+use Rattle.story.specs.Life.{Life, onCourse}
+use Rattle.story.specs.Story.{Act, changes, closes, holds, lifts, Event, event, unopened, lifeAfter, lifeOf, latestOf, lastTime}
 use Rattle.story.specs.Story.{tickIn, answer}
-use Rattle.story.proofs.Passed.{Turned, changing, closing, in-order}
+use Rattle.story.proofs.Passed.{Turned, changing, closing, doored, in-order}
+use Rattle.story.proofs.World.{courseAfter, same-before}
 use Rattle.story.proofs.Tells.{TellsTitle}
 use Rattle.story.specs.Runs.{lanesOf}
 use Rattle.story.proofs.Runs.{Told}
@@ -47,20 +48,24 @@ CountedIn es i xs y = Counted (lifeOf es i) (tickIn (lifeOf es i) (latestOf es i
 
 module _ (lanes : ℕ) (es : List Event) (s : State) (i : ℕ) (xs : List ℕ) (y : Tally)
     (told : TellsTitle (lifeOf es i) (latestOf es i) (titleAt s i)) (newest : latestOf es i ≤ lastTime es) (c : CountedIn es i xs y) where
-  turns : (τ k : ℕ) → Turned es i τ →
-      Counted (underRule (lifeOf es i) (turn (lifeOf es i .rule) (tickIn (lifeOf es i) τ) k)) (tickIn (lifeOf es i) τ) xs (settled (titleAt s i) τ xs y)
-  turns τ k t =
-      told-turns (lifeOf es i) (latestOf es i) (titleAt s i) told xs y c τ k (omega (arith, t .timely .late)) (t .some) (t .on-tick)
+  turns : (τ : ℕ) (a : Act) → Turned es i τ →
+      Counted (onCourse (lifeOf es i) (courseAfter (lifeOf es i) (tickIn (lifeOf es i) τ) a)) (tickIn (lifeOf es i) τ) xs (settled (titleAt s i) τ xs y)
+  turns τ a t =
+      let L : Life = lifeOf es i in
+      told-turns L (latestOf es i) (titleAt s i) told xs y c τ (courseAfter L (tickIn L τ) a) (same-before L (tickIn L τ) a)
+      (omega (arith, t .timely .late)) (t .some) (t .on-tick)
 
   -- an accepted event of the title
   event-counted : (τ : ℕ) (k : Kind) → answer lanes es (event i τ (actOf k)) ≡ 0 →
       Counted (lifeAfter (lifeOf es i) τ (actOf k)) (tickIn (lifeAfter (lifeOf es i) τ (actOf k)) τ) xs (eventTally (titleAt s i) τ k xs y)
   unfolding tickIn
   event-counted τ (Open d a p n) ok =
-      let L : Life = record { opened = τ; length = d; floor = a; cap = p; rule = λ t. n } in
+      let L : Life = record { opened = τ; length = d; floor = a; cap = p; rule = λ t. n; shut = λ t. false } in
       rw (sub-self τ, zero-div) (opened-counted L xs)
-  event-counted τ (Change n) ok = turns τ n (changing lanes es i τ n ok .0)
-  event-counted τ Close ok = turns τ 0 (closing lanes es i τ ok)
+  event-counted τ (Change n) ok = turns τ (changes n) (changing lanes es i τ n ok .0)
+  event-counted τ Close ok = turns τ closes (closing lanes es i τ ok)
+  event-counted τ Hold ok = turns τ holds (doored lanes es i τ true ok)
+  event-counted τ Lift ok = turns τ lifts (doored lanes es i τ false ok)
 
   -- an accepted event of any title
   any-counted : (n : Notice) → answer lanes es (eventOf n) ≡ 0 →

@@ -9,7 +9,7 @@ use Rattle.rules.specs.Limits.{both, idMax, eventTimeMax}
 use Rattle.rules.specs.Refusals.{pick, Rule, firstHit, before, malformed}
 use Rattle.notice.specs.declared.Notice.{Notice}
 use Rattle.notice.specs.declared.Kind.{Kind}
-use Rattle.notice.specs.declared.Kind.the-variants.{Open, Change, Close}
+use Rattle.notice.specs.declared.Kind.the-variants.{Open, Change, Close, Hold, Lift}
 use Rattle.notice.specs.declared.Reading.the-variants as reading
 use Rattle.notice.specs.declared.Found.{Found}
 use Rattle.notice.specs.declared.Found.the-variants as found
@@ -30,6 +30,8 @@ abbrev pub eventTally : Title → ℕ → Kind → List ℕ → Tally → Tally
 eventTally t τ (Open d a k n) xs y = fresh τ
 eventTally t τ (Change n) xs y = settled t τ xs y
 eventTally t τ Close xs y = settled t τ xs y
+eventTally t τ Hold xs y = settled t τ xs y
+eventTally t τ Lift xs y = settled t τ xs y
 
 -- the tally of title i after a notice
 unfoldable pub heardTally : Agent → ℕ → List ℕ → Notice → Tally → Tally

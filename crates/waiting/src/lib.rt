@@ -75,6 +75,8 @@ fn count_event(t: Title, n: Notice, arrivals: &[u64], tally: Tally) -> Tally
         } => opened(time),
         Kind::Change { count: _ } => ended(t, time, arrivals, tally),
         Kind::Close => ended(t, time, arrivals, tally),
+        Kind::Hold => ended(t, time, arrivals, tally),
+        Kind::Lift => ended(t, time, arrivals, tally),
     }
 }
 

@@ -40,6 +40,18 @@ enum-told c = search needs
 close-requires : tie.Need-close-requires
 close-requires c κs = search needs
 
+enum-told-2 : tie.Need-enum-told-2
+enum-told-2 c = search needs
+
+hold-requires : tie.Need-hold-requires
+hold-requires c κs = search needs
+
+enum-told-3 : tie.Need-enum-told-3
+enum-told-3 c = search needs
+
+lift-requires : tie.Need-lift-requires
+lift-requires c κs = search needs
+
 returns : tie.Need-returns
 returns c = enacts _ (c .before .before .before .before .before .args .n) _ _ _ (c .before .before .kind .given .1) (c .«open» .ensures .0) (c .«open» .ensures .1)
 
@@ -48,6 +60,12 @@ returns-2 c = enacts _ (c .before .before .before .before .before .args .n) _ _ 
 
 returns-3 : tie.Need-returns-3
 returns-3 c = enacts _ (c .before .before .before .before .args .n) _ _ _ (c .before .enum-told .given .1) (c .close .ensures .0) (c .close .ensures .1)
+
+returns-4 : tie.Need-returns-4
+returns-4 c = enacts _ (c .before .before .before .before .args .n) _ _ _ (c .before .enum-told2 .given .1) (c .hold .ensures .0) (c .hold .ensures .1)
+
+returns-5 : tie.Need-returns-5
+returns-5 c = enacts _ (c .before .before .before .before .args .n) _ _ _ (c .before .enum-told3 .given .1) (c .lift .ensures .0) (c .lift .ensures .1)
 
 pub enact-spec : {M : Type 1} → statement M
 enact-spec =
@@ -65,6 +83,12 @@ enact-spec =
     change-requires
     enum-told
     close-requires
+    enum-told-2
+    hold-requires
+    enum-told-3
+    lift-requires
     returns
     returns-2
-    returns-3)
+    returns-3
+    returns-4
+    returns-5)

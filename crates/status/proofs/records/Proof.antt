@@ -280,7 +280,7 @@ module _ {M : Type 1} (𝓤 : URA M) (H : Heap 𝓤) (A : Atoms 𝓤) (W : Given
             stays ! (load ! (from ! (stop !)) (look ! 10 refl)) $
             assigns ! (bin ! (load ! (from ! (stop !)) (look ! 1 refl)) (lit ! tt) (record { fits = wide })) (from ! (stop !)) (store ! 9 refl (tt, record { fits = wide })) $
             assigns ! (bin ! (load ! (from ! (fld ! refl (stop !))) (look-in ! 18 (sub ! 0 refl (whole !)))) (load ! (from ! (stop !)) (look ! 9 refl)) tt) (from ! (stop !)) (init ! 12 refl (tt, tt)) $
-            rewrite ! 12 (λ (p : ℕ). ‵ (fat fullShare tyPtr l₁₆ 0 (vptr b p))) (sym (place-is 24 o i)) refl $
+            rewrite ! 12 (λ (p : ℕ). ‵ (fat fullShare tyPtr l₁₆ 0 (vptr b p))) (sym (place-is 32 o i)) refl $
             elem-out ! R (Is R) (shows 𝓤 H A R) (LL.vals Rec.the-type Rec′.the-laws) (LL.tells Rec.the-type Rec′.the-laws) fullShare ls i noRecord b o small (λ is.
             assigns ! (of-opd ! (load ! (from ! (hop ! (look ! 14 refl) (stop !))) (look-raw ! 0 refl))) (from ! (stop !)) (init ! 15 refl (LL.lawful Rec.the-type Rec′.the-laws 𝓤 H A W .typed (getD ls i noRecord) _ is .0)) $
             move ! (1 ∷ []) $ use1 W (raw (Row 𝓤 H A W mem run .pre (to-row (getD ls i noRecord)))) (goes-row (getD ls i noRecord)) $
@@ -291,14 +291,14 @@ module _ {M : Type 1} (𝓤 : URA M) (H : Heap 𝓤) (A : Atoms 𝓤) (W : Given
             land ! (from ! (stop !)) (init ! 13 refl (LL.lawful Rec.the-type Rec′.the-laws 𝓤 H A W .typed z _ is′ .0)) $
             assigns ! (bin ! (load ! (from ! (stop !)) (look ! 3 refl)) (lit ! tt) (record { fits = wide })) (from ! (stop !)) (init ! 16 refl (tt, record { fits = wide })) $
             assigns ! (bin ! (load ! (from ! (fld ! refl (stop !))) (look-in ! 20 (sub ! 0 refl (whole !)))) (load ! (from ! (stop !)) (look ! 16 refl)) tt) (from ! (stop !)) (init ! 17 refl (tt, tt)) $
-            rewrite ! 17 (λ (p : ℕ). ‵ (fat fullShare tyPtr l₁₉ 0 (vptr b p))) (sym (place-is 24 o i)) refl $
+            rewrite ! 17 (λ (p : ℕ). ‵ (fat fullShare tyPtr l₁₉ 0 (vptr b p))) (sym (place-is 32 o i)) refl $
             assigns ! (of-opd ! (load ! (from ! (stop !)) (look ! 13 refl))) (from ! (hop ! (look ! 17 refl) (stop !))) (store-raw ! 1 refl (LL.lawful Rec.the-type Rec′.the-laws 𝓤 H A W .typed z _ is′ .0)) $
             move ! (1 ∷ 0 ∷ 2 ∷ []) $ elem-put ! R fullShare ls i z (u ∷ []) b o small $
             assigns-last ! (bin ! (load ! (from ! (stop !)) (look ! 1 refl)) (lit ! tt) (record { fits = next-fits })) (from ! (stop !)) (store ! 1 refl (tt, record { fits = next-fits })) $
             forget ! 9 refl $ forget ! 10 refl $ forget ! 11 refl $ forget ! 12 refl $ forget ! 13 refl $ forget ! 14 refl $ forget ! 15 refl $
             rewrite ! 1 (λ (j : ℕ). ‵ (fat fullShare word l₇ 0 (vint w64 j))) (add-one i) refl $ by ! (k z e))))))
           where
-            wide : i * 24 < 2 ^ 64
+            wide : i * 32 < 2 ^ 64
             wide = omega (arith, g .1, small, len)
 
             next-fits : i + 1 < 2 ^ 64
@@ -395,7 +395,7 @@ module _ {M : Type 1} (𝓤 : URA M) (H : Heap 𝓤) (A : Atoms 𝓤) (W : Given
           stays ! (load ! (from ! (stop !)) (look ! 6 refl)) $
           assigns ! (bin ! (load ! (from ! (stop !)) (look ! 1 refl)) (lit ! tt) (record { fits = wide })) (from ! (stop !)) (store ! 5 refl (tt, record { fits = wide })) $
           assigns ! (bin ! (load ! (from ! (fld ! refl (stop !))) (look-in ! 18 (sub ! 0 refl (whole !)))) (load ! (from ! (stop !)) (look ! 5 refl)) tt) (from ! (stop !)) (init ! 7 refl (tt, tt)) $
-          rewrite ! 7 (λ (p : ℕ). ‵ (fat fullShare tyPtr l₁₀ 0 (vptr b p))) (sym (place-is 24 o i)) refl $
+          rewrite ! 7 (λ (p : ℕ). ‵ (fat fullShare tyPtr l₁₀ 0 (vptr b p))) (sym (place-is 32 o i)) refl $
           elem-out ! R (Is R) (shows 𝓤 H A R) (LL.vals Rec.the-type Rec′.the-laws) (LL.tells Rec.the-type Rec′.the-laws) fullShare xs i noRecord b o small (λ is.
           assigns ! (of-opd ! (load ! (from ! (hop ! (look ! 9 refl) (stop !))) (look-raw ! 0 refl))) (from ! (stop !)) (init ! 10 refl (LL.lawful Rec.the-type Rec′.the-laws 𝓤 H A W .typed (getD xs i noRecord) _ is .0)) $
           owned ! R (Is R) (LL.makes Rec.the-type Rec′.the-plain 𝓤 H A) (getD xs i noRecord) (rec (getD xs i noRecord) ∷ []) is $
@@ -411,7 +411,7 @@ module _ {M : Type 1} (𝓤 : URA M) (H : Heap 𝓤) (A : Atoms 𝓤) (W : Given
           forget ! 5 refl $ forget ! 6 refl $ forget ! 7 refl $ forget ! 8 refl $
           rewrite ! 1 (λ (j : ℕ). ‵ (fat fullShare word l₅ 0 (vint w64 j))) (add-one i) refl $ by ! (k z e))))))
         where
-          wide : i * 24 < 2 ^ 64
+          wide : i * 32 < 2 ^ 64
           wide = omega (arith, g .1, small)
 
           next-fits : i + 1 < 2 ^ 64

@@ -16,18 +16,22 @@ returns-2 : tie.Need-returns-2
 unfolding statusAnswer firstHit
 returns-2 c = simp (eq-eqb _ _ (c .before .if1 .left), ne-eqb _ _ (c .if2 .taken))
 
+returns-3 : tie.Need-returns-3
+unfolding statusAnswer firstHit
+returns-3 c = simp (eq-eqb _ _ (c .before .before .if1 .left), eq-eqb _ _ (c .before .if2 .left), ne-eqb _ _ (c .if3 .taken))
+
 ids-ok-requires : tie.Need-ids-ok-requires
 ids-ok-requires c κs = search needs
 
 asked-verdict-requires : tie.Need-asked-verdict-requires
 asked-verdict-requires c κs = search needs
 
-returns-3 : tie.Need-returns-3
+returns-4 : tie.Need-returns-4
 unfolding statusAnswer askedAnswer firstHit idsOk
-returns-3 c =
-    simp (eq-eqb _ _ (c .before .before .before .if1 .left), eq-eqb _ _ (c .before .before .if2 .left), ← c .before .ids-ok .ensures) (c .asked-verdict .ensures)
+returns-4 c =
+    simp (eq-eqb _ _ (c .before .before .before .before .if1 .left), eq-eqb _ _ (c .before .before .before .if2 .left), eq-eqb _ _ (c .before .before .if3 .left), ← c .before .ids-ok .ensures) (c .asked-verdict .ensures)
 
 pub status-verdict-spec : {M : Type 1} → statement M
 status-verdict-spec =
     tie.close
-    (tie.spec returns returns-2 ids-ok-requires asked-verdict-requires returns-3)
+    (tie.spec returns returns-2 returns-3 ids-ok-requires asked-verdict-requires returns-4)

@@ -22,6 +22,18 @@ enum-told-3 c = search needs
 ended-requires-2 : tie.Need-ended-requires-2
 ended-requires-2 c κs = search needs
 
+enum-told-4 : tie.Need-enum-told-4
+enum-told-4 c = search needs
+
+ended-requires-3 : tie.Need-ended-requires-3
+ended-requires-3 c κs = search needs
+
+enum-told-5 : tie.Need-enum-told-5
+enum-told-5 c = search needs
+
+ended-requires-4 : tie.Need-ended-requires-4
+ended-requires-4 c κs = search needs
+
 returns : tie.Need-returns
 returns c = by-kind _ _ _ _ _ _ _ (c .before .enum-told .given .1) (c .opened .ensures)
 
@@ -30,6 +42,12 @@ returns-2 c = by-kind _ _ _ _ _ _ _ (c .before .enum-told2 .given .1) (c .ended 
 
 returns-3 : tie.Need-returns-3
 returns-3 c = by-kind _ _ _ _ _ _ _ (c .before .enum-told3 .given .1) (c .ended2 .ensures)
+
+returns-4 : tie.Need-returns-4
+returns-4 c = by-kind _ _ _ _ _ _ _ (c .before .enum-told4 .given .1) (c .ended3 .ensures)
+
+returns-5 : tie.Need-returns-5
+returns-5 c = by-kind _ _ _ _ _ _ _ (c .before .enum-told5 .given .1) (c .ended4 .ensures)
 
 pub count-event-spec : {M : Type 1} → statement M
 count-event-spec =
@@ -41,6 +59,12 @@ count-event-spec =
     ended-requires
     enum-told-3
     ended-requires-2
+    enum-told-4
+    ended-requires-3
+    enum-told-5
+    ended-requires-4
     returns
     returns-2
-    returns-3)
+    returns-3
+    returns-4
+    returns-5)

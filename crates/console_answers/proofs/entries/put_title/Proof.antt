@@ -1,4 +1,4 @@
--- `console_answers::entries::put_title` meets its contract: the three numbers one behind the other.
+-- `console_answers::entries::put_title` meets its contract: the four numbers one behind the other.
 use Rattle.console_answers.specs.Entries.{titleEntry}
 use Rattle.text.proofs.Pages.{puts-append}
 use borrow.Author.Needs.{needs}
@@ -14,14 +14,17 @@ put-entry-requires-2 c κs = search needs
 put-entry-requires-3 : tie.Need-put-entry-requires-3
 put-entry-requires-3 c κs = search needs
 
+put-entry-requires-4 : tie.Need-put-entry-requires-4
+put-entry-requires-4 c κs = search needs
+
 same-length : tie.Need-same-length
 same-length c = search needs
 
 returns : tie.Need-returns
 unfolding titleEntry
-returns c = rw (puts-append, puts-append) (cc)
+returns c = rw (puts-append, puts-append, puts-append) (cc)
 
 pub put-title-spec : {M : Type 1} → statement M
 put-title-spec =
     tie.close
-    (tie.spec put-entry-requires put-entry-requires-2 put-entry-requires-3 same-length returns)
+    (tie.spec put-entry-requires put-entry-requires-2 put-entry-requires-3 put-entry-requires-4 same-length returns)

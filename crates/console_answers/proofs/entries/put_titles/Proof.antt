@@ -1,4 +1,4 @@
--- `console_answers::entries::put_titles` meets its contract: of the three rows, the titles passed are written.
+-- `console_answers::entries::put_titles` meets its contract: of the four rows, the titles passed are written.
 use Prim.Native.Nat.{ℕ, _-_}
 use native.Mathlib.Omega.{arith}
 use lib.ListN.{length, getD}
@@ -10,12 +10,12 @@ use Rattle.console_answers.proofs.entries.put_titles.Statement.{stateme
 use Rattle.console_answers.proofs.entries.put_titles.Tie as tie
 
 abbrev Inv-loop : tie.InvT-loop
-Inv-loop out₀ at ids counts held place₀ i₀ out place i =
-    Passed (λ (j : ℕ). titleEntry (getD ids j 0) (getD counts j 0) (getD held j 0)) (length ids)
+Inv-loop out₀ at ids counts held marks place₀ i₀ out place i =
+    Passed (λ (j : ℕ). titleEntry (getD ids j 0) (getD counts j 0) (getD held j 0) (getD marks j 0)) (length ids)
     (page out₀ at) i (page out place)
 
 abbrev μ-loop : tie.MeasureT-loop
-μ-loop out₀ at ids counts held place₀ i₀ out place i = length ids - i
+μ-loop out₀ at ids counts held marks place₀ i₀ out place i = length ids - i
 
 loop-holds : tie.Need-loop-holds Inv-loop μ-loop
 loop-holds c = passed-none _ _ _
@@ -38,6 +38,12 @@ mul-put-title-3 c = search needs
 shared-slice-read-put-title-3 : tie.Need-shared-slice-read-put-title-3 Inv-loop μ-loop
 shared-slice-read-put-title-3 c = search needs
 
+mul-put-title-4 : tie.Need-mul-put-title-4 Inv-loop μ-loop
+mul-put-title-4 c = search needs
+
+shared-slice-read-put-title-4 : tie.Need-shared-slice-read-put-title-4 Inv-loop μ-loop
+shared-slice-read-put-title-4 c = search needs
+
 put-title-requires : tie.Need-put-title-requires Inv-loop μ-loop
 put-title-requires c κs = search needs
 
@@ -50,7 +56,7 @@ loop-less c = omega arith
 loop-again : tie.Need-loop-again Inv-loop μ-loop
 loop-again c =
     let at-put = c .before .before in
-    let at-loop-test = at-put .before .before .before .before .before in
+    let at-loop-test = at-put .before .before .before .before .before .before in
     let at-loop = at-loop-test .before in
     passed-on _ _ _ _ (at-loop .loop .inv) (at-loop-test .loop-test .taken) (at-put .put-title .ensures)
 
@@ -73,6 +79,8 @@ put-titles-spec =
     shared-slice-read-put-title-2
     mul-put-title-3
     shared-slice-read-put-title-3
+    mul-put-title-4
+    shared-slice-read-put-title-4
     put-title-requires
     add-i
     loop-less

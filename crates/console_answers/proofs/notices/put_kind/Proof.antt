@@ -7,17 +7,17 @@ use Rattle.console_answers.proofs.notices.put_kind.Tie as tie
 enum-known-kind : tie.Need-enum-known-kind
 enum-known-kind c = search needs
 
-cast-t18 : tie.Need-cast-t18
-cast-t18 c = search needs
+cast-t22 : tie.Need-cast-t22
+cast-t22 c = search needs
 
-cast-t19 : tie.Need-cast-t19
-cast-t19 c = search needs
+cast-t23 : tie.Need-cast-t23
+cast-t23 c = search needs
 
-cast-t20 : tie.Need-cast-t20
-cast-t20 c = search needs
+cast-t24 : tie.Need-cast-t24
+cast-t24 c = search needs
 
-cast-t21 : tie.Need-cast-t21
-cast-t21 c = search needs
+cast-t25 : tie.Need-cast-t25
+cast-t25 c = search needs
 
 slice-aggregate-put-event : tie.Need-slice-aggregate-put-event
 slice-aggregate-put-event c = search needs
@@ -31,8 +31,8 @@ put-event-requires c κs = search needs
 enum-known-kind-2 : tie.Need-enum-known-kind-2
 enum-known-kind-2 c = search needs
 
-cast-t28 : tie.Need-cast-t28
-cast-t28 c = search needs
+cast-t32 : tie.Need-cast-t32
+cast-t32 c = search needs
 
 slice-aggregate-put-event-3 : tie.Need-slice-aggregate-put-event-3
 slice-aggregate-put-event-3 c = search needs
@@ -54,6 +54,30 @@ slice-aggregate-put-event-6 c = search needs
 
 put-event-requires-3 : tie.Need-put-event-requires-3
 put-event-requires-3 c κs = search needs
+
+enum-told-2 : tie.Need-enum-told-2
+enum-told-2 c = search needs
+
+slice-aggregate-put-event-7 : tie.Need-slice-aggregate-put-event-7
+slice-aggregate-put-event-7 c = search needs
+
+slice-aggregate-put-event-8 : tie.Need-slice-aggregate-put-event-8
+slice-aggregate-put-event-8 c = search needs
+
+put-event-requires-4 : tie.Need-put-event-requires-4
+put-event-requires-4 c κs = search needs
+
+enum-told-3 : tie.Need-enum-told-3
+enum-told-3 c = search needs
+
+slice-aggregate-put-event-9 : tie.Need-slice-aggregate-put-event-9
+slice-aggregate-put-event-9 c = search needs
+
+slice-aggregate-put-event-10 : tie.Need-slice-aggregate-put-event-10
+slice-aggregate-put-event-10 c = search needs
+
+put-event-requires-5 : tie.Need-put-event-requires-5
+put-event-requires-5 c κs = search needs
 
 same-length : tie.Need-same-length
 same-length c = search needs
@@ -81,20 +105,36 @@ unfolding text
 returns-3 c =
     rw (c .before .before .before .before .before .before .enum-told .given .1) (c .before .before .put-event3 .ensures)
 
+same-length-4 : tie.Need-same-length-4
+same-length-4 c = search needs
+
+returns-4 : tie.Need-returns-4
+unfolding text
+returns-4 c =
+    rw (c .before .before .before .before .before .before .enum-told2 .given .1) (c .before .before .put-event4 .ensures)
+
+same-length-5 : tie.Need-same-length-5
+same-length-5 c = search needs
+
+returns-5 : tie.Need-returns-5
+unfolding text
+returns-5 c =
+    rw (c .before .before .before .before .before .before .enum-told3 .given .1) (c .before .before .put-event5 .ensures)
+
 pub put-kind-spec : {M : Type 1} → statement M
 put-kind-spec =
     tie.close
     (tie.spec
     enum-known-kind
-    cast-t18
-    cast-t19
-    cast-t20
-    cast-t21
+    cast-t22
+    cast-t23
+    cast-t24
+    cast-t25
     slice-aggregate-put-event
     slice-aggregate-put-event-2
     put-event-requires
     enum-known-kind-2
-    cast-t28
+    cast-t32
     slice-aggregate-put-event-3
     slice-aggregate-put-event-4
     put-event-requires-2
@@ -102,9 +142,21 @@ put-kind-spec =
     slice-aggregate-put-event-5
     slice-aggregate-put-event-6
     put-event-requires-3
+    enum-told-2
+    slice-aggregate-put-event-7
+    slice-aggregate-put-event-8
+    put-event-requires-4
+    enum-told-3
+    slice-aggregate-put-event-9
+    slice-aggregate-put-event-10
+    put-event-requires-5
     same-length
     returns
     same-length-2
     returns-2
     same-length-3
-    returns-3)
+    returns-3
+    same-length-4
+    returns-4
+    same-length-5
+    returns-5)

@@ -39,10 +39,19 @@ slice-aggregate-put-rows-2 : tie.Need-slice-aggregate-put-rows-2
 slice-aggregate-put-rows-2 c =
     rw length-take (omega (arith, c .before .before .before .before .before .ids-of .ensures .1))
 
+array-borrow-prefix-marks : tie.Need-array-borrow-prefix-marks
+array-borrow-prefix-marks c = search needs
+
+slice-aggregate-put-rows-3 : tie.Need-slice-aggregate-put-rows-3
+slice-aggregate-put-rows-3 c =
+    rw length-take (omega (arith, c .before .before .before .before .before .before .ids-of .ensures .1))
+
 put-rows-requires : tie.Need-put-rows-requires
 put-rows-requires c κs =
-    let few = c .before .before .before .before .before .ids-of .ensures .1 in
-    (simp (length-take, length-drop) (omega (arith, few)), simp (length-take, length-drop) (omega (arith, few)))
+    let few = c .before .before .before .before .before .before .ids-of .ensures .1 in (
+      simp (length-take, length-drop) (omega (arith, few)),
+      (simp (length-take, length-drop) (omega (arith, few)), simp (length-take, length-drop) (omega (arith, few))),
+    )
 
 same-length : tie.Need-same-length
 same-length c = search needs
@@ -50,8 +59,8 @@ same-length c = search needs
 returns : tie.Need-returns
 unfolding idsIn
 returns c =
-    let at-put-rows = c .before .before .before .before in
-    let at-ids-of = at-put-rows .before .before .before .before .before .before in
+    let at-put-rows = c .before .before .before .before .before in
+    let at-ids-of = at-put-rows .before .before .before .before .before .before .before in
     let n = at-ids-of .ids-of .result in
     let e : n + 1 - 1 ≡ n = omega arith in
     rw (← at-ids-of .ids-of .ensures .0) (rw e at (at-put-rows .put-rows .ensures))
@@ -70,6 +79,8 @@ put-status-spec =
     slice-aggregate-put-rows
     array-borrow-prefix-held
     slice-aggregate-put-rows-2
+    array-borrow-prefix-marks
+    slice-aggregate-put-rows-3
     put-rows-requires
     same-length
     returns)

@@ -1,5 +1,5 @@
 -- `console_desk::acts::happen` meets its contract: each word is the scheduler's call of its act.
-use Rattle.console_desk.proofs.Following.{happened, is-open, is-change, is-close}
+use Rattle.console_desk.proofs.Following.{happened, is-open, is-change, is-hold, is-lift, is-close}
 use borrow.Author.Needs.{needs}
 use Rattle.console_desk.proofs.acts.happen.Statement.{statement}
 use Rattle.console_desk.proofs.acts.happen.Tie as tie
@@ -47,6 +47,40 @@ returns-2 c =
     happened _ (c .before .before .before .before .args .line) _ _ _
     (is-change _ (c .before .before .if1 .left) (c .before .if2 .taken)) (c .change .ensures .0) (c .change .ensures .1)
 
+array-read-hold : tie.Need-array-read-hold
+array-read-hold c = search needs
+
+array-read-hold-2 : tie.Need-array-read-hold-2
+array-read-hold-2 c = search needs
+
+hold-requires : tie.Need-hold-requires
+hold-requires c κs = search needs
+
+returns-3 : tie.Need-returns-3
+returns-3 c =
+    let at-if3 = c .before in
+    let at-if2 = at-if3 .before in
+    happened _ (at-if2 .before .before .before .args .line) _ _ _
+    (is-hold _ (at-if2 .before .if1 .left) (at-if2 .if2 .left) (at-if3 .if3 .taken)) (c .hold .ensures .0) (c .hold .ensures .1)
+
+array-read-lift : tie.Need-array-read-lift
+array-read-lift c = search needs
+
+array-read-lift-2 : tie.Need-array-read-lift-2
+array-read-lift-2 c = search needs
+
+lift-requires : tie.Need-lift-requires
+lift-requires c κs = search needs
+
+returns-4 : tie.Need-returns-4
+returns-4 c =
+    let at-if4 = c .before in
+    let at-if3 = at-if4 .before in
+    let at-if2 = at-if3 .before in
+    happened _ (at-if2 .before .before .before .args .line) _ _ _
+    (is-lift _ (at-if2 .before .if1 .left) (at-if2 .if2 .left) (at-if3 .if3 .left) (at-if4 .if4 .taken))
+    (c .lift .ensures .0) (c .lift .ensures .1)
+
 array-read-close : tie.Need-array-read-close
 array-read-close c = search needs
 
@@ -56,10 +90,14 @@ array-read-close-2 c = search needs
 close-requires : tie.Need-close-requires
 close-requires c κs = search needs
 
-returns-3 : tie.Need-returns-3
-returns-3 c =
-    happened _ (c .before .before .before .before .args .line) _ _ _
-    (is-close _ (c .before .before .if1 .left) (c .before .if2 .left)) (c .close .ensures .0) (c .close .ensures .1)
+returns-5 : tie.Need-returns-5
+returns-5 c =
+    let at-if4 = c .before in
+    let at-if3 = at-if4 .before in
+    let at-if2 = at-if3 .before in
+    happened _ (at-if2 .before .before .before .args .line) _ _ _
+    (is-close _ (at-if2 .before .if1 .left) (at-if2 .if2 .left) (at-if3 .if3 .left) (at-if4 .if4 .left))
+    (c .close .ensures .0) (c .close .ensures .1)
 
 pub happen-spec : {M : Type 1} → statement M
 happen-spec =
@@ -78,7 +116,15 @@ happen-spec =
     array-read-change-3
     change-requires
     returns-2
+    array-read-hold
+    array-read-hold-2
+    hold-requires
+    returns-3
+    array-read-lift
+    array-read-lift-2
+    lift-requires
+    returns-4
     array-read-close
     array-read-close-2
     close-requires
-    returns-3)
+    returns-5)

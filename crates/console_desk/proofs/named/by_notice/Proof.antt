@@ -31,6 +31,18 @@ enum-told-2 c = search needs
 by-title-requires-2 : tie.Need-by-title-requires-2
 by-title-requires-2 c κs = search needs
 
+enum-told-3 : tie.Need-enum-told-3
+enum-told-3 c = search needs
+
+by-title-requires-3 : tie.Need-by-title-requires-3
+by-title-requires-3 c κs = search needs
+
+enum-told-4 : tie.Need-enum-told-4
+enum-told-4 c = search needs
+
+by-title-requires-4 : tie.Need-by-title-requires-4
+by-title-requires-4 c κs = search needs
+
 returns : tie.Need-returns
 returns c =
     let at-kind = c .before .before in
@@ -49,6 +61,18 @@ returns-3 c =
     let x = at-told .before .before .before .args in
     by-kind (x .answer) (x .s) (x .n) _ (at-told .enum-told2 .given .1) (c .by-title2 .ensures)
 
+returns-4 : tie.Need-returns-4
+returns-4 c =
+    let at-told = c .before in
+    let x = at-told .before .before .before .args in
+    by-kind (x .answer) (x .s) (x .n) _ (at-told .enum-told3 .given .1) (c .by-title3 .ensures)
+
+returns-5 : tie.Need-returns-5
+returns-5 c =
+    let at-told = c .before in
+    let x = at-told .before .before .before .args in
+    by-kind (x .answer) (x .s) (x .n) _ (at-told .enum-told4 .given .1) (c .by-title4 .ensures)
+
 pub by-notice-spec : {M : Type 1} → statement M
 by-notice-spec =
     tie.close
@@ -62,6 +86,12 @@ by-notice-spec =
     by-title-requires
     enum-told-2
     by-title-requires-2
+    enum-told-3
+    by-title-requires-3
+    enum-told-4
+    by-title-requires-4
     returns
     returns-2
-    returns-3)
+    returns-3
+    returns-4
+    returns-5)

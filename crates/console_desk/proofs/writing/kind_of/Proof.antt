@@ -1,5 +1,5 @@
 -- `console_desk::writing::kind_of` meets its contract: the kind that the line's word says.
-use Rattle.console_desk.proofs.Written.{kind-open, kind-change, kind-close}
+use Rattle.console_desk.proofs.Written.{kind-open, kind-change, kind-hold, kind-lift, kind-close}
 use borrow.Author.Needs.{needs}
 use Rattle.console_desk.proofs.writing.kind_of.Statement.{statement}
 use Rattle.console_desk.proofs.writing.kind_of.Tie as tie
@@ -46,7 +46,23 @@ returns-2 c =
     (c .as-byte4 .ensures)
 
 returns-3 : tie.Need-returns-3
-returns-3 c = kind-close (c .before .before .before .args .line) (c .before .if1 .left) (c .if2 .left)
+returns-3 c =
+    let at-if2 = c .before in
+    kind-hold (at-if2 .before .before .before .args .line) (at-if2 .before .if1 .left) (at-if2 .if2 .left) (c .if3 .taken)
+
+returns-4 : tie.Need-returns-4
+returns-4 c =
+    let at-if3 = c .before in
+    let at-if2 = at-if3 .before in
+    kind-lift (at-if2 .before .before .before .args .line) (at-if2 .before .if1 .left) (at-if2 .if2 .left)
+    (at-if3 .if3 .left) (c .if4 .taken)
+
+returns-5 : tie.Need-returns-5
+returns-5 c =
+    let at-if3 = c .before in
+    let at-if2 = at-if3 .before in
+    kind-close (at-if2 .before .before .before .args .line) (at-if2 .before .if1 .left) (at-if2 .if2 .left)
+    (at-if3 .if3 .left) (c .if4 .left)
 
 pub kind-of-spec : {M : Type 1} → statement M
 kind-of-spec =
@@ -64,4 +80,6 @@ kind-of-spec =
     array-read-as-byte-4
     as-byte-requires-4
     returns-2
-    returns-3)
+    returns-3
+    returns-4
+    returns-5)

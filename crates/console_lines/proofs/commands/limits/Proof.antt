@@ -33,29 +33,43 @@ returns-4 c =
       eq-eqb _ _ (c .if4 .taken),
     )
 
+cast-within : tie.Need-cast-within
+cast-within c = search needs
+
+cast-within-2 : tie.Need-cast-within-2
+cast-within-2 c = search needs
+
+within-requires : tie.Need-within-requires
+within-requires c κs = search needs
+
 returns-5 : tie.Need-returns-5
 unfolding limitsOf
 returns-5 c =
+    let at-if4 = c .before .before in
     simp (
-      ← c .before .before .before .before .before .asks-plan .ensures,
-      c .before .before .before .before .if1 .left,
-      ne-eqb _ _ (c .before .before .before .if2 .left),
-      ne-eqb _ _ (c .before .before .if3 .left),
-      ne-eqb _ _ (c .before .if4 .left),
-      eq-eqb _ _ (c .if5 .taken),
+      ← at-if4 .before .before .before .before .asks-plan .ensures,
+      at-if4 .before .before .before .if1 .left,
+      ne-eqb _ _ (at-if4 .before .before .if2 .left),
+      ne-eqb _ _ (at-if4 .before .if3 .left),
+      ne-eqb _ _ (at-if4 .if4 .left),
+      ← c .before .within .ensures,
+      c .if5 .taken,
     )
 
 returns-6 : tie.Need-returns-6
 unfolding limitsOf
 returns-6 c =
+    let at-if4 = c .before .before in
     simp (
-      ← c .before .before .before .before .before .asks-plan .ensures,
-      c .before .before .before .before .if1 .left,
-      ne-eqb _ _ (c .before .before .before .if2 .left),
-      ne-eqb _ _ (c .before .before .if3 .left),
-      ne-eqb _ _ (c .before .if4 .left),
-      ne-eqb _ _ (c .if5 .left),
+      ← at-if4 .before .before .before .before .asks-plan .ensures,
+      at-if4 .before .before .before .if1 .left,
+      ne-eqb _ _ (at-if4 .before .before .if2 .left),
+      ne-eqb _ _ (at-if4 .before .if3 .left),
+      ne-eqb _ _ (at-if4 .if4 .left),
+      ← c .before .within .ensures,
+      c .if5 .left,
     )
 
 pub limits-spec : {M : Type 1} → statement M
-limits-spec = tie.close (tie.spec asks-plan-requires returns returns-2 returns-3 returns-4 returns-5 returns-6)
+limits-spec =
+    tie.close (tie.spec asks-plan-requires returns returns-2 returns-3 returns-4 cast-within cast-within-2 within-requires returns-5 returns-6)

@@ -6,6 +6,8 @@ use Rattle.console_lines.specs.Commands.{
   doOpen,
   doChange,
   doClose,
+  doHold,
+  doLift,
   doLane,
   doStatus,
   doPlan,
@@ -109,13 +111,27 @@ slice-aggregate-named-14 c = search needs
 named-requires-14 : tie.Need-named-requires-14
 named-requires-14 c κs = search needs
 
+slice-aggregate-named-15 : tie.Need-slice-aggregate-named-15
+slice-aggregate-named-15 c = search needs
+
+named-requires-15 : tie.Need-named-requires-15
+named-requires-15 c κs = search needs
+
+slice-aggregate-named-16 : tie.Need-slice-aggregate-named-16
+slice-aggregate-named-16 c = search needs
+
+named-requires-16 : tie.Need-named-requires-16
+named-requires-16 c κs = search needs
+
 chosen : (w n : List ℕ) (v : ℕ) {r s x : ℕ} → r ≡ pick (same w n) v s → s ≡ x → r ≡ pick (same w n) v x
 chosen w n v e f = rw (← f) e
 
 returns : tie.Need-returns
 unfolding verbOf text
 returns c =
-    let at-named13 = c .before .before in
+    let at-named15 = c .before .before in
+    let at-named14 = at-named15 .before .before in
+    let at-named13 = at-named14 .before .before in
     let at-named12 = at-named13 .before .before in
     let at-named11 = at-named12 .before .before in
     let at-named10 = at-named11 .before .before in
@@ -130,10 +146,12 @@ returns c =
     let at-named = at-named2 .before .before in
     let at-start = at-named .before .before .before in
     let w = at-start .args .word .now in
-    chosen w (text "fresh") doFresh (c .named14 .ensures)
-    (chosen w (text "open") doOpen (at-named13 .named13 .ensures)
-    (chosen w (text "change") doChange (at-named12 .named12 .ensures)
-    (chosen w (text "close") doClose (at-named11 .named11 .ensures)
+    chosen w (text "fresh") doFresh (c .named16 .ensures)
+    (chosen w (text "open") doOpen (at-named15 .named15 .ensures)
+    (chosen w (text "change") doChange (at-named14 .named14 .ensures)
+    (chosen w (text "close") doClose (at-named13 .named13 .ensures)
+    (chosen w (text "hold") doHold (at-named12 .named12 .ensures)
+    (chosen w (text "lift") doLift (at-named11 .named11 .ensures)
     (chosen w (text "lane") doLane (at-named10 .named10 .ensures)
     (chosen w (text "status") doStatus (at-named9 .named9 .ensures)
     (chosen w (text "plan") doPlan (at-named8 .named8 .ensures)
@@ -144,7 +162,7 @@ returns c =
     (chosen w (text "romplan") doRomPlan (at-named3 .named3 .ensures)
     (chosen w (text "write") doWrite (at-named2 .named2 .ensures)
     (chosen w (text "help") doHelp (at-named .named .ensures)
-    refl)))))))))))))
+    refl)))))))))))))))
 
 pub verb-spec : {M : Type 1} → statement M
 verb-spec =
@@ -178,4 +196,8 @@ verb-spec =
     named-requires-13
     slice-aggregate-named-14
     named-requires-14
+    slice-aggregate-named-15
+    named-requires-15
+    slice-aggregate-named-16
+    named-requires-16
     returns)

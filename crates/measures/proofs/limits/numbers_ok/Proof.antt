@@ -33,12 +33,16 @@ returns-7 : tie.Need-returns-7
 unfolding numbersOk
 returns-7 c = search (le-leb, lt-leb)
 
-rows-ok-requires : tie.Need-rows-ok-requires
-rows-ok-requires c κs = search needs
-
 returns-8 : tie.Need-returns-8
 unfolding numbersOk
 returns-8 c = search (le-leb, lt-leb)
+
+rows-ok-requires : tie.Need-rows-ok-requires
+rows-ok-requires c κs = search needs
+
+returns-9 : tie.Need-returns-9
+unfolding numbersOk
+returns-9 c = search (le-leb, lt-leb)
 
 pub numbers-ok-spec : {M : Type 1} → statement M
 numbers-ok-spec =
@@ -51,5 +55,6 @@ numbers-ok-spec =
     returns-5
     returns-6
     returns-7
+    returns-8
     rows-ok-requires
-    returns-8)
+    returns-9)

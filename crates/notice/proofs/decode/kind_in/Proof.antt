@@ -66,7 +66,33 @@ returns-2 c =
 
 returns-3 : tie.Need-returns-3
 unfolding kindIn
-returns-3 c = simp (ne-eqb _ _ (c .before .if1 .left), ne-eqb _ _ (c .if2 .left))
+returns-3 c =
+    let change = c .before in
+    simp (ne-eqb _ _ (change .before .if1 .left), ne-eqb _ _ (change .if2 .left), eq-eqb _ _ (c .if3 .taken))
+
+returns-4 : tie.Need-returns-4
+unfolding kindIn
+returns-4 c =
+    let close = c .before in
+    let change = close .before in
+    simp (
+      ne-eqb _ _ (change .before .if1 .left),
+      ne-eqb _ _ (change .if2 .left),
+      ne-eqb _ _ (close .if3 .left),
+      eq-eqb _ _ (c .if4 .taken),
+    )
+
+returns-5 : tie.Need-returns-5
+unfolding kindIn
+returns-5 c =
+    let close = c .before in
+    let change = close .before in
+    simp (
+      ne-eqb _ _ (change .before .if1 .left),
+      ne-eqb _ _ (change .if2 .left),
+      ne-eqb _ _ (close .if3 .left),
+      ne-eqb _ _ (c .if4 .left),
+    )
 
 pub kind-in-spec : {M : Type 1} → statement M
 kind-in-spec =
@@ -84,4 +110,6 @@ kind-in-spec =
     value-requires-5
     cast-count-2
     returns-2
-    returns-3)
+    returns-3
+    returns-4
+    returns-5)

@@ -42,6 +42,18 @@ enum-told c = search needs
 cast-t19 : tie.Need-cast-t19
 cast-t19 c = search needs
 
+enum-told-2 : tie.Need-enum-told-2
+enum-told-2 c = search needs
+
+cast-t20 : tie.Need-cast-t20
+cast-t20 c = search needs
+
+enum-told-3 : tie.Need-enum-told-3
+enum-told-3 c = search needs
+
+cast-t21 : tie.Need-cast-t21
+cast-t21 c = search needs
+
 returns : tie.Need-returns
 returns c = rw (c .before .kind .given .1)
 
@@ -50,6 +62,12 @@ returns-2 c = rw (c .before .kind2 .given .1)
 
 returns-3 : tie.Need-returns-3
 returns-3 c = rw (c .enum-told .given .1)
+
+returns-4 : tie.Need-returns-4
+returns-4 c = rw (c .enum-told2 .given .1)
+
+returns-5 : tie.Need-returns-5
+returns-5 c = rw (c .enum-told3 .given .1)
 
 pub values-spec : {M : Type 1} → statement M
 values-spec =
@@ -68,6 +86,12 @@ values-spec =
     cast-t18
     enum-told
     cast-t19
+    enum-told-2
+    cast-t20
+    enum-told-3
+    cast-t21
     returns
     returns-2
-    returns-3)
+    returns-3
+    returns-4
+    returns-5)

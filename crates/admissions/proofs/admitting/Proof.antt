@@ -1,0 +1,15 @@
+-- `admitting` meets its contract: the two tests of its definition.
+use Rattle.admissions.specs.Stretches.{admitting as isAdmitting}
+use borrow.Author.Needs.{needs}
+use Rattle.admissions.proofs.admitting.Statement.{statement}
+use Rattle.admissions.proofs.admitting.Tie as tie
+
+also-requires : tie.Need-also-requires
+also-requires c κs = search needs
+
+returns : tie.Need-returns
+unfolding isAdmitting
+returns c = c .also .ensures
+
+pub admitting-spec : {M : Type 1} → statement M
+admitting-spec = tie.close (tie.spec also-requires returns)
