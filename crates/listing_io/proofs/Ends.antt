@@ -13,12 +13,14 @@ use Rattle.rules.proofs.Tests.{decide}
 use Rattle.notice.specs.declared.Found.{Found}
 use Rattle.notice.specs.Decode.{readAt, placeAfter}
 use Rattle.notice.specs.Log.{placeTo, isNotice, withFound, stopOf}
+use Rattle.notice.specs.Window.{Seen}
+use Rattle.notice.proofs.Seen.{at-end-decided}
 use Rattle.notice.proofs.Through.{enough}
 use Rattle.agent.specs.declared.Agent.{Agent}
 use Rattle.agent.specs.Played.{agentTold}
 use Rattle.listing_io.specs.declared.input.Shown.{Shown}
-use Rattle.listing_io.specs.Steps.{lineAfter, Shows, isDecided}
-use Rattle.listing_io.specs.Listing.{Seen, Run, starts, goes}
+use Rattle.listing_io.specs.Steps.{lineAfter, Shows}
+use Rattle.listing_io.specs.Listing.{Run, starts, goes}
 
 -- a step that keeps its promise, on the whole log
 abbrev made : Agent → Found → ℕ → Shown
@@ -40,10 +42,6 @@ keeps g f p =
       prints = take-all (length (lineAfter g f)) (lineAfter g f) (omega arith);
       fits = omega arith;
     }
-
-at-end-decided : (size p : ℕ) → isDecided size p true ≡ true
-unfolding isDecided
-at-end-decided size p = refl
 
 abbrev here : (log : List ℕ) (p : ℕ) → Seen log p log p
 here log p =

@@ -4,10 +4,8 @@
 use mathlib.Core.Path.{_≡_, refl, sym, ap, _∙_}
 use mathlib.Core.Bool.{Bool, true, false}
 use mathlib.Core.List.{List}
-use Prim.Native.Nat.{ℕ, suc, _+_, _-_, _<_, _≤_}
+use Prim.Native.Nat.{ℕ, suc, _-_, _<_, _≤_}
 use native.Mathlib.Omega.{arith}
-use borrow.Author.Tests.{leb-false}
-use lib.Dec.{ltb}
 use lib.ListN.{length}
 use Rattle.rules.specs.Refusals.{pick}
 use Rattle.notice.specs.declared.Found.{Found}
@@ -17,14 +15,16 @@ use Rattle.notice.specs.Decode.{readAt, placeAfter}
 use Rattle.notice.specs.Log.{placeTo, isNotice, noticesTo}
 use Rattle.notice.proofs.Each.{false-true}
 use Rattle.notice.proofs.There.{inside}
+use Rattle.notice.proofs.Seen.{few-left}
 use Rattle.notice.proofs.Through.{place-within, stopped-on}
 use Rattle.agent.specs.declared.Agent.{Agent}
 use Rattle.agent.specs.Played.{agentTold}
 use Rattle.agent.proofs.Played.{told-more}
 use Rattle.text.specs.Feed.{count}
+use Rattle.text.proofs.Moving.{count-low}
 use Rattle.listing_io.specs.declared.steps.Listed.{Listed}
 use Rattle.listing_io.specs.declared.input.Printed.{Printed}
-use Rattle.listing_io.specs.Steps.{Hears, isDecided}
+use Rattle.listing_io.specs.Steps.{Hears}
 use Rattle.listing_io.specs.Listing.{UpTo, Drained}
 
 -- a step that goes on has moved ahead, within the log; one that ends it stays
@@ -90,19 +90,6 @@ module _ (g : Agent) (log : List ℕ) where
       }
 
 -- ---- what is kept for the next read
-
-few-left : (over : Bool) (size p : ℕ) → isDecided size p over ≡ false → size < p + longestNotice
-unfolding isDecided
-few-left true size p e = false-true (sym e)
-few-left false size p e = leb-false (p + longestNotice) size e
-
-count-low : (l : List ℕ) (from to : ℕ) → count l from to ≤ to - from
-unfolding count
-count-low l from to = go (ltb (length l) to)
-  where
-    go : (b : Bool) → pick b 0 (to - from) ≤ to - from
-    go true = omega arith
-    go false = omega arith
 
 -- of a part of so many bytes, fewer are kept than the longest notice has
 pub kept-few : (g : Agent) (l part : List ℕ) (over : Bool) (r : Printed) (to n : ℕ) → Drained g part over r

@@ -1,20 +1,15 @@
 -- Laws of one step: by what stands at the place, what the agent, the line and the place after it are.
 -- Rest on the definitions alone.
-use mathlib.Core.Path.{_≡_, refl, sym, ap, _∙_}
+use mathlib.Core.Path.{_≡_, refl, ap, _∙_}
 use mathlib.Core.Bool.{true, false}
 use mathlib.Core.List.{List}
-use Prim.Native.Nat.{ℕ, _+_, _-_, _<_, _≤_}
-use native.Mathlib.Omega.{arith}
-use borrow.Author.Tests.{le-leb, lt-leb}
-use lib.Dec.{leb}
+use Prim.Native.Nat.{ℕ}
 use Rattle.rules.specs.Refusals.{malformed}
 use Rattle.notice.specs.declared.Notice.{Notice}
 use Rattle.notice.specs.declared.Reading.the-variants as reading
 use Rattle.notice.specs.declared.Found.{Found}
 use Rattle.notice.specs.declared.Found.the-variants as found
-use Rattle.notice.specs.Fields.{table, startOf, spanOf, longestNotice}
 use Rattle.notice.specs.Encode.{kindOf}
-use Rattle.notice.proofs.Each.{by-order}
 use Rattle.agent.specs.declared.Agent.{Agent}
 use Rattle.agent.specs.Turns.{noticeAnswer, noticed}
 use Rattle.agent.specs.Played.{agentTold}
@@ -22,24 +17,6 @@ use Rattle.text.specs.Output.{page, puts}
 use Rattle.listing_io.specs.declared.steps.Listed.{Listed}
 use Rattle.listing_io.specs.Lines.{lineOf, lastLine}
 use Rattle.listing_io.specs.Steps.{heldAfter, noticeLine, cutLine, Lists}
-
--- the test of what is left is the test of where a longestNotice notice would end
-pub short-left : (size p : ℕ) → size < p → false ≡ leb (p + longestNotice) size
-unfolding table startOf spanOf
-short-left size p h =
-    let past : size < p + 45 = omega arith in
-    sym (lt-leb (p + 45) size past)
-
-pub enough-left : (size p : ℕ) → p ≤ size → leb 45 (size - p) ≡ leb (p + longestNotice) size
-unfolding table startOf spanOf
-enough-left size p h =
-    by-order (size - p) 45
-    (λ lt.
-    let past : size < p + 45 = omega arith in
-    lt-leb 45 (size - p) lt ∙ sym (lt-leb (p + 45) size past))
-    (λ le.
-    let there : p + 45 ≤ size = omega arith in
-    le-leb 45 (size - p) le ∙ sym (le-leb (p + 45) size there))
 
 -- no byte more
 pub end-step : (g : Agent) (p : ℕ) (room : List ℕ)

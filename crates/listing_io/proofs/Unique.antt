@@ -2,19 +2,14 @@
 -- The contracts are cited as the checker has them: `Learnt` is all that a caller learns of a call.
 use mathlib.Core.Path.{_≡_, sym, _∙_}
 use denote.Ref.{now}
-use Rattle.rules.proofs.OneOutcome.{OneEnd, OneOutcome}
+use Rattle.rules.proofs.OneOutcome.{OneEnd}
 use Rattle.text.proofs.Unique.{page-one-outcome}
 use Rattle.listing_io.proofs.steps.list_at.Kinds as list-at-kinds
 use Rattle.listing_io.proofs.steps.list_at.Reads as list-at
-use Rattle.listing_io.proofs.steps.decided.Kinds as decided-kinds
-use Rattle.listing_io.proofs.steps.decided.Reads as decided
 use Rattle.listing_io.proofs.lines.put_line.Kinds as put-line-kinds
 use Rattle.listing_io.proofs.lines.put_line.Reads as put-line
 use Rattle.listing_io.proofs.lines.put_last.Kinds as put-last-kinds
 use Rattle.listing_io.proofs.lines.put_last.Reads as put-last
-
-pub decided-one-outcome : OneOutcome 0 decided-kinds.ps decided-kinds.r decided.Learnt
-decided-one-outcome κs a x y e f p q = p ∙ sym q
 
 pub put-line-one-outcome :
     OneEnd 1 put-line-kinds.ps put-line-kinds.r (λ κs e f. now (e .0) ≡ now (f .0)) put-line.Learnt

@@ -14,8 +14,10 @@ use Rattle.notice.specs.declared.Found.the-variants as found
 use Rattle.notice.specs.Decode.{readAt, placeAfter}
 use Rattle.notice.specs.Encode.{bytesOf}
 use Rattle.notice.specs.Log.{Bytes, placeTo, isNotice, withFound, noticesTo, noticesOf, stopOf, isWholeLog}
+use Rattle.notice.specs.Window.{isDecided, Seen}
 use Rattle.notice.proofs.Each.{false-true}
 use Rattle.notice.proofs.Alike.{further}
+use Rattle.notice.proofs.Seen.{seen-reads}
 use Rattle.notice.proofs.Through.{Stopped, stopped-on, all-read, last-read}
 use Rattle.agent.specs.declared.Agent.{Agent}
 use Rattle.agent.specs.Turns.{freshAgent}
@@ -24,9 +26,9 @@ use Rattle.agent.specs.Played.{agentTold}
 use Rattle.agent.proofs.Played.{told-more, played}
 use Rattle.listing_io.specs.declared.input.Printed.{Printed}
 use Rattle.listing_io.specs.declared.input.Shown.{Shown}
-use Rattle.listing_io.specs.Steps.{cutLine, lineAfter, Shows, isDecided}
-use Rattle.listing_io.specs.Listing.{linesOf, listingOf, Seen, Run, starts, goes, Drained}
-use Rattle.listing_io.proofs.Decided.{seen-reads, same-line, same-notices, same-more, same-place}
+use Rattle.listing_io.specs.Steps.{cutLine, lineAfter, Shows}
+use Rattle.listing_io.specs.Listing.{linesOf, listingOf, Run, starts, goes, Drained}
+use Rattle.listing_io.proofs.Decided.{same-line, same-notices, same-more, same-place}
 
 -- ---- one step
 

@@ -8,12 +8,13 @@ use Rattle.rules.specs.Refusals.{pick}
 use Rattle.notice.specs.declared.Notice.{Notice}
 use Rattle.notice.specs.Decode.{readAt}
 use Rattle.notice.specs.Log.{placeTo, isNotice, noticesTo, noticesOf, isWholeLog}
+use Rattle.notice.specs.Window.{isDecided, Seen}
 use Rattle.agent.specs.declared.Agent.{Agent}
 use Rattle.agent.specs.Played.{agentTold}
 use Rattle.listing_io.specs.declared.steps.Listed.{Listed}
 use Rattle.listing_io.specs.declared.input.Printed.{Printed}
 use Rattle.listing_io.specs.declared.input.Shown.{Shown}
-use Rattle.listing_io.specs.Steps.{noticeLine, cutLine, Shows, isDecided}
+use Rattle.listing_io.specs.Steps.{noticeLine, cutLine, Shows}
 
 -- the lines of notices that an agent is told, newest first: each told after those before it
 unfoldable pub linesOf : Agent → List Notice → List ℕ
@@ -24,16 +25,6 @@ linesOf g (n ∷ ns) = linesOf g ns ++ noticeLine (agentTold g ns) n
 unfoldable pub listingOf : Agent → List ℕ → List ℕ
 listingOf g log =
     linesOf g (noticesOf log) ++ pick (isWholeLog log) [] (cutLine (agentTold g (noticesOf log)))
-
--- a place of a log is seen at a place of a buffer, and can be decided there
-pub record Seen (log : List ℕ) (place : ℕ) (buffer : List ℕ) (p : ℕ) : Type 0 where
-  pub before : List ℕ
-  pub later : List ℕ
-  pub over : Bool
-  pub is : log ≡ before ++ (buffer ++ later)
-  pub there : place ≡ length before + p
-  pub ended : over ≡ true → later ≡ []
-  pub decided : isDecided (length buffer) p over ≡ true
 
 -- a run of steps over a log, each on whatever buffer sees the place where the one before went on: the agent, the place in the
 -- log, whether there is more, and all that was printed

@@ -1,17 +1,14 @@
 -- One step of the listing: the line that is printed, the agent after it, and where it goes on (01, "Numbers worked through").
-use Prim.Native.Nat.{ℕ, _+_, _≤_}
+use Prim.Native.Nat.{ℕ, _≤_}
 use mathlib.Core.Path.{_≡_}
-use mathlib.Core.Bool.{Bool}
 use mathlib.Core.List.{List, []}
-use lib.Dec.{eqb, leb}
+use lib.Dec.{eqb}
 use lib.ListN.{length, take}
-use Rattle.rules.specs.Limits.{either}
 use Rattle.rules.specs.Refusals.{pick, done, malformed}
 use Rattle.notice.specs.declared.Notice.{Notice}
 use Rattle.notice.specs.declared.Reading.the-variants as reading
 use Rattle.notice.specs.declared.Found.{Found}
 use Rattle.notice.specs.declared.Found.the-variants as found
-use Rattle.notice.specs.Fields.{longestNotice}
 use Rattle.notice.specs.Encode.{kindOf}
 use Rattle.notice.specs.Decode.{placeAfter}
 use Rattle.notice.specs.Log.{isNotice, withFound}
@@ -60,7 +57,3 @@ pub record Shows (g : Agent) (f : Found) (p : ℕ) (r : Shown) : Type 0 where
   pub hears : Hears g f p (r .listed)
   pub prints : take (r .listed .size) (r .row) ≡ lineAfter g f
   pub fits : r .listed .size ≤ length (r .row)
-
--- a place of the bytes read so far is decided once the longest notice would be there, or no byte will follow
-unfoldable pub isDecided : ℕ → ℕ → Bool → Bool
-isDecided size p over = either over (leb (p + longestNotice) size)

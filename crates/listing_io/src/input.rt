@@ -6,10 +6,10 @@
 
 use super::lines::LINE_ROOM;
 use super::steps::Listed;
-use super::steps::decided;
 use super::steps::list_at;
 use agent::Agent;
 use agent::fresh_agent;
+use notice::window::decided;
 use streams::Got;
 use text::feed::compact;
 ghost use mathlib.Core.Path.{_≡_};

@@ -5,7 +5,6 @@ use super::lines::put_line;
 use agent::Agent;
 use agent::heed;
 use notice::Found;
-use notice::LONGEST;
 use notice::Notice;
 use notice::kind_number;
 use rules::DONE;
@@ -14,7 +13,7 @@ use scheduler::held;
 ghost use mathlib.Core.Path.{_≡_};
 ghost use Rattle.notice.specs.declared.Found.the-variants as found;
 ghost use Rattle.notice.specs.Decode.{readAt};
-ghost use Rattle.listing_io.specs.Steps.{heldAfter, Lists, isDecided};
+ghost use Rattle.listing_io.specs.Steps.{heldAfter, Lists};
 
 // What a step gives back.
 pub struct Listed {
@@ -79,17 +78,4 @@ pub fn list_at(agent: Agent, log: &[u8], place: usize, out: &mut [u8]) -> Listed
             }
         }
     }
-}
-
-// Whether a place can be decided: the longest notice would be there, or no byte will follow.
-pub fn decided(size: usize, place: usize, over: bool) -> bool
-    ensures { λ r. ⌜ r ≡ isDecided size place over ⌝ }
-{
-    if over {
-        return true;
-    }
-    if size < place {
-        return false;
-    }
-    LONGEST <= size - place
 }

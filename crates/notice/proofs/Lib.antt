@@ -12,6 +12,7 @@ pub mod Part
 pub mod ReadBack
 pub mod Refused
 pub mod RoundTrip
+pub mod Seen
 pub mod Table
 pub mod There
 pub mod Through

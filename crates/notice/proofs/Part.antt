@@ -4,17 +4,20 @@
 use mathlib.Core.Path.{_≡_, sym, ap, _∙_}
 use mathlib.Core.List.{List, _++_}
 use Prim.Native.Nat.{ℕ, _+_, _≤_, _<_}
-use native.Mathlib.Nat.{add-assoc, add-zero}
+use native.Mathlib.Nat.{add-assoc, add-zero, zero-add}
 use native.Mathlib.Omega.{arith}
 use borrow.Author.Tests.{le-leb, lt-leb}
 use lib.Dec.{leb}
 use lib.ListN.{length, getD, take, drop, length-append, length-drop, take-append-drop, List·getD-append}
 use lib.Seq.{getD-append-add, length-take-le}
+use Rattle.notice.specs.declared.Notice.{Notice}
+use Rattle.notice.specs.declared.Found.the-variants as found
 use Rattle.notice.specs.Fields.{table, spanOf, startOf, lengthOf, longestNotice}
 use Rattle.notice.specs.Decode.{kindAt, readAt}
 use Rattle.notice.proofs.Each.{by-order}
 use Rattle.notice.proofs.Table.{longest-kind}
 use Rattle.notice.proofs.Cases.{at-end}
+use Rattle.notice.proofs.There.{there, inside}
 use Rattle.notice.proofs.Alike.{further, found-alike}
 
 same-order : (a b c d : ℕ) → (a ≤ b → c ≤ d) → (b < a → d < c) → leb a b ≡ leb c d
@@ -73,3 +76,24 @@ of-its-part bs p =
     (λ le.
     let none : length (drop p bs) ≤ 0 = rw length-drop (omega arith) in
     sym (at-end bs p le) ∙ ap (further p) (at-end (drop p bs) 0 none))
+
+-- a whole notice stays what it is, whatever bytes follow
+pub whole-stays : (bs after : List ℕ) (p : ℕ) (n : Notice) (e : ℕ) → readAt bs p ≡ found.At n e
+    → readAt (bs ++ after) p ≡ found.At n e
+whole-stays bs after p n e is =
+    let t = there bs p n e is in
+    let i = inside bs p n e is in
+    let long : length (bs ++ after) ≡ length bs + length after = length-append bs after in
+    let at : (j : ℕ) → p + j < length bs → getD bs (p + j) 0 ≡ getD (bs ++ after) (0 + p + j) 0 =
+    λ j lt. rw zero-add (sym (List·getD-append bs after 0 (p + j) lt)) in
+    let same = found-alike bs (bs ++ after) p 0
+    (record {
+      kind = at 3 (omega (arith, i .ahead, i .within));
+      room = λ known.
+          same-order (p + lengthOf (kindAt bs p)) (length bs) (0 + p + lengthOf (kindAt bs p)) (length (bs ++ after))
+          (λ h. omega arith) (λ h. absurd (omega (arith, h, t .end, i .within)));
+      bytes = λ known j lt. at j (omega (arith, lt, t .end, i .within));
+    })
+    (same-order (length bs) p (length (bs ++ after)) (0 + p) (λ h. absurd (omega (arith, h, i .ahead, i .within)))
+    (λ h. omega arith)) in
+    rw (zero-add p) at same ∙ ap (further 0) is ∙ ap (found.At n) (zero-add e)

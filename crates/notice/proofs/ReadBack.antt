@@ -124,7 +124,7 @@ whole-at len n found.End h = absurd (let z : _≡_ {A = ℕ} 0 1 = cc in omega a
 whole-at len n found.Malformed h = absurd (let z : _≡_ {A = ℕ} 0 1 = cc in omega arith)
 
 -- alone, what reads as a notice stands at the start of a log that ends with it
-alone-at : (bs : List ℕ) (n : Notice) → readOf bs ≡ reading.Whole n → readAt bs 0 ≡ found.At n (length bs)
+pub alone-at : (bs : List ℕ) (n : Notice) → readOf bs ≡ reading.Whole n → readAt bs 0 ≡ found.At n (length bs)
 alone-at bs n is = whole-at (length bs) n (readAt bs 0) (sym (alone bs) ∙ is)
 
 -- and so its bytes are all that was read

@@ -119,6 +119,12 @@ written-reads n fits =
 
 -- ---- a log
 
+-- two logs back to back
+pub log-append : (ms ns : List Notice) → logOf (ms ++ ns) ≡ logOf ms ++ logOf ns
+unfolding logOf
+log-append [] ns = refl
+log-append (m ∷ ms) ns = rw (log-append ms ns) (sym (append-assoc (bytesOf m) (logOf ms) (logOf ns)))
+
 -- from where the first notice starts, a log gives the notices in order and then "end"
 gives-from : (pre : List ℕ) (ns : List Notice) → AllFit ns → Gives (pre ++ logOf ns) (length pre) ns
 unfolding logOf

@@ -47,3 +47,16 @@ inside bs p n e is =
     let fits : p + lengthOf k ≤ length bs = leb-true _ _ (both-l _ _ rest) in
     let long = value-inside k 0 (omega arith) known in
     record { ahead = omega (arith, t .end); within = omega (arith, t .end) }
+
+-- where a log answers "end", no byte is left
+pub ended : (bs : List ℕ) (p : ℕ) → readAt bs p ≡ found.End → length bs ≤ p
+unfolding readAt
+ended bs p is = go (leb (length bs) p) (isWhole bs p) refl is
+  where
+    go : (a w : Bool) → leb (length bs) p ≡ a
+        → pick a found.End (pick w (found.At (noticeIn bs p (kindAt bs p)) (p + lengthOf (kindAt bs p))) found.Malformed)
+        ≡ found.End
+        → length bs ≤ p
+    go true w s t = leb-true _ _ s
+    go false true s t = absurd (let z : _≡_ {A = ℕ} 0 1 = cc in omega arith)
+    go false false s t = absurd (let z : _≡_ {A = ℕ} 0 1 = cc in omega arith)

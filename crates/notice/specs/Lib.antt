@@ -4,3 +4,4 @@ pub mod Numbers
 pub mod Encode
 pub mod Decode
 pub mod Log
+pub mod Window

@@ -56,15 +56,17 @@ pub fn rows_stand(bytes: &[u8], place: usize, kind: u8) -> bool
     requires { ⌜ place + lengthOf kind ≤ length (now bytes) ⌝ }
     ensures { λ r. ⌜ r ≡ standsTo (now (bytes .entry)) place kind rows ⌝ }
 {
-    let mut ok = true;
     let mut at = place;
     let mut i: usize = 0;
     while i < ROWS {
-        ok = also(ok, row_stands(bytes, at, kind, i));
-        at += span(kind, i);
-        i += 1;
+        if row_stands(bytes, at, kind, i) {
+            at += span(kind, i);
+            i += 1;
+        } else {
+            return false;
+        }
     }
-    ok
+    true
 }
 
 // The value of a row that the kind carries, in a notice that starts at a place.

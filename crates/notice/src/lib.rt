@@ -21,6 +21,7 @@ mod decode;
 mod encode;
 mod fields;
 mod numbers;
+pub mod window;
 
 pub struct Notice {
     pub sequence: u32,

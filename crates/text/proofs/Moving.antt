@@ -2,12 +2,15 @@
 -- over.
 use Prim.Native.Nat.{ℕ, suc, _+_, _-_, _<_, _≤_}
 use mathlib.Core.Path.{_≡_, sym, _∙_, ap}
+use mathlib.Core.Bool.{Bool, true, false}
 use mathlib.Core.List.{List, _++_}
 use native.Mathlib.Omega.{arith}
 use native.Mathlib.Numerals.{add-one}
 use borrow.Author.Tests.{lt-ltb, le-ltb}
+use lib.Dec.{ltb}
 use lib.ListN.{length, getD, take, drop, set, length-drop, length-append}
 use lib.Seq.{length-take-le, drop-cons, take-suc, append-snoc, getD-append-add, getD-drop, set-at}
+use Rattle.rules.specs.Refusals.{pick}
 use Rattle.text.specs.Feed.{Moved, moved, count}
 
 -- the buffer after i bytes have moved
@@ -62,3 +65,12 @@ module _ (l : List ℕ) (from to : ℕ) where
   pub moved-all : to ≤ length l → (i : ℕ) → i ≡ to - from → Moved l from to (front l from i) (to - from)
   unfolding moved count front
   moved-all h i e = record { many = rw (le-ltb _ _ h); row = rw (le-ltb _ _ h, e) }
+
+-- no more bytes move than lie between the places
+pub count-low : (l : List ℕ) (from to : ℕ) → count l from to ≤ to - from
+unfolding count
+count-low l from to = go (ltb (length l) to)
+  where
+    go : (b : Bool) → pick b 0 (to - from) ≤ to - from
+    go true = omega arith
+    go false = omega arith

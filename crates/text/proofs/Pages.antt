@@ -6,9 +6,9 @@ use mathlib.Core.Bool.{Bool, true, false}
 use mathlib.Core.List.{List, [], _∷_, _++_}
 use native.Mathlib.Omega.{arith}
 use native.Mathlib.Numerals.{add-one}
-use borrow.Author.Tests.{lt-ltb, le-ltb}
-use lib.ListN.{length, getD, take, drop, set, length-set, drop-of-length-le}
-use lib.Seq.{drop-cons, sets, sets-eq}
+use borrow.Author.Tests.{lt-ltb, le-ltb, ltb-true}
+use lib.ListN.{length, getD, take, drop, set, length-set, length-append, drop-of-length-le}
+use lib.Seq.{drop-cons, sets, sets-eq, take-append-seam}
 use lib.Dec.{ltb}
 use Rattle.rules.specs.Refusals.{pick}
 use Rattle.text.specs.Output.{Page, page, put, puts}
@@ -79,3 +79,38 @@ puts-sets (b ∷ s) row at h =
 pub puts-fits : (s : List ℕ) (row : List ℕ) (at : ℕ) → at + length s ≤ length row
     → puts (page row at) s ≡ page (take at row ++ s ++ drop (at + length s) row) (at + length s)
 puts-fits s row at h = puts-sets s row at h ∙ ap (λ (r : List ℕ). page r (at + length s)) (sets-eq s row at h)
+
+-- the place never passes the row's end
+put-low : (p : Page) (b : ℕ) → p .at ≤ length (p .row) → put p b .at ≤ length (p .row)
+unfolding put
+put-low p b h = go (ltb (p .at) (length (p .row))) refl
+  where
+    go : (t : Bool) → ltb (p .at) (length (p .row)) ≡ t
+        → pick t (page (set (p .row) (p .at) b) (p .at + 1)) p .at ≤ length (p .row)
+    go true e = omega (arith, ltb-true (p .at) (length (p .row)) e)
+    go false e = h
+
+pub puts-low : (s : List ℕ) (p : Page) → p .at ≤ length (p .row) → puts p s .at ≤ length (p .row)
+unfolding puts
+puts-low [] p h = h
+puts-low (b ∷ s) p h =
+    let size = put-length p b in
+    let low : put p b .at ≤ length (put p b .row) = omega (arith, put-low p b h) in
+    omega (arith, puts-low s (put p b) low)
+
+-- what was put at the start of a row that has room for it is what stands there
+pub record Stands (s row : List ℕ) (size : ℕ) : Type 0 where
+  pub whole : take size row ≡ s
+  pub within : size ≤ length row
+
+pub stands : (s room after : List ℕ) (size : ℕ) → page after size ≡ puts (page room 0) s → length s ≤ length room
+    → Stands s after size
+stands s room after size is fits =
+    let put : page after size ≡ page (s ++ drop (length s) room) (length s) =
+    is ∙ puts-fits s room 0 (omega arith) ∙ ap (λ (n : ℕ). page (s ++ drop n room) n) (omega arith) in
+    let row : after ≡ s ++ drop (length s) room = ap (λ (p : Page). p .row) put in
+    let many : size ≡ length s = ap (λ (p : Page). p .at) put in
+    record {
+      whole = rw (row, many) (take-append-seam s (drop (length s) room));
+      within = rw (row, many) (omega (arith, length-append s (drop (length s) room)));
+    }

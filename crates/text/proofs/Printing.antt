@@ -80,3 +80,19 @@ spelt-back n h =
     let small : n < 10 ^ digitsMost = omega arith in
     let held : min n top ≡ n = omega arith in
     rw (read-back n small, held, le-ltb _ _ h)
+
+-- ---- how long a number is
+
+digits-few : (f n : ℕ) (s : List ℕ) → length (digits f n s) ≤ f + length s
+unfolding digits
+digits-few zero n s = omega arith
+digits-few (suc f) n s = go (ltb n 10) (digits-few f (n / 10) ((48 + n % 10) ∷ s))
+  where
+    go : (b : Bool) → length (digits f (n / 10) ((48 + n % 10) ∷ s)) ≤ f + suc (length s)
+        → length (pick b ((48 + n % 10) ∷ s) (digits f (n / 10) ((48 + n % 10) ∷ s))) ≤ suc f + length s
+    go true few = omega arith
+    go false few = omega arith
+
+pub decimal-short : (n : ℕ) → length (decimal n) ≤ digitsMost
+unfolding decimal
+decimal-short n = omega (arith, digits-few digitsMost n [])

@@ -14,6 +14,17 @@ pub fn put_byte(out: &mut [u8], at: usize, b: u8) -> usize
     at
 }
 
+// One number, into a row of numbers.
+pub fn put_value(row: &mut [u64], at: usize, value: u64) -> usize
+    ensures { λ r. ⌜ page (now (row .exit)) r ≡ laid (page (now (row .entry)) at) value ⌝ }
+{
+    if at < row.len() {
+        row[at] = value;
+        return at + 1;
+    }
+    at
+}
+
 pub fn put(out: &mut [u8], at: usize, bytes: &[u8]) -> usize
     ensures { λ r. ⌜ Written (now (out .entry)) at (now (bytes .entry)) (now (out .exit)) r ⌝ }
 {

@@ -4,9 +4,9 @@ use text::bytes::is_digit;
 use text::bytes::is_separator;
 use text::numbers::Number;
 use text::numbers::grow;
+use text::output::put_value;
 ghost use mathlib.Core.Path.{_≡_};
 ghost use lib.ListN.{length};
-ghost use Rattle.text.specs.Output.{page, put as laid};
 ghost use Rattle.waits_io.specs.Arrivals.{isGap, soFar, ending, taking, allTaken};
 
 // A text as far as it was read: how many numbers of it are in the row; the number being spelt, and whether one is; and whether
@@ -26,17 +26,6 @@ fn is_gap(b: u8) -> bool
         return true;
     }
     is_separator(b)
-}
-
-// A number into the row, where there is room for it.
-fn put_value(row: &mut [u64], at: usize, value: u64) -> usize
-    ensures { λ r. ⌜ page (now (row .exit)) r ≡ laid (page (now (row .entry)) at) value ⌝ }
-{
-    if at < row.len() {
-        row[at] = value;
-        return at + 1;
-    }
-    at
 }
 
 // A word ends: the number that was being spelt, if one was, goes into the row.

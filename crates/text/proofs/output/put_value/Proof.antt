@@ -1,8 +1,8 @@
--- `waits_io::arrivals::put_value` meets its contract: the test says whether there is room.
+-- `text::output::put_value` meets its contract: the test says whether there is room.
 use Rattle.text.proofs.Pages.{put-in, put-out}
 use borrow.Author.Needs.{needs}
-use Rattle.waits_io.proofs.arrivals.put_value.Statement.{statement}
-use Rattle.waits_io.proofs.arrivals.put_value.Tie as tie
+use Rattle.text.proofs.output.put_value.Statement.{statement}
+use Rattle.text.proofs.output.put_value.Tie as tie
 
 mul-row : tie.Need-mul-row
 mul-row c = search needs

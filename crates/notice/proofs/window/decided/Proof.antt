@@ -1,8 +1,8 @@
--- `listing_io::steps::decided` meets its contract, by its tests.
-use Rattle.listing_io.specs.Steps.{isDecided}
-use Rattle.listing_io.proofs.Stepping.{short-left, enough-left}
-use Rattle.listing_io.proofs.steps.decided.Statement.{statement}
-use Rattle.listing_io.proofs.steps.decided.Tie as tie
+-- `notice::window::decided` meets its contract, by its tests.
+use Rattle.notice.specs.Window.{isDecided}
+use Rattle.notice.proofs.Seen.{short-left, enough-left}
+use Rattle.notice.proofs.window.decided.Statement.{statement}
+use Rattle.notice.proofs.window.decided.Tie as tie
 
 returns : tie.Need-returns
 unfolding isDecided

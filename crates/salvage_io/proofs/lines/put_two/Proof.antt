@@ -1,0 +1,59 @@
+-- `salvage_io::lines::put_two` meets its contract: its parts are written one behind the other.
+use mathlib.Core.List.{_++_}
+use Rattle.text.specs.Digits.{decimal}
+use Rattle.text.specs.Output.{page}
+use Rattle.text.proofs.Pages.{puts-then}
+use Rattle.salvage_io.specs.Lines.{twoNumbers}
+use borrow.Author.Needs.{needs}
+use Rattle.salvage_io.proofs.lines.put_two.Statement.{statement}
+use Rattle.salvage_io.proofs.lines.put_two.Tie as tie
+
+put-requires : tie.Need-put-requires
+put-requires c κs = search needs
+
+put-number-requires : tie.Need-put-number-requires
+put-number-requires c κs = search needs
+
+put-requires-2 : tie.Need-put-requires-2
+put-requires-2 c κs = search needs
+
+put-number-requires-2 : tie.Need-put-number-requires-2
+put-number-requires-2 c κs = search needs
+
+put-requires-3 : tie.Need-put-requires-3
+put-requires-3 c κs = search needs
+
+same-length : tie.Need-same-length
+same-length c = search needs
+
+returns : tie.Need-returns
+unfolding twoNumbers
+returns c =
+    let ending = c .before .before in
+    let second = ending .before .before .before .before in
+    let amid = second .before .before .before .before in
+    let first = amid .before .before .before .before in
+    let name = first .before .before .before .before in
+    let x = name .before .before .before .before .before .before .args in
+    let room = page (x .out .now) 0 in
+    let one = x .name .now ++ decimal (x .n) in
+    let two = one ++ x .amid .now in
+    puts-then room (two ++ decimal (x .m)) (x .end .now)
+    (puts-then room two (decimal (x .m))
+    (puts-then room one (x .amid .now)
+    (puts-then room (x .name .now) (decimal (x .n)) (name .put .ensures) (first .put-number .ensures))
+    (amid .put2 .ensures))
+    (second .put-number2 .ensures))
+    (ending .put3 .ensures)
+
+pub put-two-spec : {M : Type 1} → statement M
+put-two-spec =
+    tie.close
+    (tie.spec
+    put-requires
+    put-number-requires
+    put-requires-2
+    put-number-requires-2
+    put-requires-3
+    same-length
+    returns)

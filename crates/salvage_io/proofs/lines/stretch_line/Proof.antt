@@ -1,0 +1,37 @@
+-- `salvage_io::lines::stretch_line` meets its contract: its row has room for any such line.
+use native.Mathlib.Omega.{arith}
+use Rattle.text.specs.Texts.{text}
+use Rattle.salvage_io.proofs.Short.{shows-stretch}
+use borrow.Author.Needs.{needs}
+use Rattle.salvage_io.proofs.lines.stretch_line.Statement.{statement}
+use Rattle.salvage_io.proofs.lines.stretch_line.Tie as tie
+
+slice-aggregate-put-two : tie.Need-slice-aggregate-put-two
+slice-aggregate-put-two c = search needs
+
+slice-aggregate-put-two-2 : tie.Need-slice-aggregate-put-two-2
+slice-aggregate-put-two-2 c = search needs
+
+slice-aggregate-put-two-3 : tie.Need-slice-aggregate-put-two-3
+slice-aggregate-put-two-3 c = search needs
+
+slice-aggregate-put-two-4 : tie.Need-slice-aggregate-put-two-4
+slice-aggregate-put-two-4 c = search needs
+
+put-two-requires : tie.Need-put-two-requires
+put-two-requires c κs = search needs
+
+returns : tie.Need-returns
+unfolding text
+returns c = shows-stretch _ _ _ _ _ (omega arith) (c .before .put-two .ensures)
+
+pub stretch-line-spec : {M : Type 1} → statement M
+stretch-line-spec =
+    tie.close
+    (tie.spec
+    slice-aggregate-put-two
+    slice-aggregate-put-two-2
+    slice-aggregate-put-two-3
+    slice-aggregate-put-two-4
+    put-two-requires
+    returns)

@@ -1,0 +1,60 @@
+-- `salvaging::salvage` meets its contract: what was measured says whether both rooms are long enough.
+use Rattle.salvaging.proofs.Rooms.{area-short, row-short, both-fit}
+use borrow.Author.Needs.{needs}
+use Rattle.salvaging.proofs.salvage.Statement.{statement}
+use Rattle.salvaging.proofs.salvage.Tie as tie
+
+measure-requires : tie.Need-measure-requires
+measure-requires c κs = search needs
+
+refused-requires : tie.Need-refused-requires
+refused-requires c κs = search needs
+
+returns : tie.Need-returns
+returns c =
+    let short = c .before in
+    area-short _ _ _ _ (short .before .before .measure .ensures) (short .if1 .taken) _ (c .refused .ensures)
+
+refused-requires-2 : tie.Need-refused-requires-2
+refused-requires-2 c κs = search needs
+
+returns-2 : tie.Need-returns-2
+returns-2 c =
+    let short = c .before in
+    let measured = short .before .before .before .before in
+    row-short _ _ _ _ (measured .measure .ensures) (short .if2 .taken) _ (c .refused2 .ensures)
+
+fill-requires : tie.Need-fill-requires
+fill-requires c κs = search needs
+
+counted-requires : tie.Need-counted-requires
+counted-requires c κs = search needs
+
+same-length : tie.Need-same-length
+same-length c = search needs
+
+same-length-2 : tie.Need-same-length-2
+same-length-2 c = search needs
+
+returns-3 : tie.Need-returns-3
+returns-3 c =
+    let filled = c .before .before .before .before .before in
+    let fits = filled .before .before .before in
+    let room = fits .before .before in
+    both-fit _ _ _ _ (room .before .before .measure .ensures) (room .if1 .left) (fits .if2 .left) _ _ _
+    (c .counted .ensures) (filled .fill .ensures)
+
+pub salvage-spec : {M : Type 1} → statement M
+salvage-spec =
+    tie.close
+    (tie.spec
+    measure-requires
+    refused-requires
+    returns
+    refused-requires-2
+    returns-2
+    fill-requires
+    counted-requires
+    same-length
+    same-length-2
+    returns-3)

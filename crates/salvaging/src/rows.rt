@@ -1,0 +1,100 @@
+// The area and the row of the call, filled in the log's order. What has no room is left out.
+
+use super::steps::Progress;
+use super::steps::advance;
+use super::steps::begun;
+use super::steps::is_open;
+use notice::window::decided;
+use text::output::put;
+use text::output::put_value;
+ghost use mathlib.Core.Path.{_≡_};
+ghost use Prim.Native.Nat.{_+_, _<_, _^_};
+ghost use lib.ListN.{length};
+ghost use Rattle.text.specs.Output.{page, puts};
+ghost use Rattle.salvaging.specs.Scan.{scanOf};
+ghost use Rattle.salvaging.specs.Steps.{Counts, Between, ending};
+ghost use Rattle.salvaging.specs.Pours.{Lays, Pours, Fills};
+
+// The places behind what was written into the area and into the row.
+pub struct Laid {
+    pub at: usize,
+    pub cells: usize,
+}
+
+// How far a window was scanned, and what that left in the area and the row.
+pub struct Poured {
+    pub progress: Progress,
+    pub to: Laid,
+}
+
+// The stretch that ends at the place, if one does.
+fn put_ended(row: &mut [u64], at: usize, p: Progress) -> usize
+    requires { ⌜ Counts p ⌝ }
+    ensures { λ r. ⌜ page (now (row .exit)) r ≡ puts (page (now (row .entry)) at) (ending p) ⌝ }
+{
+    let start = p.start;
+    let size = p.size;
+    if is_open(p) {
+        let a = put_value(row, at, start as u64);
+        return put_value(row, a, size as u64);
+    }
+    at
+}
+
+// What one step over a window adds: a notice that was taken, and the stretch that ended before it.
+fn lay(
+    window: &[u8],
+    base: usize,
+    p: Progress,
+    next: Progress,
+    to: Laid,
+    area: &mut [u8],
+    row: &mut [u64],
+) -> Laid
+    requires { ⌜ Counts p × Between (length (now window)) base p next ⌝ }
+    ensures { λ r. ⌜ Lays (now (window .entry)) base p next to r (now (area .entry)) (now (row .entry))
+        (now (area .exit)) (now (row .exit)) ⌝ }
+{
+    let from = p.place - base;
+    let end = next.place - base;
+    if p.notices < next.notices {
+        let cells = put_ended(row, to.cells, p);
+        let at = put(area, to.at, &window[from..end]);
+        return Laid { at, cells };
+    }
+    to
+}
+
+// All that a window decides, from the place on at which it begins: the notices that are taken go to the start of an area, the
+// stretches that end to the start of a row.
+pub fn pour(window: &[u8], over: bool, p: Progress, area: &mut [u8], row: &mut [u64]) -> Poured
+    requires { ⌜ Counts p × (p .place + length (now window) < 2 ^ 64) ⌝ }
+    ensures { λ r. ⌜ Pours (now (window .entry)) over p r (now (area .entry)) (now (row .entry))
+        (now (area .exit)) (now (row .exit)) ⌝ }
+{
+    let base = p.place;
+    let mut progress = p;
+    let mut to = Laid { at: 0, cells: 0 };
+    while progress.place - base < window.len()
+        && decided(window.len(), progress.place - base, over)
+    {
+        let next = advance(window, base, progress);
+        to = lay(window, base, progress, next, to, area, row);
+        progress = next;
+    }
+    Poured {
+        progress: progress,
+        to: to,
+    }
+}
+
+// All of a log.
+pub fn fill(log: &[u8], area: &mut [u8], row: &mut [u64])
+    ensures { λ _. ⌜ Fills (scanOf (now (log .entry))) (now (area .entry)) (now (row .entry))
+        (now (area .exit)) (now (row .exit)) ⌝ }
+{
+    let poured = pour(log, true, begun(), area, row);
+    let to = poured.to;
+    let progress = poured.progress;
+    put_ended(row, to.cells, progress);
+}
