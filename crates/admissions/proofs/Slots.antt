@@ -6,7 +6,7 @@ use mathlib.Core.Logic.{⊎-elim}
 use mathlib.Core.List.{List}
 use Prim.Native.Nat.{ℕ, zero, suc, _+_, _-_, _*_, _/_, _^_, _≤_, _<_, max}
 use native.Mathlib.Omega.{arith}
-use native.Mathlib.Nat.{div-mul-le-self, mul-le-mul}
+use native.Mathlib.Nat.{div-mul-le-self}
 use borrow.Author.Tests.{lt-leb, le-leb, lt-ltb, le-ltb, ltb-true, ltb-false, eqb-true}
 use lib.Dec.{leb, ltb, eqb}
 use lib.ListN.{getD, length}
@@ -15,7 +15,7 @@ use Rattle.rules.specs.Refusals.{pick}
 use Rattle.rules.proofs.Tests.{decide, both-l}
 use Rattle.grid.specs.Ticks.{roundedUp, tickOf, slot as slotOf}
 use Rattle.grid.specs.Bounds.{Exactly}
-use Rattle.grid.proofs.Ticks.{rounded-enough}
+use Rattle.grid.proofs.Ticks.{rounded-enough, slot-ms}
 use Rattle.story.specs.declared.Title.{Title}
 use Rattle.story.specs.Kept.{openMode, isShut}
 use Rattle.admissions.specs.declared.Waits.{Waits}
@@ -64,14 +64,6 @@ next-soon : (s : Stretch) (x : ℕ) → Spaced s → x ≤ askedMax → nextIn s
 next-soon s x z low = omega (arith, next-is s x z low .soon, z .short, z .early)
 
 -- ---- the stretch of a title
-
--- a slot of some ticks, of some ms each
-pub slot-ms : (a b D : ℕ) → 1 ≤ a → a ≤ 2 ^ countMax → 1 ≤ b → b ≤ D → D ≤ lengthMax →
-    (0 < a * b) × (a * b ≤ 2 ^ countMax * lengthMax)
-slot-ms a b D p high q le short = (
-  mul-le-mul {n₁ = 1} {m₁ = 1} {n₂ = a} {m₂ = b} p q,
-  mul-le-mul {n₁ = a} {m₁ = b} {n₂ = 2 ^ countMax} {m₂ = lengthMax} high (omega arith),
-)
 
 pub stretch-spaced : (t : Title) (a b : ℕ) → Playing t → Exactly (slotOf (t .cap) (t .count)) 1 (2 ^ countMax) a →
     Exactly (tickOf (t .length) (t .floor) (t .cap)) 1 (t .length) b

@@ -1,16 +1,17 @@
 -- The words that the console answers in (docs/CONSOLE.md, "Refusals" and "Faults of a line"; 01, "Numbers that calls
 -- give back").
 use Prim.Native.Nat.{ℕ, _+_, min}
+use mathlib.Core.Bool.{Bool}
 use mathlib.Core.List.{List, [], _∷_, _++_}
 use lib.ListN.{getD}
 use lib.Dec.{eqb}
-use Rattle.rules.specs.Limits.{within}
-use Rattle.rules.specs.Refusals.{pick, outOfTurn, belowFloor, aboveCap}
+use Rattle.rules.specs.Limits.{either, within}
+use Rattle.rules.specs.Refusals.{pick, outOfTurn, belowFloor, aboveCap, tooSoon}
 use Rattle.text.specs.Texts.{text}
 use Rattle.text.specs.Numbers.{top}
 use Rattle.text.specs.Digits.{decimal}
 
--- what each refusal means, in words, by its number; 16 is none
+-- what each refusal means, in words, by its number
 abbrev pub refusals : List (List ℕ)
 refusals =
     text "done" ∷
@@ -29,16 +30,20 @@ refusals =
     text "below the floor, which is " ∷
     text "above the cap, which is " ∷
     text "floor above its cap" ∷
-    text "" ∷
+    text "change too soon, not before " ∷
     text "doors already held or lifted" ∷ []
 
 unfoldable pub refusalWords : ℕ → List ℕ
 refusalWords n = getD refusals n []
 
--- the answer to a refused call: number, words, and of 12, 13 and 14 the number that the words name
+-- the words of 12, 13, 14 and 16 name a number
+abbrev pub isNaming : ℕ → Bool
+isNaming n = either (eqb n tooSoon) (within outOfTurn aboveCap n)
+
+-- the answer to a refused call: number, words, and the number that the words name
 unfoldable pub refusalText : ℕ → ℕ → List ℕ
 refusalText n named =
-    ((decimal n ++ text " ") ++ refusalWords n) ++ pick (within outOfTurn aboveCap n) (decimal named) []
+    ((decimal n ++ text " ") ++ refusalWords n) ++ pick (isNaming n) (decimal named) []
 
 -- of a count that is below floor A or above cap K, by the refusal's number: the one that it missed
 unfoldable pub missed : ℕ → ℕ → ℕ → ℕ

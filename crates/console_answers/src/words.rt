@@ -4,11 +4,10 @@ use crate::parts::put_part;
 use text::digits;
 use text::output;
 ghost use mathlib.Core.Path.{_≡_};
-ghost use Rattle.rules.specs.Limits.{within};
-ghost use Rattle.rules.specs.Refusals.{outOfTurn, aboveCap};
 ghost use Rattle.text.specs.Output.{Written};
 ghost use Rattle.console_answers.specs.Words.{
   refusalWords,
+  isNaming,
   refusalText,
   faultWords,
   faultText,
@@ -41,8 +40,8 @@ const REFUSALS: [usize; REFUSAL_COUNT + 1] = [
     318,
     342,
     361,
-    361,
     389,
+    417,
 ];
 
 // The same for the faults of a line, of which 0 is none.
@@ -68,15 +67,19 @@ fn refusal_words(out: &mut [u8], at: usize, number: u8) -> usize
         below the floor, which is \
         above the cap, which is \
         floor above its cap\
+        change too soon, not before \
         doors already held or lifted";
     let cuts = REFUSALS;
     put_part(out, at, words, &cuts, number)
 }
 
-// Whether the words of a refusal end in a number: those from OUT_OF_TURN to ABOVE_CAP.
+// Whether the words of a refusal end in a number: those from OUT_OF_TURN to ABOVE_CAP, and of TOO_SOON.
 fn names_number(number: u8) -> bool
-    ensures { λ r. ⌜ r ≡ within outOfTurn aboveCap number ⌝ }
+    ensures { λ r. ⌜ r ≡ isNaming number ⌝ }
 {
+    if number == rules::TOO_SOON {
+        return true;
+    }
     rules::within(
         rules::OUT_OF_TURN as u64,
         rules::ABOVE_CAP as u64,
@@ -84,7 +87,7 @@ fn names_number(number: u8) -> bool
     )
 }
 
-// A refusal: its number, its words, and after OUT_OF_TURN, BELOW_FLOOR and ABOVE_CAP the number that the words name.
+// A refusal: its number, its words, and the number that the words name, if they name one.
 pub fn put_refusal(out: &mut [u8], at: usize, number: u8, named: u64) -> usize
     ensures { λ r. ⌜ Written (now (out .entry)) at (refusalText number named) (now (out .exit)) r ⌝ }
 {

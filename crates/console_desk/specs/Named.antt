@@ -1,13 +1,15 @@
 -- The number that the words of a refusal name (docs/CONSOLE.md, "Refusals"): of a notice out of turn the sequence that
--- is expected, of a count the floor that it is below or the cap that it is above.
+-- is expected, of a count the floor that it is below or the cap that it is above, of a change that comes too soon the moment
+-- from which on it no longer does.
 use Prim.Native.Nat.{ℕ, _+_}
 use mathlib.Core.List.{List}
 use lib.Dec.{leb, eqb}
 use Rattle.rules.specs.Limits.{idMax}
-use Rattle.rules.specs.Refusals.{pick, outOfTurn}
+use Rattle.rules.specs.Refusals.{pick, outOfTurn, tooSoon}
 use Rattle.story.specs.declared.State.{State}
 use Rattle.story.specs.Story.{Act, opens, changes, closes, doors, Event}
 use Rattle.story.specs.Kept.{titleAt}
+use Rattle.verdicts.specs.Asked.{settledIn}
 use Rattle.notice.specs.declared.Reading.{Reading}
 use Rattle.notice.specs.declared.Reading.the-variants as reading
 use Rattle.notice.specs.Decode.{readOf}
@@ -20,7 +22,8 @@ use Rattle.console_desk.specs.Acts.{bytesIn, eventIn}
 
 -- of the title of an id, by the answer a; an id that is out of range has none
 abbrev pub missedAt : ℕ → State → ℕ → ℕ
-missedAt a t i = pick (leb i idMax) (missed a (titleAt t i .floor) (titleAt t i .cap)) 0
+missedAt a t i =
+    pick (eqb a tooSoon) (settledIn t i) (pick (leb i idMax) (missed a (titleAt t i .floor) (titleAt t i .cap)) 0)
 
 -- of what an event does to an id: an opening has its own floor and cap
 abbrev pub missedAs : ℕ → State → ℕ → Act → ℕ

@@ -1,5 +1,5 @@
-// The number that the words of a refusal name: the sequence that is expected, or the floor or the cap that a count
-// missed.
+// The number that the words of a refusal name: the sequence that is expected, the floor or the cap that a count missed, or
+// the moment from which on a title may change again.
 
 use crate::hex;
 use agent::Agent;
@@ -11,7 +11,9 @@ use notice::Notice;
 use notice::Reading;
 use rules::ID_MAX;
 use rules::OUT_OF_TURN;
+use rules::TOO_SOON;
 use story::State;
+use verdicts::questions::settled;
 ghost use mathlib.Core.Path.{_≡_};
 ghost use Prim.Native.Nat.{_≤_};
 ghost use lib.ListN.{length};
@@ -24,6 +26,9 @@ ghost use Rattle.console_desk.specs.Named.{missedAt, missedBy, missedOf,
 fn by_title(answer: u8, s: State, id: u64) -> u64
     ensures { λ r. ⌜ r ≡ missedAt answer s id ⌝ }
 {
+    if answer == TOO_SOON {
+        return settled(s, id);
+    }
     if id <= ID_MAX {
         let t = s.titles[id as usize];
         return words::missed(answer, t.floor, t.cap);

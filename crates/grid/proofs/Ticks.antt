@@ -71,6 +71,14 @@ tick-exactly D A K p q d a l e f =
     let h : 0 < m = omega (arith, held-pos A K a l) in
     rw (e, f) (record { is = refl; low = rounded-low D m d h; high = rounded-high D m d h })
 
+-- a slot of some ticks, of some ms each
+pub slot-ms : (a b D : ℕ) → 1 ≤ a → a ≤ 2 ^ countMax → 1 ≤ b → b ≤ D → D ≤ lengthMax →
+    (0 < a * b) × (a * b ≤ 2 ^ countMax * lengthMax)
+slot-ms a b D p high q le short = (
+  mul-le-mul {n₁ = 1} {m₁ = 1} {n₂ = a} {m₂ = b} p q,
+  mul-le-mul {n₁ = a} {m₁ = b} {n₂ = 2 ^ countMax} {m₂ = lengthMax} high (omega arith),
+)
+
 pub film-room : (c K r D : ℕ) → c < 2 ^ K → K ≤ countMax → r ≤ D → D ≤ lengthMax → c * r < 2 ^ 64
 film-room c K r D a b l h =
     let m : 2 ^ K ≤ 2 ^ countMax = pow-mono b in

@@ -33,6 +33,10 @@ module _ (t : Title) (ok : titleOk t ≡ true) where
   unfolding numbersOk
   count-high = let n = numbers in search (both-l, both-r, leb-true) depth 12
 
+  pub tuned-high : t .tuned ≤ askedMax
+  unfolding numbersOk
+  tuned-high = let n = numbers in search (both-l, both-r, leb-true) depth 12
+
   pub readable : Readable t
   unfolding numbersOk orderOk
   readable there =

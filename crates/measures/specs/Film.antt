@@ -3,11 +3,17 @@ use Prim.Native.Nat.{ℕ, _<_}
 use mathlib.Core.Path.{_≡_}
 use mathlib.Core.Bool.{Bool}
 use lib.Dec.{leb, eqb}
-use Rattle.rules.specs.Limits.{both, either, poolMin, titlesMax}
+use Rattle.rules.specs.Limits.{both, either, askedMax, poolMin, titlesMax, countPlaces, lanePlaces}
 use Rattle.grid.specs.Bounds.{Length, FloorCap}
 use Rattle.story.specs.declared.Title.{Title}
 use Rattle.story.specs.declared.State.{State}
-use Rattle.story.specs.Kept.{absentMode, titleAt, titleOk}
+use Rattle.story.specs.Kept.{absentMode, titleAt, rowOk, titleOk}
+
+-- of a title's limits, those of its latest opening or change and of its rows
+abbrev pub keptOk : Title → Bool
+keptOk t =
+    both (leb (t .tuned) askedMax)
+    (both (rowOk (t .ends) countPlaces) (both (rowOk (t .dropped) lanePlaces) (rowOk (t .owed) lanePlaces)))
 
 -- the test of one slot of a state
 abbrev pub slotOk : State → ℕ → Bool

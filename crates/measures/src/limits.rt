@@ -21,25 +21,26 @@ use story::State;
 use story::Title;
 ghost use mathlib.Core.Path.{_≡_};
 ghost use lib.Dec.{leb, eqb};
-ghost use Rattle.rules.specs.Limits.{both, either, poolMin, countPlaces, lanePlaces, titlesMax};
+ghost use Rattle.rules.specs.Limits.{both, either, poolMin, titlesMax};
 ghost use Rattle.rules.specs.Search.{every};
-ghost use Rattle.story.specs.Kept.{absentMode, rowOk, numbersOk, orderOk, titleOk, stateOk};
-ghost use Rattle.measures.specs.Film.{slotOk};
+ghost use Rattle.story.specs.Kept.{absentMode, numbersOk, orderOk, titleOk, stateOk};
+ghost use Rattle.measures.specs.Film.{keptOk, slotOk};
 
-// The three rows of a title.
-fn rows_ok(t: Title) -> bool
-    ensures { λ r. ⌜ r ≡ both (rowOk (t .ends) countPlaces) (both (rowOk (t .dropped) lanePlaces) (rowOk (t .owed) lanePlaces)) ⌝ }
+// The time of a title's latest opening or change, and its three rows.
+fn kept_ok(t: Title) -> bool
+    ensures { λ r. ⌜ r ≡ keptOk t ⌝ }
 {
     let ends = t.ends;
     let dropped = t.dropped;
     let owed = t.owed;
-    also(
+    let rows = also(
         row_within(&ends, COUNT_PLACES, ASKED_MAX),
         also(
             row_within(&dropped, LANE_PLACES, ASKED_MAX),
             row_within(&owed, LANE_PLACES, ASKED_MAX),
         ),
-    )
+    );
+    also(t.tuned <= ASKED_MAX, rows)
 }
 
 // The upper limits, which hold for every slot.
@@ -70,7 +71,7 @@ fn numbers_ok(t: Title) -> bool
     if t.last > ASKED_MAX {
         return false;
     }
-    rows_ok(t)
+    kept_ok(t)
 }
 
 // What holds besides for a title that is there: lower limits, and the order of floor, count and cap.

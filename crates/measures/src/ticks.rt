@@ -1,10 +1,11 @@
-// Where a time lies in a title's ticks (01, "Cells, ticks, slots").
+// Where a time lies in a title's ticks (01, "Cells, ticks, slots"), and when its card has settled (02, 9).
 
 use story::Title;
-ghost use Prim.Native.Nat.{_-_};
+ghost use Prim.Native.Nat.{_-_, _≤_};
 ghost use mathlib.Core.Path.{_≡_};
+ghost use Rattle.rules.specs.Limits.{askedMax};
 ghost use Rattle.grid.specs.Bounds.{Exactly};
-ghost use Rattle.story.specs.Kept.{tickAt, atTickStart};
+ghost use Rattle.story.specs.Kept.{tickAt, atTickStart, settledAt};
 ghost use Rattle.measures.specs.Film.{Film};
 
 // How far a moment lies after another, 0 where it lies before.
@@ -31,4 +32,14 @@ pub fn at_tick_start(t: Title, time: u64) -> bool
     ensures { λ r. ⌜ r ≡ atTickStart t time ⌝ }
 {
     since(t.opened, time) % grid::tick(t.length, t.floor, t.cap) == 0
+}
+
+// The moment from which on a title may change again: one slot of its floor after its latest opening or change.
+pub fn settled_at(t: Title) -> u64
+    requires { ⌜ Film t ⌝ }
+    requires { ⌜ t .tuned ≤ askedMax ⌝ }
+    ensures { λ r. ⌜ r ≡ settledAt t ⌝ }
+{
+    let slot = grid::slot(t.cap, t.floor) * grid::tick(t.length, t.floor, t.cap);
+    t.tuned + slot
 }

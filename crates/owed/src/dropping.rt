@@ -74,24 +74,33 @@ fn end_count(t: Title, tick: u64) -> Title
     q
 }
 
-// A title with another mode, count, mark and latest event.
-fn turn(t: Title, mode: u64, count: u64, mark: u64, time: u64) -> Title
-    ensures { λ r. ⌜ r ≡ turned t mode count mark time ⌝ }
+// A title with another mode, count, mark, latest event and latest opening or change.
+fn turn(t: Title, mode: u64, count: u64, mark: u64, time: u64, tuned: u64) -> Title
+    ensures { λ r. ⌜ r ≡ turned t mode count mark time tuned ⌝ }
 {
     let mut q = t;
     q.mode = mode;
     q.count = count;
     q.mark = mark;
     q.last = time;
+    q.tuned = tuned;
     q
 }
 
-// A turn at a time to so many lanes, with the mode, the count and the mark that are stored. The event's own tick belongs to the new
-// count: the old one ends before it.
-fn turned_title(t: Title, time: u64, lanes: u64, mode: u64, count: u64, mark: u64) -> Title
+// A turn at a time to so many lanes, with the mode, the count, the mark and the time of the latest opening or change that
+// are stored. The event's own tick belongs to the new count: the old one ends before it.
+fn turned_title(
+    t: Title,
+    time: u64,
+    lanes: u64,
+    mode: u64,
+    count: u64,
+    mark: u64,
+    tuned: u64,
+) -> Title
     requires { ⌜ Changeable t ⌝ }
     requires { ⌜ time ≤ askedMax ⌝ }
-    ensures { λ r. ⌜ r ≡ turnedTitle t time lanes mode count mark ⌝ }
+    ensures { λ r. ⌜ r ≡ turnedTitle t time lanes mode count mark tuned ⌝ }
 {
     let tick = tick_at(t, time);
     turn(
@@ -100,16 +109,17 @@ fn turned_title(t: Title, time: u64, lanes: u64, mode: u64, count: u64, mark: u6
         count,
         mark,
         time,
+        tuned,
     )
 }
 
-// A title whose count changes at a time; its doors stay as they are.
+// A title whose count changes at a time; its doors stay as they are, and its card retunes.
 pub fn changed_title(t: Title, time: u64, count: u64) -> Title
     requires { ⌜ Changeable t ⌝ }
     requires { ⌜ time ≤ askedMax ⌝ }
     ensures { λ r. ⌜ r ≡ changedTitle t time count ⌝ }
 {
-    turned_title(t, time, count, OPEN, count, t.mark)
+    turned_title(t, time, count, OPEN, count, t.mark, time)
 }
 
 // A title that closes at a time: all active lanes are dropped, and the count is kept.
@@ -118,7 +128,7 @@ pub fn closed_title(t: Title, time: u64) -> Title
     requires { ⌜ time ≤ askedMax ⌝ }
     ensures { λ r. ⌜ r ≡ closedTitle t time ⌝ }
 {
-    turned_title(t, time, 0, CLOSING, t.count, CLEAR)
+    turned_title(t, time, 0, CLOSING, t.count, CLEAR, t.tuned)
 }
 
 // The mark of doors that are held, or not.
@@ -140,5 +150,6 @@ pub fn doors_title(t: Title, time: u64, held: bool) -> Title
         t.count,
         mark_of(held),
         time,
+        t.tuned,
     )
 }

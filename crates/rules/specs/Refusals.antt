@@ -66,6 +66,10 @@ aboveCap = 14
 abbrev pub floorAboveCap : ℕ
 floorAboveCap = 15
 
+-- a change less than one floor slot after the last opening or change
+abbrev pub tooSoon : ℕ
+tooSoon = 16
+
 -- a held title is held, or one that isn't is lifted
 abbrev pub doorsUnchanged : ℕ
 doorsUnchanged = 17

@@ -74,6 +74,8 @@ pub const ABOVE_CAP: u8 = 14;
 
 pub const FLOOR_ABOVE_CAP: u8 = 15;
 
+pub const TOO_SOON: u8 = 16;
+
 pub const DOORS_UNCHANGED: u8 = 17;
 
 // Whether x lies from lo to hi, both ends allowed.

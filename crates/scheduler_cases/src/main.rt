@@ -1,4 +1,4 @@
-// Runs 01's worked cases 5 to 9 through the calls, two where a lane owes to the boxes of an earlier count alone, and status. Each
+// Runs 01's worked cases 5 to 9 through the calls, a lane that resumes before its list has gone, two where a lane owes to the boxes of an earlier count alone, and status. Each
 // line has the case, the answers of its events, and what a lane shows at each time from one to another: a cell, or "r"
 // and the number of a refusal.
 
@@ -73,8 +73,22 @@ fn case6() {
     show_from(t, 3, 4, 7);
     show_held(t, 5);
     let u = told(scheduler::change(t, 0, 6, 4));
-    show_from(u, 3, 6, 11);
     show_held(u, 6);
+    line();
+}
+
+// Floor 4, cap 5, tick 1 ms: from 5 to 4 at 2 lane 4 owes three cells. At 3 a raise comes too soon; at 4, one floor slot
+// after the drop, the lane resumes its usual cell, and the third is forgotten.
+fn resumed() {
+    io::write_all(STDOUT, b"resumed");
+    let pool = scheduler::fresh(POOL);
+    let s = told(scheduler::open(pool.state, 0, 0, 30, 4, 5, 5));
+    let t = told(scheduler::change(s, 0, 2, 4));
+    show_from(t, 4, 2, 6);
+    let u = told(scheduler::change(t, 0, 3, 5));
+    let v = told(scheduler::change(u, 0, 4, 5));
+    show_from(v, 4, 4, 9);
+    show_held(v, 4);
     line();
 }
 
@@ -90,8 +104,9 @@ fn case8() {
     io::write_all(STDOUT, b"8");
     let s = opened(3);
     let t = told(scheduler::change(s, 0, 2, 2));
-    let u = told(scheduler::change(t, 0, 4, 2));
-    show_held(u, 4);
+    let u = told(scheduler::change(t, 0, 6, 2));
+    let v = told(scheduler::change(u, 0, 4, 2));
+    show_held(v, 4);
     line();
 }
 
@@ -169,6 +184,7 @@ fn asked() {
 fn main() {
     case5();
     case6();
+    resumed();
     case7();
     case8();
     case9();

@@ -4,7 +4,7 @@ use mathlib.Core.Path.{_≡_, refl, sym, ap, _∙_}
 use mathlib.Core.Bool.{Bool, true, false, not, false≢true}
 use mathlib.Core.Logic.{inl, inr, ⊎-elim}
 use mathlib.Core.List.{List, _∷_}
-use Prim.Native.Nat.{ℕ, _-_, _%_, _≤_, _<_, min, max}
+use Prim.Native.Nat.{ℕ, _+_, _-_, _%_, _≤_, _<_, min, max}
 use native.Mathlib.Omega.{arith}
 use native.Mathlib.Nat.{le-antisymm}
 use lib.Dec.{ltb, leb, eqb}
@@ -13,21 +13,21 @@ use Rattle.rules.specs.Limits.{both, either, within, idMax, eventTimeMax, lengt
 use Rattle.rules.specs.Limits.{countMin, countMax}
 use Rattle.rules.specs.Refusals.{Rule, refuse, firstHit, outsideLimits, tooEarly, notThere, idTaken, isClosing}
 use Rattle.rules.specs.Refusals.{floorAboveCap, belowFloor, aboveCap, unchanged, doorsUnchanged, secondEvent, notAtSlot}
-use Rattle.rules.specs.Refusals.{pick, noLanes}
+use Rattle.rules.specs.Refusals.{pick, tooSoon, noLanes}
 use Rattle.rules.proofs.Tests.{decide, both-l, both-r}
 use Rattle.rules.proofs.Refusals.{hitsOf, numbered, cleared, hit-same}
 use Rattle.grid.specs.Ticks.{tickOf, isSlotStart}
 use Rattle.story.specs.declared.Title.{Title}
 use Rattle.story.specs.declared.State.{State}
 use Rattle.story.specs.Kept.{openMode, closingMode, clearMark, heldMark, isShut, titleAt, stateOk}
-use Rattle.story.specs.Kept.{tickAt, atTickStart, lanesHeld, isThere}
+use Rattle.story.specs.Kept.{tickAt, atTickStart, settledAt, lanesHeld, isThere}
 use Rattle.story.specs.Next.{openedTitle, withTitle, openNext, changedTitle, changeNext, closedTitle, closeNext}
 use Rattle.story.specs.Next.{ended, turned, turnedTitle, doorsTitle, doorsNext, callNext}
 use Rattle.story.specs.Calls.{eventOk, tooMany, atSlotStart, testsIn, callAnswer}
 use Rattle.story.specs.Life.{Life, Course}
 use Rattle.story.specs.Story.{Act, opens, changes, closes, doors, Event, event, lifeAfter, lifeOf, latestOf, lastTime}
 use Rattle.story.specs.Story.{tickIn, countIn, isSlotIn, isThereIn, withinLimits, openLimits, overfull, orderOf}
-use Rattle.story.specs.Story.{isShutIn, answerTo, turn}
+use Rattle.story.specs.Story.{settling, tunes, tunedOf, isShutIn, answerTo, turn}
 use Rattle.story.proofs.Stored.{lifeIn}
 use Rattle.story.proofs.Kept.{Present, later}
 use Rattle.story.proofs.Turn.{Turning, turned-laid, turn-present, turn-before, turn-from, open-ruling}
@@ -89,15 +89,15 @@ mark-limit true = omega arith
 mark-limit false = omega arith
 
 -- the life that a turned title tells has the title's own numbers
-life-turned : (t : Title) (τ q m c d : ℕ) (r : Course) → lifeIn (turnedTitle t τ q m c d) r ≡ lifeIn t r
-life-turned t τ q m c d r = ap (λ x. lifeIn x r) (turned-laid t τ q m c d)
+life-turned : (t : Title) (τ q m c d v : ℕ) (r : Course) → lifeIn (turnedTitle t τ q m c d v) r ≡ lifeIn t r
+life-turned t τ q m c d v r = ap (λ x. lifeIn x r) (turned-laid t τ q m c d v)
 
 -- a hold and a lift are turns to as many lanes
 doors-turned : (t : Title) (τ : ℕ) (b : Bool) →
-    turnedTitle t τ (t .count) openMode (t .count) (pick b heldMark clearMark) ≡ doorsTitle t τ b
+    turnedTitle t τ (t .count) openMode (t .count) (pick b heldMark clearMark) (t .tuned) ≡ doorsTitle t τ b
 unfolding doorsTitle
 doors-turned t τ b =
-    ap (λ x. turned x openMode (t .count) (pick b heldMark clearMark) τ)
+    ap (λ x. turned x openMode (t .count) (pick b heldMark clearMark) τ (t .tuned))
     (drop-none (ended t (tickAt t τ)) (tickAt t τ) (t .count) (t .count) (omega arith))
 
 -- ---- the answers, and the states after them
@@ -150,6 +150,7 @@ module _ (lanes : ℕ) (es : List Event) (s : State) (w : Tells lanes es s) wher
         told-with lanes es s (event i τ (opens D A K k)) (openedTitle τ D A K k) w (omega arith) late limit
         (present (fromStart k) refl refl
         (opened-present τ D A K k limit (within-low lengthMin lengthMax D d) (within-high lengthMin lengthMax D d) (within-low floorMin floorMax A a) (within-high floorMin floorMax A a) (within-high countMin countMax K c) (ltb-false k A low) (ltb-false K k high)))
+        refl
 
     open-told : (D A K k : ℕ) →
         callAnswer s i τ (opens D A K k) ≡ answerTo lanes es (event i τ (opens D A K k)) (lifeOf es i) (opens D A K k)
@@ -173,14 +174,15 @@ module _ (lanes : ℕ) (es : List Event) (s : State) (w : Tells lanes es s) wher
         (λ t9. refl)))))))
 
     -- a turn of an open title
-    turn-next : (t : Title) (r : Course) (q m c d : ℕ) (a : Act) → (o : Open (lifeOf es i) (latestOf es i) t τ) →
-        i ≤ idMax → τ ≤ eventTimeMax → lastTime es ≤ τ → Turning t (o .course) r τ q m c d →
-        lifeAfter (lifeIn t (o .course)) τ a ≡ lifeIn t r →
-        Tells lanes (event i τ a ∷ es) (withTitle s i (turnedTitle t τ q m c d) τ)
-    turn-next t r q m c d a o id limit late turning same =
-        told-with lanes es s (event i τ a) (turnedTitle t τ q m c d) w (omega arith) late limit
-        (present r (ap (λ L. lifeAfter L τ a) (o .life) ∙ same ∙ sym (life-turned t τ q m c d r)) refl
-        (turn-present t (o .course) r τ q m c d turning))
+    turn-next : (t : Title) (r : Course) (q m c d v : ℕ) (a : Act) → (o : Open (lifeOf es i) (latestOf es i) t τ) →
+        i ≤ idMax → τ ≤ eventTimeMax → lastTime es ≤ τ → Turning t (o .course) r τ q m c d v →
+        lifeAfter (lifeIn t (o .course)) τ a ≡ lifeIn t r → v ≡ pick (tunes a) τ (tunedOf es i) →
+        Tells lanes (event i τ a ∷ es) (withTitle s i (turnedTitle t τ q m c d v) τ)
+    turn-next t r q m c d v a o id limit late turning same tuned =
+        told-with lanes es s (event i τ a) (turnedTitle t τ q m c d v) w (omega arith) late limit
+        (present r (ap (λ L. lifeAfter L τ a) (o .life) ∙ same ∙ sym (life-turned t τ q m c d v r)) refl
+        (turn-present t (o .course) r τ q m c d v turning))
+        tuned
 
     -- how the doors stand from the latest event on
     doors-since : (t : Title) (o : Open (lifeOf es i) (latestOf es i) t τ) → t .last < τ → (u : ℕ) → tickAt t τ ≤ u →
@@ -218,7 +220,7 @@ module _ (lanes : ℕ) (es : List Event) (s : State) (w : Tells lanes es s) wher
         let lt : t .last < τ = later-out t o late t7 in
         let n : ℕ = tickAt t τ in
         let r : Course = o .course in
-        turn-next t (record { rule = turn (r .rule) n k; shut = r .shut }) k openMode k (t .mark) (changes k) o id limit late
+        turn-next t (record { rule = turn (r .rule) n k; shut = r .shut }) k openMode k (t .mark) τ (changes k) o id limit late
         (record {
           here = o .here;
           is-open = o .mode;
@@ -232,12 +234,13 @@ module _ (lanes : ℕ) (es : List Event) (s : State) (w : Tells lanes es s) wher
           count-low = low;
           count-high = high;
           mark-high = z .mark-high;
+          tuned-high = limit;
           rules = refl;
           before = λ u b. record { rule = turn-before (r .rule) n k u b; shut = refl };
           from = λ u le. turn-from (r .rule) n k u le;
           doors = λ e u le. doors-since t o lt u le;
         })
-        refl
+        refl refl
 
     close-next : (o : Open (lifeOf es i) (latestOf es i) (titleAt s i) τ) → i ≤ idMax → τ ≤ eventTimeMax →
         lastTime es ≤ τ → eqb τ (titleAt s i .last) ≡ false →
@@ -249,7 +252,7 @@ module _ (lanes : ℕ) (es : List Event) (s : State) (w : Tells lanes es s) wher
         let z = o .here .sized in
         let n : ℕ = tickAt t τ in
         let r : Course = o .course in
-        turn-next t (record { rule = turn (r .rule) n 0; shut = r .shut }) 0 closingMode (t .count) clearMark closes o id limit late
+        turn-next t (record { rule = turn (r .rule) n 0; shut = r .shut }) 0 closingMode (t .count) clearMark (t .tuned) closes o id limit late
         (record {
           here = o .here;
           is-open = o .mode;
@@ -263,12 +266,13 @@ module _ (lanes : ℕ) (es : List Event) (s : State) (w : Tells lanes es s) wher
           count-low = z .count-low;
           count-high = z .count-high;
           mark-high = omega arith;
+          tuned-high = z .tuned-high;
           rules = refl;
           before = λ u b. record { rule = turn-before (r .rule) n 0 u b; shut = refl };
           from = λ u le. turn-from (r .rule) n 0 u le;
           doors = λ e u le. absurd (omega (arith, e));
         })
-        refl
+        refl (w .tuned i (omega arith))
 
     doors-next : (b : Bool) (o : Open (lifeOf es i) (latestOf es i) (titleAt s i) τ) → i ≤ idMax → τ ≤ eventTimeMax →
         lastTime es ≤ τ → eqb τ (titleAt s i .last) ≡ false →
@@ -282,7 +286,7 @@ module _ (lanes : ℕ) (es : List Event) (s : State) (w : Tells lanes es s) wher
         let n : ℕ = tickAt t τ in
         let r : Course = o .course in
         rw (← doors-turned t τ b)
-        (turn-next t (record { rule = r .rule; shut = turn (r .shut) n b }) (t .count) openMode (t .count) (pick b heldMark clearMark) (doors b) o id limit late
+        (turn-next t (record { rule = r .rule; shut = turn (r .shut) n b }) (t .count) openMode (t .count) (pick b heldMark clearMark) (t .tuned) (doors b) o id limit late
         (record {
           here = o .here;
           is-open = o .mode;
@@ -296,12 +300,13 @@ module _ (lanes : ℕ) (es : List Event) (s : State) (w : Tells lanes es s) wher
           count-low = z .count-low;
           count-high = z .count-high;
           mark-high = mark-limit b;
+          tuned-high = z .tuned-high;
           rules = refl;
           before = λ u l. record { rule = refl; shut = turn-before (r .shut) n b u l };
           from = λ u le. o .here .steady u (omega (arith, later t r (o .here) τ (omega arith))) ∙ open-ruling t (o .mode);
           doors = λ e u le. turn-from (r .shut) n b u le ∙ marked b;
         })
-        refl)
+        refl (w .tuned i (omega arith)))
 
     -- the tests that all but openings share: there, and not closing
     opened-told : i ≤ idMax → lastTime es ≤ τ → not (isThere (titleAt s i) τ) ≡ false →
@@ -328,6 +333,12 @@ module _ (lanes : ℕ) (es : List Event) (s : State) (w : Tells lanes es s) wher
         hit-same isClosing _ _ _ _ (closing-told (lifeOf es i) (latestOf es i) (titleAt s i) τ told (seen late) (not-false (isThere (titleAt s i) τ) t3))
         (λ t5. rest (n .0) (n .1) late (opened-told (n .0) late t3 t5)))))
 
+    -- the moment from which on 16 no longer stands
+    settled-told : (t : Title) → i ≤ idMax → titleAt s i ≡ t → Open (lifeOf es i) (latestOf es i) t τ →
+        settledAt t ≡ tunedOf es i + settling (lifeOf es i)
+    unfolding settledAt
+    settled-told t id e o = rw (o .life, ← e, w .tuned i (omega arith)) refl
+
     change-told : (k : ℕ) →
         callAnswer s i τ (changes k) ≡ answerTo lanes es (event i τ (changes k)) (lifeOf es i) (changes k)
     unfolding callAnswer answerTo
@@ -343,12 +354,14 @@ module _ (lanes : ℕ) (es : List Event) (s : State) (w : Tells lanes es s) wher
         (λ t6.
         hit-same secondEvent _ _ _ _ (ap (λ x. eqb τ x) (sym (o .latest)))
         (λ t7.
+        hit-same tooSoon _ _ _ _ (ap (λ x. ltb τ x) (settled-told (titleAt s i) id refl o))
+        (λ t16.
         hit-same notAtSlot _ _ _ _
         (rw (o .count) (ap not (slot-told (lifeOf es i) (latestOf es i) (titleAt s i) τ (min (titleAt s i .count) k) o)))
         (λ t8.
         hit-same noLanes _ _ _ _
         (full-told (event i τ (changes k)) (changeNext s i τ k) (change-next k o id limit late t13 t14 t7 t8))
-        (λ t9. refl)))))))
+        (λ t9. refl))))))))
 
     close-told : callAnswer s i τ closes ≡ answerTo lanes es (event i τ closes) (lifeOf es i) closes
     unfolding callAnswer answerTo

@@ -1,15 +1,15 @@
 -- Sequences that meet the theorems' hypotheses, computed from the definitions: a film opens, gains a lane, loses it,
 -- closes, and its id opens again with other numbers; one call of it is refused. Its boxes and lanes at chosen moments,
 -- a lane that is dropped and not raised, one that is raised while it sends, events that leave an answer true, an id
--- that is gone at its own closing moment, an opening that passes since padding is owed to nobody, and boxes of an earlier,
--- larger count that are all that a lane owes to, behind doors that are held.
-use mathlib.Core.Path.{_≡_, refl, _∙_}
+-- that is gone at its own closing moment, an opening that passes since padding is owed to nobody, boxes of an earlier,
+-- larger count that are all that a lane owes to, behind doors that are held; and a card that has time to retune.
+use mathlib.Core.Path.{_≡_, refl, subst, _∙_}
 use mathlib.Core.Bool.{true, not}
 use mathlib.Core.List.{List, [], _∷_}
 use Prim.Native.Nat.{ℕ, _+_, _≤_}
 use native.Mathlib.Omega.{arith}
 use borrow.Author.Tests.{not-true}
-use Rattle.rules.specs.Refusals.{firstHit, done, notThere, noLanes, doorsUnchanged}
+use Rattle.rules.specs.Refusals.{firstHit, done, notThere, secondEvent, notAtSlot, noLanes, tooSoon, doorsUnchanged}
 use Rattle.rules.specs.Search.{some, every, first, howMany, after, total}
 use Rattle.rules.proofs.Search.{every-out}
 use Rattle.grid.specs.Ticks.{tickOf, holdsFilm, roundedUp, slot, isSlotStart, cellOf}
@@ -18,14 +18,16 @@ use Rattle.grid.specs.Lanes.{isInG, isAdded, addedChannel, laneCell}
 use Rattle.grid.specs.Plan.{takenFrom, inPlan}
 use Rattle.story.specs.Life.{Life, isAdmission, isActive, droppedAt, isAwaited, isOwed, reach, owedWithin, owes}
 use Rattle.story.specs.Life.{isNth, nthOwed, Air, nothing, cell, sends, onAir, isHeld}
-use Rattle.story.specs.Story.{opens, changes, closes, holds, lifts, Event, event, tickIn, lifeOf, latestOf}
-use Rattle.story.specs.Story.{upTo, heldIn, heldOver, answerTo, answer, accepted, lifeAt, airAt, Begins, Dropped, Quiet}
-use Rattle.story.specs.Story.{nothing-new, elsewhere}
+use Rattle.story.specs.Story.{opens, changes, closes, holds, lifts, Event, event, settling, tickIn, lifeOf}
+use Rattle.story.specs.Story.{latestOf, tunedOf, upTo, heldIn, heldOver, answerTo, answer, accepted, Accepted}
+use Rattle.story.specs.Story.{lifeAt, airAt, Begins, Dropped, Quiet, nothing-new, elsewhere, none-tunes, goes-by}
+use Rattle.story.proofs.Reached.{accepted-is}
+use Rattle.story.proofs.Retuned.{far-apart}
 use Rattle.story.proofs.Sooner.{formerlyOwed, formerlyOwes, formerlyHeld, formerlyHeldIn, formerlyHeldOver}
 use Rattle.story.proofs.Sooner.{formerAnswerTo, formerAnswer}
 use Rattle.story.proofs.Demands.{exactly, throughout}
 
--- newest first; the change to 4 at 2 is not at a slot start of count 3
+-- newest first; the change to 2 at 2 comes half a floor slot after the opening
 abbrev calls : List Event
 calls =
     event 0 16 (opens 24 2 3 2)
@@ -46,7 +48,7 @@ taken =
     ∷ []
 
 all-but-one : accepted 4 calls ≡ taken
-unfolding accepted answerTo firstHit lifeOf latestOf heldOver heldIn tickIn total howMany isHeld onAir isActive droppedAt after sends nthOwed isNth owedWithin isOwed isAwaited isAdmission reach some first inPlan takenFrom laneCell addedChannel isAdded isInG channelCell segment shift floorRem cellOf slot isSlotStart tickOf holdsFilm roundedUp
+unfolding accepted answerTo firstHit lifeOf latestOf tunedOf heldOver heldIn tickIn total howMany isHeld onAir isActive droppedAt after sends nthOwed isNth owedWithin isOwed isAwaited isAdmission reach some first inPlan takenFrom laneCell addedChannel isAdded isInG channelCell segment shift floorRem cellOf slot isSlotStart tickOf holdsFilm roundedUp
 all-but-one = refl
 
 -- lanes held over all titles, at the opening, after the raise, while lane 3 sends, when it is released, at the close,
@@ -103,29 +105,36 @@ owes-one = refl
 held-once : howMany (λ j. isHeld first-life 3 (8 + j)) 4 ≡ 1
 held-once = exactly first-life 3 7 4 dropped (omega (arith, owes-one)) ∙ owes-one
 
--- opened with 5 lanes, dropped to 4 at 4 and raised again at 6, while lane 4 still owes a cell: held throughout
-abbrev raised-life : Life
-raised-life = lifeOf (event 0 6 (changes 5) ∷ event 0 4 (changes 4) ∷ event 0 0 (opens 28 3 5 5) ∷ []) 0
+-- opened with 5 lanes, dropped to 4 at 2 and raised again at 4, while lane 4 still owes a cell: held throughout
+abbrev raised : List Event
+raised = event 0 4 (changes 5) ∷ event 0 2 (changes 4) ∷ event 0 0 (opens 30 4 5 5) ∷ []
 
-dropped-then-raised : Dropped raised-life 4 3 2
+raised-accepted : accepted 5 raised ≡ raised
+unfolding accepted answerTo firstHit lifeOf latestOf tunedOf heldOver heldIn tickIn total howMany isHeld onAir isActive droppedAt after sends nthOwed isNth owedWithin isOwed isAwaited isAdmission reach some first inPlan takenFrom laneCell addedChannel isAdded isInG channelCell segment shift floorRem cellOf slot isSlotStart tickOf holdsFilm roundedUp
+raised-accepted = refl
+
+abbrev raised-life : Life
+raised-life = lifeOf raised 0
+
+dropped-then-raised : Dropped raised-life 4 1 2
 unfolding owes every upTo lifeOf heldOver heldIn tickIn total howMany isHeld onAir isActive droppedAt after sends nthOwed isNth owedWithin isOwed isAwaited isAdmission reach some first inPlan takenFrom laneCell addedChannel isAdded isInG channelCell segment shift floorRem cellOf slot isSlotStart tickOf holdsFilm roundedUp
 dropped-then-raised =
     record {
       active-before = refl;
       not-raised = λ j b.
-          not-true (isActive raised-life 4 (4 + j)) (every-out (λ j. not (isActive raised-life 4 (4 + j))) 2 j refl b);
+          not-true (isActive raised-life 4 (2 + j)) (every-out (λ j. not (isActive raised-life 4 (2 + j))) 2 j refl b);
     }
 
-again : isActive raised-life 4 6 ≡ true
+again : isActive raised-life 4 4 ≡ true
 unfolding owes every upTo lifeOf heldOver heldIn tickIn total howMany isHeld onAir isActive droppedAt after sends nthOwed isNth owedWithin isOwed isAwaited isAdmission reach some first inPlan takenFrom laneCell addedChannel isAdded isInG channelCell segment shift floorRem cellOf slot isSlotStart tickOf holdsFilm roundedUp
 again = refl
 
-owes-three : owes raised-life 4 4 ≡ 3
+owes-three : owes raised-life 4 2 ≡ 3
 unfolding owes every upTo lifeOf heldOver heldIn tickIn total howMany isHeld onAir isActive droppedAt after sends nthOwed isNth owedWithin isOwed isAwaited isAdmission reach some first inPlan takenFrom laneCell addedChannel isAdded isInG channelCell segment shift floorRem cellOf slot isSlotStart tickOf holdsFilm roundedUp
 owes-three = refl
 
-held-on : (j : ℕ) → j ≤ 2 → isHeld raised-life 4 (4 + j) ≡ true
-held-on j = throughout raised-life 4 3 2 j dropped-then-raised again (omega (arith, owes-three))
+held-on : (j : ℕ) → j ≤ 2 → isHeld raised-life 4 (2 + j) ≡ true
+held-on j = throughout raised-life 4 1 2 j dropped-then-raised again (omega (arith, owes-three))
 
 -- until the close at 12 the events at 4 and 8 leave what the opening alone says of the ticks before 4
 quiet : Quiet 0 3 (event 0 8 (changes 3) ∷ event 0 4 (changes 4) ∷ [])
@@ -138,7 +147,7 @@ abbrev gone : List Event
 gone = event 0 2 closes ∷ event 0 0 (opens 4 2 2 2) ∷ []
 
 gone-accepted : accepted 4 gone ≡ gone
-unfolding accepted answerTo firstHit lifeOf latestOf heldOver heldIn tickIn total howMany isHeld onAir isActive droppedAt after sends nthOwed isNth owedWithin isOwed isAwaited isAdmission reach some first inPlan takenFrom laneCell addedChannel isAdded isInG channelCell segment shift floorRem cellOf slot isSlotStart tickOf holdsFilm roundedUp
+unfolding accepted answerTo firstHit lifeOf latestOf tunedOf heldOver heldIn tickIn total howMany isHeld onAir isActive droppedAt after sends nthOwed isNth owedWithin isOwed isAwaited isAdmission reach some first inPlan takenFrom laneCell addedChannel isAdded isInG channelCell segment shift floorRem cellOf slot isSlotStart tickOf holdsFilm roundedUp
 gone-accepted = refl
 
 -- the close leaves no lane sending; a second close at that moment gets 3, and an opening is accepted
@@ -147,11 +156,11 @@ unfolding lifeOf latestOf heldOver heldIn tickIn total howMany isHeld onAir isAc
 none-sends = refl
 
 second-close : answer 4 gone (event 0 2 closes) ≡ notThere
-unfolding answerTo firstHit lifeOf latestOf heldOver heldIn tickIn total howMany isHeld onAir isActive droppedAt after sends nthOwed isNth owedWithin isOwed isAwaited isAdmission reach some first inPlan takenFrom laneCell addedChannel isAdded isInG channelCell segment shift floorRem cellOf slot isSlotStart tickOf holdsFilm roundedUp
+unfolding answerTo firstHit lifeOf latestOf tunedOf heldOver heldIn tickIn total howMany isHeld onAir isActive droppedAt after sends nthOwed isNth owedWithin isOwed isAwaited isAdmission reach some first inPlan takenFrom laneCell addedChannel isAdded isInG channelCell segment shift floorRem cellOf slot isSlotStart tickOf holdsFilm roundedUp
 second-close = refl
 
 opens-at-once : answer 4 gone (event 0 2 (opens 12 2 4 3)) ≡ done
-unfolding answerTo firstHit lifeOf latestOf heldOver heldIn tickIn total howMany isHeld onAir isActive droppedAt after sends nthOwed isNth owedWithin isOwed isAwaited isAdmission reach some first inPlan takenFrom laneCell addedChannel isAdded isInG channelCell segment shift floorRem cellOf slot isSlotStart tickOf holdsFilm roundedUp
+unfolding answerTo firstHit lifeOf latestOf tunedOf heldOver heldIn tickIn total howMany isHeld onAir isActive droppedAt after sends nthOwed isNth owedWithin isOwed isAwaited isAdmission reach some first inPlan takenFrom laneCell addedChannel isAdded isInG channelCell segment shift floorRem cellOf slot isSlotStart tickOf holdsFilm roundedUp
 opens-at-once = refl
 
 -- 01's case 5 in a pool of 4: lane 2 is released at 6, where it used to send padding, and another film opens then
@@ -159,11 +168,11 @@ abbrev released : List Event
 released = event 0 4 (changes 2) ∷ event 0 0 (opens 12 2 4 3) ∷ []
 
 passes-now : answer 4 released (event 1 6 (opens 12 2 4 2)) ≡ done
-unfolding answerTo firstHit lifeOf latestOf heldOver heldIn tickIn total howMany isHeld onAir isActive droppedAt after sends nthOwed isNth owedWithin isOwed isAwaited isAdmission reach some first inPlan takenFrom laneCell addedChannel isAdded isInG channelCell segment shift floorRem cellOf slot isSlotStart tickOf holdsFilm roundedUp
+unfolding answerTo firstHit lifeOf latestOf tunedOf heldOver heldIn tickIn total howMany isHeld onAir isActive droppedAt after sends nthOwed isNth owedWithin isOwed isAwaited isAdmission reach some first inPlan takenFrom laneCell addedChannel isAdded isInG channelCell segment shift floorRem cellOf slot isSlotStart tickOf holdsFilm roundedUp
 passes-now = refl
 
 got-nine : formerAnswer 4 released (event 1 6 (opens 12 2 4 2)) ≡ noLanes
-unfolding formerAnswerTo formerlyHeldOver formerlyHeldIn formerlyHeld formerlyOwes formerlyOwed firstHit lifeOf latestOf heldOver heldIn tickIn total howMany isHeld onAir isActive droppedAt after sends nthOwed isNth owedWithin isOwed isAwaited isAdmission reach some first inPlan takenFrom laneCell addedChannel isAdded isInG channelCell segment shift floorRem cellOf slot isSlotStart tickOf holdsFilm roundedUp
+unfolding formerAnswerTo formerlyHeldOver formerlyHeldIn formerlyHeld formerlyOwes formerlyOwed firstHit lifeOf latestOf tunedOf heldOver heldIn tickIn total howMany isHeld onAir isActive droppedAt after sends nthOwed isNth owedWithin isOwed isAwaited isAdmission reach some first inPlan takenFrom laneCell addedChannel isAdded isInG channelCell segment shift floorRem cellOf slot isSlotStart tickOf holdsFilm roundedUp
 got-nine = refl
 
 -- the doors are held at 7, and the count goes from 4 to 3 at 8, before the close at 12: no box of count 3 ever began, and lane 1
@@ -173,7 +182,7 @@ behind-doors =
     event 0 12 closes ∷ event 0 8 (changes 3) ∷ event 0 7 holds ∷ event 0 0 (opens 12 2 4 4) ∷ []
 
 behind-doors-accepted : accepted 4 behind-doors ≡ behind-doors
-unfolding accepted answerTo firstHit lifeOf latestOf heldOver heldIn tickIn total howMany isHeld onAir isActive droppedAt after sends nthOwed isNth owedWithin isOwed isAwaited isAdmission reach some first inPlan takenFrom laneCell addedChannel isAdded isInG channelCell segment shift floorRem cellOf slot isSlotStart tickOf holdsFilm roundedUp
+unfolding accepted answerTo firstHit lifeOf latestOf tunedOf heldOver heldIn tickIn total howMany isHeld onAir isActive droppedAt after sends nthOwed isNth owedWithin isOwed isAwaited isAdmission reach some first inPlan takenFrom laneCell addedChannel isAdded isInG channelCell segment shift floorRem cellOf slot isSlotStart tickOf holdsFilm roundedUp
 behind-doors-accepted = refl
 
 -- a hold's own tick is no admission, nor is any later one
@@ -187,13 +196,57 @@ sent-to-count-four = (refl, refl, refl)
 
 -- a second hold gets 17, and so does a lift of what is not held; a lift's own tick is an admission again
 held-twice : answer 4 (event 0 7 holds ∷ event 0 0 (opens 12 2 4 4) ∷ []) (event 0 8 holds) ≡ doorsUnchanged
-unfolding answerTo firstHit lifeOf latestOf heldOver heldIn tickIn total howMany isHeld onAir isActive droppedAt after sends nthOwed isNth owedWithin isOwed isAwaited isAdmission reach some first inPlan takenFrom laneCell addedChannel isAdded isInG channelCell segment shift floorRem cellOf slot isSlotStart tickOf holdsFilm roundedUp
+unfolding answerTo firstHit lifeOf latestOf tunedOf heldOver heldIn tickIn total howMany isHeld onAir isActive droppedAt after sends nthOwed isNth owedWithin isOwed isAwaited isAdmission reach some first inPlan takenFrom laneCell addedChannel isAdded isInG channelCell segment shift floorRem cellOf slot isSlotStart tickOf holdsFilm roundedUp
 held-twice = refl
 
 never-held : answer 4 (event 0 0 (opens 12 2 4 4) ∷ []) (event 0 8 lifts) ≡ doorsUnchanged
-unfolding answerTo firstHit lifeOf latestOf heldOver heldIn tickIn total howMany isHeld onAir isActive droppedAt after sends nthOwed isNth owedWithin isOwed isAwaited isAdmission reach some first inPlan takenFrom laneCell addedChannel isAdded isInG channelCell segment shift floorRem cellOf slot isSlotStart tickOf holdsFilm roundedUp
+unfolding answerTo firstHit lifeOf latestOf tunedOf heldOver heldIn tickIn total howMany isHeld onAir isActive droppedAt after sends nthOwed isNth owedWithin isOwed isAwaited isAdmission reach some first inPlan takenFrom laneCell addedChannel isAdded isInG channelCell segment shift floorRem cellOf slot isSlotStart tickOf holdsFilm roundedUp
 never-held = refl
 
 lifted : isAdmission (lifeOf (event 0 9 lifts ∷ event 0 7 holds ∷ event 0 0 (opens 12 2 4 4) ∷ []) 0) 9 ≡ true
 unfolding lifeOf tickIn isAdmission isSlotStart slot tickOf roundedUp
 lifted = refl
+
+-- a card retunes: a film of a floor slot of 4 opens at 0, and its doors are held at 2, which counts for nothing. At 2 a
+-- change is a second event, at 3 it comes too soon, whatever slot that is, at 4 it may; at 5 the card has settled, and the
+-- slot is asked
+abbrev held-early : List Event
+held-early = event 0 2 holds ∷ event 0 0 (opens 12 2 4 4) ∷ []
+
+at-two : answer 4 held-early (event 0 2 (changes 3)) ≡ secondEvent
+unfolding answerTo firstHit lifeOf latestOf tunedOf heldOver heldIn tickIn total howMany isHeld onAir isActive droppedAt after sends nthOwed isNth owedWithin isOwed isAwaited isAdmission reach some first inPlan takenFrom laneCell addedChannel isAdded isInG channelCell segment shift floorRem cellOf slot isSlotStart tickOf holdsFilm roundedUp
+at-two = refl
+
+at-three : answer 4 held-early (event 0 3 (changes 3)) ≡ tooSoon
+unfolding answerTo firstHit lifeOf latestOf tunedOf heldOver heldIn tickIn total howMany isHeld onAir isActive droppedAt after sends nthOwed isNth owedWithin isOwed isAwaited isAdmission reach some first inPlan takenFrom laneCell addedChannel isAdded isInG channelCell segment shift floorRem cellOf slot isSlotStart tickOf holdsFilm roundedUp
+at-three = refl
+
+at-four : answer 4 held-early (event 0 4 (changes 3)) ≡ done
+unfolding answerTo firstHit lifeOf latestOf tunedOf heldOver heldIn tickIn total howMany isHeld onAir isActive droppedAt after sends nthOwed isNth owedWithin isOwed isAwaited isAdmission reach some first inPlan takenFrom laneCell addedChannel isAdded isInG channelCell segment shift floorRem cellOf slot isSlotStart tickOf holdsFilm roundedUp
+at-four = refl
+
+at-five : answer 4 held-early (event 0 5 (changes 3)) ≡ notAtSlot
+unfolding answerTo firstHit lifeOf latestOf tunedOf heldOver heldIn tickIn total howMany isHeld onAir isActive droppedAt after sends nthOwed isNth owedWithin isOwed isAwaited isAdmission reach some first inPlan takenFrom laneCell addedChannel isAdded isInG channelCell segment shift floorRem cellOf slot isSlotStart tickOf holdsFilm roundedUp
+at-five = refl
+
+-- a close and a hold are not concerned: both pass half a floor slot after a change
+abbrev changed-late : List Event
+changed-late = event 0 6 (changes 3) ∷ event 0 0 (opens 12 2 4 4) ∷ []
+
+closes-soon : answer 4 changed-late (event 0 8 closes) ≡ done
+unfolding answerTo firstHit lifeOf latestOf tunedOf heldOver heldIn tickIn total howMany isHeld onAir isActive droppedAt after sends nthOwed isNth owedWithin isOwed isAwaited isAdmission reach some first inPlan takenFrom laneCell addedChannel isAdded isInG channelCell segment shift floorRem cellOf slot isSlotStart tickOf holdsFilm roundedUp
+closes-soon = refl
+
+holds-soon : answer 4 changed-late (event 0 8 holds) ≡ done
+unfolding answerTo firstHit lifeOf latestOf tunedOf heldOver heldIn tickIn total howMany isHeld onAir isActive droppedAt after sends nthOwed isNth owedWithin isOwed isAwaited isAdmission reach some first inPlan takenFrom laneCell addedChannel isAdded isInG channelCell segment shift floorRem cellOf slot isSlotStart tickOf holdsFilm roundedUp
+holds-soon = refl
+
+changes-too-soon : answer 4 changed-late (event 0 8 (changes 4)) ≡ tooSoon
+unfolding answerTo firstHit lifeOf latestOf tunedOf heldOver heldIn tickIn total howMany isHeld onAir isActive droppedAt after sends nthOwed isNth owedWithin isOwed isAwaited isAdmission reach some first inPlan takenFrom laneCell addedChannel isAdded isInG channelCell segment shift floorRem cellOf slot isSlotStart tickOf holdsFilm roundedUp
+changes-too-soon = refl
+
+-- the opening and the change behind held doors lie a floor slot apart
+settled-then : 0 + settling (lifeOf (event 0 0 (opens 12 2 4 4) ∷ []) 0) ≤ 8
+settled-then =
+    far-apart 4 (event 0 12 closes ∷ []) (event 0 7 holds ∷ []) [] 0 0 8 3 (opens 12 2 4 4) refl
+    (goes-by {e = event 0 7 holds} (λ e. refl) none-tunes) (subst (Accepted 4) behind-doors-accepted (accepted-is 4 behind-doors))

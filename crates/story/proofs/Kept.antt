@@ -47,6 +47,7 @@ pub record Sized (t : Title) : Type 0 where
   pub count-high : t .count ≤ t .cap
   pub mark-high : t .mark ≤ heldMark
   pub last-high : t .last ≤ eventTimeMax
+  pub tuned-high : t .tuned ≤ eventTimeMax
   pub ends-long : length (t .ends) ≡ countPlaces
   pub dropped-long : length (t .dropped) ≡ lanePlaces
   pub owed-long : length (t .owed) ≡ lanePlaces

@@ -20,5 +20,6 @@ pub mod Pool
 pub mod World
 pub mod Reached
 pub mod Sooner
+pub mod Retuned
 pub mod Demands
 pub mod Example

@@ -39,6 +39,7 @@ numbers-ok t r p =
       le-leb (t .count) countMax (omega (arith, z .count-high, z .cap-high)),
       le-leb (t .mark) heldMark (z .mark-high),
       le-leb (t .last) askedMax (omega (arith, z .last-high)),
+      le-leb (t .tuned) askedMax (omega (arith, z .tuned-high)),
       row-ok (t .ends) countPlaces (z .ends-high),
       row-ok (t .dropped) lanePlaces (z .dropped-high),
       row-ok (t .owed) lanePlaces (z .owed-high),

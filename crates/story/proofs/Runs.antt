@@ -14,12 +14,13 @@ use Rattle.rules.specs.Refusals.{pick}
 use Rattle.rules.specs.Search.{howMany}
 use Rattle.rules.proofs.Tests.{decide, both-r}
 use Rattle.rules.proofs.Search
+use Rattle.story.specs.declared.Title.{Title}
 use Rattle.story.specs.declared.State.{State}
 use Rattle.story.specs.Life.{Life, isActive}
 use Rattle.story.specs.Kept.{noTitle, stateOk}
 use Rattle.story.specs.Calls.{blankTitle, emptyPool}
 use Rattle.story.specs.Story.{Act, opens, changes, closes, doors, Event, event, unopened, lifeOf, latestOf, isHeldIn}
-use Rattle.story.specs.Story.{heldIn, heldOver, isThereIn, answerTo, answer, taking, accepted}
+use Rattle.story.specs.Story.{tunedOf, heldIn, heldOver, isThereIn, answerTo, answer, taking, accepted}
 use Rattle.story.specs.Next.{callNext}
 use Rattle.story.specs.Runs.{answered, called, stateAfter, lanesOf}
 use Rattle.story.proofs.Held.{held-active}
@@ -35,7 +36,7 @@ lanes-limit pool =
 
 -- a fresh pool tells of no event
 pub fresh-tells : (lanes : ℕ) → Tells lanes [] (emptyPool lanes)
-unfolding lifeOf latestOf
+unfolding lifeOf latestOf tunedOf
 fresh-tells lanes =
     record {
       pool = refl;
@@ -44,6 +45,7 @@ fresh-tells lanes =
       newest = λ i. omega arith;
       limit = omega arith;
       title = λ i b. absent refl refl (getD-replicate titlesMax i blankTitle noTitle b);
+      tuned = λ i b. ap (λ (t : Title). t .tuned) (getD-replicate titlesMax i blankTitle noTitle b);
     }
 
 -- an id that was never opened holds no lane

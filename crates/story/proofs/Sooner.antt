@@ -12,7 +12,7 @@ use lib.Dec.{ltb, eqb}
 use borrow.Author.Tests.{ltb-true, ltb-false, lt-ltb, le-ltb, eqb-false}
 use Rattle.rules.specs.Limits.{either, titlesMax}
 use Rattle.rules.specs.Refusals.{firstHit, outsideLimits, tooEarly, idTaken, isClosing, floorAboveCap, belowFloor, aboveCap, unchanged}
-use Rattle.rules.specs.Refusals.{doorsUnchanged, secondEvent}
+use Rattle.rules.specs.Refusals.{doorsUnchanged, secondEvent, tooSoon}
 use Rattle.rules.specs.Refusals.{notAtSlot, noLanes}
 use Rattle.rules.specs.Search.{howMany, total}
 use Rattle.rules.proofs.Tests.{decide, either-l, either-r, either-false, either-false-l, either-false-r}
@@ -61,6 +61,7 @@ formerTests pool es e L a =
       same = now .same;
       sameDoors = now .sameDoors;
       second = now .second;
+      soon = now .soon;
       off = now .off;
       full = ltb pool (formerlyHeldOver (e ∷ es) (e .time));
     }
@@ -173,6 +174,7 @@ module _ (pool : ℕ) (es : List Event) (e : Event) (L : Life) where
         clear aboveCap,
         clear unchanged,
         clear secondEvent,
+        clear tooSoon,
         clear notAtSlot,
         still-room pool (e ∷ es) (e .time) (clear noLanes),
       )

@@ -11,8 +11,8 @@ use lib.Dec.{ltb, eqb}
 use lib.ListN.{getD, set, length, replicate, length-set}
 use lib.Seq.{getD-set-same, getD-set-other}
 use borrow.Author.Tests.{lt-ltb, eqb-true, eqb-false, ne-eqb}
-use Rattle.rules.specs.Limits.{either, eventTimeMax, lengthMin, lengthMax, floorMin, floorMax, countMax, titlesMax}
-use Rattle.rules.specs.Limits.{countPlaces, lanePlaces}
+use Rattle.rules.specs.Limits.{both, either, eventTimeMax, lengthMin, lengthMax, floorMin, floorMax, countMax}
+use Rattle.rules.specs.Limits.{titlesMax, countPlaces, lanePlaces}
 use Rattle.rules.specs.Refusals.{pick}
 use Rattle.rules.specs.Search.{howMany, after}
 use Rattle.rules.proofs.Tests.{decide, fails}
@@ -26,7 +26,7 @@ use Rattle.story.specs.Kept.{titleAt, isShut, tickAt, ruling, titleHeld,
 use Rattle.story.specs.Next.{openedTitle, withTitle}
 use Rattle.story.specs.Calls.{blankTitle}
 use Rattle.story.specs.Story.{Event, unopened, lifeAfter, lifeOf, latestOf, lastTime, tickIn, countIn, heldIn}
-use Rattle.story.specs.Story.{isShutIn, heldOver, isThereIn}
+use Rattle.story.specs.Story.{tunes, tunedOf, isShutIn, heldOver, isThereIn}
 use Rattle.story.proofs.Owed.{awaited-out, owed-out}
 use Rattle.story.proofs.Stored.{lifeIn}
 use Rattle.story.proofs.Kept.{Present, title-held-kept, later}
@@ -72,6 +72,7 @@ opened-present τ D A K k late d d′ a a′ K′ low high =
             count-high = high;
             mark-high = omega arith;
             last-high = late;
+            tuned-high = late;
             ends-long = refl;
             dropped-long = refl;
             owed-long = refl;
@@ -103,6 +104,7 @@ pub record Tells (lanes : ℕ) (es : List Event) (s : State) : Type 0 where
   pub newest : (i : ℕ) → latestOf es i ≤ lastTime es
   pub limit : lastTime es ≤ eventTimeMax
   pub title : (i : ℕ) → i < titlesMax → TellsTitle (lifeOf es i) (latestOf es i) (titleAt s i)
+  pub tuned : (i : ℕ) → i < titlesMax → titleAt s i .tuned ≡ tunedOf es i
 
 -- how many lanes a title holds, from its latest event on
 pub held-told : (L : Life) (m : ℕ) (t : Title) (τ : ℕ) → TellsTitle L m t → m ≤ τ → heldIn L τ ≡ titleHeld t τ
@@ -175,9 +177,10 @@ lanes-told pool es s τ w le =
 pub told-with : (pool : ℕ) (es : List Event) (s : State) (e : Event) (t : Title) → Tells pool es s →
     e .title < titlesMax → lastTime es ≤ e .time → e .time ≤ eventTimeMax →
     TellsTitle (lifeAfter (lifeOf es (e .title)) (e .time) (e .act)) (e .time) t →
+    t .tuned ≡ pick (tunes (e .act)) (e .time) (tunedOf es (e .title)) →
     Tells pool (e ∷ es) (withTitle s (e .title) t (e .time))
-unfolding lifeOf latestOf
-told-with pool es s e t w fits le limit tells =
+unfolding lifeOf latestOf tunedOf
+told-with pool es s e t w fits le limit tells tuned =
     record {
       pool = w .pool;
       last = refl;
@@ -185,6 +188,7 @@ told-with pool es s e t w fits le limit tells =
       newest = λ i. elim (eqb (e .title) i) as (λ b. pick b (e .time) (latestOf es i) ≤ e .time) [ true ↦ omega arith | false ↦ omega (arith, w .newest i) ];
       limit = limit;
       title = λ i b. ⊎-elim (at i) (λ x. other i b x) (decide (eqb (e .title) i));
+      tuned = λ i b. ⊎-elim (tuned-at i) (λ x. tuned-other i b x) (decide (eqb (e .title) i));
     }
   where
     i₀ : ℕ
@@ -201,3 +205,15 @@ told-with pool es s e t w fits le limit tells =
     other : (i : ℕ) → i < titlesMax → eqb i₀ i ≡ false → Goal i
     other i b x =
         rw (x, getD-set-other (s .titles) i₀ i t Rattle.story.specs.Kept.noTitle (λ q. eqb-false i₀ i x (sym q))) (w .title i b)
+
+    Tuned : ℕ → Type 0
+    Tuned i = getD (set (s .titles) i₀ t) i Rattle.story.specs.Kept.noTitle .tuned ≡ pick (both (eqb i₀ i) (tunes (e .act))) (e .time) (tunedOf es i)
+
+    tuned-at : (i : ℕ) → eqb i₀ i ≡ true → Tuned i
+    tuned-at i x =
+        let q : i₀ ≡ i = eqb-true i₀ i x in
+        rw (x, ← q, getD-set-same (s .titles) i₀ t Rattle.story.specs.Kept.noTitle (omega (arith, w .slots))) tuned
+
+    tuned-other : (i : ℕ) → i < titlesMax → eqb i₀ i ≡ false → Tuned i
+    tuned-other i b x =
+        rw (x, getD-set-other (s .titles) i₀ i t Rattle.story.specs.Kept.noTitle (λ q. eqb-false i₀ i x (sym q))) (w .tuned i b)

@@ -34,8 +34,9 @@ use Rattle.story.proofs.Rows.{isDropped, drop-rows}
 
 -- ---- a turn, and the rows that it leaves
 
--- an open title on course r turns to q lanes at τ, and r′ is its course then; its stored mode, count and mark become m, c and d
-pub record Turning (t : Title) (r r′ : Course) (τ q m c d : ℕ) : Type 0 where
+-- an open title on course r turns to q lanes at τ, and r′ is its course then; what is stored of mode, count,
+-- mark and latest opening or change becomes m, c, d and v
+pub record Turning (t : Title) (r r′ : Course) (τ q m c d v : ℕ) : Type 0 where
   pub here : Present t r
   pub is-open : t .mode ≡ openMode
   pub later : t .last < τ
@@ -48,6 +49,7 @@ pub record Turning (t : Title) (r r′ : Course) (τ q m c d : ℕ) : Type 0 whe
   pub count-low : t .floor ≤ c
   pub count-high : c ≤ t .cap
   pub mark-high : d ≤ heldMark
+  pub tuned-high : v ≤ eventTimeMax
   pub rules : pick (eqb m openMode) c 0 ≡ q
   pub before : (u : ℕ) → u < tickAt t τ → SameAt (lifeIn t r) r′ u
   pub from : (u : ℕ) → tickAt t τ ≤ u → r′ .rule u ≡ q
@@ -61,11 +63,11 @@ abbrev pub owedRow : Title → ℕ → ℕ → List ℕ
 owedRow t n q = filled (isDropped t q) (λ l. keptWithin (ended t n) l n (reach (t .cap))) (t .owed) (t .count)
 
 -- the same title, its rows laid open
-abbrev pub laid : Title → ℕ → ℕ → ℕ → ℕ → ℕ → Title
-laid t τ q m c d = turned (withRows (ended t (tickAt t τ)) (droppedRow t (tickAt t τ) q) (owedRow t (tickAt t τ) q)) m c d τ
+abbrev pub laid : Title → ℕ → ℕ → ℕ → ℕ → ℕ → ℕ → Title
+laid t τ q m c d v = turned (withRows (ended t (tickAt t τ)) (droppedRow t (tickAt t τ) q) (owedRow t (tickAt t τ) q)) m c d τ v
 
-pub turned-laid : (t : Title) (τ q m c d : ℕ) → turnedTitle t τ q m c d ≡ laid t τ q m c d
-turned-laid t τ q m c d = ap (λ x. turned x m c d τ) (drop-rows (ended t (tickAt t τ)) (tickAt t τ) q (t .count))
+pub turned-laid : (t : Title) (τ q m c d v : ℕ) → turnedTitle t τ q m c d v ≡ laid t τ q m c d v
+turned-laid t τ q m c d v = ap (λ x. turned x m c d τ v) (drop-rows (ended t (tickAt t τ)) (tickAt t τ) q (t .count))
 
 -- a lane owes at most half as many cells as the film has, and so few enough to be stored
 within-high : (t : Title) (l n : ℕ) → t .cap ≤ 42 → keptWithin t l n (reach (t .cap)) ≤ askedMax
@@ -90,7 +92,7 @@ turn-from r n k u l = pick-true (leb n u) k (r u) (le-leb n u l)
 
 -- ---- what a turned title keeps
 
-module _ (t : Title) (r r′ : Course) (τ q m c d : ℕ) (h : Turning t r r′ τ q m c d) where
+module _ (t : Title) (r r′ : Course) (τ q m c d v : ℕ) (h : Turning t r r′ τ q m c d v) where
   -- the turn comes in a later tick than the latest event
   pub after-now : lastTick t < tickAt t τ
   unfolding tickAt
@@ -331,7 +333,7 @@ module _ (t : Title) (r r′ : Course) (τ q m c d : ℕ) (h : Turning t r r′ 
           (h .here .owing l lane quiet
           ∙ sym (owes-local (lifeIn t r) r′ l (dropTick t l) (λ a b. h .before a (omega arith))))
 
-  turn-sized : Sized (laid t τ q m c d)
+  turn-sized : Sized (laid t τ q m c d v)
   unfolding tickAt
   turn-sized =
       let z = h .here .sized in
@@ -349,6 +351,7 @@ module _ (t : Title) (r r′ : Course) (τ q m c d : ℕ) (h : Turning t r r′ 
         count-high = h .count-high;
         mark-high = h .mark-high;
         last-high = h .limit;
+        tuned-high = h .tuned-high;
         ends-long = elim (isShut t) as (λ b. length (pick b (t .ends) (set (t .ends) (t .count) n)) ≡ countPlaces) [ true ↦ z .ends-long | false ↦ length-set (t .ends) (t .count) n ∙ z .ends-long ];
         dropped-long = filled-length (isDropped t q) (λ l. n) (t .dropped) (t .count) ∙ z .dropped-long;
         owed-long = filled-length (isDropped t q) (λ l. keptWithin (ended t n) l n (reach (t .cap))) (t .owed) (t .count) ∙ z .owed-long;
@@ -358,14 +361,14 @@ module _ (t : Title) (r r′ : Course) (τ q m c d : ℕ) (h : Turning t r r′ 
       }
 
   -- after the turn the stored numbers tell the turned course
-  pub turn-present : Present (turnedTitle t τ q m c d) r′
+  pub turn-present : Present (turnedTitle t τ q m c d v) r′
   unfolding tickAt ruling
-  turn-present = rw (turned-laid t τ q m c d) laid-present
+  turn-present = rw (turned-laid t τ q m c d v) laid-present
     where
       n : ℕ
       n = tickAt t τ
 
-      laid-present : Present (laid t τ q m c d) r′
+      laid-present : Present (laid t τ q m c d v) r′
       laid-present =
           record {
             mode = h .mode;

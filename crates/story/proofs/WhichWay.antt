@@ -8,7 +8,7 @@ use Prim.Native.Nat.{ℕ}
 use lib.Dec.{ltb, eqb}
 use Rattle.rules.specs.Limits.{either, within}
 use Rattle.rules.specs.Refusals.{pick, Rule, refuse, firstHit, done, outsideLimits, tooEarly, notThere, idTaken}
-use Rattle.rules.specs.Refusals.{isClosing, secondEvent, notAtSlot, noLanes}
+use Rattle.rules.specs.Refusals.{isClosing, secondEvent, tooSoon, notAtSlot, noLanes}
 use Rattle.rules.proofs.Refusals.{hit-same}
 use Rattle.rules.proofs.Former.{formerly, formerly-done, renumbered, former-hit, joined, outside}
 use Rattle.story.specs.declared.State.{State}
@@ -29,7 +29,8 @@ countWrong (changes n) A K k = either (not (within A K n)) (eqb n k)
 countWrong closes A K k = false
 countWrong (doors b) A K k = false
 
--- the orders as they stood, 1 2 4 6 9 and 1 2 3 5 6 7 8 9, of a count that is wrong or not
+-- the orders as they stood, 1 2 4 6 9 and 1 2 3 5 6 7 8 9, of a count that is wrong or not; 16, which came later, has its
+-- place
 abbrev pub formerOpen : Tests → Bool → List Rule
 formerOpen t wrong =
     refuse outsideLimits (t .outside)
@@ -47,6 +48,7 @@ formerChange t wrong =
     ∷ refuse isClosing (t .closing)
     ∷ refuse wrongCount wrong
     ∷ refuse secondEvent (t .second)
+    ∷ refuse tooSoon (t .soon)
     ∷ refuse notAtSlot (t .off)
     ∷ refuse noLanes (t .full)
     ∷ []
@@ -84,7 +86,7 @@ change-place : (t : Tests) (wrong : Bool) → wrong ≡ either (either (t .below
     → formerly (firstHit (changeOrder t)) ≡ firstHit (formerChange t wrong)
 unfolding renumbered
 change-place t wrong e =
-    let rest : List Rule = refuse secondEvent (t .second) ∷ refuse notAtSlot (t .off) ∷ refuse noLanes (t .full) ∷ [] in
+    let rest : List Rule = refuse secondEvent (t .second) ∷ refuse tooSoon (t .soon) ∷ refuse notAtSlot (t .off) ∷ refuse noLanes (t .full) ∷ [] in
     rw e
     (former-hit (changeOrder t)
     ∙ hit-same outsideLimits _ _ _ _ refl

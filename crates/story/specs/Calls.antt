@@ -15,14 +15,14 @@ use Rattle.story.specs.Orders.{Tests, laneOrder, statusOrder}
 use Rattle.story.specs.Story.{Act, opens, changes, closes, doors, actLimits, permitted, orderOf}
 use Rattle.story.specs.Story.{isCrossed, isBelow, isAbove, isSame, isSameDoors}
 use Rattle.story.specs.Kept.{absentMode, closingMode, clearMark, titleAt, isShut, stateOk, tickAt, atTickStart, ruling, keptHeld}
-use Rattle.story.specs.Kept.{titleHeld, lanesHeld, isThere, shows}
+use Rattle.story.specs.Kept.{settledAt, titleHeld, lanesHeld, isThere, shows}
 use Rattle.story.specs.Next.{callNext}
 
 -- the slot of an id that no event has named
 abbrev pub blankTitle : Title
 blankTitle =
     record
-    { mode = absentMode; opened = 0; length = 0; floor = 0; cap = 0; count = 0; mark = clearMark; last = 0; ends = replicate countPlaces 0; dropped = replicate lanePlaces 0; owed = replicate lanePlaces 0 }
+    { mode = absentMode; opened = 0; length = 0; floor = 0; cap = 0; count = 0; mark = clearMark; last = 0; tuned = 0; ends = replicate countPlaces 0; dropped = replicate lanePlaces 0; owed = replicate lanePlaces 0 }
 
 -- a pool without titles
 abbrev pub emptyPool : ℕ → State
@@ -61,6 +61,7 @@ testsIn s i τ a =
       same = isSame a (titleAt s i .count);
       sameDoors = isSameDoors a (isShut (titleAt s i));
       second = eqb τ (titleAt s i .last);
+      soon = ltb τ (settledAt (titleAt s i));
       off = not (atSlotStart (titleAt s i) (permitted a (titleAt s i .floor) (titleAt s i .count)) τ);
       full = tooMany (callNext s i τ a) τ;
     }

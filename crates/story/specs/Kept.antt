@@ -14,7 +14,7 @@ use Rattle.grid.specs.Channels.{channelCell}
 use Rattle.grid.specs.Lanes.{laneCell}
 use Rattle.story.specs.declared.Title.{Title}
 use Rattle.story.specs.declared.State.{State}
-use Rattle.story.specs.Life.{reach}
+use Rattle.story.specs.Life.{reach, floorSlot}
 
 -- whether a slot has a title: none, one that is open, one that is closing
 abbrev pub absentMode : ℕ
@@ -39,7 +39,7 @@ isShut t = eqb (t .mark) heldMark
 abbrev pub noTitle : Title
 noTitle =
     record
-    { mode = absentMode; opened = 0; length = 0; floor = 0; cap = 0; count = 0; mark = clearMark; last = 0; ends = []; dropped = []; owed = [] }
+    { mode = absentMode; opened = 0; length = 0; floor = 0; cap = 0; count = 0; mark = clearMark; last = 0; tuned = 0; ends = []; dropped = []; owed = [] }
 
 -- the slot of an id
 abbrev pub titleAt : State → ℕ → Title
@@ -60,7 +60,8 @@ numbersOk t =
     (both (leb (t .count) countMax)
     (both (leb (t .mark) heldMark)
     (both (leb (t .last) askedMax)
-    (both (rowOk (t .ends) countPlaces) (both (rowOk (t .dropped) lanePlaces) (rowOk (t .owed) lanePlaces))))))))))
+    (both (leb (t .tuned) askedMax)
+    (both (rowOk (t .ends) countPlaces) (both (rowOk (t .dropped) lanePlaces) (rowOk (t .owed) lanePlaces)))))))))))
 
 -- a title that is there has its lower limits too, a floor no higher than its cap and a count from floor to cap
 unfoldable pub orderOk : Title → Bool
@@ -85,6 +86,10 @@ tickAt t τ = (τ - t .opened) / tickOf (t .length) (t .floor) (t .cap)
 -- a time that is the start of a tick
 unfoldable pub atTickStart : Title → ℕ → Bool
 atTickStart t τ = eqb ((τ - t .opened) % tickOf (t .length) (t .floor) (t .cap)) 0
+
+-- 02, 9: the moment from which on the title may change again: a floor slot after its latest opening or change
+unfoldable pub settledAt : Title → ℕ
+settledAt t = t .tuned + floorSlot (t .length) (t .floor) (t .cap)
 
 -- the ruling count, 0 where the title isn't open
 unfoldable pub ruling : Title → ℕ

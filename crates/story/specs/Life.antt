@@ -1,13 +1,13 @@
 -- One title's life since its latest opening: its numbers, the count that rules and the doors at each tick, and what follows
 -- from them alone: admissions, drops, owed ticks, what is on air on a lane, and whether the lane is held (01, "Events").
 -- Nothing here reads what the scheduler stores.
-use Prim.Native.Nat.{ℕ, _+_, _-_, _^_}
+use Prim.Native.Nat.{ℕ, _+_, _-_, _*_, _^_}
 use mathlib.Core.Bool.{Bool, true, false, not}
 use lib.Dec.{ltb, eqb}
 use Rattle.rules.specs.Limits.{both}
 use Rattle.rules.specs.Refusals.{pick}
 use Rattle.rules.specs.Search.{some, first, howMany, after}
-use Rattle.grid.specs.Ticks.{holdsFilm, isSlotStart}
+use Rattle.grid.specs.Ticks.{tickOf, holdsFilm, slot, isSlotStart}
 use Rattle.grid.specs.Lanes.{laneCell}
 use Rattle.grid.specs.Plan.{inPlan}
 
@@ -31,6 +31,10 @@ pub record Course : Type 0 where
 abbrev pub onCourse : Life → Course → Life
 onCourse L r =
     record { opened = L .opened; length = L .length; floor = L .floor; cap = L .cap; rule = r .rule; shut = r .shut }
+
+-- 02, 9: one slot of the floor, in ms, for which a modulator card settles
+abbrev pub floorSlot : ℕ → ℕ → ℕ → ℕ
+floorSlot D A K = slot K A * tickOf D A K
 
 -- what the grid says of the title: cell c holds film,
 abbrev pub isFilm : Life → ℕ → Bool

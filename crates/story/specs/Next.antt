@@ -16,19 +16,19 @@ use Rattle.story.specs.Kept.{keptWithin}
 abbrev pub openedTitle : ℕ → ℕ → ℕ → ℕ → ℕ → Title
 openedTitle τ D A K k =
     record
-    { mode = openMode; opened = τ; length = D; floor = A; cap = K; count = k; mark = clearMark; last = τ; ends = replicate countPlaces 0; dropped = replicate lanePlaces 0; owed = replicate lanePlaces 0 }
+    { mode = openMode; opened = τ; length = D; floor = A; cap = K; count = k; mark = clearMark; last = τ; tuned = τ; ends = replicate countPlaces 0; dropped = replicate lanePlaces 0; owed = replicate lanePlaces 0 }
 
 -- the ruling count ends at tick n, where the slot of its latest admission does; while the doors are held it has ended already
 abbrev pub ended : Title → ℕ → Title
 ended t n =
     record
-    { mode = t .mode; opened = t .opened; length = t .length; floor = t .floor; cap = t .cap; count = t .count; mark = t .mark; last = t .last; ends = pick (isShut t) (t .ends) (set (t .ends) (t .count) n); dropped = t .dropped; owed = t .owed }
+    { mode = t .mode; opened = t .opened; length = t .length; floor = t .floor; cap = t .cap; count = t .count; mark = t .mark; last = t .last; tuned = t .tuned; ends = pick (isShut t) (t .ends) (set (t .ends) (t .count) n); dropped = t .dropped; owed = t .owed }
 
 -- lane l is dropped at tick n, and how many cells it owes is counted once, then
 abbrev pub dropLane : Title → ℕ → ℕ → Title
 dropLane t n l =
     record
-    { mode = t .mode; opened = t .opened; length = t .length; floor = t .floor; cap = t .cap; count = t .count; mark = t .mark; last = t .last; ends = t .ends; dropped = set (t .dropped) l n; owed = set (t .owed) l (keptWithin t l n (reach (t .cap))) }
+    { mode = t .mode; opened = t .opened; length = t .length; floor = t .floor; cap = t .cap; count = t .count; mark = t .mark; last = t .last; tuned = t .tuned; ends = t .ends; dropped = set (t .dropped) l n; owed = set (t .owed) l (keptWithin t l n (reach (t .cap))) }
 
 -- of the lanes below i, those from k up to the old count are dropped at tick n
 unfoldable pub dropLanes : Title → ℕ → ℕ → ℕ → Title
@@ -36,27 +36,28 @@ dropLanes t n k zero = t
 dropLanes t n k (suc i) =
     pick (both (leb k i) (ltb i (t .count))) (dropLane (dropLanes t n k i) n i) (dropLanes t n k i)
 
--- a title with another mode, count, mark and latest event
-abbrev pub turned : Title → ℕ → ℕ → ℕ → ℕ → Title
-turned t mode k mark τ =
+-- a title with another mode, count, mark, latest event and latest opening or change
+abbrev pub turned : Title → ℕ → ℕ → ℕ → ℕ → ℕ → Title
+turned t mode k mark τ u =
     record
-    { mode = mode; opened = t .opened; length = t .length; floor = t .floor; cap = t .cap; count = k; mark = mark; last = τ; ends = t .ends; dropped = t .dropped; owed = t .owed }
+    { mode = mode; opened = t .opened; length = t .length; floor = t .floor; cap = t .cap; count = k; mark = mark; last = τ; tuned = u; ends = t .ends; dropped = t .dropped; owed = t .owed }
 
--- a turn at τ to q lanes: the ruling count ends, the lanes above are dropped, and mode m, count c and mark d are stored
-abbrev pub turnedTitle : Title → ℕ → ℕ → ℕ → ℕ → ℕ → Title
-turnedTitle t τ q m c d = turned (dropLanes (ended t (tickAt t τ)) (tickAt t τ) q (t .count)) m c d τ
+-- a turn at τ to q lanes: the ruling count ends, the lanes above are dropped, and mode m, count c, mark d and time u of
+-- the latest opening or change are stored
+abbrev pub turnedTitle : Title → ℕ → ℕ → ℕ → ℕ → ℕ → ℕ → Title
+turnedTitle t τ q m c d u = turned (dropLanes (ended t (tickAt t τ)) (tickAt t τ) q (t .count)) m c d τ u
 
--- a title whose count changes to k at τ keeps its mark
+-- a title whose count changes to k at τ keeps its mark; the card retunes
 unfoldable pub changedTitle : Title → ℕ → ℕ → Title
-changedTitle t τ k = turnedTitle t τ k openMode k (t .mark)
+changedTitle t τ k = turnedTitle t τ k openMode k (t .mark) τ
 
 -- a title that closes at τ is a turn to no lanes; the count is kept as it was, and the mark is unset
 unfoldable pub closedTitle : Title → ℕ → Title
-closedTitle t τ = turnedTitle t τ 0 closingMode (t .count) clearMark
+closedTitle t τ = turnedTitle t τ 0 closingMode (t .count) clearMark (t .tuned)
 
 -- a title whose doors are held from τ on, or no longer: the ruling count admits nobody from then on, or again
 unfoldable pub doorsTitle : Title → ℕ → Bool → Title
-doorsTitle t τ b = turned (ended t (tickAt t τ)) openMode (t .count) (pick b heldMark clearMark) τ
+doorsTitle t τ b = turned (ended t (tickAt t τ)) openMode (t .count) (pick b heldMark clearMark) τ (t .tuned)
 
 -- the state with another title at an id, after an event at τ
 abbrev pub withTitle : State → ℕ → Title → ℕ → State

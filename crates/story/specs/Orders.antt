@@ -4,7 +4,7 @@ use mathlib.Core.Bool.{Bool, not}
 use mathlib.Core.List.{List, [], _∷_}
 use Rattle.rules.specs.Refusals.{Rule, refuse, outsideLimits, tooEarly, notThere, idTaken, isClosing, floorAboveCap}
 use Rattle.rules.specs.Refusals.{belowFloor, aboveCap, unchanged, secondEvent, notAtSlot, noLanes, wrongRows}
-use Rattle.rules.specs.Refusals.{doorsUnchanged}
+use Rattle.rules.specs.Refusals.{tooSoon, doorsUnchanged}
 
 -- what the refusals of an event ask
 pub record Tests : Type 0 where
@@ -28,6 +28,8 @@ pub record Tests : Type 0 where
   pub sameDoors : Bool
   -- 7: a second event of the title at one moment
   pub second : Bool
+  -- 16: less than a floor slot after the title's last opening or change
+  pub soon : Bool
   -- 8: the time is no permitted slot start
   pub off : Bool
   -- 9: with the event more lanes than the pool would be held
@@ -54,6 +56,7 @@ changeOrder t =
     ∷ refuse aboveCap (t .above)
     ∷ refuse unchanged (t .same)
     ∷ refuse secondEvent (t .second)
+    ∷ refuse tooSoon (t .soon)
     ∷ refuse notAtSlot (t .off)
     ∷ refuse noLanes (t .full)
     ∷ []

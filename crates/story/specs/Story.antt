@@ -11,7 +11,7 @@ use Rattle.rules.specs.Limits.{lengthMax, eventTimeMax, askedMax, laneMax, titl
 use Rattle.rules.specs.Refusals.{pick, Rule, firstHit}
 use Rattle.rules.specs.Search.{every, howMany, total}
 use Rattle.grid.specs.Ticks.{tickOf, isSlotStart}
-use Rattle.story.specs.Life.{Life, Course, onCourse, isAdmission, isActive, Air, cell, onAir, isHeld}
+use Rattle.story.specs.Life.{Life, Course, onCourse, floorSlot, isAdmission, isActive, Air, cell, onAir, isHeld}
 use Rattle.story.specs.Orders.{Tests, openOrder, changeOrder, closeOrder, doorsOrder}
 use Rattle.story.specs.Orders.{laneOrder, statusOrder}
 
@@ -45,6 +45,10 @@ unopened = record { opened = 0; length = 0; floor = 0; cap = 0; rule = λ t. 0; 
 -- the title's tick in ms
 abbrev pub tickLength : Life → ℕ
 tickLength L = tickOf (L .length) (L .floor) (L .cap)
+
+-- 02, 9: how long its card settles after an opening or a change, in ms
+abbrev pub settling : Life → ℕ
+settling L = floorSlot (L .length) (L .floor) (L .cap)
 
 -- the tick that holds a moment: tick t begins at the opening plus t ticks
 unfoldable pub tickIn : Life → ℕ → ℕ
@@ -81,6 +85,18 @@ lifeOf (e ∷ es) i = pick (eqb (e .title) i) (lifeAfter (lifeOf es i) (e .time)
 unfoldable pub latestOf : List Event → ℕ → ℕ
 latestOf [] i = 0
 latestOf (e ∷ es) i = pick (eqb (e .title) i) (e .time) (latestOf es i)
+
+-- 02, 9: after an opening and a change a card retunes; closing, holding and lifting don't concern it
+abbrev pub tunes : Act → Bool
+tunes (opens D A K k) = true
+tunes (changes k) = true
+tunes closes = false
+tunes (doors b) = false
+
+-- the time of the last opening or change of an id, 0 where there is none
+unfoldable pub tunedOf : List Event → ℕ → ℕ
+tunedOf [] i = 0
+tunedOf (e ∷ es) i = pick (both (eqb (e .title) i) (tunes (e .act))) (e .time) (tunedOf es i)
 
 -- the time of the last event of any title
 abbrev pub lastTime : List Event → ℕ
@@ -203,6 +219,7 @@ testsTo pool es e L a =
       same = isSame a (countIn L (e .time));
       sameDoors = isSameDoors a (isShutIn L (e .time));
       second = eqb (e .time) (latestOf es (e .title));
+      soon = ltb (e .time) (tunedOf es (e .title) + settling L);
       off = not (isSlotIn L (permitted a (L .floor) (countIn L (e .time))) (e .time));
       full = overfull pool (e ∷ es) (e .time);
     }
@@ -286,6 +303,11 @@ pub record Begins (es : List Event) (i τ a : ℕ) : Type 0 where
 pub record Dropped (L : Life) (l s n : ℕ) : Type 0 where
   pub active-before : isActive L l s ≡ true
   pub not-raised : (j : ℕ) → j < n → isActive L l (suc s + j) ≡ false
+
+-- none of these events opens or changes title i
+pub data Untuned (i : ℕ) : List Event → Type 0 where
+  none-tunes : Untuned i []
+  goes-by : {e : Event} {es : List Event} → (e .title ≡ i → tunes (e .act) ≡ false) → Untuned i es → Untuned i (e ∷ es)
 
 -- none of these events is of title i at or before τ
 pub data Quiet (i τ : ℕ) : List Event → Type 0 where

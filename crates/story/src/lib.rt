@@ -28,8 +28,9 @@ pub struct Title {
     pub count: u64,
     // whether its doors are held
     pub mark: u64,
-    // the time of its latest accepted event
+    // the time of its latest accepted event, and that of its latest opening or change
     pub last: u64,
+    pub tuned: u64,
     // for each count, the end of the slot of its latest admission, 0 where it never admitted a box
     pub ends: [u64; COUNT_PLACES],
     // for each lane, the tick at which it was last dropped, and how many cells it owed then

@@ -17,7 +17,7 @@ use Rattle.story.specs.Orders.{doorsOrder}
 use Rattle.story.specs.Story.{openLimits, doors}
 use Rattle.story.specs.Calls.{eventOk, testsIn, callAnswer, closeAnswer, doorsAnswer, laneHeld, laneRules, laneAnswer}
 use Rattle.measures.specs.Film.{Film, Readable}
-use Rattle.measures.proofs.Within.{title-ok, readable}
+use Rattle.measures.proofs.Within.{title-ok, tuned-high, readable}
 use Rattle.owed.specs.Owing.{Sending, Changeable}
 use Rattle.owed.proofs.Fixed.{sending, changeable}
 use Rattle.verdicts.specs.Before.{openRules, openBefore, standingRules, changeRules, changeBefore, closeRules}
@@ -40,6 +40,9 @@ module _ (s : State) (i τ : ℕ) (ok : eventOk s i τ ≡ true) where
 
   pub event-title : titleOk (titleAt s i) ≡ true
   event-title = let l = event-id in title-ok s event-state i (omega arith)
+
+  pub event-tuned : titleAt s i .tuned ≤ askedMax
+  event-tuned = tuned-high (titleAt s i) event-title
 
   pub event-readable : Readable (titleAt s i)
   event-readable = readable (titleAt s i) event-title

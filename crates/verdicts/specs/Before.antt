@@ -3,13 +3,14 @@
 use Prim.Native.Nat.{ℕ, min}
 use mathlib.Core.Bool.{Bool, false, not}
 use mathlib.Core.List.{List}
-use lib.Dec.{eqb}
-use Rattle.rules.specs.Refusals.{Rule, firstHit, before, behind, outsideLimits, isClosing, secondEvent, noLanes}
+use lib.Dec.{ltb, eqb}
+use Rattle.rules.specs.Refusals.{Rule, firstHit, before, behind, outsideLimits, isClosing, unchanged, secondEvent}
+use Rattle.rules.specs.Refusals.{noLanes}
 use Rattle.story.specs.declared.Title.{Title}
 use Rattle.story.specs.declared.State.{State}
 use Rattle.story.specs.Orders.{Tests, openOrder, changeOrder, closeOrder, doorsOrder}
 use Rattle.story.specs.Story.{Act, opens, changes, closes, doors, isCrossed, isBelow, isAbove, isSame, isSameDoors}
-use Rattle.story.specs.Kept.{closingMode, isShut, isThere}
+use Rattle.story.specs.Kept.{closingMode, isShut, settledAt, isThere}
 use Rattle.story.specs.Calls.{atSlotStart, testsIn}
 
 -- of an opening, before the want of lanes, and what of it is left where its numbers are within their limits
@@ -52,6 +53,7 @@ titleTests t τ a k =
       same = isSame a (t .count);
       sameDoors = isSameDoors a (isShut t);
       second = eqb τ (t .last);
+      soon = ltb τ (settledAt t);
       off = not (atSlotStart t k τ);
       full = false;
     }
@@ -64,6 +66,10 @@ turnRules t k τ = behind isClosing (closeOrder (titleTests t τ closes k))
 abbrev pub countRules : Title → ℕ → ℕ → List Rule
 countRules t k τ =
     behind isClosing (before noLanes (changeOrder (titleTests t τ (changes k) (min (t .count) k))))
+
+-- whether it can retune at a time, a slot start of count n
+abbrev pub retuneRules : Title → ℕ → ℕ → List Rule
+retuneRules t n τ = behind unchanged (before noLanes (changeOrder (titleTests t τ (changes n) n)))
 
 -- whether the doors of an open title can be held at a time, or lifted
 abbrev pub doorsRules : Title → Bool → ℕ → List Rule

@@ -6,6 +6,7 @@ use measures::lanes::is_there;
 use measures::limits::state_ok;
 use measures::slots::title_of;
 use measures::ticks::at_tick_start;
+use measures::ticks::settled_at;
 use measures::ticks::tick_at;
 use rules::ABOVE_CAP;
 use rules::BELOW_FLOOR;
@@ -26,6 +27,7 @@ use rules::NOT_THERE;
 use rules::OUTSIDE_LIMITS;
 use rules::SECOND_EVENT;
 use rules::TOO_EARLY;
+use rules::TOO_SOON;
 use rules::UNCHANGED;
 use rules::truth::also;
 use rules::truth::smaller;
@@ -37,13 +39,14 @@ use story::Title;
 ghost use Prim.Native.Nat.{_≤_};
 ghost use mathlib.Core.Path.{_≡_};
 ghost use mathlib.Core.Bool.{true};
+ghost use Rattle.rules.specs.Limits.{askedMax};
 ghost use Rattle.rules.specs.Refusals.{firstHit};
 ghost use Rattle.story.specs.Story.{openLimits, doors, isSameDoors};
 ghost use Rattle.story.specs.Kept.{isShut};
 ghost use Rattle.story.specs.Calls.{eventOk, atSlotStart, closeAnswer, doorsAnswer};
 ghost use Rattle.measures.specs.Film.{Film};
 ghost use Rattle.verdicts.specs.Before.{openLater, openBefore, standingRules, turnRules, countRules, changeBefore};
-ghost use Rattle.verdicts.specs.Before.{doorsRules};
+ghost use Rattle.verdicts.specs.Before.{retuneRules, doorsRules};
 
 // The numbers that every event has.
 pub fn event_ok(s: State, id: u64, time: u64) -> bool
@@ -151,10 +154,26 @@ fn turn_verdict(t: Title, count: u64, time: u64) -> u8
     NOT_AT_SLOT
 }
 
+// Whether an open title can retune at a time, a slot start of a count.
+fn retune_verdict(t: Title, count: u64, time: u64) -> u8
+    requires { ⌜ Film t ⌝ }
+    requires { ⌜ (count ≤ t .cap) × (t .tuned ≤ askedMax) ⌝ }
+    ensures { λ r. ⌜ r ≡ firstHit (retuneRules t count time) ⌝ }
+{
+    let turn = turn_verdict(t, count, time);
+    if turn == SECOND_EVENT {
+        return turn;
+    }
+    if time < settled_at(t) {
+        return TOO_SOON;
+    }
+    turn
+}
+
 // Whether an open title can change to a count at a time.
 fn count_verdict(t: Title, count: u64, time: u64) -> u8
     requires { ⌜ Film t ⌝ }
-    requires { ⌜ t .count ≤ t .cap ⌝ }
+    requires { ⌜ (t .count ≤ t .cap) × (t .tuned ≤ askedMax) ⌝ }
     ensures { λ r. ⌜ r ≡ firstHit (countRules t count time) ⌝ }
 {
     if count < t.floor {
@@ -166,7 +185,7 @@ fn count_verdict(t: Title, count: u64, time: u64) -> u8
     if count == t.count {
         return UNCHANGED;
     }
-    turn_verdict(t, smaller(t.count, count), time)
+    retune_verdict(t, smaller(t.count, count), time)
 }
 
 // Of a change.

@@ -1,8 +1,9 @@
-// What a lane question and a question of all titles answer, in 01's order.
+// What a lane question and a question of all titles answer, in 01's order, and from when on a title may change again.
 
 use measures::lanes::is_held;
 use measures::limits::state_ok;
 use measures::slots::title_of;
+use measures::ticks::settled_at;
 use measures::ticks::tick_at;
 use rules::ASKED_MAX;
 use rules::DONE;
@@ -21,7 +22,7 @@ ghost use Rattle.rules.specs.Limits.{both, idMax, laneMax, askedMax};
 ghost use Rattle.story.specs.Kept.{stateOk};
 ghost use Rattle.story.specs.Calls.{laneHeld, laneAnswer};
 ghost use Rattle.measures.specs.Film.{Readable};
-ghost use Rattle.verdicts.specs.Asked.{askedAnswer};
+ghost use Rattle.verdicts.specs.Asked.{askedAnswer, settledIn};
 
 // Whether a lane of a title is held at a time.
 fn lane_held(t: Title, lane: u64, time: u64) -> bool
@@ -75,4 +76,18 @@ pub fn asked_verdict(s: State, time: u64, others: bool) -> u8
         return DONE;
     }
     OUTSIDE_LIMITS
+}
+
+// The moment from which on a title may change again; 0 where there is no such title, or the state is outside its limits.
+pub fn settled(s: State, id: u64) -> u64
+    ensures { λ r. ⌜ r ≡ settledIn s id ⌝ }
+{
+    if also(state_ok(s), id <= ID_MAX) {
+        let t = title_of(s, id);
+        if t.mode == ABSENT {
+            return 0;
+        }
+        return settled_at(t);
+    }
+    0
 }

@@ -1,13 +1,14 @@
 -- 01, "Numbers worked through": the starred cases as one table, what the definitions give beside what 01 prints; cases 5
--- to 7 without the padding, as 02's request 5 has them, case 9 with the number of its request 4, case 11 by the sum of its
--- request 2, with the example given there. All but 10 and 11 are of a film with floor 2, cap 4 and D 12,
--- opened at 0; number 0 is what 01 says of that film beforehand.
+-- to 7 without the padding, as 02's request 5 has them, 6 and 8 with the number of its request 9, case 9 with that of its
+-- request 4, case 11 by the sum of its request 2, with the example given there. All but 10 and 11 are of a film with floor 2,
+-- cap 4 and D 12, opened at 0; number 0 is what 01 says of that film beforehand. That a list is forgotten is shown, also
+-- under 6, by a film whose list is longer than its floor slot, of floor 4, cap 5 and D 30.
 use Prim.Native.Nat.{ℕ, zero, suc}
 use mathlib.Core.Bool.{Bool, true, false, not}
 use mathlib.Core.List.{List, [], _∷_, _++_}
 use lib.Dec.{eqb}
 use Rattle.rules.specs.Limits.{both}
-use Rattle.rules.specs.Refusals.{pick, done, outsideLimits, unchanged, aboveCap, notAtSlot, noLanes}
+use Rattle.rules.specs.Refusals.{pick, done, outsideLimits, unchanged, aboveCap, notAtSlot, noLanes, tooSoon}
 use Rattle.grid.specs.Ticks.{cells, tickOf, holdsFilm}
 use Rattle.grid.specs.Lanes.{isInG, laneCell}
 use Rattle.grid.specs.Plan.{planAt, never}
@@ -68,6 +69,10 @@ event τ a = record { time = τ; title = 0; act = a }
 abbrev pub film : ℕ → Event
 film k = event 0 (opens filmLength floor cap k)
 
+-- a film whose list outlives a floor slot of 2 ticks, opened with 5 lanes and dropped to 4
+abbrev pub dropsLong : List Event
+dropsLong = event 2 (changes 4) ∷ event 0 (opens 30 4 5 5) ∷ []
+
 -- any pool that has the lanes of the cases
 abbrev pub pool : ℕ
 pool = 8
@@ -102,11 +107,16 @@ table =
     (0 ∷ 1 ∷ 0 ∷ 3 ∷ 0 ∷ 1 ∷ 2 ∷ 3 ∷ 4 ∷ 5 ∷ 6 ∷ 7 ∷ 0 ∷ 1 ∷ 2 ∷ never ∷ [])
     ∷ case 5 (lane (event 4 (changes 2) ∷ film 3 ∷ []) 2 4 3) (4 ∷ 5 ∷ never ∷ [])
     ∷ case 6 (lane (event 4 (changes 3) ∷ film 4 ∷ []) 3 4 3) (2 ∷ 6 ∷ never ∷ [])
-    ∷ case 6 (lane (event 6 (changes 4) ∷ event 4 (changes 3) ∷ film 4 ∷ []) 3 6 1) (6 ∷ [])
-    ∷ case 6 (lane (event 6 (changes 4) ∷ event 4 (changes 3) ∷ film 4 ∷ []) 3 10 1) (14 ∷ [])
+    ∷ case 6 (answerAfter (event 4 (changes 3) ∷ film 4 ∷ []) (event 6 (changes 4)) ∷ []) (tooSoon ∷ [])
+    ∷ case 6 (lane dropsLong 4 2 4) (2 ∷ 6 ∷ 14 ∷ never ∷ [])
+    ∷ case 6 (lane (event 4 (changes 5) ∷ dropsLong) 4 4 5) (6 ∷ 0 ∷ 2 ∷ 0 ∷ 14 ∷ [])
     ∷ case 7 (lane (event 8 (changes 3) ∷ film 4 ∷ []) 3 8 2) (2 ∷ never ∷ [])
-    ∷ case 8 (answerAfter (film 3 ∷ []) (event 2 (changes 2)) ∷ answerAfter (film 3 ∷ []) (event 4 (changes 2)) ∷ [])
-    (notAtSlot ∷ done ∷ [])
+    ∷ case 8
+    (answerAfter (film 3 ∷ []) (event 2 (changes 2))
+    ∷ answerAfter (film 3 ∷ []) (event 4 (changes 2))
+    ∷ answerAfter (film 3 ∷ []) (event 6 (changes 2))
+    ∷ [])
+    (tooSoon ∷ done ∷ notAtSlot ∷ [])
     ∷ case 9
     (answerAfter (film 4 ∷ []) (event 4 (changes 4))
     ∷ answerAfter (film 4 ∷ []) (event 4 (changes 5))

@@ -1,6 +1,7 @@
 -- `admissions::stretch_of` meets its contract: a slot's ticks times the tick's ms.
 use native.Mathlib.Omega.{arith}
-use Rattle.admissions.proofs.Slots.{slot-ms, stretch-spaced}
+use Rattle.grid.proofs.Ticks.{slot-ms}
+use Rattle.admissions.proofs.Slots.{stretch-spaced}
 use borrow.Author.Needs.{needs}
 use Rattle.admissions.proofs.stretch_of.Statement.{statement}
 use Rattle.admissions.proofs.stretch_of.Tie as tie

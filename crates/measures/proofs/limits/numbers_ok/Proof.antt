@@ -37,8 +37,8 @@ returns-8 : tie.Need-returns-8
 unfolding numbersOk
 returns-8 c = search (le-leb, lt-leb)
 
-rows-ok-requires : tie.Need-rows-ok-requires
-rows-ok-requires c κs = search needs
+kept-ok-requires : tie.Need-kept-ok-requires
+kept-ok-requires c κs = search needs
 
 returns-9 : tie.Need-returns-9
 unfolding numbersOk
@@ -56,5 +56,5 @@ numbers-ok-spec =
     returns-6
     returns-7
     returns-8
-    rows-ok-requires
+    kept-ok-requires
     returns-9)

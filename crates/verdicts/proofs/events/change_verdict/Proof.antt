@@ -8,7 +8,7 @@ use Rattle.story.specs.Kept.{titleAt}
 use Rattle.story.specs.Calls.{eventOk}
 use Rattle.verdicts.specs.Before.{standingRules, countRules, changeBefore}
 use Rattle.rules.proofs.Refusals.{numbered, then-late, then-first}
-use Rattle.verdicts.proofs.Event.{event-id, standing-changeable}
+use Rattle.verdicts.proofs.Event.{event-id, event-tuned, standing-changeable}
 use borrow.Author.Needs.{needs}
 use Rattle.verdicts.proofs.events.change_verdict.Statement.{statement}
 use Rattle.verdicts.proofs.events.change_verdict.Tie as tie
@@ -46,7 +46,8 @@ count-verdict-requires c κs =
     let a = at-if1 .before .before .args in
     let stands = sym (at-standing .standing .ensures) ∙ c .before .if3 .taken in
     let ready = standing-changeable (a .s) (a .id) (a .time) (fits at-if1) stands in
-    rw (c .title-of .ensures) (ready .owing .film, ready .ruled)
+    let tuned = event-tuned (a .s) (a .id) (a .time) (fits at-if1) in
+    rw (c .title-of .ensures) (ready .owing .film, (ready .ruled, tuned))
 
 returns : tie.Need-returns
 unfolding changeBefore numbered

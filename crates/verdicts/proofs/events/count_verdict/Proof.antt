@@ -23,10 +23,10 @@ returns-3 c =
 smaller-requires : tie.Need-smaller-requires
 smaller-requires c κs = search needs
 
-turn-verdict-requires : tie.Need-turn-verdict-requires
-turn-verdict-requires c κs =
+retune-verdict-requires : tie.Need-retune-verdict-requires
+retune-verdict-requires c κs =
     let start = c .before .before .before .before .before .before .before in
-    (start .pre .0, omega (arith, c .smaller .ensures, start .pre .1))
+    (start .pre .0, (omega (arith, c .smaller .ensures, start .pre .1 .0), start .pre .1 .1))
 
 returns-4 : tie.Need-returns-4
 unfolding firstHit
@@ -40,9 +40,9 @@ returns-4 c =
       ne-eqb _ _ (at-if3 .if3 .left),
       ← at-smaller .smaller .ensures,
     )
-    (c .turn-verdict .ensures)
+    (c .retune-verdict .ensures)
 
 pub count-verdict-spec : {M : Type 1} → statement M
 count-verdict-spec =
     tie.close
-    (tie.spec returns returns-2 returns-3 smaller-requires turn-verdict-requires returns-4)
+    (tie.spec returns returns-2 returns-3 smaller-requires retune-verdict-requires returns-4)

@@ -1,11 +1,11 @@
--- `rows_ok` meets its contract: each row is as long as its type says, and the tests are joined.
+-- `kept_ok` meets its contract: each row is as long as its type says, and the tests are joined.
 use Rattle.rules.specs.Limits.{countPlaces, lanePlaces}
 use mathlib.Core.Path.{_≡_}
 use native.Mathlib.Omega.{arith}
 use lib.ListN.{length}
 use borrow.Author.Needs.{needs}
-use Rattle.measures.proofs.limits.rows_ok.Statement.{statement}
-use Rattle.measures.proofs.limits.rows_ok.Tie as tie
+use Rattle.measures.proofs.limits.kept_ok.Statement.{statement}
+use Rattle.measures.proofs.limits.kept_ok.Tie as tie
 
 -- the function's start, seen from where the first row is lent
 abbrev start : tie.After-ends2 → tie.Start
@@ -41,11 +41,14 @@ also-requires c κs = search needs
 also-requires-2 : tie.Need-also-requires-2
 also-requires-2 c κs = search needs
 
+also-requires-3 : tie.Need-also-requires-3
+also-requires-3 c κs = search needs
+
 returns : tie.Need-returns
 returns c = cc
 
-pub rows-ok-spec : {M : Type 1} → statement M
-rows-ok-spec =
+pub kept-ok-spec : {M : Type 1} → statement M
+kept-ok-spec =
     tie.close
     (tie.spec
     slice-aggregate-row-within
@@ -56,4 +59,5 @@ rows-ok-spec =
     row-within-requires-3
     also-requires
     also-requires-2
+    also-requires-3
     returns)
