@@ -43,7 +43,7 @@ def by_titles(pool, titles):
 
 def allowed(title):
     rate, length, floor, cap = title
-    return 1 <= rate <= 1000 and 1 <= length <= 14_400_000 and 2 <= floor <= 5 and 2 <= cap <= 10
+    return 1 <= rate <= 1000 and 1 <= length <= 14_400_000 and 2 <= floor <= 5 and 2 <= cap <= 12
 
 
 def run(pool, rates, lengths, floors, caps, places=17):
@@ -94,6 +94,10 @@ def limits(pool, rate, length, floor, cap):
     run(pool, [5, rate, 1], [100, length, 14_400_000], [2, floor, 2], [3, cap, 10])
 
 
+def longest(pool):
+    run(pool, [1, 1000], [1, 14_400_000], [2, 2], [12, 12])
+
+
 for pool in 4, 5, 6, 7, 3:
     two(pool, [1, 2], [210, 210])
 two(5, [1, 1], [210, 210])
@@ -116,7 +120,10 @@ limits(64, 5, 0, 2, 3)
 limits(64, 5, 14_400_001, 2, 3)
 limits(64, 5, 100, 1, 3)
 limits(64, 5, 100, 6, 10)
-limits(64, 5, 100, 2, 11)
+limits(64, 5, 100, 2, 13)
+limits(64, 5, 100, 2, 12)
+longest(24)
+longest(20)
 limits(0, 5, 100, 5, 4)
 limits(5, 5, 100, 5, 4)
 limits(8, 5, 100, 5, 5)

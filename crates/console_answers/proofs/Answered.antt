@@ -53,7 +53,8 @@ module _ (p q r : Page) where
     unfolding statusText
     status-refused z = rw same-answer (refused p q a 0 _ g z)
 
-    pub status-told : (counts' held' marks' : List ℕ) → counts' ≡ pick (eqb a done) (map (λ i. statusCount s i) ids) counts
+    pub status-told : (counts' held' marks' : List ℕ) →
+        counts' ≡ pick (eqb a done) (map (λ i. statusCount s i) ids) counts
         → held' ≡ pick (eqb a done) (map (λ i. statusHeld s i τ) ids) held
         → marks' ≡ pick (eqb a done) (map (λ i. statusMark s i) ids) marks
         → a ≡ done → r ≡ puts q (titlesText ids counts' held' marks' (length ids)) → r ≡ puts p (statusText s τ ids)

@@ -63,7 +63,7 @@ faults =
     text "not a hexadecimal digit" ∷
     text "more than 32 ids" ∷
     text "more than 17 titles" ∷
-    text "more than 1024 places" ∷ []
+    text "more than 4096 places" ∷ []
 
 unfoldable pub faultWords : ℕ → List ℕ
 faultWords f = getD faults f []

@@ -124,7 +124,7 @@ fn fault_words(out: &mut [u8], at: usize, fault: u8) -> usize
         not a hexadecimal digit\
         more than 32 ids\
         more than 17 titles\
-        more than 1024 places";
+        more than 4096 places";
     let cuts = FAULTS;
     put_part(out, at, words, &cuts, fault)
 }

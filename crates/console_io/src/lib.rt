@@ -4,6 +4,7 @@
 // the session.
 
 use agent::Agent;
+use console_lines::commands::PLACES_MOST;
 use console_lines::lines::LONGEST;
 use streams::Got;
 use text::bytes;
@@ -16,8 +17,11 @@ ghost use Rattle.streams.specs.Reads.{Fits};
 // The pool that a session starts with.
 const POOL: u64 = 8;
 
-// More than any answer has: the longest is a plan's, of 1,024 numbers of at most four digits.
-const ANSWER_MAX: usize = 8192;
+// A number of a plan has 16 bits: a blank, and five digits at most.
+const NUMBER_BYTES: usize = 6;
+
+// No answer is longer: the longest is a plan's, with its 0 and its newline.
+const ANSWER_MAX: usize = 2 + NUMBER_BYTES * PLACES_MOST;
 
 // Where a session stands between two lines: its agent, how far the output row is written, whether the rest of a line
 // that was too long is being passed over, and whether it goes on. One that does not go on answers and writes nothing.

@@ -56,9 +56,9 @@ lines =
     "Help" ∷
     "open 1 2" ∷
     "status 5x" ∷
-    "plan 2 4 4 0 1025" ∷
+    "plan 2 4 4 0 4097" ∷
     "romlane 3 9 12" ∷
-    "romplan 3 10 4 0 1025" ∷
+    "romplan 3 10 4 0 4097" ∷
     "share 8 1 2 3" ∷
     "write 7 close 1 18446744073709551615" ∷
     "write 7 close 1 18446744073709551616" ∷

@@ -5,7 +5,7 @@ use mathlib.Core.Bool.{Bool}
 use mathlib.Core.List.{List, [], _∷_}
 use lib.ListN.{getD}
 use lib.Dec.{eqb, leb, ltb}
-use Rattle.rules.specs.Limits.{both, either, within}
+use Rattle.rules.specs.Limits.{both, either, within, planPlaces}
 use Rattle.rules.specs.Refusals.{pick}
 use Rattle.text.specs.Texts.{text, same}
 use Rattle.text.specs.Numbers.{byteMost, fourBytesMost, top}
@@ -100,8 +100,8 @@ verbOf w =
     (pick (same w (text "write")) doWrite
     (pick (same w (text "help")) doHelp none)))))))))))))))
 
--- what a line may name at most: ids of a status, titles of a share, places of a plan. One title more than the product
--- shares among, so that its own refusal is seen
+-- what a line may name at most: ids of a status, titles of a share, places of a plan, as many as the longest has. One
+-- title more than the product shares among, so that its own refusal is seen
 abbrev pub idsMost : ℕ
 idsMost = 32
 
@@ -109,7 +109,7 @@ abbrev pub titlesMost : ℕ
 titlesMost = 17
 
 abbrev pub placesMost : ℕ
-placesMost = 1024
+placesMost = planPlaces
 
 -- the numbers of a title in a share: rate, length, floor, cap
 abbrev pub titleNumbers : ℕ

@@ -1,5 +1,6 @@
 // The console's commands by number, the words that name them, and how many numbers each takes, of which size.
 
+use rules::PLAN_PLACES;
 use text::numbers::BYTE_MOST;
 use text::numbers::FOUR_BYTES_MOST;
 use text::numbers::TOP;
@@ -101,13 +102,13 @@ pub const UNREAD: u8 = 12;
 // How many there are.
 const COMMANDS: usize = 22;
 
-// What a line may name at most: ids of a status, titles of a share, places of a plan. One title more than the product
-// shares among, so that its own refusal is seen.
+// What a line may name at most: ids of a status, titles of a share, places of a plan, as many as the longest has. One
+// title more than the product shares among, so that its own refusal is seen.
 pub const IDS_MOST: usize = 32;
 
 pub const TITLES_MOST: usize = 17;
 
-pub const PLACES_MOST: usize = 1024;
+pub const PLACES_MOST: usize = PLAN_PLACES;
 
 // The numbers of a title in a share: rate, length, floor and cap.
 pub const TITLE_NUMBERS: usize = 4;

@@ -1,6 +1,9 @@
-// Slot lengths and waiting times of a film of 120 minutes, where the cap is the count: a slot is one tick.
+// Slot lengths and waiting times of a film of 120 minutes and of the longest, where the cap is the count: a slot is one
+// tick.
 
+use rules::LENGTH_MAX;
 ghost use mathlib.Core.Path.{_≡_};
+ghost use Rattle.rules.specs.Limits.{lengthMax};
 ghost use Rattle.grid.specs.Ticks.{tickOf};
 ghost use Rattle.grid.specs.Bounds.{FloorCap, Exactly};
 ghost use Rattle.figures.specs.Times.{film, roundTo, increaseOf};
@@ -13,6 +16,14 @@ pub fn slot_ms(floor: u64, count: u64) -> u64
     ensures { λ r. ⌜ Exactly (tickOf film floor count) 1 film r ⌝ }
 {
     grid::tick(FILM, floor, count)
+}
+
+// The slot of the longest film that may be opened, in ms.
+pub fn longest_slot(floor: u64, count: u64) -> u64
+    requires { ⌜ FloorCap floor count ⌝ }
+    ensures { λ r. ⌜ r ≡ tickOf lengthMax floor count ⌝ }
+{
+    grid::tick(LENGTH_MAX, floor, count)
 }
 
 // The slot in hundredths of a second.

@@ -15,7 +15,8 @@ ghost use lib.Dec.{leb};
 ghost use Rattle.rules.specs.Limits.{askedMax, countMax};
 ghost use Rattle.rules.specs.Refusals.{pick};
 ghost use Rattle.story.specs.Kept.{clearMark, heldMark};
-ghost use Rattle.story.specs.Next.{ended, dropLane, dropLanes, turned, changedTitle, closedTitle, turnedTitle, doorsTitle};
+ghost use Rattle.story.specs.Next.{ended, dropLane, dropLanes, turned, changedTitle, closedTitle, turnedTitle};
+ghost use Rattle.story.specs.Next.{doorsTitle};
 ghost use Rattle.owed.specs.Owing.{Owing, Changeable};
 
 // A lane is dropped at a tick, and how many cells it owes is counted once, here.

@@ -6,9 +6,9 @@ use grid::pow2;
 use measures::lanes::ruling;
 use measures::ticks::since;
 use story::Title;
-ghost use Prim.Native.Nat.{_+_, _-_, _≤_, _<_};
+ghost use Prim.Native.Nat.{_+_, _-_, _^_, _≤_, _<_};
 ghost use mathlib.Core.Path.{_≡_};
-ghost use Rattle.rules.specs.Limits.{askedMax};
+ghost use Rattle.rules.specs.Limits.{askedMax, countMax};
 ghost use Rattle.rules.specs.Search.{first};
 ghost use Rattle.grid.specs.Bounds.{Exactly, tickMax};
 ghost use Rattle.story.specs.Life.{reach as reachOf};
@@ -18,7 +18,7 @@ ghost use Rattle.owed.specs.Owing.{Owing, Sending};
 // How far from its drop the last tick lies that a lane may owe.
 pub fn reach(t: Title) -> u64
     requires { ⌜ Owing t ⌝ }
-    ensures { λ r. ⌜ Exactly (reachOf (t .cap)) 1 1024 r ⌝ }
+    ensures { λ r. ⌜ Exactly (reachOf (t .cap)) 1 (2 ^ countMax) r ⌝ }
 {
     pow2(t.cap - 1)
 }
@@ -27,7 +27,7 @@ pub fn reach(t: Title) -> u64
 fn nth_owed(t: Title, lane: u64, from: u64, nth: u64) -> u64
     requires { ⌜ Owing t ⌝ }
     requires { ⌜ (lane < t .cap) × (from ≤ askedMax) ⌝ }
-    ensures { λ r. ⌜ Exactly (first (keptNth t lane from nth) (reachOf (t .cap))) 0 1024 r ⌝ }
+    ensures { λ r. ⌜ Exactly (first (keptNth t lane from nth) (reachOf (t .cap))) 0 (2 ^ countMax) r ⌝ }
 {
     let end = reach(t);
     let mut owed = 0;

@@ -12,6 +12,7 @@ use figures::segments::taken_in;
 use figures::segments::unbuffered;
 use figures::times::average_wait;
 use figures::times::increase;
+use figures::times::longest_slot;
 use figures::times::slot_ms;
 use figures::times::slot_seconds;
 use figures::times::slot_tenths;
@@ -511,6 +512,31 @@ fn table_2_seb() {
     );
 }
 
+// Nobody published these: the longest wait of the longest film, at the largest cap of 01 and at that of 02's request 10,
+// worked out by hand from 01's rule of the tick.
+fn longest_film() {
+    show(
+        b"derived: a film of 240 minutes, floor 2 to 5, cap and k 10, ms",
+        &[
+            longest_slot(2, 10),
+            longest_slot(3, 10),
+            longest_slot(4, 10),
+            longest_slot(5, 10),
+        ],
+        &[18_750, 16_072, 15_000, 14_517],
+    );
+    show(
+        b"derived: the same, cap and k 12, ms",
+        &[
+            longest_slot(2, 12),
+            longest_slot(3, 12),
+            longest_slot(4, 12),
+            longest_slot(5, 12),
+        ],
+        &[4_688, 4_018, 3_750, 3_630],
+    );
+}
+
 fn main() {
     figure_1_channels();
     figure_1_plan();
@@ -534,4 +560,5 @@ fn main() {
     table_2_ssb();
     table_2_sfb();
     table_2_seb();
+    longest_film();
 }

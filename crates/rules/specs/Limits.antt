@@ -18,12 +18,12 @@ floorMin = 2
 abbrev pub floorMax : ℕ
 floorMax = 5
 
--- for the cap K and the count k alike
+-- for the cap K and the count k alike; the largest by 02, request 10
 abbrev pub countMin : ℕ
 countMin = 2
 
 abbrev pub countMax : ℕ
-countMax = 10
+countMax = 12
 
 -- D, in ms
 abbrev pub lengthMin : ℕ
@@ -46,8 +46,9 @@ eventTimeMax = 2 ^ 40
 abbrev pub askedMax : ℕ
 askedMax = 2 ^ 41
 
+-- a lane for each of the largest count, from 0 on
 abbrev pub laneMax : ℕ
-laneMax = 9
+laneMax = 11
 
 -- a row with a place for each count from 0 to the largest, and one with a place for each lane
 abbrev pub countPlaces : ℕ
@@ -55,6 +56,10 @@ countPlaces = countMax + 1
 
 abbrev pub lanePlaces : ℕ
 lanePlaces = laneMax + 1
+
+-- the cells of a film with the largest cap, each with a place in a box's plan
+abbrev pub planPlaces : ℕ
+planPlaces = 2 ^ countMax
 
 -- 01, "Sharing": at most this many titles, as many as there are ids
 abbrev pub titlesMax : ℕ

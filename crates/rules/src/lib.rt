@@ -6,7 +6,7 @@ pub mod truth;
 ghost use mathlib.Core.Path.{_≡_};
 ghost use Rattle.rules.specs.Limits.{within as inside};
 
-// 01, "What the product holds".
+// 01, "What the product holds"; the largest count, cap and lane by 02's request 10.
 pub const POOL_MIN: u64 = 1;
 
 pub const POOL_MAX: u64 = 64;
@@ -19,7 +19,7 @@ pub const FLOOR_MAX: u64 = 5;
 
 pub const COUNT_MIN: u64 = 2;
 
-pub const COUNT_MAX: u64 = 10;
+pub const COUNT_MAX: u64 = 12;
 
 pub const LENGTH_MIN: u64 = 1;
 
@@ -33,11 +33,13 @@ pub const EVENT_TIME_MAX: u64 = 1_099_511_627_776;
 
 pub const ASKED_MAX: u64 = 2_199_023_255_552;
 
-pub const LANE_MAX: u64 = 9;
+pub const LANE_MAX: u64 = 11;
 // A row with a place for each count from 0 to the largest, and one with a place for each lane.
-pub const COUNT_PLACES: usize = 11;
+pub const COUNT_PLACES: usize = COUNT_MAX as usize + 1;
 
-pub const LANE_PLACES: usize = 10;
+pub const LANE_PLACES: usize = LANE_MAX as usize + 1;
+// The cells of a film with the largest cap, each with a place in a box's plan.
+pub const PLAN_PLACES: usize = 1 << COUNT_MAX;
 // 01, "Sharing": at most this many titles, as many as there are ids.
 pub const TITLES_MAX: usize = 16;
 

@@ -110,13 +110,15 @@ fn case8() {
     line();
 }
 
+// A count of 11 is above the cap; 13 is the one outside the limits.
 fn case9() {
     io::write_all(STDOUT, b"9");
     let s = opened(4);
     let t = told(scheduler::change(s, 0, 4, 4));
     let u = told(scheduler::change(t, 0, 4, 5));
     let v = told(scheduler::change(u, 0, 4, 11));
-    show_held(v, 4);
+    let w = told(scheduler::change(v, 0, 4, 13));
+    show_held(w, 4);
     line();
 }
 

@@ -120,6 +120,15 @@ fn limits(pool: u64, rate: u32, length: u32, floor: u32, cap: u32) {
     run(pool, &rates, &lengths, &floors, &caps);
 }
 
+// Two titles of the largest cap, one of the longest film at the largest rate and one of the shortest at the least.
+fn longest(pool: u64) {
+    let rates = [1u32, 1000];
+    let lengths = [1u32, 14_400_000];
+    let floors = [2u32, 2];
+    let caps = [12u32, 12];
+    run(pool, &rates, &lengths, &floors, &caps);
+}
+
 // Rows of different length, too many titles, no room; and no titles at all.
 fn rows() {
     let one = [2u32];
@@ -171,7 +180,10 @@ fn main() {
     limits(64, 5, 14_400_001, 2, 3);
     limits(64, 5, 100, 1, 3);
     limits(64, 5, 100, 6, 10);
-    limits(64, 5, 100, 2, 11);
+    limits(64, 5, 100, 2, 13);
+    limits(64, 5, 100, 2, 12);
+    longest(24);
+    longest(20);
     limits(0, 5, 100, 5, 4);
     limits(5, 5, 100, 5, 4);
     limits(8, 5, 100, 5, 5);

@@ -25,7 +25,8 @@ use Rattle.story.specs.Next.{openedTitle, withTitle, openNext, changedTi
 use Rattle.story.specs.Next.{ended, turned, turnedTitle, doorsTitle, doorsNext, callNext}
 use Rattle.story.specs.Calls.{eventOk, tooMany, atSlotStart, testsIn, callAnswer}
 use Rattle.story.specs.Life.{Life, Course}
-use Rattle.story.specs.Story.{Act, opens, changes, closes, doors, Event, event, lifeAfter, lifeOf, latestOf, lastTime}
+use Rattle.story.specs.Story.{Act, opens, changes, closes, doors, Event, event, lifeAfter, lifeOf, latestOf}
+use Rattle.story.specs.Story.{lastTime}
 use Rattle.story.specs.Story.{tickIn, countIn, isSlotIn, isThereIn, withinLimits, openLimits, overfull, orderOf}
 use Rattle.story.specs.Story.{settling, tunes, tunedOf, isShutIn, answerTo, turn}
 use Rattle.story.proofs.Stored.{lifeIn}

@@ -12,7 +12,8 @@ use Rattle.rules.specs.Limits.{both}
 use Rattle.rules.specs.Search.{howMany, after}
 use Rattle.rules.proofs.Tests.{decide, same}
 use Rattle.rules.proofs.Search
-use Rattle.story.specs.Life.{Life, Course, onCourse, isFilm, usualCell, isPlanned, isAdmission, isActive, droppedAt}
+use Rattle.story.specs.Life.{Life, Course, onCourse, isFilm, usualCell, isPlanned, isAdmission, isActive}
+use Rattle.story.specs.Life.{droppedAt}
 use Rattle.story.specs.Life.{isAwaited, isOwed, reach, owedWithin, owes, isNth, nthOwed, sends, onAir, isCell}
 use Rattle.story.specs.Life.{isHeld}
 use Rattle.story.proofs.Ruled.{SameAt}

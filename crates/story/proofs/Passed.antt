@@ -15,7 +15,8 @@ use Rattle.rules.proofs.Refusals.{hitsOf, numbered, cleared}
 use Rattle.grid.proofs.Numbers.{ne-zero-pos}
 use Rattle.grid.specs.Ticks.{isSlotStart}
 use Rattle.story.specs.Life.{Life}
-use Rattle.story.specs.Story.{Act, opens, changes, closes, doors, Event, event, tickLength, tickIn, lifeOf, latestOf}
+use Rattle.story.specs.Story.{Act, opens, changes, closes, doors, Event, event, tickLength, tickIn, lifeOf}
+use Rattle.story.specs.Story.{latestOf}
 use Rattle.story.specs.Story.{lastTime, countIn, heldOver, isThereIn, isSlotIn, withinLimits, openLimits}
 use Rattle.story.specs.Story.{actLimits, testsTo, orderOf, answerTo}
 

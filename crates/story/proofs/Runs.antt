@@ -19,7 +19,8 @@ use Rattle.story.specs.declared.State.{State}
 use Rattle.story.specs.Life.{Life, isActive}
 use Rattle.story.specs.Kept.{noTitle, stateOk}
 use Rattle.story.specs.Calls.{blankTitle, emptyPool}
-use Rattle.story.specs.Story.{Act, opens, changes, closes, doors, Event, event, unopened, lifeOf, latestOf, isHeldIn}
+use Rattle.story.specs.Story.{Act, opens, changes, closes, doors, Event, event, unopened, lifeOf, latestOf}
+use Rattle.story.specs.Story.{isHeldIn}
 use Rattle.story.specs.Story.{tunedOf, heldIn, heldOver, isThereIn, answerTo, answer, taking, accepted}
 use Rattle.story.specs.Next.{callNext}
 use Rattle.story.specs.Runs.{answered, called, stateAfter, lanesOf}

@@ -11,7 +11,8 @@ use native.Mathlib.Omega.{arith}
 use lib.Dec.{ltb, eqb}
 use borrow.Author.Tests.{ltb-true, ltb-false, lt-ltb, le-ltb, eqb-false}
 use Rattle.rules.specs.Limits.{either, titlesMax}
-use Rattle.rules.specs.Refusals.{firstHit, outsideLimits, tooEarly, idTaken, isClosing, floorAboveCap, belowFloor, aboveCap, unchanged}
+use Rattle.rules.specs.Refusals.{firstHit, outsideLimits, tooEarly, idTaken, isClosing, floorAboveCap, belowFloor}
+use Rattle.rules.specs.Refusals.{aboveCap, unchanged}
 use Rattle.rules.specs.Refusals.{doorsUnchanged, secondEvent, tooSoon}
 use Rattle.rules.specs.Refusals.{notAtSlot, noLanes}
 use Rattle.rules.specs.Search.{howMany, total}
@@ -22,7 +23,8 @@ use Rattle.grid.proofs.Numbers.{ne-zero-pos}
 use Rattle.story.specs.Life.{Life, usualCell, isActive, droppedAt, isAwaited, isOwed, reach, owedWithin, owes}
 use Rattle.story.specs.Life.{isHeld}
 use Rattle.story.specs.Orders.{Tests}
-use Rattle.story.specs.Story.{Act, opens, changes, closes, doors, Event, tickIn, lifeOf, countIn, isHeldIn, heldIn}
+use Rattle.story.specs.Story.{Act, opens, changes, closes, doors, Event, tickIn, lifeOf, countIn, isHeldIn}
+use Rattle.story.specs.Story.{heldIn}
 use Rattle.story.specs.Story.{heldOver}
 use Rattle.story.specs.Story.{isThereIn, testsTo, orderOf, answerTo, answer}
 use Rattle.story.proofs.Owed.{owed-out}

@@ -165,13 +165,15 @@ module _ (t : Title) (r r′ : Course) (τ q m c d v : ℕ) (h : Turning t r r�
       adm : ℕ → ℕ
       adm = admits (lifeIn t r′)
 
-      ends-below : (s : ℕ) → 0 < adm s → (adm s ≡ adm (suc s) → ⊥) → suc s < n → isSlotStart (t .cap) (adm s) (suc s) ≡ true
+      ends-below : (s : ℕ) → 0 < adm s → (adm s ≡ adm (suc s) → ⊥) → suc s < n →
+          isSlotStart (t .cap) (adm s) (suc s) ≡ true
       ends-below s p f b =
           let e : adm s ≡ admits (lifeIn t r) s = same-admits s (omega arith) in
           let e′ : adm (suc s) ≡ admits (lifeIn t r) (suc s) = same-admits (suc s) b in
           rw e (h .here .legal .ends s (rw e at p) (λ g. f (e ∙ g ∙ sym e′)))
 
-      begins-below : (s : ℕ) → 0 < adm (suc s) → (adm s ≡ adm (suc s) → ⊥) → suc s < n → isSlotStart (t .cap) (adm (suc s)) (suc s) ≡ true
+      begins-below : (s : ℕ) → 0 < adm (suc s) → (adm s ≡ adm (suc s) → ⊥) → suc s < n →
+          isSlotStart (t .cap) (adm (suc s)) (suc s) ≡ true
       begins-below s p f b =
           let e : adm s ≡ admits (lifeIn t r) s = same-admits s (omega arith) in
           let e′ : adm (suc s) ≡ admits (lifeIn t r) (suc s) = same-admits (suc s) b in
@@ -182,7 +184,8 @@ module _ (t : Title) (r r′ : Course) (τ q m c d v : ℕ) (h : Turning t r r�
       chosen true k p = absurd (omega arith)
       chosen false k p = refl
 
-      ends-from : (s : ℕ) → 0 < adm s → (adm s ≡ adm (suc s) → ⊥) → n ≤ suc s → isSlotStart (t .cap) (adm s) (suc s) ≡ true
+      ends-from : (s : ℕ) → 0 < adm s → (adm s ≡ adm (suc s) → ⊥) → n ≤ suc s →
+          isSlotStart (t .cap) (adm s) (suc s) ≡ true
       ends-from s p f le =
           ⊎-elim
           (λ x.
@@ -194,7 +197,8 @@ module _ (t : Title) (r r′ : Course) (τ q m c d v : ℕ) (h : Turning t r r�
           (λ x. absurd (f (settled s (suc s) (ltb-false s n x) (omega (arith, ltb-false s n x)))))
           (decide (ltb s n))
 
-      begins-from : (s : ℕ) → 0 < adm (suc s) → (adm s ≡ adm (suc s) → ⊥) → n ≤ suc s → isSlotStart (t .cap) (adm (suc s)) (suc s) ≡ true
+      begins-from : (s : ℕ) → 0 < adm (suc s) → (adm s ≡ adm (suc s) → ⊥) → n ≤ suc s →
+          isSlotStart (t .cap) (adm (suc s)) (suc s) ≡ true
       begins-from s p f le =
           ⊎-elim
           (λ x.

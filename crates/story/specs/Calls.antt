@@ -14,7 +14,8 @@ use Rattle.story.specs.declared.State.{State}
 use Rattle.story.specs.Orders.{Tests, laneOrder, statusOrder}
 use Rattle.story.specs.Story.{Act, opens, changes, closes, doors, actLimits, permitted, orderOf}
 use Rattle.story.specs.Story.{isCrossed, isBelow, isAbove, isSame, isSameDoors}
-use Rattle.story.specs.Kept.{absentMode, closingMode, clearMark, titleAt, isShut, stateOk, tickAt, atTickStart, ruling, keptHeld}
+use Rattle.story.specs.Kept.{absentMode, closingMode, clearMark, titleAt, isShut, stateOk, tickAt, atTickStart}
+use Rattle.story.specs.Kept.{ruling, keptHeld}
 use Rattle.story.specs.Kept.{settledAt, titleHeld, lanesHeld, isThere, shows}
 use Rattle.story.specs.Next.{callNext}
 

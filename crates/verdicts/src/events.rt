@@ -45,7 +45,8 @@ ghost use Rattle.story.specs.Story.{openLimits, doors, isSameDoors};
 ghost use Rattle.story.specs.Kept.{isShut};
 ghost use Rattle.story.specs.Calls.{eventOk, atSlotStart, closeAnswer, doorsAnswer};
 ghost use Rattle.measures.specs.Film.{Film};
-ghost use Rattle.verdicts.specs.Before.{openLater, openBefore, standingRules, turnRules, countRules, changeBefore};
+ghost use Rattle.verdicts.specs.Before.{openLater, openBefore, standingRules, turnRules, countRules};
+ghost use Rattle.verdicts.specs.Before.{changeBefore};
 ghost use Rattle.verdicts.specs.Before.{retuneRules, doorsRules};
 
 // The numbers that every event has.

@@ -20,7 +20,8 @@ use Rattle.notice.specs.declared.Reading.the-variants as reading
 use Rattle.story.specs.declared.State.{State}
 use Rattle.story.specs.Kept.{titleAt}
 use Rattle.story.specs.Life.{Life, onCourse}
-use Rattle.story.specs.Story.{Act, changes, closes, holds, lifts, Event, event, unopened, lifeAfter, lifeOf, latestOf, lastTime}
+use Rattle.story.specs.Story.{Act, changes, closes, holds, lifts, Event, event, unopened, lifeAfter, lifeOf, latestOf}
+use Rattle.story.specs.Story.{lastTime}
 use Rattle.story.specs.Story.{tickIn, answer}
 use Rattle.story.proofs.Passed.{Turned, changing, closing, doored, in-order}
 use Rattle.story.proofs.World.{courseAfter, same-before}

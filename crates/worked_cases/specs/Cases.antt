@@ -1,8 +1,9 @@
 -- 01, "Numbers worked through": the starred cases as one table, what the definitions give beside what 01 prints; cases 5
 -- to 7 without the padding, as 02's request 5 has them, 6 and 8 with the number of its request 9, case 9 with that of its
--- request 4, case 11 by the sum of its request 2, with the example given there. All but 10 and 11 are of a film with floor 2,
--- cap 4 and D 12, opened at 0; number 0 is what 01 says of that film beforehand. That a list is forgotten is shown, also
--- under 6, by a film whose list is longer than its floor slot, of floor 4, cap 5 and D 30.
+-- request 4 and, since by its request 10 a count of 11 is within the limits, with 13 beside it as the one outside them;
+-- case 11 by the sum of its request 2, with the example given there. All but 10 and 11 are of a film with floor 2, cap 4 and
+-- D 12, opened at 0; number 0 is what 01 says of that film beforehand. That a list is forgotten is shown, also under 6, by
+-- a film whose list is longer than its floor slot, of floor 4, cap 5 and D 30.
 use Prim.Native.Nat.{ℕ, zero, suc}
 use mathlib.Core.Bool.{Bool, true, false, not}
 use mathlib.Core.List.{List, [], _∷_, _++_}
@@ -121,8 +122,9 @@ table =
     (answerAfter (film 4 ∷ []) (event 4 (changes 4))
     ∷ answerAfter (film 4 ∷ []) (event 4 (changes 5))
     ∷ answerAfter (film 4 ∷ []) (event 4 (changes 11))
+    ∷ answerAfter (film 4 ∷ []) (event 4 (changes 13))
     ∷ [])
-    (unchanged ∷ aboveCap ∷ outsideLimits ∷ [])
+    (unchanged ∷ aboveCap ∷ aboveCap ∷ outsideLimits ∷ [])
     ∷ case 10 (tickOf 1 floor cap ∷ tickOf 13 floor cap ∷ []) (1 ∷ 2 ∷ [])
     ∷ case 11 (share 210 4 (1 ∷ 2 ∷ [])) (done ∷ 2 ∷ 2 ∷ 7 ∷ [])
     ∷ case 11 (share 210 5 (1 ∷ 2 ∷ [])) (done ∷ 2 ∷ 3 ∷ 7 ∷ [])

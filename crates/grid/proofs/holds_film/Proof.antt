@@ -1,4 +1,4 @@
--- `grid::holds_film` meets its contract: a cell's start is at most 2^10 lengths, and fits.
+-- `grid::holds_film` meets its contract: a cell's start is at most 2^countMax lengths, and fits.
 -- Rests on the laws of ticks.
 use borrow.Author.Needs.{needs}
 use Rattle.grid.specs.Ticks.{holdsFilm}

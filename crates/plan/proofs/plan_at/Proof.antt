@@ -73,7 +73,7 @@ rem-wait c = search needs
 rem-result : tie.Need-rem-result
 rem-result c = search needs
 
--- the number that is written is below 2^10, whatever wait it is made from
+-- the number that is written is below 2^countMax, whatever wait it is made from
 small : (c : tie.After-place) (x : ℕ) →
     let s = c .before .before .before .before .before in
     let w = c .before .before .before .before .slot .result in

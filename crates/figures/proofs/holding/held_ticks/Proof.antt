@@ -1,5 +1,5 @@
 -- `held_ticks` meets its contract: the ticks passed in which the lane was held.
-use Prim.Native.Nat.{_+_, _-_, _^_, _≤_}
+use Prim.Native.Nat.{_+_, _-_, _*_, _^_, _≤_}
 use mathlib.Core.Path.{_≡_, refl}
 use native.Mathlib.Omega.{arith}
 use native.Mathlib.Numerals.{add-one}
@@ -43,7 +43,7 @@ add-held-at c = search needs
 mul-held-at : tie.Need-mul-held-at Inv-loop μ-loop
 mul-held-at c =
     let l = c .before .loop in
-    let low : c .before .before .before .before .before .args .drop + l .i ≤ 3072 = omega arith in
+    let low : c .before .before .before .before .before .args .drop + l .i ≤ 3 * 2 ^ countMax = omega arith in
     record { fits = omega (arith, mul-le-mul low (c .before .before .before .slot-ms .ensures .high)) }
 
 held-at-requires : tie.Need-held-at-requires Inv-loop μ-loop
