@@ -74,6 +74,10 @@ tooSoon = 16
 abbrev pub doorsUnchanged : ℕ
 doorsUnchanged = 17
 
+-- an event would fall after the clock's last time
+abbrev pub pastClock : ℕ
+pastClock = 18
+
 -- one of two values, by a test
 abbrev pub pick : {A : Type 0} → Bool → A → A → A
 pick true a b = a

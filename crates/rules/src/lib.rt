@@ -80,6 +80,9 @@ pub const TOO_SOON: u8 = 16;
 
 pub const DOORS_UNCHANGED: u8 = 17;
 
+// An event would fall after the clock's last time.
+pub const PAST_CLOCK: u8 = 18;
+
 // Whether x lies from lo to hi, both ends allowed.
 pub fn within(lo: u64, hi: u64, x: u64) -> bool
     ensures { λ r. ⌜ r ≡ inside lo hi x ⌝ }

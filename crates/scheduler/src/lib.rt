@@ -3,6 +3,7 @@
 
 use measures::lanes::lanes_held;
 use measures::slots::title_of;
+use measures::slots::with_title;
 use measures::ticks::tick_at;
 use owed::dropping::changed_title;
 use owed::dropping::closed_title;
@@ -28,14 +29,11 @@ use verdicts::events::doors_verdict;
 use verdicts::events::open_verdict;
 use verdicts::questions::asked_verdict;
 use verdicts::questions::lane_verdict;
-ghost use Prim.Native.Nat.{ℕ, _≤_, _<_};
 ghost use mathlib.Core.Path.{_≡_};
 ghost use mathlib.Core.Bool.{true, false};
 ghost use lib.Dec.{eqb};
-ghost use Rattle.rules.specs.Limits.{idMax};
 ghost use Rattle.rules.specs.Refusals.{pick};
-ghost use Rattle.story.specs.Kept.{titleAt};
-ghost use Rattle.story.specs.Next.{openedTitle, withTitle, openNext, changeNext, closeNext, doorsNext};
+ghost use Rattle.story.specs.Next.{openedTitle, openNext, changeNext, closeNext, doorsNext};
 ghost use Rattle.story.specs.Calls.{
   blankTitle,
   emptyPool,
@@ -125,17 +123,6 @@ pub fn fresh(pool: u64) -> Started
         answer: OUTSIDE_LIMITS,
         state: none,
     }
-}
-
-// The state with another title at an id, after an event at a time.
-fn with_title(s: State, id: u64, t: Title, time: u64) -> State
-    requires { ⌜ id ≤ idMax ⌝ }
-    ensures { λ r. ⌜ r ≡ withTitle s id t time ⌝ }
-{
-    let mut q = s;
-    q.last = time;
-    q.titles[id as usize] = t;
-    q
 }
 
 // A title opened at a time: no count has ended and no lane was dropped.

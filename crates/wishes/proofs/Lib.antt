@@ -1,0 +1,3 @@
+-- What the wishes of a sharing are.
+mod Ids
+pub mod Wished

@@ -1,0 +1,3 @@
+-- Of the passes that collect wishes.
+pub mod Laws
+pub mod Both

@@ -1,0 +1,2 @@
+-- Of the rows of the titles that share the pool.
+pub mod Laws

@@ -1,0 +1,17 @@
+-- `floor_of` meets its contract, from the test of taking part.
+use native.Mathlib.Omega.{arith}
+use borrow.Author.Needs.{needs}
+use Rattle.wishes.proofs.sharers.floor_of.Statement.{statement}
+use Rattle.wishes.proofs.sharers.floor_of.Tie as tie
+
+takes-part-requires : tie.Need-takes-part-requires
+takes-part-requires c κs = search needs
+
+returns : tie.Need-returns
+returns c = (simp (← c .before .takes-part .ensures, c .if1 .taken), omega arith)
+
+returns-2 : tie.Need-returns-2
+returns-2 c = (simp (← c .before .takes-part .ensures, c .if1 .left), omega arith)
+
+pub floor-of-spec : {M : Type 1} → statement M
+floor-of-spec = tie.close (tie.spec takes-part-requires returns returns-2)

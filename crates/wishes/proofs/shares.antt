@@ -1,0 +1,2 @@
+-- Of the counts that the sharing gives.
+pub mod Laws

@@ -1,0 +1,209 @@
+-- The sharing of the pool among the titles that take part: it refuses nothing, and each title finds its share by its place.
+-- Rests on the sharing's promise, on the limits of a state's numbers, and on the ids' places.
+use mathlib.Core.Path.{_≡_, refl, sym, ap, _∙_}
+use mathlib.Core.Bool.{Bool, true}
+use mathlib.Core.List.{List, [], _∷_, map, map-map}
+use mathlib.Core.Logic.{⊎-elim}
+use Prim.Native.Nat.{ℕ, zero, suc, _≤_, _<_}
+use native.Mathlib.Omega.{arith}
+use lib.Dec.{leb, eqb}
+use lib.ListN.{length, getD, length-map, length-set}
+use lib.Seq.{getD-set-same, getD-set-other, getD-take}
+use borrow.Author.Tests.{leb-true, le-leb, eqb-true, eq-eqb, le-ltb}
+use Rattle.rules.specs.Limits.{either, within, poolMin, poolMax, rateMin, rateMax, floorMin, countMin, titlesMax}
+use Rattle.rules.specs.Refusals.{done, firstHit}
+use Rattle.rules.specs.Search.{howMany}
+use Rattle.rules.proofs.Tests.{both-l, both-r, both-in, either-out}
+use Rattle.rules.proofs.Search.{below-suc, every-out, howMany-le}
+use Rattle.sharing.specs.declared.titles.Rated.{Rated}
+use Rattle.sharing.specs.Titles.{nobody, titles, rowTotal}
+use Rattle.sharing.specs.Titles as sharing
+use Rattle.sharing.specs.Choice.{Shared, shared}
+use Rattle.sharing.specs.Verdict.{allowed, ordered, eachTitle, rowsFit, verdictOf, rowAfter}
+use Rattle.sharing.proofs.Search.{search-finds}
+use Rattle.sharing.proofs.Promise.{first-places}
+use Rattle.story.specs.declared.State.{State}
+use Rattle.story.specs.Kept.{absentMode, openMode, titleAt, orderOk, titleOk, stateOk}
+use Rattle.measures.specs.Film.{slotOk}
+use Rattle.measures.proofs.Within.{numbers, order, readable, title-ok, all-readable}
+use Rattle.wishes.specs.Wishes.{ratesOk, takesPart, sharers, ratedAt, rated, floorsOf, shareOf}
+use Rattle.wishes.specs.Sharers.{noRow, rowsTo}
+use Rattle.wishes.specs.Shares.{countsOf, sharesTo, ByShare}
+use Rattle.wishes.proofs.Ids.{ids-at, ids-each, ids-many, read-many, place-below, row-is}
+use Rattle.wishes.proofs.sharers.Laws.{rows-are, floor-high}
+
+-- ---- titles in rows
+
+titles-map : (a b c d : ℕ → ℕ) (l : List ℕ) →
+    titles (map a l) (map b l) (map c l) (map d l) ≡ map (λ i. record { rate = a i; length = b i; floor = c i; cap = d i }) l
+unfolding titles
+titles-map a b c d [] = refl
+titles-map a b c d (i ∷ l) =
+    ap (λ (ts : List Rated). record { rate = a i; length = b i; floor = c i; cap = d i } ∷ ts) (titles-map a b c d l)
+
+-- a test that passes at each place passes
+each-in : (p : Rated → Bool) (ts : List Rated) → ((j : ℕ) → j < length ts → p (sharing.titleAt ts j) ≡ true) → eachTitle p ts ≡ true
+unfolding eachTitle
+each-in p [] f = refl
+each-in p (t ∷ ts) f =
+    both-in (p t) (eachTitle p ts) (f zero (omega arith)) (each-in p ts (λ j l. f (suc j) (omega arith)))
+
+-- ---- counts at ids
+
+row-places : (s : State) (counts : List ℕ) (n : ℕ) → length (sharesTo s counts n) ≡ titlesMax
+unfolding sharesTo
+row-places s counts zero = refl
+row-places s counts (suc n) = length-set (sharesTo s counts n) n (getD counts (howMany (takesPart s) n) 0) ∙ row-places s counts n
+
+shares-at : (s : State) (counts : List ℕ) (n i : ℕ) → n ≤ titlesMax → i < n →
+    getD (sharesTo s counts n) i 0 ≡ getD counts (howMany (takesPart s) i) 0
+unfolding sharesTo
+shares-at s counts zero i few l = absurd (omega arith)
+shares-at s counts (suc n) i few l =
+    let v = getD counts (howMany (takesPart s) n) 0 in
+    ⊎-elim
+    (λ below. getD-set-other (sharesTo s counts n) n i v 0 (omega arith) ∙ shares-at s counts n i (omega arith) below)
+    (λ here. rw here (getD-set-same (sharesTo s counts n) n v 0 (omega (arith, row-places s counts n))))
+    (below-suc i n l)
+
+-- ---- the titles that take part
+
+-- a title that takes part is not absent
+pub not-absent : (s : State) (i : ℕ) → takesPart s i ≡ true → titleAt s i .mode ≡ absentMode → ⊥
+not-absent s i part none = omega (arith, eqb-true (titleAt s i .mode) openMode part, none)
+
+module _ (s : State) (rates : List ℕ) (ok : stateOk s ≡ true)
+    (many : length rates ≡ titlesMax) (good : ratesOk rates ≡ true) where
+  -- what each row of the sharing has of an id
+  abbrev rate : ℕ → ℕ
+  rate i = getD rates i 0
+
+  abbrev film : ℕ → ℕ
+  film i = titleAt s i .length
+
+  abbrev floor : ℕ → ℕ
+  floor i = titleAt s i .floor
+
+  abbrev cap : ℕ → ℕ
+  cap i = titleAt s i .cap
+
+  -- the numbers of such a title are within the sharing's limits
+  part-allowed : (i : ℕ) → i < titlesMax → takesPart s i ≡ true → allowed (ratedAt s rates i) ≡ true
+  unfolding allowed orderOk ratesOk
+  part-allowed i l part =
+      let t = titleAt s i in
+      let fit = title-ok s ok i l in
+      let n = numbers t fit in
+      let o = order t fit (not-absent s i part) in
+      let inside = readable t fit (not-absent s i part) in
+      let low : floorMin ≤ t .floor = search (both-l, both-r, leb-true) depth 12 in
+      let rate = every-out (λ j. within rateMin rateMax (getD rates j 0)) (length rates) i good (omega arith) in
+      both-in _ _ rate
+      (both-in _ _ (both-in _ _ (le-leb _ _ (inside .sized .low)) (le-leb _ _ (inside .sized .high)))
+      (both-in _ _ (both-in _ _ (le-leb _ _ low) (le-leb _ _ (floor-high t n)))
+      (both-in _ _ (le-leb countMin (t .cap) (omega (arith, inside .cut .fit))) (le-leb _ _ (inside .cut .high)))))
+
+  part-ordered : (i : ℕ) → i < titlesMax → takesPart s i ≡ true → ordered (ratedAt s rates i) ≡ true
+  unfolding ordered
+  part-ordered i l part = le-leb _ _ (all-readable s ok i l (not-absent s i part) .cut .fit)
+
+  -- a pool with such a title has a lane
+  part-pool : (i : ℕ) → i < titlesMax → takesPart s i ≡ true → within poolMin poolMax (s .pool) ≡ true
+  unfolding stateOk
+  part-pool i l part =
+      let some = leb poolMin (s .pool) in
+      let none = eqb (titleAt s i .mode) absentMode in
+      let slot = every-out (slotOk s) titlesMax i (search (both-l, both-r)) l in
+      both-in some (leb (s .pool) poolMax)
+      (⊎-elim (λ lane. lane) (λ out. absurd (not-absent s i part (eqb-true (titleAt s i .mode) absentMode out)))
+      (either-out some none (both-r (titleOk (titleAt s i)) (either some none) slot)))
+      (both-l (leb (s .pool) poolMax) _ ok)
+
+  -- each place of the titles that take part has one of them
+  part-each : (P : Rated → Type 0) → ((i : ℕ) → i < titlesMax → takesPart s i ≡ true → P (ratedAt s rates i)) → (j : ℕ)
+      → j < length (rated s rates) → P (sharing.titleAt (rated s rates) j)
+  unfolding rated sharers
+  part-each P f = ids-each (takesPart s) (ratedAt s rates) nobody titlesMax P f
+
+  all-allowed : eachTitle allowed (rated s rates) ≡ true
+  all-allowed = each-in allowed (rated s rates) (part-each (λ t. allowed t ≡ true) part-allowed)
+
+  all-ordered : eachTitle ordered (rated s rates) ≡ true
+  all-ordered = each-in ordered (rated s rates) (part-each (λ t. ordered t ≡ true) part-ordered)
+
+  module _ (fit : floorsOf s ≤ s .pool) where
+    -- the counts that the sharing gives are to be preferred to every choice
+    pub best-shares : Shared (s .pool) (rated s rates) (shared (s .pool) (rated s rates))
+    unfolding ordered rated floorsOf
+    best-shares =
+        search-finds (s .pool) (rated s rates)
+        (part-each (λ t. t .floor ≤ t .cap) (λ i l part. leb-true _ _ (part-ordered i l part)))
+        (rw (map-map (λ (t : Rated). t .floor) (ratedAt s rates) (sharers s)) fit)
+
+    -- one for each title that takes part
+    pub shares-many : length (shared (s .pool) (rated s rates)) ≡ howMany (takesPart s) titlesMax
+    unfolding rated sharers
+    shares-many = best-shares .choice .way .places ∙ read-many (takesPart s) (ratedAt s rates) titlesMax
+
+    -- a share lies from the title's floor to its cap
+    pub share-range : (i : ℕ) → i < titlesMax → takesPart s i ≡ true →
+        (titleAt s i .floor ≤ shareOf s rates i) × (shareOf s rates i ≤ titleAt s i .cap)
+    unfolding shareOf rated sharers
+    share-range i l part =
+        let p = takesPart s in
+        let j = howMany p i in
+        let place = place-below p (ratedAt s rates) titlesMax i l part in
+        let here = ids-at p (ratedAt s rates) nobody titlesMax i l part in
+        (rw here at (best-shares .choice .way .low j place), rw here at (best-shares .choice .way .high j place))
+
+    -- the sharing refuses none of this
+    not-refused : within poolMin poolMax (s .pool) ≡ true →
+        verdictOf (s .pool) (map rate (sharers s)) (map film (sharers s)) (map floor (sharers s)) (map cap (sharers s))
+        titlesMax
+        ≡ done
+    unfolding verdictOf firstHit rowsFit rated sharers floorsOf
+    not-refused pool =
+        let ids = sharers s in
+        let few : length ids ≤ titlesMax =
+        omega (arith, ids-many (takesPart s) titlesMax, howMany-le (takesPart s) titlesMax) in
+        simp (
+          length-map,
+          eq-eqb (length ids) (length ids) refl,
+          le-leb (length ids) titlesMax few,
+          titles-map rate film floor cap ids,
+          pool,
+          all-allowed,
+          all-ordered,
+          le-ltb (s .pool) (rowTotal (map floor ids)) fit,
+        )
+
+    -- the row that it leaves has the share of each at its place
+    counts-at : (i : ℕ) → i < titlesMax → takesPart s i ≡ true →
+        getD (countsOf (s .pool) (rowsTo s rates titlesMax)) (howMany (takesPart s) i) 0 ≡ shareOf s rates i
+    unfolding countsOf shareOf rated sharers
+    counts-at i l part =
+        let p = takesPart s in
+        let j = howMany p i in
+        let ids = sharers s in
+        let rs = map rate ids in
+        let ds = map film ids in
+        let fs = map floor ids in
+        let ks = map cap ids in
+        rw (
+          rows-are s rates titlesMax,
+          row-is p rate noRow titlesMax (omega arith),
+          row-is p film noRow titlesMax (omega arith),
+          row-is p floor noRow titlesMax (omega arith),
+          row-is p cap noRow titlesMax (omega arith),
+        )
+        (sym (getD-take (length rs) (rowAfter (s .pool) rs ds fs ks noRow) j 0 (place-below p rate titlesMax i l part))
+        ∙ (ap (λ (xs : List ℕ). getD xs j 0) (first-places (s .pool) rs ds fs ks noRow (not-refused (part-pool i l part)))
+        ∙ ap (λ (ts : List Rated). getD (shared (s .pool) ts) j 0) (titles-map rate film floor cap ids)))
+
+    pub by-share : ByShare s rates (sharesTo s (countsOf (s .pool) (rowsTo s rates titlesMax)) titlesMax)
+    by-share =
+        record {
+          each =
+              λ i l part. shares-at s (countsOf (s .pool) (rowsTo s rates titlesMax)) titlesMax i (omega arith) l
+              ∙ counts-at i l part;
+        }

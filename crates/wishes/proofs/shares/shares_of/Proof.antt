@@ -1,0 +1,26 @@
+-- `shares_of` meets its contract: the counts of the rows' sharing, at the ids of their titles.
+use Rattle.wishes.proofs.sharers.Laws.{rows-whole}
+use Rattle.wishes.proofs.shares.Laws.{by-share}
+use borrow.Author.Needs.{needs}
+use Rattle.wishes.proofs.shares.shares_of.Statement.{statement}
+use Rattle.wishes.proofs.shares.shares_of.Tie as tie
+
+rows-of-requires : tie.Need-rows-of-requires
+rows-of-requires c κs = search needs
+
+shared-counts-requires : tie.Need-shared-counts-requires
+shared-counts-requires c κs = rw (c .rows-of .ensures) (rows-whole _ _)
+
+by-id-requires : tie.Need-by-id-requires
+by-id-requires c κs = search needs
+
+returns : tie.Need-returns
+returns c =
+    let at-counts = c .before .before in
+    let start = at-counts .before .before .before in
+    let rules = start .pre .1 in
+    rw (c .by-id .ensures, at-counts .shared-counts .ensures, at-counts .before .rows-of .ensures)
+    (by-share (start .args .s) (start .args .rates .now) (start .pre .0) (rules .0) (rules .1 .0) (rules .1 .1))
+
+pub shares-of-spec : {M : Type 1} → statement M
+shares-of-spec = tie.close (tie.spec rows-of-requires shared-counts-requires by-id-requires returns)

@@ -1,0 +1,5 @@
+-- Which changes the sharing of a pool asks for (02, 11).
+pub mod Wishes
+pub mod Sharers
+pub mod Shares
+pub mod Passes
