@@ -1,0 +1,57 @@
+// The times at which a title's rules permit a change (01, "Cells, ticks, slots" and "Events"; 02, 9).
+
+use measures::ticks::settled_at;
+use measures::ticks::since;
+use story::Title;
+ghost use Prim.Native.Nat.{suc, _+_, _^_, _≤_, max};
+ghost use mathlib.Core.Path.{_≡_};
+ghost use Rattle.rules.specs.Limits.{askedMax, eventTimeMax};
+ghost use Rattle.grid.specs.Bounds.{Exactly};
+ghost use Rattle.story.specs.Calls.{atSlotStart};
+ghost use Rattle.measures.specs.Film.{Film};
+ghost use Rattle.moments.specs.Steps.{slotMs, slotMost, Found, permits};
+
+// The larger of two numbers.
+fn larger(a: u64, b: u64) -> u64
+    ensures { λ r. ⌜ r ≡ max a b ⌝ }
+{
+    if a <= b { b } else { a }
+}
+
+// A slot of a count of a title, in ms.
+fn slot_ms(t: Title, count: u64) -> u64
+    requires { ⌜ Film t ⌝ }
+    requires { ⌜ count ≤ t .cap ⌝ }
+    ensures { λ r. ⌜ Exactly (slotMs t count) 1 slotMost r ⌝ }
+{
+    grid::slot(t.cap, count) * grid::tick(t.length, t.floor, t.cap)
+}
+
+// The first slot start of a count from a time on. Times up to the opening count as slot starts.
+fn next_start(t: Title, count: u64, from: u64) -> u64
+    requires { ⌜ Film t ⌝ }
+    requires { ⌜ (count ≤ t .cap) × (from ≤ 2 ^ 42) ⌝ }
+    ensures { λ r. ⌜ Found (atSlotStart t count) from (from + slotMost) r ⌝ }
+{
+    let slot = slot_ms(t, count);
+    let over = since(t.opened, from) % slot;
+    if over == 0 {
+        return from;
+    }
+    from + (slot - over)
+}
+
+// The first time from another on that a title's rules permit for a change at a slot start of a count: settled, and not
+// the moment of its last event.
+pub fn permitted_from(t: Title, count: u64, from: u64) -> u64
+    requires { ⌜ Film t ⌝ }
+    requires { ⌜ (count ≤ t .cap) × ((t .last ≤ askedMax) × (t .tuned ≤ askedMax)) ⌝ }
+    requires { ⌜ from ≤ suc eventTimeMax ⌝ }
+    ensures { λ r. ⌜ Found (permits t count) from (2 ^ 43) r ⌝ }
+{
+    let start = next_start(t, count, larger(from, settled_at(t)));
+    if start == t.last {
+        return next_start(t, count, start + 1);
+    }
+    start
+}
