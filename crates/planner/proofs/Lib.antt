@@ -1,0 +1,14 @@
+-- What the planner's code rests on, and what is promised of its list.
+pub mod Kept
+pub mod Steps
+pub mod Answers
+pub mod Running
+pub mod Lists
+pub mod Unique
+pub mod Accepted
+pub mod Sometime
+pub mod Drops
+pub mod Underway
+pub mod Passed
+pub mod Fares
+pub mod Promise

@@ -1,0 +1,55 @@
+-- `standing` meets its contract: each way out decides the tests up to it.
+use mathlib.Core.Path.{sym, _∙_}
+use borrow.Author.Tests.{lt-ltb, le-ltb}
+use Rattle.planner.proofs.Answers.{numbers-state}
+use Rattle.rules.specs.Refusals.{firstHit}
+use Rattle.planner.specs.Steps.{standingAnswer}
+use borrow.Author.Needs.{needs}
+use Rattle.planner.proofs.standing.standing.Statement.{statement}
+use Rattle.planner.proofs.standing.standing.Tie as tie
+
+numbers-ok-requires : tie.Need-numbers-ok-requires
+numbers-ok-requires c κs = search needs
+
+returns : tie.Need-returns
+unfolding standingAnswer firstHit
+returns c =
+    simp (← c .before .before .before .numbers-ok .ensures, c .before .before .if1 .taken, lt-ltb _ _ (c .if2 .taken))
+
+floors-requires : tie.Need-floors-requires
+floors-requires c κs =
+    let at = c .before .before .before in
+    let a = at .before .before .args in
+    numbers-state (a .s) (a .time) (a .rates .now) (sym (at .numbers-ok .ensures) ∙ c .before .before .if1 .taken)
+
+returns-2 : tie.Need-returns-2
+unfolding standingAnswer firstHit
+returns-2 c =
+    let passed = c .before .before .before in
+    simp (
+      ← passed .before .before .before .numbers-ok .ensures,
+      passed .before .before .if1 .taken,
+      le-ltb _ _ (passed .if2 .left),
+      ← c .before .before .floors .ensures,
+      lt-ltb _ _ (c .if3 .taken),
+    )
+
+returns-3 : tie.Need-returns-3
+unfolding standingAnswer firstHit
+returns-3 c =
+    let passed = c .before .before .before in
+    simp (
+      ← passed .before .before .before .numbers-ok .ensures,
+      passed .before .before .if1 .taken,
+      le-ltb _ _ (passed .if2 .left),
+      ← c .before .before .floors .ensures,
+      le-ltb _ _ (c .if3 .left),
+    )
+
+returns-4 : tie.Need-returns-4
+unfolding standingAnswer firstHit
+returns-4 c = simp (← c .before .numbers-ok .ensures, c .if1 .left)
+
+pub standing-spec : {M : Type 1} → statement M
+standing-spec =
+    tie.close (tie.spec numbers-ok-requires returns floors-requires returns-2 returns-3 returns-4)

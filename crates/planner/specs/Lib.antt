@@ -1,0 +1,5 @@
+-- What the planner lists (02, 11), what its call answers, and what it promises of the list.
+pub mod Moves
+pub mod Outcome
+pub mod Carried
+pub mod Steps
