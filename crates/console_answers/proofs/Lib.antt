@@ -2,3 +2,4 @@
 -- outcomes of a call here are equal is `page-one-outcome` of `text`.
 pub mod Rows
 pub mod Answered
+pub mod Listed

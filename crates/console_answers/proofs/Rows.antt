@@ -2,7 +2,7 @@
 use Prim.Native.Nat.{ℕ, zero, suc, _+_, _*_, _<_, _≤_, min}
 use mathlib.Core.Path.{_≡_, refl, ap, _∙_}
 use mathlib.Core.List.{List}
-use native.Mathlib.Nat.{le-antisymm}
+use native.Mathlib.Nat.{le-antisymm, mul-le-mul}
 use native.Mathlib.Omega.{arith}
 use native.Mathlib.Numerals.{add-one}
 use lib.ListN.{length, getD, take, length-set, length-take}
@@ -10,6 +10,7 @@ use Rattle.text.specs.Numbers.{fourBytesMost}
 use Rattle.text.specs.Output.{Page, puts}
 use Rattle.text.proofs.Pages.{puts-then, same-room}
 use Rattle.console_lines.specs.Commands.{titlesMost, titleNumbers}
+use Rattle.console_lines.specs.Lines.{numbersMost}
 use Rattle.console_answers.specs.Entries.{each}
 use Rattle.console_answers.specs.Questions.{column}
 
@@ -37,12 +38,26 @@ module _ (f : ℕ → List ℕ) (n : ℕ) (p : Page) where
   pub passed-all : (i : ℕ) {q : Page} → Passed f n p i q → n ≤ i → q ≡ puts p (each f n)
   passed-all i h l = h .so-far ∙ ap (λ (j : ℕ). puts p (each f j)) (le-antisymm (h .within) l)
 
-pub column-length : (numbers : List ℕ) (first n : ℕ) → length (column numbers first n) ≡ titlesMost
+-- rows that agree in their first places are written alike
+pub each-same : (f g : ℕ → List ℕ) (n : ℕ) → ((j : ℕ) → j < n → f j ≡ g j) → each f n ≡ each g n
+unfolding each
+each-same f g zero h = refl
+each-same f g (suc n) h = rw (each-same f g n (λ j l. h j (omega arith)), h n (omega arith))
+
+pub column-length : (numbers : List ℕ) (first apart n : ℕ) → length (column numbers first apart n) ≡ titlesMost
 unfolding column
-column-length numbers first zero = refl
-column-length numbers first (suc n) =
-    length-set (column numbers first n) n (min (getD numbers (first + titleNumbers * n) 0) fourBytesMost)
-    ∙ column-length numbers first n
+column-length numbers first apart zero = refl
+column-length numbers first apart (suc n) =
+    length-set (column numbers first apart n) n (min (getD numbers (first + apart * n) 0) fourBytesMost)
+    ∙ column-length numbers first apart n
+
+-- such a number stands in the line
+pub in-line : (first apart i : ℕ) → first ≤ titleNumbers → apart ≤ titleNumbers → i < titlesMost
+    → (apart * i ≤ titleNumbers * 16) × (first + apart * i < numbersMost)
+in-line first apart i f a l =
+    let below : i ≤ 16 = omega arith in
+    let most : apart * i ≤ titleNumbers * 16 = mul-le-mul a below in
+    (most, omega arith)
 
 -- a part from the start on is as long as asked
 pub counted : (n m : ℕ) (row : List ℕ) → length row ≡ m → n ≤ m → n ≡ length (take n row)

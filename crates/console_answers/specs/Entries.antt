@@ -19,6 +19,10 @@ cellEntry n = pick (eqb n never) (text " -") (entry n)
 unfoldable pub titleEntry : ℕ → ℕ → ℕ → ℕ → List ℕ
 titleEntry id count held mark = ((entry id ++ entry count) ++ entry held) ++ entry mark
 
+-- a listed change: title, time and count
+unfoldable pub moveEntry : ℕ → ℕ → ℕ → List ℕ
+moveEntry id time count = (entry id ++ entry time) ++ entry count
+
 -- what stands for each place of a row, for the first n
 unfoldable pub each : (ℕ → List ℕ) → ℕ → List ℕ
 each f zero = []
@@ -36,3 +40,8 @@ cellsText row n = each (λ (i : ℕ). cellEntry (getD row i 0)) n
 abbrev pub titlesText : List ℕ → List ℕ → List ℕ → List ℕ → ℕ → List ℕ
 titlesText ids counts held marks n =
     each (λ (i : ℕ). titleEntry (getD ids i 0) (getD counts i 0) (getD held i 0) (getD marks i 0)) n
+
+-- the first n listed changes of three rows
+abbrev pub movesText : List ℕ → List ℕ → List ℕ → ℕ → List ℕ
+movesText ids times counts n =
+    each (λ (i : ℕ). moveEntry (getD ids i 0) (getD times i 0) (getD counts i 0)) n

@@ -1,4 +1,4 @@
--- What the console's questions answer (docs/CONSOLE.md, "Commands": lane, status, plan, share, romlane and romplan).
+-- What the console's questions answer (docs/CONSOLE.md, "Commands": lane, status, plan, share, romlane, romplan and planner).
 use Prim.Native.Nat.{ℕ, zero, suc, _+_, _-_, _*_, _/_, min}
 use mathlib.Core.List.{List, map}
 use lib.ListN.{length, getD, take, drop, set, replicate}
@@ -9,11 +9,13 @@ use Rattle.grid.specs.Plan.{planAnswer}
 use Rattle.plan.specs.Row as plan
 use Rattle.rom.specs.Lanes.{romLaneAnswer, romLaneShows}
 use Rattle.rom.specs.Plans.{romPlanAnswer, romPlanRow}
+use Rattle.planner.specs.Moves.{Move}
+use Rattle.planner.specs.Outcome.{plannerAnswer, given}
 use Rattle.sharing.specs.Verdict as sharing
 use Rattle.text.specs.Numbers.{fourBytesMost}
-use Rattle.console_lines.specs.Commands.{idsMost, titlesMost, titleNumbers, placesMost}
+use Rattle.console_lines.specs.Commands.{idsMost, titlesMost, titleNumbers, placesMost, roomMost}
 use Rattle.console_answers.specs.Words.{missed}
-use Rattle.console_answers.specs.Entries.{numbersText, cellsText, titlesText}
+use Rattle.console_answers.specs.Entries.{numbersText, cellsText, titlesText, movesText}
 use Rattle.console_answers.specs.Outcomes.{withText, valueText}
 
 -- the cell that goes out
@@ -59,19 +61,19 @@ shareText pool rates lengths floors caps row =
     withText (sharing.verdictOf pool rates lengths floors caps (length row)) 0
     (numbersText (sharing.rowAfter pool rates lengths floors caps row) (length row))
 
--- of the first n titles of a line, the number at the same place of each: every fourth number from a place on, at most
+-- of the first n titles of a line, the number at the same place of each: from a place on and so many places apart, at most
 -- the largest of four bytes
-unfoldable pub column : List ℕ → ℕ → ℕ → List ℕ
-column numbers first zero = replicate titlesMost 0
-column numbers first (suc n) =
-    set (column numbers first n) n (min (getD numbers (first + titleNumbers * n) 0) fourBytesMost)
+unfoldable pub column : List ℕ → ℕ → ℕ → ℕ → List ℕ
+column numbers first apart zero = replicate titlesMost 0
+column numbers first apart (suc n) =
+    set (column numbers first apart n) n (min (getD numbers (first + apart * n) 0) fourBytesMost)
 
 -- the titles of a line of so many numbers, four for each behind the pool
 unfoldable pub titlesIn : ℕ → ℕ
 titlesIn count = min ((count - 1) / titleNumbers) titlesMost
 
 abbrev pub columnIn : List ℕ → ℕ → ℕ → List ℕ
-columnIn numbers count first = take (titlesIn count) (column numbers first titlesMost)
+columnIn numbers count first = take (titlesIn count) (column numbers first titleNumbers titlesMost)
 
 -- rates, lengths, floors and caps stand in this order in a line
 unfoldable pub shareIn : List ℕ → ℕ → List ℕ
@@ -79,3 +81,18 @@ shareIn numbers count =
     shareText (getD numbers 0 0) (columnIn numbers count 1) (columnIn numbers count 2) (columnIn numbers count 3)
     (columnIn numbers count 4)
     (take (titlesIn count) (replicate titlesMost 0))
+
+-- the events of a planner's list, in their order
+unfoldable pub listText : List Move → List ℕ
+listText ms = movesText (map (λ m. m .title) ms) (map (λ m. m .time) ms) (map (λ m. m .count) ms) (length ms)
+
+-- what the planner lists, with room for so many events
+unfoldable pub plannerText : State → ℕ → List ℕ → ℕ → List ℕ
+plannerText s τ rates room = withText (plannerAnswer s τ rates room) 0 (listText (given s τ rates room))
+
+-- the rates of a line of so many numbers, which follow the time and the room
+unfoldable pub ratesIn : List ℕ → ℕ → List ℕ
+ratesIn numbers count = take (min (count - 2) titlesMost) (column numbers 2 1 titlesMost)
+
+unfoldable pub plannerIn : State → List ℕ → ℕ → List ℕ
+plannerIn s numbers count = plannerText s (getD numbers 0 0) (ratesIn numbers count) (min (getD numbers 1 0) roomMost)

@@ -7,7 +7,16 @@ ghost use mathlib.Core.Path.{_≡_};
 ghost use Prim.Native.Nat.{_≤_};
 ghost use lib.ListN.{length};
 ghost use Rattle.text.specs.Output.{Written};
-ghost use Rattle.console_answers.specs.Entries.{entry, cellEntry, numbersText, cellsText, titlesText, titleEntry};
+ghost use Rattle.console_answers.specs.Entries.{
+  entry,
+  cellEntry,
+  numbersText,
+  cellsText,
+  titlesText,
+  titleEntry,
+  movesText,
+  moveEntry,
+};
 
 // A number.
 pub fn put_entry(out: &mut [u8], at: usize, n: u64) -> usize
@@ -96,6 +105,37 @@ pub fn put_titles(
     let mut i = 0;
     while i < ids.len() {
         place = put_title(out, place, ids[i], counts[i], held[i], marks[i]);
+        i += 1;
+    }
+    place
+}
+
+// A listed change: title, time and count.
+fn put_move(out: &mut [u8], at: usize, id: u64, time: u64, count: u64) -> usize
+    ensures { λ r. ⌜ Written (now (out .entry)) at (moveEntry id time count) (now (out .exit)) r ⌝ }
+{
+    let a = put_entry(out, at, id);
+    let b = put_entry(out, a, time);
+    put_entry(out, b, count)
+}
+
+// The first n listed changes.
+pub fn put_moves(
+    out: &mut [u8],
+    at: usize,
+    ids: &[u64],
+    times: &[u64],
+    counts: &[u64],
+    n: usize,
+) -> usize
+    requires { ⌜ (n ≤ length (now ids)) × ((n ≤ length (now times)) × (n ≤ length (now counts))) ⌝ }
+    ensures { λ r. ⌜ Written (now (out .entry)) at
+        (movesText (now (ids .entry)) (now (times .entry)) (now (counts .entry)) n) (now (out .exit)) r ⌝ }
+{
+    let mut place = at;
+    let mut i = 0;
+    while i < n {
+        place = put_move(out, place, ids[i], times[i], counts[i]);
         i += 1;
     }
     place

@@ -1,18 +1,17 @@
 // The sharing of lanes.
 
+use crate::columns::column;
 use crate::entries;
 use crate::outcomes;
 use console_lines::commands::TITLE_NUMBERS;
 use console_lines::commands::TITLES_MOST;
 use console_lines::lines::NUMBERS_MOST;
 use rules::DONE;
-use text::numbers;
 ghost use mathlib.Core.Path.{_≡_};
 ghost use Prim.Native.Nat.{_≤_};
-ghost use lib.ListN.{length};
-ghost use Rattle.console_lines.specs.Commands.{titlesMost, titleNumbers};
+ghost use Rattle.console_lines.specs.Commands.{titlesMost};
 ghost use Rattle.text.specs.Output.{Written};
-ghost use Rattle.console_answers.specs.Questions.{shareText, column as columnOf, titlesIn, shareIn};
+ghost use Rattle.console_answers.specs.Questions.{shareText, titlesIn, shareIn};
 
 // Over rows that are lent.
 fn put_rows(
@@ -37,20 +36,6 @@ fn put_rows(
     a
 }
 
-// Every fourth number of the line, from a place on: of each title the same one, at most the largest of four bytes.
-fn column(row: &[u64; NUMBERS_MOST], first: usize) -> [u32; TITLES_MOST]
-    requires { ⌜ first ≤ titleNumbers ⌝ }
-    ensures { λ r. ⌜ (r ≡ columnOf (now (row .entry)) first titlesMost) × (length r ≡ titlesMost) ⌝ }
-{
-    let mut c = [0u32; TITLES_MOST];
-    let mut i = 0;
-    while i < TITLES_MOST {
-        c[i] = numbers::as_four_bytes(row[first + TITLE_NUMBERS * i]);
-        i += 1;
-    }
-    c
-}
-
 // How many titles follow the pool, up to the most.
 fn titles_of(count: usize) -> usize
     ensures { λ r. ⌜ (r ≡ titlesIn count) × (r ≤ titlesMost) ⌝ }
@@ -70,10 +55,10 @@ pub fn put_share(out: &mut [u8], at: usize, row: [u64; NUMBERS_MOST], count: usi
     ensures { λ r. ⌜ Written (now (out .entry)) at (shareIn row count) (now (out .exit)) r ⌝ }
 {
     let n = titles_of(count);
-    let rates = column(&row, 1);
-    let lengths = column(&row, 2);
-    let floors = column(&row, 3);
-    let caps = column(&row, 4);
+    let rates = column(&row, 1, TITLE_NUMBERS);
+    let lengths = column(&row, 2, TITLE_NUMBERS);
+    let floors = column(&row, 3, TITLE_NUMBERS);
+    let caps = column(&row, 4, TITLE_NUMBERS);
     let mut counts = [0u32; TITLES_MOST];
     put_rows(
         out,

@@ -17,7 +17,7 @@ use Rattle.console_answers.specs.Words.{helpText}
 use Rattle.console_answers.specs.Outcomes.{doneText}
 use Rattle.console_answers.specs.Notices.{readingText}
 use Rattle.console_answers.specs.Questions.{laneText, statusText, idsIn, planText, roomOf, shareIn}
-use Rattle.console_answers.specs.Questions.{romLaneText, romPlanText}
+use Rattle.console_answers.specs.Questions.{romLaneText, romPlanText, plannerIn}
 use Rattle.console_desk.specs.Acts.{numberIn, bytesIn, answerAfter, agentActed}
 use Rattle.console_desk.specs.Named.{namedIn}
 use Rattle.console_desk.specs.Writing.{noticeIn}
@@ -94,6 +94,15 @@ module _ (l : Line) (s : List ℕ) (p q : Page) where
           asks-plan places h f e =
               rw (ne-eqb _ _ no-lane, ne-eqb _ _ no-status, ne-eqb _ _ no-share, eq-eqb _ _ h, ← f) e
 
-          pub asks-else : (l .command ≡ Commands.doPlan → ⊥) → q ≡ puts p (romText t l s) → q ≡ puts p (askText t l s)
-          unfolding askText
-          asks-else h e = rw (ne-eqb _ _ no-lane, ne-eqb _ _ no-status, ne-eqb _ _ no-share, ne-eqb _ _ h) e
+          module _ (no-plan : l .command ≡ Commands.doPlan → ⊥) where
+            pub asks-planner : l .command ≡ Commands.doPlanner → q ≡ puts p (plannerIn t (l .numbers) (l .count))
+                → q ≡ puts p (askText t l s)
+            unfolding askText
+            asks-planner h e =
+                rw (ne-eqb _ _ no-lane, ne-eqb _ _ no-status, ne-eqb _ _ no-share, ne-eqb _ _ no-plan, eq-eqb _ _ h) e
+
+            pub asks-else : (l .command ≡ Commands.doPlanner → ⊥) → q ≡ puts p (romText t l s)
+                → q ≡ puts p (askText t l s)
+            unfolding askText
+            asks-else h e =
+                rw (ne-eqb _ _ no-lane, ne-eqb _ _ no-status, ne-eqb _ _ no-share, ne-eqb _ _ no-plan, ne-eqb _ _ h) e

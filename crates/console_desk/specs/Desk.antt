@@ -20,7 +20,7 @@ use Rattle.console_answers.specs.Words.{faultText, helpText}
 use Rattle.console_answers.specs.Outcomes.{doneText, valueText}
 use Rattle.console_answers.specs.Notices.{readingText}
 use Rattle.console_answers.specs.Questions.{laneText, statusText, idsIn, planText, roomOf, shareIn}
-use Rattle.console_answers.specs.Questions.{romLaneText, romPlanText}
+use Rattle.console_answers.specs.Questions.{romLaneText, romPlanText, plannerIn}
 use Rattle.console_desk.specs.Acts.{numberIn, bytesIn, answerAfter, agentActed}
 use Rattle.console_desk.specs.Named.{namedIn}
 use Rattle.console_desk.specs.Writing.{noticeIn}
@@ -66,7 +66,8 @@ askText t l s =
     (pick (eqb (l .command) Commands.doShare) (shareIn (l .numbers) (l .count))
     (pick (eqb (l .command) Commands.doPlan)
     (planText (numberIn l 0) (numberIn l 1) (numberIn l 2) (numberIn l 3) (roomOf (placesIn l)))
-    (romText t l s))))
+    (pick (eqb (l .command) Commands.doPlanner) (plannerIn t (l .numbers) (l .count))
+    (romText t l s)))))
 
 abbrev pub newline : List ℕ
 newline = 10 ∷ []

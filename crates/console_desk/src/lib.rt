@@ -5,6 +5,7 @@
 
 use agent::Agent;
 use console_answers::lanes;
+use console_answers::moves;
 use console_answers::notices;
 use console_answers::outcomes;
 use console_answers::plans;
@@ -159,6 +160,9 @@ fn ask(state: State, line: Line, s: &[u8], out: &mut [u8], at: usize) -> usize
     }
     if command == commands::PLAN {
         return plans::put_plan(out, at, n[0], n[1], n[2], n[3], places_of(line));
+    }
+    if command == commands::PLANNER {
+        return moves::put_planner(out, at, state, n, line.count);
     }
     ask_rom(state, line, s, out, at)
 }

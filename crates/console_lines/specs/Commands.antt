@@ -5,7 +5,7 @@ use mathlib.Core.Bool.{Bool}
 use mathlib.Core.List.{List, [], _∷_}
 use lib.ListN.{getD}
 use lib.Dec.{eqb, leb, ltb}
-use Rattle.rules.specs.Limits.{both, either, within, planPlaces}
+use Rattle.rules.specs.Limits.{both, either, within, planPlaces, titlesMax}
 use Rattle.rules.specs.Refusals.{pick}
 use Rattle.text.specs.Texts.{text, same}
 use Rattle.text.specs.Numbers.{byteMost, fourBytesMost, top}
@@ -58,27 +58,30 @@ doRomLane = 13
 abbrev pub doRomPlan : ℕ
 doRomPlan = 14
 
+abbrev pub doPlanner : ℕ
+doPlanner = 15
+
 -- a write whose kind has not been read; the kind's number is added to it
 abbrev pub doWrite : ℕ
-doWrite = 15
+doWrite = 16
 
 abbrev pub doHelp : ℕ
-doHelp = 16
+doHelp = 17
 
 abbrev pub writeOpen : ℕ
-writeOpen = 17
+writeOpen = 18
 
 abbrev pub writeChange : ℕ
-writeChange = 18
+writeChange = 19
 
 abbrev pub writeClose : ℕ
-writeClose = 19
+writeClose = 20
 
 abbrev pub writeHold : ℕ
-writeHold = 20
+writeHold = 21
 
 abbrev pub writeLift : ℕ
-writeLift = 21
+writeLift = 22
 
 -- the command that a word names
 unfoldable pub verbOf : List ℕ → ℕ
@@ -97,11 +100,13 @@ verbOf w =
     (pick (same w (text "notice")) doNotice
     (pick (same w (text "romlane")) doRomLane
     (pick (same w (text "romplan")) doRomPlan
+    (pick (same w (text "planner")) doPlanner
     (pick (same w (text "write")) doWrite
-    (pick (same w (text "help")) doHelp none)))))))))))))))
+    (pick (same w (text "help")) doHelp none))))))))))))))))
 
--- what a line may name at most: ids of a status, titles of a share, places of a plan, as many as the longest has. One
--- title more than the product shares among, so that its own refusal is seen
+-- what a line may name at most: ids of a status, titles of a share and rates of a planner, places of a plan, as many as the
+-- longest has, and places for a planner's list, one for each title. One title or rate more than the product takes, so that
+-- its own refusal is seen
 abbrev pub idsMost : ℕ
 idsMost = 32
 
@@ -110,6 +115,9 @@ titlesMost = 17
 
 abbrev pub placesMost : ℕ
 placesMost = planPlaces
+
+abbrev pub roomMost : ℕ
+roomMost = titlesMax
 
 -- the numbers of a title in a share: rate, length, floor, cap
 abbrev pub titleNumbers : ℕ
@@ -121,11 +129,12 @@ wordsMost = 1 + titleNumbers * titlesMost
 
 -- by command: the fewest words after its own, and the most
 abbrev pub leastTable : List ℕ
-leastTable = 0 ∷ 1 ∷ 6 ∷ 3 ∷ 2 ∷ 2 ∷ 2 ∷ 3 ∷ 1 ∷ 4 ∷ 1 ∷ 1 ∷ 1 ∷ 3 ∷ 4 ∷ 2 ∷ 0 ∷ 7 ∷ 4 ∷ 3 ∷ 3 ∷ 3 ∷ []
+leastTable = 0 ∷ 1 ∷ 6 ∷ 3 ∷ 2 ∷ 2 ∷ 2 ∷ 3 ∷ 1 ∷ 4 ∷ 1 ∷ 1 ∷ 1 ∷ 3 ∷ 4 ∷ 2 ∷ 2 ∷ 0 ∷ 7 ∷ 4 ∷ 3 ∷ 3 ∷ 3 ∷ []
 
 abbrev pub mostTable : List ℕ
 mostTable =
-    0 ∷ 1 ∷ 6 ∷ 3 ∷ 2 ∷ 2 ∷ 2 ∷ 3 ∷ (1 + idsMost) ∷ 5 ∷ wordsMost ∷ 1 ∷ 1 ∷ 3 ∷ 5 ∷ 2 ∷ 0 ∷ 7 ∷ 4 ∷ 3 ∷ 3 ∷ 3 ∷ []
+    0 ∷ 1 ∷ 6 ∷ 3 ∷ 2 ∷ 2 ∷ 2 ∷ 3 ∷ (1 + idsMost) ∷ 5 ∷ wordsMost ∷ 1 ∷ 1 ∷ 3 ∷ 5 ∷ (2 + titlesMost) ∷ 2 ∷ 0 ∷ 7 ∷ 4 ∷ 3 ∷ 3
+    ∷ 3 ∷ []
 
 unfoldable pub leastOf : ℕ → ℕ
 leastOf c = getD leastTable c 0
@@ -150,7 +159,7 @@ unfoldable pub asksPlan : ℕ → Bool
 asksPlan c = either (eqb c doPlan) (eqb c doRomPlan)
 
 -- the largest value of each number of a command, where a larger one is an error of the line; 0 where any is handed on.
--- Of a notice's fields (01, "Notices") and of the places lent for a plan
+-- Of a notice's fields (01, "Notices"), and of the places lent for a plan and for a planner's list
 unfoldable pub limitsOf : ℕ → List ℕ
 limitsOf c =
     pick (asksPlan c) (0 ∷ 0 ∷ 0 ∷ 0 ∷ placesMost ∷ 0 ∷ 0 ∷ [])
@@ -158,7 +167,8 @@ limitsOf c =
     (pick (eqb c writeOpen) (fourBytesMost ∷ byteMost ∷ top ∷ fourBytesMost ∷ byteMost ∷ byteMost ∷ byteMost ∷ [])
     (pick (eqb c writeChange) (fourBytesMost ∷ byteMost ∷ top ∷ byteMost ∷ 0 ∷ 0 ∷ 0 ∷ [])
     (pick (within writeClose writeLift c) (fourBytesMost ∷ byteMost ∷ top ∷ 0 ∷ 0 ∷ 0 ∷ 0 ∷ [])
-    (0 ∷ 0 ∷ 0 ∷ 0 ∷ 0 ∷ 0 ∷ 0 ∷ [])))))
+    (pick (eqb c doPlanner) (0 ∷ roomMost ∷ 0 ∷ 0 ∷ 0 ∷ 0 ∷ 0 ∷ [])
+    (0 ∷ 0 ∷ 0 ∷ 0 ∷ 0 ∷ 0 ∷ 0 ∷ []))))))
 
 -- no command limits more of its numbers than these
 abbrev pub limited : ℕ

@@ -1,6 +1,7 @@
 // The console's commands by number, the words that name them, and how many numbers each takes, of which size.
 
 use rules::PLAN_PLACES;
+use rules::TITLES_MAX;
 use text::numbers::BYTE_MOST;
 use text::numbers::FOUR_BYTES_MOST;
 use text::numbers::TOP;
@@ -56,20 +57,22 @@ pub const ROM_LANE: u8 = 13;
 
 pub const ROM_PLAN: u8 = 14;
 
+pub const PLANNER: u8 = 15;
+
 // A write whose kind has not been read yet; the kind's own number is added to it.
-pub const WRITE: u8 = 15;
+pub const WRITE: u8 = 16;
 
-pub const HELP: u8 = 16;
+pub const HELP: u8 = 17;
 
-pub const WRITE_OPEN: u8 = 17;
+pub const WRITE_OPEN: u8 = 18;
 
-pub const WRITE_CHANGE: u8 = 18;
+pub const WRITE_CHANGE: u8 = 19;
 
-pub const WRITE_CLOSE: u8 = 19;
+pub const WRITE_CLOSE: u8 = 20;
 
-pub const WRITE_HOLD: u8 = 20;
+pub const WRITE_HOLD: u8 = 21;
 
-pub const WRITE_LIFT: u8 = 21;
+pub const WRITE_LIFT: u8 = 22;
 
 // What can be wrong with a line.
 pub const NO_FAULT: u8 = 0;
@@ -100,21 +103,26 @@ pub const TOO_MANY_PLACES: u8 = 11;
 pub const UNREAD: u8 = 12;
 
 // How many there are.
-const COMMANDS: usize = 22;
+const COMMANDS: usize = 23;
 
-// What a line may name at most: ids of a status, titles of a share, places of a plan, as many as the longest has. One
-// title more than the product shares among, so that its own refusal is seen.
+// What a line may name at most: ids of a status, titles of a share and rates of a planner, places of a plan, as many as the
+// longest has, and places for a planner's list, one for each title. One title or rate more than the product takes, so that
+// its own refusal is seen.
 pub const IDS_MOST: usize = 32;
 
 pub const TITLES_MOST: usize = 17;
 
 pub const PLACES_MOST: usize = PLAN_PLACES;
 
+pub const ROOM_MOST: usize = TITLES_MAX;
+
 // The numbers of a title in a share: rate, length, floor and cap.
 pub const TITLE_NUMBERS: usize = 4;
 
-// A status has a time and its ids, a share a pool and the numbers of its titles.
+// A status has a time and its ids, a share a pool and the numbers of its titles, a planner a time, a room and its rates.
 const STATUS_MOST: usize = 1 + IDS_MOST;
+
+const PLANNER_MOST: usize = 2 + TITLES_MOST;
 
 const SHARE_MOST: usize = 1 + TITLE_NUMBERS * TITLES_MOST;
 
@@ -135,6 +143,7 @@ const LEAST: [usize; COMMANDS] = [
     1,
     3,
     4,
+    2,
     2,
     0,
     7,
@@ -160,6 +169,7 @@ const MOST: [usize; COMMANDS] = [
     1,
     3,
     5,
+    PLANNER_MOST,
     2,
     0,
     7,
@@ -185,20 +195,21 @@ pub fn verb(word: &[u8]) -> u8
 {
     let a = named(word, b"help", HELP, NONE);
     let b = named(word, b"write", WRITE, a);
-    let c = named(word, b"romplan", ROM_PLAN, b);
-    let d = named(word, b"romlane", ROM_LANE, c);
-    let e = named(word, b"notice", NOTICE, d);
-    let f = named(word, b"read", READ, e);
-    let g = named(word, b"share", SHARE, f);
-    let h = named(word, b"plan", PLAN, g);
-    let i = named(word, b"status", STATUS, h);
-    let j = named(word, b"lane", LANE, i);
-    let k = named(word, b"lift", LIFT, j);
-    let l = named(word, b"hold", HOLD, k);
-    let m = named(word, b"close", CLOSE, l);
-    let n = named(word, b"change", CHANGE, m);
-    let o = named(word, b"open", OPEN, n);
-    named(word, b"fresh", FRESH, o)
+    let c = named(word, b"planner", PLANNER, b);
+    let d = named(word, b"romplan", ROM_PLAN, c);
+    let e = named(word, b"romlane", ROM_LANE, d);
+    let f = named(word, b"notice", NOTICE, e);
+    let g = named(word, b"read", READ, f);
+    let h = named(word, b"share", SHARE, g);
+    let i = named(word, b"plan", PLAN, h);
+    let j = named(word, b"status", STATUS, i);
+    let k = named(word, b"lane", LANE, j);
+    let l = named(word, b"lift", LIFT, k);
+    let m = named(word, b"hold", HOLD, l);
+    let n = named(word, b"close", CLOSE, m);
+    let o = named(word, b"change", CHANGE, n);
+    let p = named(word, b"open", OPEN, o);
+    named(word, b"fresh", FRESH, p)
 }
 
 // The most words that a command takes after its own.
@@ -292,6 +303,9 @@ fn limits(command: u8) -> [u64; LIMITED]
     }
     if rules::within(WRITE_CLOSE as u64, WRITE_LIFT as u64, command as u64) {
         return [FOUR_BYTES_MOST, BYTE_MOST, TOP, 0, 0, 0, 0];
+    }
+    if command == PLANNER {
+        return [0, ROOM_MOST as u64, 0, 0, 0, 0, 0];
     }
     [0, 0, 0, 0, 0, 0, 0]
 }

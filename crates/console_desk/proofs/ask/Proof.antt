@@ -1,6 +1,6 @@
 -- `console_desk::ask` meets its contract: each question's own answer.
 use Rattle.text.specs.Output.{page}
-use Rattle.console_desk.proofs.Asking.{asks-lane, asks-status, asks-share, asks-plan, asks-else}
+use Rattle.console_desk.proofs.Asking.{asks-lane, asks-status, asks-share, asks-plan, asks-planner, asks-else}
 use borrow.Author.Needs.{needs}
 use Rattle.console_desk.proofs.ask.Statement.{statement}
 use Rattle.console_desk.proofs.ask.Tie as tie
@@ -99,16 +99,37 @@ returns-4 c =
     asks-plan (x .line) (x .s .now) p _ (x .state) (at-if1 .if1 .left) (at-if2 .if2 .left) (at-if3 .if3 .left) _
     (at-if4 .if4 .taken) (at-places-of .places-of .ensures) (at-put-plan .put-plan .ensures)
 
-ask-rom-requires : tie.Need-ask-rom-requires
-ask-rom-requires c κs = search needs
+put-planner-requires : tie.Need-put-planner-requires
+put-planner-requires c κs = search needs
 
 same-length-5 : tie.Need-same-length-5
 same-length-5 c = search needs
 
 returns-5 : tie.Need-returns-5
 returns-5 c =
+    let at-put-planner = c .before .before in
+    let at-if5 = at-put-planner .before .before in
+    let at-if4 = at-if5 .before in
+    let at-if3 = at-if4 .before in
+    let at-if2 = at-if3 .before in
+    let at-if1 = at-if2 .before in
+    let at-start = at-if1 .before .before .before .before in
+    let x = at-start .args in
+    let p = page (x .out .now) (x .at) in
+    asks-planner (x .line) (x .s .now) p _ (x .state) (at-if1 .if1 .left) (at-if2 .if2 .left) (at-if3 .if3 .left)
+    (at-if4 .if4 .left) (at-if5 .if5 .taken) (at-put-planner .put-planner .ensures)
+
+ask-rom-requires : tie.Need-ask-rom-requires
+ask-rom-requires c κs = search needs
+
+same-length-6 : tie.Need-same-length-6
+same-length-6 c = search needs
+
+returns-6 : tie.Need-returns-6
+returns-6 c =
     let at-ask-rom = c .before .before in
-    let at-if4 = at-ask-rom .before .before in
+    let at-if5 = at-ask-rom .before .before in
+    let at-if4 = at-if5 .before in
     let at-if3 = at-if4 .before in
     let at-if2 = at-if3 .before in
     let at-if1 = at-if2 .before in
@@ -116,7 +137,7 @@ returns-5 c =
     let x = at-start .args in
     let p = page (x .out .now) (x .at) in
     asks-else (x .line) (x .s .now) p _ (x .state) (at-if1 .if1 .left) (at-if2 .if2 .left) (at-if3 .if3 .left)
-    (at-if4 .if4 .left) (at-ask-rom .ask-rom .ensures)
+    (at-if4 .if4 .left) (at-if5 .if5 .left) (at-ask-rom .ask-rom .ensures)
 
 pub ask-spec : {M : Type 1} → statement M
 ask-spec =
@@ -142,6 +163,9 @@ ask-spec =
     put-plan-requires
     same-length-4
     returns-4
-    ask-rom-requires
+    put-planner-requires
     same-length-5
-    returns-5)
+    returns-5
+    ask-rom-requires
+    same-length-6
+    returns-6)

@@ -16,6 +16,7 @@ use Rattle.console_lines.specs.Commands.{
   doNotice,
   doRomLane,
   doRomPlan,
+  doPlanner,
   doWrite,
   doHelp,
 }
@@ -123,13 +124,20 @@ slice-aggregate-named-16 c = search needs
 named-requires-16 : tie.Need-named-requires-16
 named-requires-16 c κs = search needs
 
+slice-aggregate-named-17 : tie.Need-slice-aggregate-named-17
+slice-aggregate-named-17 c = search needs
+
+named-requires-17 : tie.Need-named-requires-17
+named-requires-17 c κs = search needs
+
 chosen : (w n : List ℕ) (v : ℕ) {r s x : ℕ} → r ≡ pick (same w n) v s → s ≡ x → r ≡ pick (same w n) v x
 chosen w n v e f = rw (← f) e
 
 returns : tie.Need-returns
 unfolding verbOf text
 returns c =
-    let at-named15 = c .before .before in
+    let at-named16 = c .before .before in
+    let at-named15 = at-named16 .before .before in
     let at-named14 = at-named15 .before .before in
     let at-named13 = at-named14 .before .before in
     let at-named12 = at-named13 .before .before in
@@ -146,23 +154,24 @@ returns c =
     let at-named = at-named2 .before .before in
     let at-start = at-named .before .before .before in
     let w = at-start .args .word .now in
-    chosen w (text "fresh") doFresh (c .named16 .ensures)
-    (chosen w (text "open") doOpen (at-named15 .named15 .ensures)
-    (chosen w (text "change") doChange (at-named14 .named14 .ensures)
-    (chosen w (text "close") doClose (at-named13 .named13 .ensures)
-    (chosen w (text "hold") doHold (at-named12 .named12 .ensures)
-    (chosen w (text "lift") doLift (at-named11 .named11 .ensures)
-    (chosen w (text "lane") doLane (at-named10 .named10 .ensures)
-    (chosen w (text "status") doStatus (at-named9 .named9 .ensures)
-    (chosen w (text "plan") doPlan (at-named8 .named8 .ensures)
-    (chosen w (text "share") doShare (at-named7 .named7 .ensures)
-    (chosen w (text "read") doRead (at-named6 .named6 .ensures)
-    (chosen w (text "notice") doNotice (at-named5 .named5 .ensures)
-    (chosen w (text "romlane") doRomLane (at-named4 .named4 .ensures)
-    (chosen w (text "romplan") doRomPlan (at-named3 .named3 .ensures)
+    chosen w (text "fresh") doFresh (c .named17 .ensures)
+    (chosen w (text "open") doOpen (at-named16 .named16 .ensures)
+    (chosen w (text "change") doChange (at-named15 .named15 .ensures)
+    (chosen w (text "close") doClose (at-named14 .named14 .ensures)
+    (chosen w (text "hold") doHold (at-named13 .named13 .ensures)
+    (chosen w (text "lift") doLift (at-named12 .named12 .ensures)
+    (chosen w (text "lane") doLane (at-named11 .named11 .ensures)
+    (chosen w (text "status") doStatus (at-named10 .named10 .ensures)
+    (chosen w (text "plan") doPlan (at-named9 .named9 .ensures)
+    (chosen w (text "share") doShare (at-named8 .named8 .ensures)
+    (chosen w (text "read") doRead (at-named7 .named7 .ensures)
+    (chosen w (text "notice") doNotice (at-named6 .named6 .ensures)
+    (chosen w (text "romlane") doRomLane (at-named5 .named5 .ensures)
+    (chosen w (text "romplan") doRomPlan (at-named4 .named4 .ensures)
+    (chosen w (text "planner") doPlanner (at-named3 .named3 .ensures)
     (chosen w (text "write") doWrite (at-named2 .named2 .ensures)
     (chosen w (text "help") doHelp (at-named .named .ensures)
-    refl)))))))))))))))
+    refl))))))))))))))))
 
 pub verb-spec : {M : Type 1} → statement M
 verb-spec =
@@ -200,4 +209,6 @@ verb-spec =
     named-requires-15
     slice-aggregate-named-16
     named-requires-16
+    slice-aggregate-named-17
+    named-requires-17
     returns)
