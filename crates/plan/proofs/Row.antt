@@ -8,7 +8,8 @@ use mathlib.Core.Logic.{⊎-elim}
 use Prim.Native.Nat.{ℕ, zero, suc, _+_, _-_, _≤_, _<_}
 use native.Mathlib.Omega.{arith}
 use lib.Dec.{eqb}
-use lib.ListN.{length, getD, length-set}
+use native.Mathlib.Numerals.{add-one}
+use lib.ListN.{length, getD, set, length-set}
 use lib.Seq.{getD-set-same, getD-set-other}
 use borrow.Author.Tests.{eq-eqb, ne-eqb}
 use Rattle.rules.specs.Refusals.{pick, done}
@@ -20,6 +21,11 @@ use Rattle.plan.specs.Row.{written, planRow, Planned}
 use Rattle.plan.proofs.Refusals.{accepted-only}
 
 module _ (f : ℕ → ℕ) (row : List ℕ) where
+  -- one place more
+  pub written-next : (r : List ℕ) (n v : ℕ) → r ≡ written f row n → v ≡ f n → set r n v ≡ written f row (n + 1)
+  unfolding written
+  written-next r n v p q = rw (add-one n, p, q) refl
+
   pub written-length : (n : ℕ) → length (written f row n) ≡ length row
   unfolding written
   written-length zero = refl

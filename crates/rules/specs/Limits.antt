@@ -25,6 +25,10 @@ countMin = 2
 abbrev pub countMax : ℕ
 countMax = 12
 
+-- the largest count of a skip-forward title (02, request 12)
+abbrev pub steadyMax : ℕ
+steadyMax = 10
+
 -- D, in ms
 abbrev pub lengthMin : ℕ
 lengthMin = 1

@@ -78,6 +78,10 @@ doorsUnchanged = 17
 abbrev pub pastClock : ℕ
 pastClock = 18
 
+-- a skip-forward title, whose count is steady and whose doors stay as they are
+abbrev pub isSteady : ℕ
+isSteady = 19
+
 -- one of two values, by a test
 abbrev pub pick : {A : Type 0} → Bool → A → A → A
 pick true a b = a

@@ -21,6 +21,9 @@ pub const COUNT_MIN: u64 = 2;
 
 pub const COUNT_MAX: u64 = 12;
 
+// The largest count of a skip-forward title, by 02's request 12.
+pub const STEADY_MAX: u64 = 10;
+
 pub const LENGTH_MIN: u64 = 1;
 
 pub const LENGTH_MAX: u64 = 14_400_000;
@@ -82,6 +85,9 @@ pub const DOORS_UNCHANGED: u8 = 17;
 
 // An event would fall after the clock's last time.
 pub const PAST_CLOCK: u8 = 18;
+
+// A skip-forward title is not changed, held or lifted.
+pub const STEADY: u8 = 19;
 
 // Whether x lies from lo to hi, both ends allowed.
 pub fn within(lo: u64, hi: u64, x: u64) -> bool

@@ -1,26 +1,20 @@
 -- `plan::fill` meets its contract. The invariant: the row is the lent one with the plan written into the places passed.
--- Rests on what `plan_at` ensures.
-use mathlib.Core.Path.{_≡_, refl, ap, _∙_}
-use mathlib.Core.List.{List}
-use Prim.Native.Nat.{ℕ, _+_, _-_, _≤_}
+-- Rests on what `plan_at` ensures and on the laws of the row.
+use mathlib.Core.Path.{_≡_, ap, _∙_}
+use Prim.Native.Nat.{_-_, _≤_}
 use native.Mathlib.Omega.{arith}
-use native.Mathlib.Numerals.{add-one}
 use native.Mathlib.Nat.{le-antisymm}
-use lib.ListN.{length, set, length-set}
+use lib.ListN.{length, length-set}
 use borrow.Author.Needs.{needs}
 use Rattle.grid.specs.Plan.{planAt}
 use Rattle.plan.specs.Row.{written}
+use Rattle.plan.proofs.Row.{written-next}
 use Rattle.plan.proofs.fill.Statement.{statement}
 use Rattle.plan.proofs.fill.Tie as tie
 use Rattle.plan.proofs.fill.Reads as reads
 use Rattle.plan.proofs.fill.Lts as lts
 use Rattle.grid.proofs.pow2.Reads as pow2-reads
 use Rattle.plan.proofs.plan_at.Reads as plan-at-reads
-
--- one place more
-step : (f : ℕ → ℕ) (l r : List ℕ) (n v : ℕ) → r ≡ written f l n → v ≡ f n → set r n v ≡ written f l (n + 1)
-unfolding written
-step f l r n v p q = rw (add-one n, p, q) refl
 
 abbrev Inv-loop : tie.InvT-loop
 Inv-loop floor cap count arrival row₀ cells cell₀ row cell =
@@ -66,7 +60,7 @@ loop-again c =
     let a = c .before .before .before .before .before .args in
     let l = c .before .before .loop in (
       omega arith,
-      step (planAt (a .floor) (a .cap) (a .count) (a .arrival)) (a .row .now) (l .row) (l .cell) (c .plan-at .result) (l .inv .1) (c .plan-at .ensures),
+      written-next (planAt (a .floor) (a .cap) (a .count) (a .arrival)) (a .row .now) (l .row) (l .cell) (c .plan-at .result) (l .inv .1) (c .plan-at .ensures),
       length-set (l .row) (l .cell) (c .plan-at .result) ∙ l .inv .2,
     )
 

@@ -1,0 +1,26 @@
+-- `period` meets its contract: one tick on the first lane, and a power of two on another. Rests on what its callee ensures.
+use mathlib.Core.Path.{sym, _∙_}
+use borrow.Author.Needs.{needs}
+use Rattle.scheme.proofs.Which.{period-above}
+use Rattle.scheme.proofs.period.Statement.{statement}
+use Rattle.scheme.proofs.period.Tie as tie
+
+returns : tie.Need-returns
+returns c = search needs
+
+sub-pow2 : tie.Need-sub-pow2
+sub-pow2 c = search needs
+
+pow2-requires : tie.Need-pow2-requires
+pow2-requires c κs = search needs
+
+returns-2 : tie.Need-returns-2
+returns-2 c =
+    record {
+      is = c .pow2 .ensures .is ∙ sym (period-above (c .before .before .args .lane) (c .before .if1 .left));
+      low = c .pow2 .ensures .low;
+      high = c .pow2 .ensures .high;
+    }
+
+pub period-spec : {M : Type 1} → statement M
+period-spec = tie.close (tie.spec returns sub-pow2 pow2-requires returns-2)

@@ -1,0 +1,47 @@
+-- `tick` meets its contract: the division rounds up over a title's blocks, or is the grid's. Rests on the laws of kinds.
+use borrow.Author.Needs.{needs}
+use Rattle.scheme.proofs.Which.{steady-tick-exactly, padded-tick}
+use Rattle.scheme.proofs.tick.Statement.{statement}
+use Rattle.scheme.proofs.tick.Tie as tie
+
+sub-pow2 : tie.Need-sub-pow2
+sub-pow2 c = search needs
+
+pow2-requires : tie.Need-pow2-requires
+pow2-requires c κs = search needs
+
+sub-result : tie.Need-sub-result
+sub-result c = search needs
+
+add-result : tie.Need-add-result
+add-result c = search needs
+
+div-result : tie.Need-div-result
+div-result c = search needs
+
+returns : tie.Need-returns
+returns c =
+    let s = c .before .before in
+    let a = s .args in
+    steady-tick-exactly (a .kind) (a .floor) (a .cap) (a .length) (c .pow2 .result) (c .before .if1 .taken) (s .pre .0 .low) (c .pow2 .ensures .is)
+
+tick-requires : tie.Need-tick-requires
+tick-requires c κs = search needs
+
+returns-2 : tie.Need-returns-2
+returns-2 c =
+    let a = c .before .before .args in
+    rw (padded-tick (a .kind) (a .floor) (a .cap) (a .length) (c .before .if1 .left)) (c .tick .ensures)
+
+pub tick-spec : {M : Type 1} → statement M
+tick-spec =
+    tie.close
+    (tie.spec
+    sub-pow2
+    pow2-requires
+    sub-result
+    add-result
+    div-result
+    returns
+    tick-requires
+    returns-2)

@@ -1,0 +1,2 @@
+-- The schemes by which titles are sent.
+pub mod Scheme
