@@ -9,31 +9,31 @@ use native.Mathlib.Omega.{arith}
 use native.Mathlib.Nat.{le-antisymm}
 use lib.Dec.{ltb, leb, eqb}
 use borrow.Author.Tests.{ltb-true, ltb-false, leb-true, eqb-true, eqb-false, not-false}
-use Rattle.rules.specs.Limits.{both, either, within, idMax, eventTimeMax, lengthMin, lengthMax, floorMin, floorMax}
+use Rattle.rules.specs.Limits.{both, either, within, idMax, eventTimeMax}
 use Rattle.rules.specs.Limits.{countMin, countMax}
 use Rattle.rules.specs.Refusals.{Rule, refuse, firstHit, outsideLimits, tooEarly, notThere, idTaken, isClosing}
-use Rattle.rules.specs.Refusals.{floorAboveCap, belowFloor, aboveCap, unchanged, doorsUnchanged, secondEvent, notAtSlot}
+use Rattle.rules.specs.Refusals.{floorAboveCap, belowFloor, aboveCap, isSteady, unchanged, doorsUnchanged, secondEvent, notAtSlot}
 use Rattle.rules.specs.Refusals.{pick, tooSoon, noLanes}
 use Rattle.rules.proofs.Tests.{decide, both-l, both-r}
 use Rattle.rules.proofs.Refusals.{hitsOf, numbered, cleared, hit-same}
-use Rattle.grid.specs.Ticks.{tickOf, isSlotStart}
+use Rattle.scheme.specs.Scheme.{starts}
 use Rattle.story.specs.declared.Title.{Title}
 use Rattle.story.specs.declared.State.{State}
 use Rattle.story.specs.Kept.{openMode, closingMode, clearMark, heldMark, isShut, titleAt, stateOk}
-use Rattle.story.specs.Kept.{tickAt, atTickStart, settledAt, lanesHeld, isThere}
+use Rattle.story.specs.Kept.{schemeIn, titleTick, tickAt, atTickStart, settledAt, lanesHeld, isThere}
 use Rattle.story.specs.Next.{openedTitle, withTitle, openNext, changedTitle, changeNext, closedTitle, closeNext}
 use Rattle.story.specs.Next.{ended, turned, turnedTitle, doorsTitle, doorsNext, callNext}
 use Rattle.story.specs.Calls.{eventOk, tooMany, atSlotStart, testsIn, callAnswer}
 use Rattle.story.specs.Life.{Life, Course}
 use Rattle.story.specs.Story.{Act, opens, changes, closes, doors, Event, event, lifeAfter, lifeOf, latestOf}
 use Rattle.story.specs.Story.{lastTime}
-use Rattle.story.specs.Story.{tickIn, countIn, isSlotIn, isThereIn, withinLimits, openLimits, overfull, orderOf}
+use Rattle.story.specs.Story.{tickIn, countIn, isSlotIn, isThereIn, withinLimits, kindLimits, overfull, orderOf}
 use Rattle.story.specs.Story.{settling, tunes, tunedOf, isShutIn, answerTo, turn}
 use Rattle.story.proofs.Stored.{lifeIn}
 use Rattle.story.proofs.Kept.{Present, later}
 use Rattle.story.proofs.Turn.{Turning, turned-laid, turn-present, turn-before, turn-from, open-ruling}
 use Rattle.story.proofs.Rows.{drop-none}
-use Rattle.story.proofs.Passed.{within-low, within-high}
+use Rattle.story.proofs.Passed.{offered}
 use Rattle.story.proofs.Tells.{TellsTitle, absent, present, Tells, opened-present, count-told, there-told}
 use Rattle.story.proofs.Tells.{fromStart, closing-told, doors-told, lanes-told, told-with, blank-away}
 
@@ -137,29 +137,21 @@ module _ (lanes : ℕ) (es : List Event) (s : State) (w : Tells lanes es s) wher
     seen le = omega (arith, w .newest i)
 
     -- an opening within its limits, not too early, with a count from floor to cap
-    open-next : (D A K k : ℕ) → i ≤ idMax → τ ≤ eventTimeMax → openLimits D A K k ≡ true → lastTime es ≤ τ →
-        ltb k A ≡ false → ltb K k ≡ false → Tells lanes (event i τ (opens D A K k) ∷ es) (openNext s i τ D A K k)
-    open-next D A K k id limit nums late low high =
-        let k-ok : Bool = within countMin countMax k in
-        let K-ok : Bool = within countMin countMax K in
-        let A-ok : Bool = within floorMin floorMax A in
-        let D-ok : Bool = within lengthMin lengthMax D in
-        let d : D-ok ≡ true = both-l D-ok (both A-ok (both K-ok k-ok)) nums in
-        let rest : both A-ok (both K-ok k-ok) ≡ true = both-r D-ok (both A-ok (both K-ok k-ok)) nums in
-        let a : A-ok ≡ true = both-l A-ok (both K-ok k-ok) rest in
-        let c : K-ok ≡ true = both-l K-ok k-ok (both-r A-ok (both K-ok k-ok) rest) in
-        told-with lanes es s (event i τ (opens D A K k)) (openedTitle τ D A K k) w (omega arith) late limit
+    open-next : (m D A K k : ℕ) → i ≤ idMax → τ ≤ eventTimeMax → kindLimits m D A K k ≡ true → lastTime es ≤ τ →
+        ltb k A ≡ false → ltb K k ≡ false → Tells lanes (event i τ (opens m D A K k) ∷ es) (openNext s i τ m D A K k)
+    open-next m D A K k id limit nums late low high =
+        told-with lanes es s (event i τ (opens m D A K k)) (openedTitle m τ D A K k) w (omega arith) late limit
         (present (fromStart k) refl refl
-        (opened-present τ D A K k limit (within-low lengthMin lengthMax D d) (within-high lengthMin lengthMax D d) (within-low floorMin floorMax A a) (within-high floorMin floorMax A a) (within-high countMin countMax K c) (ltb-false k A low) (ltb-false K k high)))
+        (opened-present m τ D A K k limit (offered m D A K k nums) (ltb-false k A low) (ltb-false K k high)))
         refl
 
-    open-told : (D A K k : ℕ) →
-        callAnswer s i τ (opens D A K k) ≡ answerTo lanes es (event i τ (opens D A K k)) (lifeOf es i) (opens D A K k)
+    open-told : (m D A K k : ℕ) →
+        callAnswer s i τ (opens m D A K k) ≡ answerTo lanes es (event i τ (opens m D A K k)) (lifeOf es i) (opens m D A K k)
     unfolding callAnswer answerTo
-    open-told D A K k =
-        hit-same outsideLimits _ _ _ _ (limits-told (openLimits D A K k))
+    open-told m D A K k =
+        hit-same outsideLimits _ _ _ _ (limits-told (kindLimits m D A K k))
         (λ t1.
-        let n = limits-out (openLimits D A K k) t1 in
+        let n = limits-out (kindLimits m D A K k) t1 in
         hit-same tooEarly _ _ _ _ (ap (λ x. ltb τ x) (w .last))
         (λ t2.
         hit-same idTaken _ _ _ _ (sym (there-told (lifeOf es i) (latestOf es i) (titleAt s i) τ (w .title i (omega (arith, n .0))) (seen (late-out t2))))
@@ -171,7 +163,7 @@ module _ (lanes : ℕ) (es : List Event) (s : State) (w : Tells lanes es s) wher
         hit-same aboveCap _ _ _ _ refl
         (λ t14.
         hit-same noLanes _ _ _ _
-        (full-told (event i τ (opens D A K k)) (openNext s i τ D A K k) (open-next D A K k (n .0) (n .1) (n .2) (late-out t2) t13 t14))
+        (full-told (event i τ (opens m D A K k)) (openNext s i τ m D A K k) (open-next m D A K k (n .0) (n .1) (n .2) (late-out t2) t13 t14))
         (λ t9. refl)))))))
 
     -- a turn of an open title
@@ -199,12 +191,12 @@ module _ (lanes : ℕ) (es : List Event) (s : State) (w : Tells lanes es s) wher
         (decide (ltb (t .last) τ))
 
     tick-out : (t : Title) (k : ℕ) → not (atSlotStart t k τ) ≡ false →
-        ((τ - t .opened) % tickOf (t .length) (t .floor) (t .cap) ≡ 0) × (isSlotStart (t .cap) k (tickAt t τ) ≡ true)
+        ((τ - t .opened) % titleTick t ≡ 0) × (starts (schemeIn t) k (tickAt t τ) ≡ true)
     unfolding atTickStart
     tick-out t k h =
         let all : atSlotStart t k τ ≡ true = not-false (atSlotStart t k τ) h in (
-          eqb-true ((τ - t .opened) % tickOf (t .length) (t .floor) (t .cap)) 0 (both-l (atTickStart t τ) (isSlotStart (t .cap) k (tickAt t τ)) all),
-          both-r (atTickStart t τ) (isSlotStart (t .cap) k (tickAt t τ)) all,
+          eqb-true ((τ - t .opened) % titleTick t) 0 (both-l (atTickStart t τ) (starts (schemeIn t) k (tickAt t τ)) all),
+          both-r (atTickStart t τ) (starts (schemeIn t) k (tickAt t τ)) all,
         )
 
     change-next : (k : ℕ) (o : Open (lifeOf es i) (latestOf es i) (titleAt s i) τ) → i ≤ idMax → τ ≤ eventTimeMax →
@@ -347,6 +339,8 @@ module _ (lanes : ℕ) (es : List Event) (s : State) (w : Tells lanes es s) wher
         standing-told (both (eventOk s i τ) (within countMin countMax k)) (both (withinLimits (event i τ (changes k))) (within countMin countMax k)) _ _ (rw ok refl)
         (λ x. event-out (both-l (eventOk s i τ) (within countMin countMax k) x))
         (λ id limit late o.
+        hit-same isSteady _ _ _ _ (rw (ap (λ (L : Life). L .kind) (o .life)) refl)
+        (λ t19.
         hit-same belowFloor _ _ _ _ (rw (ap (λ (L : Life). L .floor) (o .life)) refl)
         (λ t13.
         hit-same aboveCap _ _ _ _ (rw (ap (λ (L : Life). L .cap) (o .life)) refl)
@@ -362,7 +356,7 @@ module _ (lanes : ℕ) (es : List Event) (s : State) (w : Tells lanes es s) wher
         (λ t8.
         hit-same noLanes _ _ _ _
         (full-told (event i τ (changes k)) (changeNext s i τ k) (change-next k o id limit late t13 t14 t7 t8))
-        (λ t9. refl))))))))
+        (λ t9. refl)))))))))
 
     close-told : callAnswer s i τ closes ≡ answerTo lanes es (event i τ closes) (lifeOf es i) closes
     unfolding callAnswer answerTo
@@ -381,18 +375,20 @@ module _ (lanes : ℕ) (es : List Event) (s : State) (w : Tells lanes es s) wher
     doors-answered b =
         standing-told (eventOk s i τ) (withinLimits (event i τ (doors b))) _ _ (rw ok refl) event-out
         (λ id limit late o.
+        hit-same isSteady _ _ _ _ (rw (ap (λ (L : Life). L .kind) (o .life)) refl)
+        (λ t19.
         hit-same doorsUnchanged _ _ _ _ (ap (λ x. pick b x (not x)) (sym (o .doors)))
         (λ t17.
         hit-same secondEvent _ _ _ _ (ap (λ x. eqb τ x) (sym (o .latest)))
         (λ t7.
         hit-same notAtSlot _ _ _ _
         (rw (o .count) (ap not (slot-told (lifeOf es i) (latestOf es i) (titleAt s i) τ (titleAt s i .count) o)))
-        (λ t8. refl))))
+        (λ t8. refl)))))
 
   module _ (ok : stateOk s ≡ true) where
     -- every event is answered as the sequence says
     pub answer-told : (i τ : ℕ) (a : Act) → callAnswer s i τ a ≡ answerTo lanes es (event i τ a) (lifeOf es i) a
-    answer-told i τ (opens D A K k) = open-told ok i τ D A K k
+    answer-told i τ (opens m D A K k) = open-told ok i τ m D A K k
     answer-told i τ (changes k) = change-told ok i τ k
     answer-told i τ closes = close-told ok i τ
     answer-told i τ (doors b) = doors-answered ok i τ b
@@ -400,17 +396,17 @@ module _ (lanes : ℕ) (es : List Event) (s : State) (w : Tells lanes es s) wher
     -- and an accepted one, which clears every refusal, leaves a state that tells the longer sequence
     clears : (i τ : ℕ) (a : Act) → callAnswer s i τ a ≡ 0 → (n : ℕ) → hitsOf n (orderOf a (testsIn s i τ a)) ≡ false
     unfolding callAnswer numbered
-    clears i τ (opens D A K k) h = cleared (orderOf (opens D A K k) (testsIn s i τ (opens D A K k))) refl h
+    clears i τ (opens m D A K k) h = cleared (orderOf (opens m D A K k) (testsIn s i τ (opens m D A K k))) refl h
     clears i τ (changes k) h = cleared (orderOf (changes k) (testsIn s i τ (changes k))) refl h
     clears i τ closes h = cleared (orderOf closes (testsIn s i τ closes)) refl h
     clears i τ (doors b) h = cleared (orderOf (doors b) (testsIn s i τ (doors b))) refl h
 
     pub next-told : (i τ : ℕ) (a : Act) → callAnswer s i τ a ≡ 0 → Tells lanes (event i τ a ∷ es) (callNext s i τ a)
     unfolding hitsOf
-    next-told i τ (opens D A K k) h =
-        let clear = clears i τ (opens D A K k) h in
-        let n = limits-out ok i τ (openLimits D A K k) (clear outsideLimits) in
-        open-next ok i τ D A K k (n .0) (n .1) (n .2) (late-out ok i τ (clear tooEarly)) (clear belowFloor) (clear aboveCap)
+    next-told i τ (opens m D A K k) h =
+        let clear = clears i τ (opens m D A K k) h in
+        let n = limits-out ok i τ (kindLimits m D A K k) (clear outsideLimits) in
+        open-next ok i τ m D A K k (n .0) (n .1) (n .2) (late-out ok i τ (clear tooEarly)) (clear belowFloor) (clear aboveCap)
     next-told i τ (changes k) h =
         let clear = clears i τ (changes k) h in
         let n = limits-out ok i τ (within countMin countMax k) (clear outsideLimits) in

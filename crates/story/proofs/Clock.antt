@@ -1,19 +1,11 @@
 -- Laws of the clock: ticks begun by a moment, and the moments at which ticks begin.
--- Rest on division with remainder and on the rounding up of the tick.
+-- Rest on division with remainder.
 use mathlib.Core.Path.{_≡_}
 use mathlib.Core.Logic.{⊎-elim}
 use Prim.Native.Nat.{ℕ, suc, _+_, _-_, _*_, _/_, _%_, _^_, _≤_, _<_}
 use native.Mathlib.Omega.{arith}
 use native.Mathlib.Nat.{le-antisymm, div-lt-iff-lt-mul, div-add-mod', div-mul-le-self, le-div-iff-mul-le}
 use native.Mathlib.Nat.{mul-div-cancel, mul-le-mul-right}
-use Rattle.grid.specs.Ticks.{tickOf}
-use Rattle.grid.proofs.Ticks.{rounded-low, held-pos}
-
--- a film of some length has a tick of some length
-pub tick-pos : (D A K : ℕ) → 0 < D → 0 < A → A ≤ K → 0 < tickOf D A K
-unfolding tickOf
-tick-pos D A K film floor high =
-    rounded-low D (2 ^ K - 2 ^ (K - A)) film (omega (arith, held-pos A K floor high))
 
 module _ (B p : ℕ) (pos : 0 < p) where
   pub tick-mono : (x y : ℕ) → x ≤ y → (x - B) / p ≤ (y - B) / p

@@ -13,15 +13,17 @@ use borrow.Author.Tests.{ltb-true}
 use Rattle.rules.specs.Limits.{titlesMax, idMax, laneMax, askedMax}
 use Rattle.rules.specs.Refusals.{pick, noLanes}
 use Rattle.rules.specs.Search.{howMany}
+use Rattle.scheme.specs.Scheme.{steadyKind, schemeOf}
+use Rattle.scheme.proofs.Padded.{nothing-lawful}
 use Rattle.rules.proofs.Refusals.{hitsOf, distinct, isListed, first-hit}
 use Rattle.story.specs.declared.State.{State}
 use Rattle.story.specs.Life.{Life, isFilm, isActive, isOwed, reach, owedWithin, owes, cell, isHeld}
 use Rattle.story.specs.Kept.{stateOk, lanesHeld}
 use Rattle.story.specs.Calls.{laneAnswer, laneShows, statusAnswer, statusCount, statusHeld, statusMark}
 use Rattle.story.specs.Story.{Act, opens, changes, closes, doors, Event, lifeOf, lastTime, upTo, countIn}
-use Rattle.story.specs.Story.{isMarkedIn, airAt, heldIn}
+use Rattle.story.specs.Story.{isMarkedIn, airAt, heldIn, unopened, tickLength}
 use Rattle.story.specs.Story.{heldOver, testsTo, orderOf, answerTo, answer, accepted, Accepted, more}
-use Rattle.story.specs.Story.{laneAnswerTo, statusAnswerTo, lifeAt, InTick, Received, Begins, Dropped, Quiet}
+use Rattle.story.specs.Story.{laneAnswerTo, statusAnswerTo, lifeAt, InTick, ReceivedBy, Received, Begins, Dropped, Quiet}
 use Rattle.story.specs.Runs.{answered, stateAfter, lanesOf, Reached}
 use Rattle.story.proofs.Ruled.{Ruled}
 use Rattle.story.proofs.Owed.{owed-reach, owes-all}
@@ -32,6 +34,7 @@ use Rattle.story.proofs.Questions.{lane-answer-told, lane-late, lane-ce
 use Rattle.story.proofs.Questions.{status-count-told, status-held-told, status-mark-told}
 use Rattle.story.proofs.Lively.{lively}
 use Rattle.story.proofs.World.{no-box-runs-dry}
+use Rattle.story.proofs.SkipForward.{next-ahead}
 use Rattle.story.proofs.Pool.{never-exceeded, upTo-all}
 use Rattle.story.proofs.Reached.{upTo-accepted, run-accepted, run-told, run-state}
 use Rattle.story.proofs.Reached.{asked-done, asked-cell, lane-limit, as-it-stands, life-stays}
@@ -44,8 +47,8 @@ every-run pool cs = record { calls = cs; events = refl; state = refl }
 wanting : (lanes : ℕ) (es : List Event) (e : Event) (a : Act) → answerTo lanes es e (lifeOf es (e .title)) a ≡ noLanes →
     lanes < heldOver (e ∷ es) (e .time)
 unfolding answerTo distinct isListed hitsOf
-wanting lanes es e (opens D A K k) h =
-    ltb-true lanes (heldOver (e ∷ es) (e .time)) (first-hit (orderOf (opens D A K k) (testsTo lanes es e (lifeOf es (e .title)) (opens D A K k))) refl noLanes (lit< tt) h .0)
+wanting lanes es e (opens m D A K k) h =
+    ltb-true lanes (heldOver (e ∷ es) (e .time)) (first-hit (orderOf (opens m D A K k) (testsTo lanes es e (lifeOf es (e .title)) (opens m D A K k))) refl noLanes (lit< tt) h .0)
 wanting lanes es e (changes k) h =
     ltb-true lanes (heldOver (e ∷ es) (e .time)) (first-hit (orderOf (changes k) (testsTo lanes es e (lifeOf es (e .title)) (changes k))) refl noLanes (lit< tt) h .0)
 wanting lanes es e closes h =
@@ -102,6 +105,12 @@ module _ (pool : ℕ) (es : List Event) (s : State) (run : Reached pool es s) wh
       Received es i (lifeAt es i τ) a c
   boxes = no-box-runs-dry (lanesOf pool) es (lanes-limit pool) in-sequence
 
+  -- of a skip-forward title (02, 12) it has the next block, if that has film, by the time the one before it plays: a viewer may
+  -- skip forward;
+  pub ahead : (i τ a c : ℕ) → i < titlesMax → lifeAt es i τ .kind ≡ steadyKind → Begins es i τ a →
+      isFilm (lifeAt es i τ) (suc c) ≡ true → ReceivedBy es i (lifeAt es i τ) a (suc c) (a + c)
+  ahead = next-ahead (lanesOf pool) es (lanes-limit pool) in-sequence
+
   -- and what is on air at a moment is what the lane question answers then, asked of the state that the events up to that
   -- moment have left: so a box receives it by what the calls say, at every moment of that tick that may be asked
   pub asked : (i l τ c : ℕ) → i ≤ idMax → l ≤ laneMax → τ ≤ askedMax → airAt es i l τ ≡ cell c →
@@ -125,8 +134,9 @@ module _ (pool : ℕ) (es : List Event) (s : State) (run : Reached pool es s) wh
   the-pool = never-exceeded (lanesOf pool) es (lanes-limit pool) in-sequence
 
   ruled : (i : ℕ) → i < titlesMax → Ruled (lifeOf es i)
+  unfolding schemeOf
   ruled i id =
-      ⊎-elim (λ e. rw e (record { low = λ t p. absurd (omega arith); high = λ t. omega arith })) (λ w. w .ruled)
+      ⊎-elim (λ e. rw e (record { laws = nothing-lawful (tickLength unopened); flat = λ e. absurd (omega arith); low = λ t p. absurd (omega arith); high = λ t. omega arith })) (λ w. w .ruled)
       (lively (lanesOf pool) es (lanes-limit pool) in-sequence i id)
 
   -- 4. Held exactly. No tick is owed later than 2^(K-1) ticks after a drop, so what a lane owes is counted in full

@@ -9,16 +9,16 @@ use mathlib.Core.List.{List, [], _∷_}
 use Prim.Native.Nat.{ℕ, _+_, _≤_}
 use native.Mathlib.Omega.{arith}
 use borrow.Author.Tests.{not-true}
-use Rattle.rules.specs.Refusals.{firstHit, done, notThere, secondEvent, notAtSlot, noLanes, tooSoon, doorsUnchanged}
+use Rattle.rules.specs.Refusals.{firstHit, done, notThere, secondEvent, notAtSlot, noLanes, tooSoon, doorsUnchanged, isSteady}
 use Rattle.rules.specs.Search.{some, every, first, howMany, after, total}
 use Rattle.rules.proofs.Search.{every-out}
-use Rattle.grid.specs.Ticks.{tickOf, holdsFilm, roundedUp, slot, isSlotStart, cellOf}
+use Rattle.grid.specs.Ticks.{tickOf, roundedUp, slot, cellOf}
 use Rattle.grid.specs.Channels.{floorRem, shift, segment, channelCell}
 use Rattle.grid.specs.Lanes.{isInG, isAdded, addedChannel, laneCell}
-use Rattle.grid.specs.Plan.{takenFrom, inPlan}
+use Rattle.scheme.specs.Scheme.{paddedKind, schemeOf, starts, takes, takesFrom, tickFor, filmIn, steadyCell}
 use Rattle.story.specs.Life.{Life, isAdmission, isActive, droppedAt, isAwaited, isOwed, reach, owedWithin, owes}
 use Rattle.story.specs.Life.{isNth, nthOwed, Air, nothing, cell, sends, onAir, isHeld}
-use Rattle.story.specs.Story.{opens, changes, closes, holds, lifts, Event, event, settling, tickIn, lifeOf}
+use Rattle.story.specs.Story.{opens, skips, changes, closes, holds, lifts, Event, event, settling, tickIn, lifeOf}
 use Rattle.story.specs.Story.{latestOf, tunedOf, upTo, heldIn, heldOver, answerTo, answer, accepted, Accepted}
 use Rattle.story.specs.Story.{lifeAt, airAt, Begins, Dropped, Quiet, nothing-new, elsewhere, none-tunes, goes-by}
 use Rattle.story.proofs.Reached.{accepted-is}
@@ -30,25 +30,25 @@ use Rattle.story.proofs.Demands.{exactly, throughout}
 -- newest first; the change to 2 at 2 comes half a floor slot after the opening
 abbrev calls : List Event
 calls =
-    event 0 16 (opens 24 2 3 2)
+    event 0 16 (opens paddedKind 24 2 3 2)
     ∷ event 0 12 closes
     ∷ event 0 8 (changes 3)
     ∷ event 0 4 (changes 4)
     ∷ event 0 2 (changes 2)
-    ∷ event 0 0 (opens 12 2 4 3)
+    ∷ event 0 0 (opens paddedKind 12 2 4 3)
     ∷ []
 
 abbrev taken : List Event
 taken =
-    event 0 16 (opens 24 2 3 2)
+    event 0 16 (opens paddedKind 24 2 3 2)
     ∷ event 0 12 closes
     ∷ event 0 8 (changes 3)
     ∷ event 0 4 (changes 4)
-    ∷ event 0 0 (opens 12 2 4 3)
+    ∷ event 0 0 (opens paddedKind 12 2 4 3)
     ∷ []
 
 all-but-one : accepted 4 calls ≡ taken
-unfolding accepted answerTo firstHit lifeOf latestOf tunedOf heldOver heldIn tickIn total howMany isHeld onAir isActive droppedAt after sends nthOwed isNth owedWithin isOwed isAwaited isAdmission reach some first inPlan takenFrom laneCell addedChannel isAdded isInG channelCell segment shift floorRem cellOf slot isSlotStart tickOf holdsFilm roundedUp
+unfolding accepted answerTo firstHit lifeOf latestOf tunedOf heldOver heldIn tickIn total howMany isHeld onAir isActive droppedAt after sends nthOwed isNth owedWithin isOwed isAwaited isAdmission reach some first takes takesFrom schemeOf laneCell addedChannel isAdded isInG channelCell segment shift floorRem cellOf slot starts tickFor tickOf filmIn roundedUp
 all-but-one = refl
 
 -- lanes held over all titles, at the opening, after the raise, while lane 3 sends, when it is released, at the close,
@@ -69,7 +69,7 @@ held-then =
     heldThen τ = heldOver (upTo τ taken) τ
 
 held-is : held-then ≡ 3 ∷ 4 ∷ 4 ∷ 3 ∷ 2 ∷ 1 ∷ 1 ∷ 2 ∷ []
-unfolding held-then upTo lifeOf heldOver heldIn tickIn total howMany isHeld onAir isActive droppedAt after sends nthOwed isNth owedWithin isOwed isAwaited isAdmission reach some first inPlan takenFrom laneCell addedChannel isAdded isInG channelCell segment shift floorRem cellOf slot isSlotStart tickOf holdsFilm roundedUp
+unfolding held-then upTo lifeOf heldOver heldIn tickIn total howMany isHeld onAir isActive droppedAt after sends nthOwed isNth owedWithin isOwed isAwaited isAdmission reach some first takes takesFrom schemeOf laneCell addedChannel isAdded isInG channelCell segment shift floorRem cellOf slot starts tickFor tickOf filmIn roundedUp
 held-is = refl
 
 -- lane 3: off, raised, dropped at 8 and sending the one cell with film that it owes, released
@@ -77,12 +77,12 @@ lane-three : List Air
 lane-three = airAt taken 0 3 3 ∷ airAt taken 0 3 4 ∷ airAt taken 0 3 8 ∷ airAt taken 0 3 9 ∷ []
 
 lane-three-is : lane-three ≡ nothing ∷ cell 2 ∷ cell 2 ∷ nothing ∷ []
-unfolding lane-three upTo lifeOf heldOver heldIn tickIn total howMany isHeld onAir isActive droppedAt after sends nthOwed isNth owedWithin isOwed isAwaited isAdmission reach some first inPlan takenFrom laneCell addedChannel isAdded isInG channelCell segment shift floorRem cellOf slot isSlotStart tickOf holdsFilm roundedUp
+unfolding lane-three upTo lifeOf heldOver heldIn tickIn total howMany isHeld onAir isActive droppedAt after sends nthOwed isNth owedWithin isOwed isAwaited isAdmission reach some first takes takesFrom schemeOf laneCell addedChannel isAdded isInG channelCell segment shift floorRem cellOf slot starts tickFor tickOf filmIn roundedUp
 lane-three-is = refl
 
 -- a box may begin at 4, once the raise of that very moment is counted
 box : Begins taken 0 4 4
-unfolding upTo lifeOf heldOver heldIn tickIn total howMany isHeld onAir isActive droppedAt after sends nthOwed isNth owedWithin isOwed isAwaited isAdmission reach some first inPlan takenFrom laneCell addedChannel isAdded isInG channelCell segment shift floorRem cellOf slot isSlotStart tickOf holdsFilm roundedUp
+unfolding upTo lifeOf heldOver heldIn tickIn total howMany isHeld onAir isActive droppedAt after sends nthOwed isNth owedWithin isOwed isAwaited isAdmission reach some first takes takesFrom schemeOf laneCell addedChannel isAdded isInG channelCell segment shift floorRem cellOf slot starts tickFor tickOf filmIn roundedUp
 box = record { at-start = refl; admission = refl }
 
 -- lane 3 is dropped at 8 and not raised up to 12: it is held in one of those four ticks, as many as it owes cells
@@ -90,7 +90,7 @@ abbrev first-life : Life
 first-life = lifeAt taken 0 12
 
 dropped : Dropped first-life 3 7 4
-unfolding owes every upTo lifeOf heldOver heldIn tickIn total howMany isHeld onAir isActive droppedAt after sends nthOwed isNth owedWithin isOwed isAwaited isAdmission reach some first inPlan takenFrom laneCell addedChannel isAdded isInG channelCell segment shift floorRem cellOf slot isSlotStart tickOf holdsFilm roundedUp
+unfolding owes every upTo lifeOf heldOver heldIn tickIn total howMany isHeld onAir isActive droppedAt after sends nthOwed isNth owedWithin isOwed isAwaited isAdmission reach some first takes takesFrom schemeOf laneCell addedChannel isAdded isInG channelCell segment shift floorRem cellOf slot starts tickFor tickOf filmIn roundedUp
 dropped =
     record {
       active-before = refl;
@@ -99,7 +99,7 @@ dropped =
     }
 
 owes-one : owes first-life 3 8 ≡ 1
-unfolding owes every upTo lifeOf heldOver heldIn tickIn total howMany isHeld onAir isActive droppedAt after sends nthOwed isNth owedWithin isOwed isAwaited isAdmission reach some first inPlan takenFrom laneCell addedChannel isAdded isInG channelCell segment shift floorRem cellOf slot isSlotStart tickOf holdsFilm roundedUp
+unfolding owes every upTo lifeOf heldOver heldIn tickIn total howMany isHeld onAir isActive droppedAt after sends nthOwed isNth owedWithin isOwed isAwaited isAdmission reach some first takes takesFrom schemeOf laneCell addedChannel isAdded isInG channelCell segment shift floorRem cellOf slot starts tickFor tickOf filmIn roundedUp
 owes-one = refl
 
 held-once : howMany (λ j. isHeld first-life 3 (8 + j)) 4 ≡ 1
@@ -107,17 +107,17 @@ held-once = exactly first-life 3 7 4 dropped (omega (arith, owes-one)) ∙ owes-
 
 -- opened with 5 lanes, dropped to 4 at 2 and raised again at 4, while lane 4 still owes a cell: held throughout
 abbrev raised : List Event
-raised = event 0 4 (changes 5) ∷ event 0 2 (changes 4) ∷ event 0 0 (opens 30 4 5 5) ∷ []
+raised = event 0 4 (changes 5) ∷ event 0 2 (changes 4) ∷ event 0 0 (opens paddedKind 30 4 5 5) ∷ []
 
 raised-accepted : accepted 5 raised ≡ raised
-unfolding accepted answerTo firstHit lifeOf latestOf tunedOf heldOver heldIn tickIn total howMany isHeld onAir isActive droppedAt after sends nthOwed isNth owedWithin isOwed isAwaited isAdmission reach some first inPlan takenFrom laneCell addedChannel isAdded isInG channelCell segment shift floorRem cellOf slot isSlotStart tickOf holdsFilm roundedUp
+unfolding accepted answerTo firstHit lifeOf latestOf tunedOf heldOver heldIn tickIn total howMany isHeld onAir isActive droppedAt after sends nthOwed isNth owedWithin isOwed isAwaited isAdmission reach some first takes takesFrom schemeOf laneCell addedChannel isAdded isInG channelCell segment shift floorRem cellOf slot starts tickFor tickOf filmIn roundedUp
 raised-accepted = refl
 
 abbrev raised-life : Life
 raised-life = lifeOf raised 0
 
 dropped-then-raised : Dropped raised-life 4 1 2
-unfolding owes every upTo lifeOf heldOver heldIn tickIn total howMany isHeld onAir isActive droppedAt after sends nthOwed isNth owedWithin isOwed isAwaited isAdmission reach some first inPlan takenFrom laneCell addedChannel isAdded isInG channelCell segment shift floorRem cellOf slot isSlotStart tickOf holdsFilm roundedUp
+unfolding owes every upTo lifeOf heldOver heldIn tickIn total howMany isHeld onAir isActive droppedAt after sends nthOwed isNth owedWithin isOwed isAwaited isAdmission reach some first takes takesFrom schemeOf laneCell addedChannel isAdded isInG channelCell segment shift floorRem cellOf slot starts tickFor tickOf filmIn roundedUp
 dropped-then-raised =
     record {
       active-before = refl;
@@ -126,11 +126,11 @@ dropped-then-raised =
     }
 
 again : isActive raised-life 4 4 ≡ true
-unfolding owes every upTo lifeOf heldOver heldIn tickIn total howMany isHeld onAir isActive droppedAt after sends nthOwed isNth owedWithin isOwed isAwaited isAdmission reach some first inPlan takenFrom laneCell addedChannel isAdded isInG channelCell segment shift floorRem cellOf slot isSlotStart tickOf holdsFilm roundedUp
+unfolding owes every upTo lifeOf heldOver heldIn tickIn total howMany isHeld onAir isActive droppedAt after sends nthOwed isNth owedWithin isOwed isAwaited isAdmission reach some first takes takesFrom schemeOf laneCell addedChannel isAdded isInG channelCell segment shift floorRem cellOf slot starts tickFor tickOf filmIn roundedUp
 again = refl
 
 owes-three : owes raised-life 4 2 ≡ 3
-unfolding owes every upTo lifeOf heldOver heldIn tickIn total howMany isHeld onAir isActive droppedAt after sends nthOwed isNth owedWithin isOwed isAwaited isAdmission reach some first inPlan takenFrom laneCell addedChannel isAdded isInG channelCell segment shift floorRem cellOf slot isSlotStart tickOf holdsFilm roundedUp
+unfolding owes every upTo lifeOf heldOver heldIn tickIn total howMany isHeld onAir isActive droppedAt after sends nthOwed isNth owedWithin isOwed isAwaited isAdmission reach some first takes takesFrom schemeOf laneCell addedChannel isAdded isInG channelCell segment shift floorRem cellOf slot starts tickFor tickOf filmIn roundedUp
 owes-three = refl
 
 held-on : (j : ℕ) → j ≤ 2 → isHeld raised-life 4 (2 + j) ≡ true
@@ -144,109 +144,131 @@ quiet =
 
 -- a short film whose lanes carry padding when it closes at 2, in tick 1: nothing is owed, and the id is gone at once
 abbrev gone : List Event
-gone = event 0 2 closes ∷ event 0 0 (opens 4 2 2 2) ∷ []
+gone = event 0 2 closes ∷ event 0 0 (opens paddedKind 4 2 2 2) ∷ []
 
 gone-accepted : accepted 4 gone ≡ gone
-unfolding accepted answerTo firstHit lifeOf latestOf tunedOf heldOver heldIn tickIn total howMany isHeld onAir isActive droppedAt after sends nthOwed isNth owedWithin isOwed isAwaited isAdmission reach some first inPlan takenFrom laneCell addedChannel isAdded isInG channelCell segment shift floorRem cellOf slot isSlotStart tickOf holdsFilm roundedUp
+unfolding accepted answerTo firstHit lifeOf latestOf tunedOf heldOver heldIn tickIn total howMany isHeld onAir isActive droppedAt after sends nthOwed isNth owedWithin isOwed isAwaited isAdmission reach some first takes takesFrom schemeOf laneCell addedChannel isAdded isInG channelCell segment shift floorRem cellOf slot starts tickFor tickOf filmIn roundedUp
 gone-accepted = refl
 
 -- the close leaves no lane sending; a second close at that moment gets 3, and an opening is accepted
 none-sends : heldOver gone 2 ≡ 0
-unfolding lifeOf latestOf heldOver heldIn tickIn total howMany isHeld onAir isActive droppedAt after sends nthOwed isNth owedWithin isOwed isAwaited isAdmission reach some first inPlan takenFrom laneCell addedChannel isAdded isInG channelCell segment shift floorRem cellOf slot isSlotStart tickOf holdsFilm roundedUp
+unfolding lifeOf latestOf heldOver heldIn tickIn total howMany isHeld onAir isActive droppedAt after sends nthOwed isNth owedWithin isOwed isAwaited isAdmission reach some first takes takesFrom schemeOf laneCell addedChannel isAdded isInG channelCell segment shift floorRem cellOf slot starts tickFor tickOf filmIn roundedUp
 none-sends = refl
 
 second-close : answer 4 gone (event 0 2 closes) ≡ notThere
-unfolding answerTo firstHit lifeOf latestOf tunedOf heldOver heldIn tickIn total howMany isHeld onAir isActive droppedAt after sends nthOwed isNth owedWithin isOwed isAwaited isAdmission reach some first inPlan takenFrom laneCell addedChannel isAdded isInG channelCell segment shift floorRem cellOf slot isSlotStart tickOf holdsFilm roundedUp
+unfolding answerTo firstHit lifeOf latestOf tunedOf heldOver heldIn tickIn total howMany isHeld onAir isActive droppedAt after sends nthOwed isNth owedWithin isOwed isAwaited isAdmission reach some first takes takesFrom schemeOf laneCell addedChannel isAdded isInG channelCell segment shift floorRem cellOf slot starts tickFor tickOf filmIn roundedUp
 second-close = refl
 
-opens-at-once : answer 4 gone (event 0 2 (opens 12 2 4 3)) ≡ done
-unfolding answerTo firstHit lifeOf latestOf tunedOf heldOver heldIn tickIn total howMany isHeld onAir isActive droppedAt after sends nthOwed isNth owedWithin isOwed isAwaited isAdmission reach some first inPlan takenFrom laneCell addedChannel isAdded isInG channelCell segment shift floorRem cellOf slot isSlotStart tickOf holdsFilm roundedUp
+opens-at-once : answer 4 gone (event 0 2 (opens paddedKind 12 2 4 3)) ≡ done
+unfolding answerTo firstHit lifeOf latestOf tunedOf heldOver heldIn tickIn total howMany isHeld onAir isActive droppedAt after sends nthOwed isNth owedWithin isOwed isAwaited isAdmission reach some first takes takesFrom schemeOf laneCell addedChannel isAdded isInG channelCell segment shift floorRem cellOf slot starts tickFor tickOf filmIn roundedUp
 opens-at-once = refl
 
 -- 01's case 5 in a pool of 4: lane 2 is released at 6, where it used to send padding, and another film opens then
 abbrev released : List Event
-released = event 0 4 (changes 2) ∷ event 0 0 (opens 12 2 4 3) ∷ []
+released = event 0 4 (changes 2) ∷ event 0 0 (opens paddedKind 12 2 4 3) ∷ []
 
-passes-now : answer 4 released (event 1 6 (opens 12 2 4 2)) ≡ done
-unfolding answerTo firstHit lifeOf latestOf tunedOf heldOver heldIn tickIn total howMany isHeld onAir isActive droppedAt after sends nthOwed isNth owedWithin isOwed isAwaited isAdmission reach some first inPlan takenFrom laneCell addedChannel isAdded isInG channelCell segment shift floorRem cellOf slot isSlotStart tickOf holdsFilm roundedUp
+passes-now : answer 4 released (event 1 6 (opens paddedKind 12 2 4 2)) ≡ done
+unfolding answerTo firstHit lifeOf latestOf tunedOf heldOver heldIn tickIn total howMany isHeld onAir isActive droppedAt after sends nthOwed isNth owedWithin isOwed isAwaited isAdmission reach some first takes takesFrom schemeOf laneCell addedChannel isAdded isInG channelCell segment shift floorRem cellOf slot starts tickFor tickOf filmIn roundedUp
 passes-now = refl
 
-got-nine : formerAnswer 4 released (event 1 6 (opens 12 2 4 2)) ≡ noLanes
-unfolding formerAnswerTo formerlyHeldOver formerlyHeldIn formerlyHeld formerlyOwes formerlyOwed firstHit lifeOf latestOf tunedOf heldOver heldIn tickIn total howMany isHeld onAir isActive droppedAt after sends nthOwed isNth owedWithin isOwed isAwaited isAdmission reach some first inPlan takenFrom laneCell addedChannel isAdded isInG channelCell segment shift floorRem cellOf slot isSlotStart tickOf holdsFilm roundedUp
+got-nine : formerAnswer 4 released (event 1 6 (opens paddedKind 12 2 4 2)) ≡ noLanes
+unfolding formerAnswerTo formerlyHeldOver formerlyHeldIn formerlyHeld formerlyOwes formerlyOwed firstHit lifeOf latestOf tunedOf heldOver heldIn tickIn total howMany isHeld onAir isActive droppedAt after sends nthOwed isNth owedWithin isOwed isAwaited isAdmission reach some first takes takesFrom schemeOf laneCell addedChannel isAdded isInG channelCell segment shift floorRem cellOf slot starts tickFor tickOf filmIn roundedUp
 got-nine = refl
 
 -- the doors are held at 7, and the count goes from 4 to 3 at 8, before the close at 12: no box of count 3 ever began, and lane 1
 -- still sends what the boxes of count 4 await
 abbrev behind-doors : List Event
 behind-doors =
-    event 0 12 closes ∷ event 0 8 (changes 3) ∷ event 0 7 holds ∷ event 0 0 (opens 12 2 4 4) ∷ []
+    event 0 12 closes ∷ event 0 8 (changes 3) ∷ event 0 7 holds ∷ event 0 0 (opens paddedKind 12 2 4 4) ∷ []
 
 behind-doors-accepted : accepted 4 behind-doors ≡ behind-doors
-unfolding accepted answerTo firstHit lifeOf latestOf tunedOf heldOver heldIn tickIn total howMany isHeld onAir isActive droppedAt after sends nthOwed isNth owedWithin isOwed isAwaited isAdmission reach some first inPlan takenFrom laneCell addedChannel isAdded isInG channelCell segment shift floorRem cellOf slot isSlotStart tickOf holdsFilm roundedUp
+unfolding accepted answerTo firstHit lifeOf latestOf tunedOf heldOver heldIn tickIn total howMany isHeld onAir isActive droppedAt after sends nthOwed isNth owedWithin isOwed isAwaited isAdmission reach some first takes takesFrom schemeOf laneCell addedChannel isAdded isInG channelCell segment shift floorRem cellOf slot starts tickFor tickOf filmIn roundedUp
 behind-doors-accepted = refl
 
 -- a hold's own tick is no admission, nor is any later one
 nobody-begins : howMany (λ j. isAdmission (lifeOf behind-doors 0) (7 + j)) 8 ≡ 0
-unfolding howMany lifeOf tickIn isAdmission isSlotStart slot tickOf roundedUp
+unfolding howMany lifeOf tickIn isAdmission starts schemeOf slot tickFor tickOf roundedUp
 nobody-begins = refl
 
 sent-to-count-four : (airAt behind-doors 0 1 12 ≡ cell 8) × (airAt behind-doors 0 1 13 ≡ cell 9) × (airAt behind-doors 0 1 14 ≡ nothing)
-unfolding upTo lifeOf latestOf heldOver heldIn tickIn total howMany isHeld onAir isActive droppedAt after sends nthOwed isNth owedWithin isOwed isAwaited isAdmission reach some first inPlan takenFrom laneCell addedChannel isAdded isInG channelCell segment shift floorRem cellOf slot isSlotStart tickOf holdsFilm roundedUp
+unfolding upTo lifeOf latestOf heldOver heldIn tickIn total howMany isHeld onAir isActive droppedAt after sends nthOwed isNth owedWithin isOwed isAwaited isAdmission reach some first takes takesFrom schemeOf laneCell addedChannel isAdded isInG channelCell segment shift floorRem cellOf slot starts tickFor tickOf filmIn roundedUp
 sent-to-count-four = (refl, refl, refl)
 
 -- a second hold gets 17, and so does a lift of what is not held; a lift's own tick is an admission again
-held-twice : answer 4 (event 0 7 holds ∷ event 0 0 (opens 12 2 4 4) ∷ []) (event 0 8 holds) ≡ doorsUnchanged
-unfolding answerTo firstHit lifeOf latestOf tunedOf heldOver heldIn tickIn total howMany isHeld onAir isActive droppedAt after sends nthOwed isNth owedWithin isOwed isAwaited isAdmission reach some first inPlan takenFrom laneCell addedChannel isAdded isInG channelCell segment shift floorRem cellOf slot isSlotStart tickOf holdsFilm roundedUp
+held-twice : answer 4 (event 0 7 holds ∷ event 0 0 (opens paddedKind 12 2 4 4) ∷ []) (event 0 8 holds) ≡ doorsUnchanged
+unfolding answerTo firstHit lifeOf latestOf tunedOf heldOver heldIn tickIn total howMany isHeld onAir isActive droppedAt after sends nthOwed isNth owedWithin isOwed isAwaited isAdmission reach some first takes takesFrom schemeOf laneCell addedChannel isAdded isInG channelCell segment shift floorRem cellOf slot starts tickFor tickOf filmIn roundedUp
 held-twice = refl
 
-never-held : answer 4 (event 0 0 (opens 12 2 4 4) ∷ []) (event 0 8 lifts) ≡ doorsUnchanged
-unfolding answerTo firstHit lifeOf latestOf tunedOf heldOver heldIn tickIn total howMany isHeld onAir isActive droppedAt after sends nthOwed isNth owedWithin isOwed isAwaited isAdmission reach some first inPlan takenFrom laneCell addedChannel isAdded isInG channelCell segment shift floorRem cellOf slot isSlotStart tickOf holdsFilm roundedUp
+never-held : answer 4 (event 0 0 (opens paddedKind 12 2 4 4) ∷ []) (event 0 8 lifts) ≡ doorsUnchanged
+unfolding answerTo firstHit lifeOf latestOf tunedOf heldOver heldIn tickIn total howMany isHeld onAir isActive droppedAt after sends nthOwed isNth owedWithin isOwed isAwaited isAdmission reach some first takes takesFrom schemeOf laneCell addedChannel isAdded isInG channelCell segment shift floorRem cellOf slot starts tickFor tickOf filmIn roundedUp
 never-held = refl
 
-lifted : isAdmission (lifeOf (event 0 9 lifts ∷ event 0 7 holds ∷ event 0 0 (opens 12 2 4 4) ∷ []) 0) 9 ≡ true
-unfolding lifeOf tickIn isAdmission isSlotStart slot tickOf roundedUp
+lifted : isAdmission (lifeOf (event 0 9 lifts ∷ event 0 7 holds ∷ event 0 0 (opens paddedKind 12 2 4 4) ∷ []) 0) 9 ≡ true
+unfolding lifeOf tickIn isAdmission starts schemeOf slot tickFor tickOf roundedUp
 lifted = refl
 
 -- a card retunes: a film of a floor slot of 4 opens at 0, and its doors are held at 2, which counts for nothing. At 2 a
 -- change is a second event, at 3 it comes too soon, whatever slot that is, at 4 it may; at 5 the card has settled, and the
 -- slot is asked
 abbrev held-early : List Event
-held-early = event 0 2 holds ∷ event 0 0 (opens 12 2 4 4) ∷ []
+held-early = event 0 2 holds ∷ event 0 0 (opens paddedKind 12 2 4 4) ∷ []
 
 at-two : answer 4 held-early (event 0 2 (changes 3)) ≡ secondEvent
-unfolding answerTo firstHit lifeOf latestOf tunedOf heldOver heldIn tickIn total howMany isHeld onAir isActive droppedAt after sends nthOwed isNth owedWithin isOwed isAwaited isAdmission reach some first inPlan takenFrom laneCell addedChannel isAdded isInG channelCell segment shift floorRem cellOf slot isSlotStart tickOf holdsFilm roundedUp
+unfolding answerTo firstHit lifeOf latestOf tunedOf heldOver heldIn tickIn total howMany isHeld onAir isActive droppedAt after sends nthOwed isNth owedWithin isOwed isAwaited isAdmission reach some first takes takesFrom schemeOf laneCell addedChannel isAdded isInG channelCell segment shift floorRem cellOf slot starts tickFor tickOf filmIn roundedUp
 at-two = refl
 
 at-three : answer 4 held-early (event 0 3 (changes 3)) ≡ tooSoon
-unfolding answerTo firstHit lifeOf latestOf tunedOf heldOver heldIn tickIn total howMany isHeld onAir isActive droppedAt after sends nthOwed isNth owedWithin isOwed isAwaited isAdmission reach some first inPlan takenFrom laneCell addedChannel isAdded isInG channelCell segment shift floorRem cellOf slot isSlotStart tickOf holdsFilm roundedUp
+unfolding answerTo firstHit lifeOf latestOf tunedOf heldOver heldIn tickIn total howMany isHeld onAir isActive droppedAt after sends nthOwed isNth owedWithin isOwed isAwaited isAdmission reach some first takes takesFrom schemeOf laneCell addedChannel isAdded isInG channelCell segment shift floorRem cellOf slot starts tickFor tickOf filmIn roundedUp
 at-three = refl
 
 at-four : answer 4 held-early (event 0 4 (changes 3)) ≡ done
-unfolding answerTo firstHit lifeOf latestOf tunedOf heldOver heldIn tickIn total howMany isHeld onAir isActive droppedAt after sends nthOwed isNth owedWithin isOwed isAwaited isAdmission reach some first inPlan takenFrom laneCell addedChannel isAdded isInG channelCell segment shift floorRem cellOf slot isSlotStart tickOf holdsFilm roundedUp
+unfolding answerTo firstHit lifeOf latestOf tunedOf heldOver heldIn tickIn total howMany isHeld onAir isActive droppedAt after sends nthOwed isNth owedWithin isOwed isAwaited isAdmission reach some first takes takesFrom schemeOf laneCell addedChannel isAdded isInG channelCell segment shift floorRem cellOf slot starts tickFor tickOf filmIn roundedUp
 at-four = refl
 
 at-five : answer 4 held-early (event 0 5 (changes 3)) ≡ notAtSlot
-unfolding answerTo firstHit lifeOf latestOf tunedOf heldOver heldIn tickIn total howMany isHeld onAir isActive droppedAt after sends nthOwed isNth owedWithin isOwed isAwaited isAdmission reach some first inPlan takenFrom laneCell addedChannel isAdded isInG channelCell segment shift floorRem cellOf slot isSlotStart tickOf holdsFilm roundedUp
+unfolding answerTo firstHit lifeOf latestOf tunedOf heldOver heldIn tickIn total howMany isHeld onAir isActive droppedAt after sends nthOwed isNth owedWithin isOwed isAwaited isAdmission reach some first takes takesFrom schemeOf laneCell addedChannel isAdded isInG channelCell segment shift floorRem cellOf slot starts tickFor tickOf filmIn roundedUp
 at-five = refl
 
 -- a close and a hold are not concerned: both pass half a floor slot after a change
 abbrev changed-late : List Event
-changed-late = event 0 6 (changes 3) ∷ event 0 0 (opens 12 2 4 4) ∷ []
+changed-late = event 0 6 (changes 3) ∷ event 0 0 (opens paddedKind 12 2 4 4) ∷ []
 
 closes-soon : answer 4 changed-late (event 0 8 closes) ≡ done
-unfolding answerTo firstHit lifeOf latestOf tunedOf heldOver heldIn tickIn total howMany isHeld onAir isActive droppedAt after sends nthOwed isNth owedWithin isOwed isAwaited isAdmission reach some first inPlan takenFrom laneCell addedChannel isAdded isInG channelCell segment shift floorRem cellOf slot isSlotStart tickOf holdsFilm roundedUp
+unfolding answerTo firstHit lifeOf latestOf tunedOf heldOver heldIn tickIn total howMany isHeld onAir isActive droppedAt after sends nthOwed isNth owedWithin isOwed isAwaited isAdmission reach some first takes takesFrom schemeOf laneCell addedChannel isAdded isInG channelCell segment shift floorRem cellOf slot starts tickFor tickOf filmIn roundedUp
 closes-soon = refl
 
 holds-soon : answer 4 changed-late (event 0 8 holds) ≡ done
-unfolding answerTo firstHit lifeOf latestOf tunedOf heldOver heldIn tickIn total howMany isHeld onAir isActive droppedAt after sends nthOwed isNth owedWithin isOwed isAwaited isAdmission reach some first inPlan takenFrom laneCell addedChannel isAdded isInG channelCell segment shift floorRem cellOf slot isSlotStart tickOf holdsFilm roundedUp
+unfolding answerTo firstHit lifeOf latestOf tunedOf heldOver heldIn tickIn total howMany isHeld onAir isActive droppedAt after sends nthOwed isNth owedWithin isOwed isAwaited isAdmission reach some first takes takesFrom schemeOf laneCell addedChannel isAdded isInG channelCell segment shift floorRem cellOf slot starts tickFor tickOf filmIn roundedUp
 holds-soon = refl
 
 changes-too-soon : answer 4 changed-late (event 0 8 (changes 4)) ≡ tooSoon
-unfolding answerTo firstHit lifeOf latestOf tunedOf heldOver heldIn tickIn total howMany isHeld onAir isActive droppedAt after sends nthOwed isNth owedWithin isOwed isAwaited isAdmission reach some first inPlan takenFrom laneCell addedChannel isAdded isInG channelCell segment shift floorRem cellOf slot isSlotStart tickOf holdsFilm roundedUp
+unfolding answerTo firstHit lifeOf latestOf tunedOf heldOver heldIn tickIn total howMany isHeld onAir isActive droppedAt after sends nthOwed isNth owedWithin isOwed isAwaited isAdmission reach some first takes takesFrom schemeOf laneCell addedChannel isAdded isInG channelCell segment shift floorRem cellOf slot starts tickFor tickOf filmIn roundedUp
 changes-too-soon = refl
 
 -- the opening and the change behind held doors lie a floor slot apart
-settled-then : 0 + settling (lifeOf (event 0 0 (opens 12 2 4 4) ∷ []) 0) ≤ 8
+settled-then : 0 + settling (lifeOf (event 0 0 (opens paddedKind 12 2 4 4) ∷ []) 0) ≤ 8
 settled-then =
-    far-apart 4 (event 0 12 closes ∷ []) (event 0 7 holds ∷ []) [] 0 0 8 3 (opens 12 2 4 4) refl
+    far-apart 4 (event 0 12 closes ∷ []) (event 0 7 holds ∷ []) [] 0 0 8 3 (opens paddedKind 12 2 4 4) refl
     (goes-by {e = event 0 7 holds} (λ e. refl) none-tunes) (subst (Accepted 4) behind-doors-accepted (accepted-is 4 behind-doors))
+
+-- a skip-forward title of four lanes and eight blocks, each of 8 ms, that closes at 24, in tick 3: lane 3 still sends blocks 7, 4
+-- and 5 of those numbered from 0, lane 2 block 3, lanes 0 and 1 nothing; a change of it gets 19
+abbrev forward : List Event
+forward = event 0 24 closes ∷ event 0 0 (skips 64 4) ∷ []
+
+forward-accepted : accepted 4 forward ≡ forward
+unfolding accepted answerTo firstHit lifeOf latestOf tunedOf heldOver heldIn tickIn total howMany isHeld onAir isActive droppedAt after sends nthOwed isNth owedWithin isOwed isAwaited isAdmission reach some first takes takesFrom schemeOf steadyCell starts tickFor filmIn roundedUp
+forward-accepted = refl
+
+forward-sends :
+    (airAt forward 0 3 24 ≡ cell 7) × (airAt forward 0 3 32 ≡ cell 4) × (airAt forward 0 3 40 ≡ cell 5) × (airAt forward 0 2 24 ≡ cell 3)
+unfolding upTo lifeOf tickIn howMany onAir isActive droppedAt after sends nthOwed isNth owedWithin isOwed isAwaited isAdmission reach some first takes takesFrom schemeOf steadyCell starts tickFor filmIn roundedUp
+forward-sends = (refl, refl, refl, refl)
+
+forward-held : (heldOver forward 24 ≡ 2) × (heldOver forward 32 ≡ 1) × (heldOver forward 48 ≡ 0)
+unfolding lifeOf heldOver heldIn tickIn total howMany isHeld onAir isActive droppedAt after sends nthOwed isNth owedWithin isOwed isAwaited isAdmission reach some first takes takesFrom schemeOf steadyCell starts tickFor filmIn roundedUp
+forward-held = (refl, refl, refl)
+
+stays-steady : answer 4 (event 0 0 (skips 64 4) ∷ []) (event 0 16 (changes 3)) ≡ isSteady
+unfolding answerTo firstHit lifeOf latestOf tunedOf heldOver heldIn tickIn total howMany isHeld onAir isActive droppedAt after sends nthOwed isNth owedWithin isOwed isAwaited isAdmission reach some first takes takesFrom schemeOf steadyCell starts tickFor filmIn roundedUp
+stays-steady = refl

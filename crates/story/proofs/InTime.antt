@@ -1,5 +1,5 @@
 -- No box runs dry, for one title's life: each cell that holds film is on air on one of the title's lanes at or after
--- the box's start and no later than the cell's turn, whatever the rule does after it. Rests on the grid's laws (every
+-- the box's start and no later than the cell's turn, whatever the rule does after it. Rests on the laws of a scheme (every
 -- such cell is in the plan, on a channel, and so on a lane) and on the laws of owed ticks.
 use mathlib.Core.Path.{_≡_, sym, ap, _∙_}
 use mathlib.Core.Bool.{Bool, true, false, false≢true}
@@ -12,21 +12,12 @@ use borrow.Author.Tests.{ltb-true, ltb-false, lt-ltb}
 use Rattle.rules.specs.Search.{after}
 use Rattle.rules.proofs.Tests.{decide}
 use Rattle.rules.proofs.Search
-use Rattle.grid.specs.Channels.{InG}
-use Rattle.grid.specs.Plan.{inPlan}
-use Rattle.story.specs.Life.{Life, isFilm, usualCell, isPlanned, isAdmission, isActive, droppedAt, isOwed, reach}
+use Rattle.scheme.proofs.Takes.{taken-out}
+use Rattle.story.specs.Life.{Life, scheme, isFilm, usualCell, isPlanned, isAdmission, isActive, droppedAt, isOwed, reach}
 use Rattle.story.specs.Life.{owedWithin, cell, onAir}
 use Rattle.story.proofs.Ruled.{Ruled, admitted}
-use Rattle.grid.proofs.Lanes.{lane-of-cell}
-use Rattle.grid.proofs.Plan.{in-time, film-taken, taken-out}
 use Rattle.story.proofs.Owed.{after-between, awaited-in, owed-in, owed-reach, sends-owed, rank-le, air-sends}
 use Rattle.story.proofs.Owed.{air-active}
-
--- a cell in a plan at tick t is on a channel then, and t is no earlier than the start
-pub plan-on-channel : (A K k a c t : ℕ) → inPlan A K k a c t ≡ true → (a ≤ t) × InG A K k t c
-plan-on-channel A K k a c t h =
-    let s = taken-out A K k a c t h in
-    (s .1 .from, (s .0, s .1 .channel, s .1 .carries))
 
 -- of two ticks with different answers, in this order, the first is earlier
 pub earlier : (p : ℕ → Bool) (a u : ℕ) → a ≤ u → p a ≡ true → p u ≡ false → a < u
@@ -54,7 +45,7 @@ module _ (L : Life) (ruled : Ruled L) where
       let p : ℕ → Bool = isActive L l in
       let T : ℕ = after p u in
       let up : T ≤ u = Search.after-le p u in
-      let start : a ≤ u = plan-on-channel (L .floor) (L .cap) (L .rule a) a (usualCell L l u) u pl .0 in
+      let start : a ≤ u = taken-out (scheme L) (L .rule a) a (usualCell L l u) u pl .1 .from in
       let then : p a ≡ true = active-below L l a b in
       let late : a < T = Search.after-above p u a (earlier p a u start then off) then in
       let o : ℕ = u - T in
@@ -79,27 +70,15 @@ module _ (L : Life) (ruled : Ruled L) where
   planned-in-time a c u ad pl film =
       let k : ℕ = L .rule a in
       let high : k ≤ L .cap = ruled .high a in
-      let s = plan-on-channel (L .floor) (L .cap) k a c u pl in
-      let lane = lane-of-cell (L .floor) (L .cap) k u c (admitted L ruled a ad .low) high (s .1) in
+      let s = taken-out (scheme L) k a c u pl in
+      let lane = ruled .laws .on-lane k (s .0) u (admitted L ruled a ad .low) high (s .1 .channel) in
       let l : ℕ = lane .0 in
-      let e : usualCell L l u ≡ c = lane .2 in
+      let e : usualCell L l u ≡ c = lane .2 ∙ s .1 .carries in
       let pl′ : isPlanned L a (usualCell L l u) u ≡ true = rw e pl in
       let film′ : isFilm L (usualCell L l u) ≡ true = rw e film in
       ⊎-elim
-      (λ on. (l, omega (arith, lane .1), u, s .0, omega arith, air-active L l u on ∙ ap cell e))
+      (λ on. (l, omega (arith, lane .1), u, s .1 .from, omega arith, air-active L l u on ∙ ap cell e))
       (λ off.
       let d = dropped-in-time a l u ad (lane .1) pl′ film′ off in
       (l, omega (arith, lane .1), d .0, d .1, d .2, d .3 ∙ ap cell e))
       (decide (isActive L l u))
-
-  -- and so no later than its turn to play
-  pub film-in-time : (a c : ℕ) → 0 < L .floor → isAdmission L a ≡ true → isFilm L c ≡ true →
-      (l : ℕ) × (l < L .cap) × (t : ℕ) × (a ≤ t) × (t ≤ a + c) × (onAir L l t ≡ cell c)
-  film-in-time a c pos ad film =
-      let k : ℕ = L .rule a in
-      let high : k ≤ L .cap = ruled .high a in
-      let at = admitted L ruled a ad in
-      let taken = film-taken (L .length) (L .floor) (L .cap) k c pos (at .low) high film in
-      let plan = in-time (L .floor) (L .cap) k a c (at .low) high (at .start) taken in
-      let on = planned-in-time a c (plan .0) ad (plan .2) film in
-      (on .0, on .1, on .2, on .3, omega (arith, on .4, plan .1), on .5)

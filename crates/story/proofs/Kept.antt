@@ -8,22 +8,22 @@ use native.Mathlib.Omega.{arith}
 use lib.Dec.{ltb, eqb}
 use lib.ListN.{getD, length}
 use borrow.Author.Tests.{ltb-true, ltb-false, lt-ltb, le-ltb, ne-eqb}
-use Rattle.rules.specs.Limits.{either, askedMax, eventTimeMax, lengthMin, lengthMax, floorMin, floorMax, countMax}
+use Rattle.rules.specs.Limits.{either, askedMax, eventTimeMax, lengthMin, lengthMax, floorMin, floorMax, countMax, steadyMax}
 use Rattle.rules.specs.Limits.{countPlaces, lanePlaces}
 use Rattle.rules.specs.Refusals.{pick}
 use Rattle.rules.specs.Search.{first}
 use Rattle.rules.proofs.Tests.{decide, same}
 use Rattle.rules.proofs.Search
-use Rattle.grid.specs.Ticks.{tickOf}
-use Rattle.grid.specs.Lanes.{laneCell}
+use Rattle.scheme.specs.Scheme.{steadyKind}
+use Rattle.scheme.proofs.Clock
 use Rattle.story.specs.declared.Title.{Title}
 use Rattle.story.specs.Life.{Life, Course, usualCell, isActive, droppedAt, isOwed, reach, owedWithin, owes, isNth}
 use Rattle.story.specs.Life.{nthOwed, cell, sends, onAir, isHeld}
 use Rattle.story.proofs.Ruled.{Ruled, Legal, admits, isAdmitting, lastEnd}
-use Rattle.story.specs.Kept.{heldMark, isShut, tickAt, ruling, keptOwed, keptWithin, keptHeld, titleHeld, keptNth}
+use Rattle.story.specs.Kept.{heldMark, isShut, isSteadyTitle, schemeIn, titleTick, tickAt, ruling, keptOwed, keptWithin, keptHeld, titleHeld, keptNth}
 use Rattle.story.specs.Kept.{sendingTick, shows}
 use Rattle.story.specs.Story.{tickIn, heldIn}
-use Rattle.story.proofs.Clock.{tick-pos, tick-mono}
+use Rattle.story.proofs.Clock.{tick-mono}
 use Rattle.story.proofs.Owed.{air-sends, air-active}
 use Rattle.story.proofs.Held.{dropped-le, held-active, held-sending}
 use Rattle.story.proofs.Stored.{admits-le, lifeIn, kept-owed, EndsAt}
@@ -37,11 +37,13 @@ dropTick t l = getD (t .dropped) l 0
 
 -- the numbers that an accepted opening gives, and the rows' lengths
 pub record Sized (t : Title) : Type 0 where
+  pub kind-high : t .kind ≤ steadyKind
   pub opened-high : t .opened ≤ eventTimeMax
   pub length-low : lengthMin ≤ t .length
   pub length-high : t .length ≤ lengthMax
   pub floor-low : floorMin ≤ t .floor
-  pub floor-high : t .floor ≤ floorMax
+  pub floor-high : t .floor ≤ pick (isSteadyTitle t) steadyMax floorMax
+  pub flat : t .kind ≡ steadyKind → t .floor ≡ t .cap
   pub cap-high : t .cap ≤ countMax
   pub count-low : t .floor ≤ t .count
   pub count-high : t .count ≤ t .cap
@@ -60,7 +62,7 @@ pub record Present (t : Title) (r : Course) : Type 0 where
   pub mode : (t .mode ≡ 1) ⊎ (t .mode ≡ 2)
   pub sized : Sized t
   pub since : t .opened ≤ t .last
-  pub on-tick : (t .last - t .opened) % tickOf (t .length) (t .floor) (t .cap) ≡ 0
+  pub on-tick : (t .last - t .opened) % titleTick t ≡ 0
   pub steady : (u : ℕ) → lastTick t ≤ u → r .rule u ≡ ruling t
   pub doors : t .mode ≡ 1 → (u : ℕ) → lastTick t ≤ u → r .shut u ≡ isShut t
   pub ruled : Ruled (lifeIn t r)
@@ -170,12 +172,12 @@ module _ (t : Title) (r : Course) (here : Present t r) where
     where
       on : ltb l (ruling t) ≡ true →
           onAir (lifeIn t r) l n
-          ≡ cell (laneCell (t .floor) (t .cap) l (pick (ltb l (ruling t)) n (sendingTick t l n)))
+          ≡ cell (schemeIn t .onLane l (pick (ltb l (ruling t)) n (sendingTick t l n)))
       on x = air-active (lifeIn t r) l n (active-kept l n le ∙ x) ∙ rw x refl
 
       off : ltb l (ruling t) ≡ false →
           onAir (lifeIn t r) l n
-          ≡ cell (laneCell (t .floor) (t .cap) l (pick (ltb l (ruling t)) n (sendingTick t l n)))
+          ≡ cell (schemeIn t .onLane l (pick (ltb l (ruling t)) n (sendingTick t l n)))
       off x =
           let quiet : ruling t ≤ l = ltb-false l (ruling t) x in
           let still : isActive (lifeIn t r) l n ≡ false = active-kept l n le ∙ x in
@@ -183,15 +185,15 @@ module _ (t : Title) (r : Course) (here : Present t r) where
           air-held (lifeIn t r) l n still held ∙ rw (d, nth-kept l (n - dropTick t l) lane quiet, x) refl
 
   -- a stored title's tick is of some length
-  pub tick-some : 0 < tickOf (t .length) (t .floor) (t .cap)
+  pub tick-some : 0 < titleTick t
   tick-some =
       let z = here .sized in
-      tick-pos (t .length) (t .floor) (t .cap) (omega (arith, z .length-low)) (omega (arith, z .floor-low))
+      Clock.tick-pos (t .kind) (t .length) (t .floor) (t .cap) (omega (arith, z .length-low)) (omega (arith, z .floor-low))
       (omega (arith, z .count-low, z .count-high))
 
   pub later : (τ : ℕ) → t .last ≤ τ → lastTick t ≤ tickAt t τ
   unfolding tickAt
-  later τ le = tick-mono (t .opened) (tickOf (t .length) (t .floor) (t .cap)) tick-some (t .last) τ le
+  later τ le = tick-mono (t .opened) (titleTick t) tick-some (t .last) τ le
 
   pub mode-some : eqb (t .mode) 0 ≡ false
   mode-some = ⊎-elim (λ e. rw e refl) (λ e. rw e refl) (here .mode)

@@ -17,8 +17,9 @@ pub mod Runs
 pub mod Questions
 pub mod Lively
 pub mod Pool
-pub mod World
 pub mod Reached
+pub mod World
+pub mod SkipForward
 pub mod Sooner
 pub mod Retuned
 pub mod Demands

@@ -1,22 +1,24 @@
 -- No reached state gets 1 for itself: what the events keep true of a title keeps its numbers within their limits.
 -- Rests on `Present` and `Tells`.
 use mathlib.Core.Path.{_≡_, refl, ap}
-use mathlib.Core.Bool.{Bool, true}
+use mathlib.Core.Bool.{Bool, true, not}
 use mathlib.Core.Logic.{_⊎_, ⊎-elim}
 use mathlib.Core.List.{List, []}
 use Prim.Native.Nat.{ℕ, _≤_, _<_}
 use native.Mathlib.Omega.{arith}
 use lib.Dec.{leb, eqb}
 use lib.ListN.{getD}
-use borrow.Author.Tests.{le-leb}
+use borrow.Author.Tests.{le-leb, eq-eqb, eqb-true}
 use Rattle.rules.specs.Limits.{both, either, poolMin, poolMax, askedMax, lengthMin, lengthMax, floorMin, floorMax}
-use Rattle.rules.specs.Limits.{countMax, titlesMax, countPlaces, lanePlaces}
+use Rattle.rules.specs.Limits.{countMax, steadyMax, titlesMax, countPlaces, lanePlaces}
+use Rattle.rules.specs.Refusals.{pick}
 use Rattle.rules.specs.Search.{every}
-use Rattle.rules.proofs.Tests.{both-in, either-l, either-r}
+use Rattle.rules.proofs.Tests.{decide, both-in, either-l, either-r}
 use Rattle.rules.proofs.Search
+use Rattle.scheme.specs.Scheme.{steadyKind}
 use Rattle.story.specs.declared.Title.{Title}
 use Rattle.story.specs.declared.State.{State}
-use Rattle.story.specs.Kept.{heldMark, titleAt, rowOk, numbersOk, orderOk, titleOk, stateOk}
+use Rattle.story.specs.Kept.{heldMark, titleAt, isSteadyTitle, rowOk, numbersOk, orderOk, titleOk, stateOk}
 use Rattle.story.specs.Life.{Life, Course}
 use Rattle.story.specs.Story.{Event, lifeOf, latestOf}
 use Rattle.story.proofs.Kept.{Present}
@@ -32,9 +34,10 @@ numbers-ok t r p =
     let m : t .mode ≤ 2 = ⊎-elim (λ e. omega arith) (λ e. omega arith) (p .mode) in
     rw (
       le-leb (t .mode) 2 m,
+      le-leb (t .kind) steadyKind (z .kind-high),
       le-leb (t .opened) askedMax (omega (arith, z .opened-high)),
       le-leb (t .length) lengthMax (z .length-high),
-      le-leb (t .floor) floorMax (z .floor-high),
+      le-leb (t .floor) (pick (isSteadyTitle t) steadyMax floorMax) (z .floor-high),
       le-leb (t .cap) countMax (z .cap-high),
       le-leb (t .count) countMax (omega (arith, z .count-high, z .cap-high)),
       le-leb (t .mark) heldMark (z .mark-high),
@@ -46,6 +49,12 @@ numbers-ok t r p =
     )
     refl
 
+-- of a skip-forward title floor and cap are one
+level : (t : Title) → (t .kind ≡ steadyKind → t .floor ≡ t .cap) → either (not (isSteadyTitle t)) (eqb (t .floor) (t .cap)) ≡ true
+level t flat =
+    ⊎-elim (λ x. rw x (eq-eqb (t .floor) (t .cap) (flat (eqb-true (t .kind) steadyKind x)))) (λ x. rw x refl)
+    (decide (isSteadyTitle t))
+
 order-ok : (t : Title) (r : Course) → Present t r → orderOk t ≡ true
 unfolding orderOk
 order-ok t r p =
@@ -56,6 +65,7 @@ order-ok t r p =
       le-leb (t .floor) (t .cap) (omega (arith, z .count-low, z .count-high)),
       le-leb (t .floor) (t .count) (z .count-low),
       le-leb (t .count) (t .cap) (z .count-high),
+      level t (z .flat),
     )
     refl
 

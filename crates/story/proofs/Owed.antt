@@ -1,5 +1,5 @@
 -- Laws of a lane's owed ticks: none beyond its reach, each goes out in its turn, and the lane is held for just as many
--- ticks as it owes cells. Rest on the laws of the grid and of bounded counts, and on what `isOwed` says only through
+-- ticks as it owes cells. Rest on the laws of a scheme and of bounded counts, and on what `isOwed` says only through
 -- `owed-in` and `owed-out`.
 use mathlib.Core.Path.{_≡_, refl}
 use mathlib.Core.Bool.{Bool, true, false, false≢true}
@@ -13,9 +13,9 @@ use Rattle.rules.specs.Limits.{both}
 use Rattle.rules.specs.Search.{first, howMany, after}
 use Rattle.rules.proofs.Tests.{decide, both-l, both-r, both-in, fails}
 use Rattle.rules.proofs.Search
-use Rattle.grid.proofs.Plan.{window-end}
-use Rattle.story.proofs.Ruled.{Ruled, admitted}
-use Rattle.story.specs.Life.{Life, isFilm, usualCell, isPlanned, isAdmission, isActive, droppedAt, isAwaited}
+use Rattle.scheme.proofs.Takes.{taken-out}
+use Rattle.story.proofs.Ruled.{Ruled}
+use Rattle.story.specs.Life.{Life, scheme, isFilm, usualCell, isPlanned, isAdmission, isActive, droppedAt, isAwaited}
 use Rattle.story.specs.Life.{isOwed, reach, owedWithin, owes, isNth, nthOwed, cell, sends, onAir, isCell}
 
 -- the tick after the last one that passes is the same, seen from any tick between the two
@@ -69,10 +69,8 @@ module _ (L : Life) (l T : ℕ) where
       let s = awaited-out L T (usualCell L l t) t (owed-out t h) in
       let a : ℕ = s .0 in
       let k : ℕ = L .rule a in
-      let some : 0 < k = admitted L ruled a (s .2) .some in
-      let end : t < a + 2 ^ (L .cap - 1) =
-      window-end (L .floor) (L .cap) k a (usualCell L l t) t (ruled .high a) some (s .3) in
-      omega (arith, s .1)
+      let o = taken-out (scheme L) k a (usualCell L l t) t (s .3) in
+      omega (arith, s .1, o .1 .before, ruled .laws .spans k (o .0) (ruled .high a) (o .1 .channel))
 
   -- so however many ticks are looked at, no more are owed than within that reach
   pub owes-all : Ruled L → (n : ℕ) → reach (L .cap) ≤ n → owedWithin L l T n ≡ owes L l T

@@ -2,22 +2,23 @@
 use mathlib.Core.Path.{_≡_, refl}
 use mathlib.Core.Bool.{Bool, true, false, not}
 use mathlib.Core.List.{List, _∷_}
+use mathlib.Core.Logic.{⊎-elim}
 use Prim.Native.Nat.{ℕ, _-_, _%_, _≤_, _<_, min}
 use native.Mathlib.Omega.{arith}
 use lib.Dec.{ltb, leb, eqb}
 use borrow.Author.Tests.{ltb-false, leb-true, eqb-true, eqb-false, not-false}
 use Rattle.rules.specs.Limits.{both, within, idMax, eventTimeMax, lengthMin, lengthMax, floorMin, floorMax, countMin}
-use Rattle.rules.specs.Limits.{countMax}
-use Rattle.rules.specs.Refusals.{outsideLimits, tooEarly, notThere, idTaken, isClosing, belowFloor, aboveCap}
+use Rattle.rules.specs.Limits.{countMax, steadyMax}
+use Rattle.rules.specs.Refusals.{pick, outsideLimits, tooEarly, notThere, idTaken, isClosing, belowFloor, aboveCap}
 use Rattle.rules.specs.Refusals.{secondEvent, notAtSlot, noLanes}
-use Rattle.rules.proofs.Tests.{both-l, both-r}
+use Rattle.rules.proofs.Tests.{decide, both-l, both-r}
 use Rattle.rules.proofs.Refusals.{hitsOf, numbered, cleared}
 use Rattle.grid.proofs.Numbers.{ne-zero-pos}
-use Rattle.grid.specs.Ticks.{isSlotStart}
-use Rattle.story.specs.Life.{Life}
+use Rattle.scheme.specs.Scheme.{steadyKind, starts}
+use Rattle.story.specs.Life.{Life, scheme}
 use Rattle.story.specs.Story.{Act, opens, changes, closes, doors, Event, event, tickLength, tickIn, lifeOf}
 use Rattle.story.specs.Story.{latestOf}
-use Rattle.story.specs.Story.{lastTime, countIn, heldOver, isThereIn, isSlotIn, withinLimits, openLimits}
+use Rattle.story.specs.Story.{lastTime, countIn, heldOver, isThereIn, isSlotIn, withinLimits, openLimits, skipLimits, kindLimits}
 use Rattle.story.specs.Story.{actLimits, testsTo, orderOf, answerTo}
 
 -- a number within two limits
@@ -27,6 +28,70 @@ within-low lo hi x h = leb-true lo x (both-l (leb lo x) (leb x hi) h)
 pub within-high : (lo hi x : ℕ) → within lo hi x ≡ true → x ≤ hi
 within-high lo hi x h = leb-true x hi (both-r (leb lo x) (leb x hi) h)
 
+-- the numbers of an opening within their limits, of either kind
+pub record Offered (m D A K k : ℕ) : Type 0 where
+  pub kind : m ≤ steadyKind
+  pub length-low : lengthMin ≤ D
+  pub length-high : D ≤ lengthMax
+  pub floor-low : floorMin ≤ A
+  pub floor-high : A ≤ pick (eqb m steadyKind) steadyMax floorMax
+  pub cap-high : K ≤ countMax
+  pub some : 0 < k
+  pub flat : m ≡ steadyKind → A ≡ K
+
+-- of a title on the padded grid,
+padded-offer : (m D A K k : ℕ) → m ≤ steadyKind → eqb m steadyKind ≡ false → openLimits D A K k ≡ true → Offered m D A K k
+padded-offer m D A K k kind x nums =
+    let k-ok : Bool = within countMin countMax k in
+    let K-ok : Bool = within countMin countMax K in
+    let A-ok : Bool = within floorMin floorMax A in
+    let D-ok : Bool = within lengthMin lengthMax D in
+    let d : D-ok ≡ true = both-l D-ok (both A-ok (both K-ok k-ok)) nums in
+    let rest : both A-ok (both K-ok k-ok) ≡ true = both-r D-ok (both A-ok (both K-ok k-ok)) nums in
+    let a : A-ok ≡ true = both-l A-ok (both K-ok k-ok) rest in
+    let counts : both K-ok k-ok ≡ true = both-r A-ok (both K-ok k-ok) rest in
+    record {
+      kind = kind;
+      length-low = within-low lengthMin lengthMax D d;
+      length-high = within-high lengthMin lengthMax D d;
+      floor-low = within-low floorMin floorMax A a;
+      floor-high = rw x (within-high floorMin floorMax A a);
+      cap-high = within-high countMin countMax K (both-l K-ok k-ok counts);
+      some = omega (arith, within-low countMin countMax k (both-r K-ok k-ok counts));
+      flat = λ e. absurd (eqb-false m steadyKind x e);
+    }
+
+-- and of a skip-forward title
+skip-offer : (m D A K k : ℕ) → m ≤ steadyKind → eqb m steadyKind ≡ true → skipLimits D A K k ≡ true → Offered m D A K k
+skip-offer m D A K k kind x nums =
+    let k-ok : Bool = within countMin steadyMax k in
+    let D-ok : Bool = within lengthMin lengthMax D in
+    let d : D-ok ≡ true = both-l D-ok (both k-ok (both (eqb A k) (eqb K k))) nums in
+    let rest : both k-ok (both (eqb A k) (eqb K k)) ≡ true = both-r D-ok (both k-ok (both (eqb A k) (eqb K k))) nums in
+    let count : k-ok ≡ true = both-l k-ok (both (eqb A k) (eqb K k)) rest in
+    let ones : both (eqb A k) (eqb K k) ≡ true = both-r k-ok (both (eqb A k) (eqb K k)) rest in
+    let floor : A ≡ k = eqb-true A k (both-l (eqb A k) (eqb K k) ones) in
+    let cap : K ≡ k = eqb-true K k (both-r (eqb A k) (eqb K k) ones) in
+    let low = within-low countMin steadyMax k count in
+    let high = within-high countMin steadyMax k count in
+    record {
+      kind = kind;
+      length-low = within-low lengthMin lengthMax D d;
+      length-high = within-high lengthMin lengthMax D d;
+      floor-low = omega arith;
+      floor-high = rw x (omega arith);
+      cap-high = omega arith;
+      some = omega arith;
+      flat = λ e. omega arith;
+    }
+
+pub offered : (m D A K k : ℕ) → kindLimits m D A K k ≡ true → Offered m D A K k
+offered m D A K k h =
+    let kind : m ≤ steadyKind = leb-true m steadyKind (both-l (leb m steadyKind) (pick (eqb m steadyKind) (skipLimits D A K k) (openLimits D A K k)) h) in
+    let nums = both-r (leb m steadyKind) (pick (eqb m steadyKind) (skipLimits D A K k) (openLimits D A K k)) h in
+    ⊎-elim (λ x. skip-offer m D A K k kind x (rw x at nums)) (λ x. padded-offer m D A K k kind x (rw x at nums))
+    (decide (eqb m steadyKind))
+
 -- what every accepted event has passed
 pub record Timely (es : List Event) (i τ : ℕ) : Type 0 where
   pub id : i ≤ idMax
@@ -34,13 +99,13 @@ pub record Timely (es : List Event) (i τ : ℕ) : Type 0 where
   pub late : lastTime es ≤ τ
 
 -- an accepted opening
-pub record Opening (lanes : ℕ) (es : List Event) (i τ D A K k : ℕ) : Type 0 where
+pub record Opening (lanes : ℕ) (es : List Event) (i τ m D A K k : ℕ) : Type 0 where
   pub timely : Timely es i τ
   pub away : isThereIn (lifeOf es i) τ ≡ false
   pub some : 0 < k
   pub low : A ≤ k
   pub high : k ≤ K
-  pub room : heldOver (event i τ (opens D A K k) ∷ es) τ ≤ lanes
+  pub room : heldOver (event i τ (opens m D A K k) ∷ es) τ ≤ lanes
 
 -- an accepted change, close, hold or lift: of a title that is open, at a later moment than its latest event
 pub record Turned (es : List Event) (i τ : ℕ) : Type 0 where
@@ -63,14 +128,14 @@ timely es i τ a h t =
 on-its-tick : (L : Life) (k τ : ℕ) → not (isSlotIn L k τ) ≡ false → (τ - L .opened) % tickLength L ≡ 0
 on-its-tick L k τ h =
     eqb-true ((τ - L .opened) % tickLength L) 0
-    (both-l (eqb ((τ - L .opened) % tickLength L) 0) (isSlotStart (L .cap) k (tickIn L τ)) (not-false (isSlotIn L k τ) h))
+    (both-l (eqb ((τ - L .opened) % tickLength L) 0) (starts (scheme L) k (tickIn L τ)) (not-false (isSlotIn L k τ) h))
 
 module _ (lanes : ℕ) (es : List Event) (i τ : ℕ) where
   -- an accepted event clears every refusal of its order
   clears : (a : Act) → answerTo lanes es (event i τ a) (lifeOf es i) a ≡ 0 → (n : ℕ) →
       hitsOf n (orderOf a (testsTo lanes es (event i τ a) (lifeOf es i) a)) ≡ false
   unfolding answerTo numbered
-  clears (opens D A K k) h = cleared (orderOf (opens D A K k) (testsTo lanes es (event i τ (opens D A K k)) (lifeOf es i) (opens D A K k))) refl h
+  clears (opens m D A K k) h = cleared (orderOf (opens m D A K k) (testsTo lanes es (event i τ (opens m D A K k)) (lifeOf es i) (opens m D A K k))) refl h
   clears (changes k) h = cleared (orderOf (changes k) (testsTo lanes es (event i τ (changes k)) (lifeOf es i) (changes k))) refl h
   clears closes h = cleared (orderOf closes (testsTo lanes es (event i τ closes) (lifeOf es i) closes)) refl h
   clears (doors b) h = cleared (orderOf (doors b) (testsTo lanes es (event i τ (doors b)) (lifeOf es i) (doors b))) refl h
@@ -79,28 +144,23 @@ module _ (lanes : ℕ) (es : List Event) (i τ : ℕ) where
   pub in-limits : (a : Act) → answerTo lanes es (event i τ a) (lifeOf es i) a ≡ 0 →
       actLimits a (withinLimits (event i τ a)) ≡ true
   unfolding hitsOf
-  in-limits (opens D A K k) h = not-false _ (clears (opens D A K k) h outsideLimits)
+  in-limits (opens m D A K k) h = not-false _ (clears (opens m D A K k) h outsideLimits)
   in-limits (changes k) h = not-false _ (clears (changes k) h outsideLimits)
   in-limits closes h = not-false _ (clears closes h outsideLimits)
   in-limits (doors b) h = not-false _ (clears (doors b) h outsideLimits)
 
-  pub opening : (D A K k : ℕ) → answerTo lanes es (event i τ (opens D A K k)) (lifeOf es i) (opens D A K k) ≡ 0 →
-      Opening lanes es i τ D A K k
+  pub opening : (m D A K k : ℕ) → answerTo lanes es (event i τ (opens m D A K k)) (lifeOf es i) (opens m D A K k) ≡ 0 →
+      Opening lanes es i τ m D A K k
   unfolding hitsOf
-  opening D A K k h =
-      let e : Event = event i τ (opens D A K k) in
-      let clear = clears (opens D A K k) h in
-      let all : both (withinLimits e) (openLimits D A K k) ≡ true = in-limits (opens D A K k) h in
-      let nums : openLimits D A K k ≡ true = both-r (withinLimits e) (openLimits D A K k) all in
-      let k-ok : Bool = within countMin countMax k in
-      let K-ok : Bool = within countMin countMax K in
-      let A-ok : Bool = within floorMin floorMax A in
-      let D-ok : Bool = within lengthMin lengthMax D in
-      let count : k-ok ≡ true = both-r K-ok k-ok (both-r A-ok (both K-ok k-ok) (both-r D-ok (both A-ok (both K-ok k-ok)) nums)) in
+  opening m D A K k h =
+      let e : Event = event i τ (opens m D A K k) in
+      let clear = clears (opens m D A K k) h in
+      let all : both (withinLimits e) (kindLimits m D A K k) ≡ true = in-limits (opens m D A K k) h in
+      let o = offered m D A K k (both-r (withinLimits e) (kindLimits m D A K k) all) in
       record {
-        timely = timely es i τ (opens D A K k) (both-l (withinLimits e) (openLimits D A K k) all) (clear tooEarly);
+        timely = timely es i τ (opens m D A K k) (both-l (withinLimits e) (kindLimits m D A K k) all) (clear tooEarly);
         away = clear idTaken;
-        some = omega (arith, within-low countMin countMax k count);
+        some = o .some;
         low = ltb-false k A (clear belowFloor);
         high = ltb-false K k (clear aboveCap);
         room = ltb-false lanes (heldOver (e ∷ es) τ) (clear noLanes);
@@ -144,7 +204,7 @@ module _ (lanes : ℕ) (es : List Event) (i τ : ℕ) where
 
   -- whatever it does
   pub in-order : (a : Act) → answerTo lanes es (event i τ a) (lifeOf es i) a ≡ 0 → Timely es i τ
-  in-order (opens D A K k) h = opening D A K k h .timely
+  in-order (opens m D A K k) h = opening m D A K k h .timely
   in-order (changes k) h = changing k h .0 .timely
   in-order closes h = closing h .timely
   in-order (doors b) h = doored b h .timely

@@ -124,7 +124,7 @@ upTo-all τ (e ∷ es) le = rw (le-leb (e .time) τ le) refl
 -- at the moment of an accepted event the pool is large enough, if it was before
 at-event : (lanes : ℕ) (es : List Event) (i τ : ℕ) (a : Act) → answerTo lanes es (event i τ a) (lifeOf es i) a ≡ 0 →
     heldOver es τ ≤ lanes → heldOver (event i τ a ∷ es) τ ≤ lanes
-at-event lanes es i τ (opens D A K k) h before = opening lanes es i τ D A K k h .room
+at-event lanes es i τ (opens m D A K k) h before = opening lanes es i τ m D A K k h .room
 at-event lanes es i τ (changes k) h before = changing lanes es i τ k h .1
 at-event lanes es i τ closes h before = omega (arith, close-lowers es i τ)
 at-event lanes es i τ (doors b) h before = omega (arith, doors-lowers es i τ b)

@@ -30,8 +30,8 @@ settled lanes es i τ k h =
 sooner : (lanes : ℕ) (es : List Event) (e : Event) (a : Act) → answerTo lanes es e (lifeOf es (e .title)) a ≡ tooSoon →
     (e .time < tunedOf es (e .title) + settling (lifeOf es (e .title))) × (tunes a ≡ true)
 unfolding answerTo distinct isListed hitsOf
-sooner lanes es e (opens D A K k) h =
-    absurd (false≢true (first-hit (orderOf (opens D A K k) (testsTo lanes es e (lifeOf es (e .title)) (opens D A K k))) refl tooSoon (lit< tt) h .0))
+sooner lanes es e (opens m D A K k) h =
+    absurd (false≢true (first-hit (orderOf (opens m D A K k) (testsTo lanes es e (lifeOf es (e .title)) (opens m D A K k))) refl tooSoon (lit< tt) h .0))
 sooner lanes es e (changes k) h = (
   ltb-true (e .time) (tunedOf es (e .title) + settling (lifeOf es (e .title))) (first-hit (orderOf (changes k) (testsTo lanes es e (lifeOf es (e .title)) (changes k))) refl tooSoon (lit< tt) h .0),
   refl,
@@ -47,7 +47,7 @@ sixteen lanes es e = sooner lanes es e (e .act)
 
 -- events that neither open nor change a title leave it as long a time to settle, from the same moment on
 as-long : (L : Life) (τ : ℕ) (a : Act) → tunes a ≡ false → settling (lifeAfter L τ a) ≡ settling L
-as-long L τ (opens D A K k) h = absurd (false≢true (sym h))
+as-long L τ (opens m D A K k) h = absurd (false≢true (sym h))
 as-long L τ (changes k) h = absurd (false≢true (sym h))
 as-long L τ closes h = refl
 as-long L τ (doors b) h = refl

@@ -78,7 +78,7 @@ module _ (p : ℕ → Bool) (f : ℕ → ℕ) (row : List ℕ) where
 abbrev pub withRows : Title → List ℕ → List ℕ → Title
 withRows t d o =
     record
-    { mode = t .mode; opened = t .opened; length = t .length; floor = t .floor; cap = t .cap; count = t .count; mark = t .mark; last = t .last; tuned = t .tuned; ends = t .ends; dropped = d; owed = o }
+    { mode = t .mode; kind = t .kind; opened = t .opened; length = t .length; floor = t .floor; cap = t .cap; count = t .count; mark = t .mark; last = t .last; tuned = t .tuned; ends = t .ends; dropped = d; owed = o }
 
 -- a lane from k up to the count
 abbrev pub isDropped : Title → ℕ → ℕ → Bool

@@ -1,4 +1,4 @@
--- What proofs ask of a life: its rule keeps to floor and cap, and the count that admits boxes turns only at its own slot
+-- What proofs ask of a life: its scheme is lawful, its rule keeps to floor and cap, and the count that admits boxes turns only at its own slot
 -- starts; what an admission has then. Rests on the definition of an admission.
 use mathlib.Core.Path.{_≡_}
 use mathlib.Core.Bool.{Bool, true, false, not}
@@ -9,11 +9,15 @@ use Rattle.rules.specs.Limits.{both}
 use Rattle.rules.specs.Refusals.{pick}
 use Rattle.rules.specs.Search.{after}
 use Rattle.rules.proofs.Tests.{both-l, both-r}
-use Rattle.grid.specs.Ticks.{isSlotStart}
-use Rattle.story.specs.Life.{Life, Course, isAdmission}
+use Rattle.scheme.specs.Scheme.{steadyKind, starts}
+use Rattle.scheme.proofs.Lawful.{Lawful}
+use Rattle.story.specs.Life.{Life, Course, scheme, isAdmission}
+use Rattle.story.specs.Story.{tickLength}
 
--- a rule that keeps to floor and cap, closing apart
+-- a lawful scheme, one count alone for a skip-forward title, and a rule that keeps to floor and cap, closing apart
 pub record Ruled (L : Life) : Type 0 where
+  pub laws : Lawful (scheme L) (L .length) (tickLength L) (L .floor) (L .cap)
+  pub flat : L .kind ≡ steadyKind → L .floor ≡ L .cap
   pub low : (t : ℕ) → 0 < L .rule t → L .floor ≤ L .rule t
   pub high : (t : ℕ) → L .rule t ≤ L .cap
 
@@ -24,9 +28,9 @@ admits L t = pick (L .shut t) 0 (L .rule t)
 -- a count begins and ends to admit boxes only at slot starts of its own
 pub record Legal (L : Life) : Type 0 where
   pub ends : (t : ℕ) → 0 < admits L t → (admits L t ≡ admits L (suc t) → ⊥) →
-      isSlotStart (L .cap) (admits L t) (suc t) ≡ true
+      starts (scheme L) (admits L t) (suc t) ≡ true
   pub begins : (t : ℕ) → 0 < admits L (suc t) → (admits L t ≡ admits L (suc t) → ⊥) →
-      isSlotStart (L .cap) (admits L (suc t)) (suc t) ≡ true
+      starts (scheme L) (admits L (suc t)) (suc t) ≡ true
 
 -- count c admits boxes at tick t
 abbrev pub isAdmitting : Life → ℕ → ℕ → Bool
@@ -40,14 +44,14 @@ lastEnd L c T = after (isAdmitting L c) T
 pub record Admitted (L : Life) (a : ℕ) : Type 0 where
   pub some : 0 < L .rule a
   pub low : L .floor ≤ L .rule a
-  pub start : isSlotStart (L .cap) (L .rule a) a ≡ true
+  pub start : starts (scheme L) (L .rule a) a ≡ true
   pub unheld : L .shut a ≡ false
 
 pub admitted : (L : Life) → Ruled L → (a : ℕ) → isAdmission L a ≡ true → Admitted L a
 unfolding isAdmission
 admitted L ruled a h =
     let k : ℕ = L .rule a in
-    let start : Bool = isSlotStart (L .cap) k a in
+    let start : Bool = starts (scheme L) k a in
     let rest : both (not (L .shut a)) start ≡ true = both-r (ltb 0 k) (both (not (L .shut a)) start) h in
     let on : 0 < k = ltb-true 0 k (both-l (ltb 0 k) (both (not (L .shut a)) start) h) in
     record {

@@ -55,12 +55,12 @@ unfolding heldIn howMany
 away τ = refl
 
 -- an opening holds a lane at its moment
-opened-holds : (es : List Event) (i τ D A K k : ℕ) → i < titlesMax → 0 < k → k ≤ K →
-    0 < heldOver (event i τ (opens D A K k) ∷ es) τ
+opened-holds : (es : List Event) (i τ m D A K k : ℕ) → i < titlesMax → 0 < k → k ≤ K →
+    0 < heldOver (event i τ (opens m D A K k) ∷ es) τ
 unfolding heldOver lifeOf heldIn isActive
-opened-holds es i τ D A K k id pos high =
-    let e : Event = event i τ (opens D A K k) in
-    let L : Life = record { opened = τ; length = D; floor = A; cap = K; rule = λ t. k; shut = λ t. false } in
+opened-holds es i τ m D A K k id pos high =
+    let e : Event = event i τ (opens m D A K k) in
+    let L : Life = record { kind = m; opened = τ; length = D; floor = A; cap = K; rule = λ t. k; shut = λ t. false } in
     let same : lifeOf (e ∷ es) i ≡ L = rw (eq-eqb i i refl) refl in
     let one : 0 < heldIn L τ = Search.howMany-some (λ l. isHeldIn L l τ) K 0 (omega arith) (held-active L 0 (Rattle.story.specs.Story.tickIn L τ) (lt-ltb 0 k pos)) in
     let part : heldIn (lifeOf (e ∷ es) i) τ ≤ heldOver (e ∷ es) τ = Search.total-at (λ j. heldIn (lifeOf (e ∷ es) j) τ) titlesMax i id in
@@ -74,9 +74,9 @@ nobody-there es i τ e h = false≢true (sym (away τ) ∙ sym (ap (λ x. isTher
 funded-next : (lanes : ℕ) (es : List Event) (i τ : ℕ) (a : Act) → Funded lanes es →
     answerTo lanes es (event i τ a) (lifeOf es i) a ≡ 0 → 0 < lanes
 funded-next lanes es i τ a (inl p) h = p
-funded-next lanes es i τ (opens D A K k) (inr e) h =
-    let o = opening lanes es i τ D A K k h in
-    omega (arith, opened-holds es i τ D A K k (omega (arith, o .timely .id)) (o .some) (o .high), o .room)
+funded-next lanes es i τ (opens m D A K k) (inr e) h =
+    let o = opening lanes es i τ m D A K k h in
+    omega (arith, opened-holds es i τ m D A K k (omega (arith, o .timely .id)) (o .some) (o .high), o .room)
 funded-next lanes es i τ (changes k) (inr e) h = absurd (nobody-there es i τ e (changing lanes es i τ k h .0 .there))
 funded-next lanes es i τ closes (inr e) h = absurd (nobody-there es i τ e (closing lanes es i τ h .there))
 funded-next lanes es i τ (doors b) (inr e) h = absurd (nobody-there es i τ e (doored lanes es i τ b h .there))

@@ -12,7 +12,7 @@ use lib.Dec.{ltb, eqb}
 use borrow.Author.Tests.{ltb-true, ltb-false, lt-ltb, le-ltb, eqb-false}
 use Rattle.rules.specs.Limits.{either, titlesMax}
 use Rattle.rules.specs.Refusals.{firstHit, outsideLimits, tooEarly, idTaken, isClosing, floorAboveCap, belowFloor}
-use Rattle.rules.specs.Refusals.{aboveCap, unchanged}
+use Rattle.rules.specs.Refusals.{isSteady, aboveCap, unchanged}
 use Rattle.rules.specs.Refusals.{doorsUnchanged, secondEvent, tooSoon}
 use Rattle.rules.specs.Refusals.{notAtSlot, noLanes}
 use Rattle.rules.specs.Search.{howMany, total}
@@ -57,6 +57,7 @@ formerTests pool es e L a =
       early = now .early;
       there = either (ltb 0 (countIn L (e .time))) (ltb 0 (formerlyHeldIn L (e .time)));
       closing = now .closing;
+      steady = now .steady;
       crossed = now .crossed;
       below = now .below;
       above = now .above;
@@ -146,15 +147,15 @@ module _ (pool : ℕ) (es : List Event) (e : Event) (L : Life) where
   clears : (a : Act) → formerAnswerTo pool es e L a ≡ 0 → (n : ℕ) →
       hitsOf n (orderOf a (formerTests pool es e L a)) ≡ false
   unfolding formerAnswerTo numbered
-  clears (opens D A K k) h = cleared (orderOf (opens D A K k) (formerTests pool es e L (opens D A K k))) refl h
+  clears (opens m D A K k) h = cleared (orderOf (opens m D A K k) (formerTests pool es e L (opens m D A K k))) refl h
   clears (changes k) h = cleared (orderOf (changes k) (formerTests pool es e L (changes k))) refl h
   clears closes h = cleared (orderOf closes (formerTests pool es e L closes)) refl h
   clears (doors b) h = cleared (orderOf (doors b) (formerTests pool es e L (doors b))) refl h
 
   still : (a : Act) → formerAnswerTo pool es e L a ≡ 0 → answerTo pool es e L a ≡ 0
   unfolding answerTo firstHit hitsOf
-  still (opens D A K k) h =
-      let clear = clears (opens D A K k) h in
+  still (opens m D A K k) h =
+      let clear = clears (opens m D A K k) h in
       rw (
         clear outsideLimits,
         clear tooEarly,
@@ -172,6 +173,7 @@ module _ (pool : ℕ) (es : List Event) (e : Event) (L : Life) where
         clear tooEarly,
         open-there L (e .time) (clear isClosing),
         clear isClosing,
+        clear isSteady,
         clear belowFloor,
         clear aboveCap,
         clear unchanged,
@@ -188,6 +190,7 @@ module _ (pool : ℕ) (es : List Event) (e : Event) (L : Life) where
         clear tooEarly,
         open-there L (e .time) (clear isClosing),
         clear isClosing,
+        clear isSteady,
         clear doorsUnchanged,
         clear secondEvent,
         clear notAtSlot,

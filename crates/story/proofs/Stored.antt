@@ -1,6 +1,6 @@
 -- Owed ticks need no history: of each count the end of its latest admission's slot decides. Shown for any life whose
 -- counts begin and end to admit boxes only at slot starts of their own: the stored ends say of a lane's ticks what is defined over all admissions.
--- Rests on the grid's laws and on the laws of owed ticks.
+-- Rests on the laws of a scheme and on the laws of owed ticks.
 use mathlib.Core.Path.{_≡_, refl, sym, ap, _∙_}
 use mathlib.Core.Bool.{Bool, true, false}
 use mathlib.Core.Logic.{⊎-elim}
@@ -15,35 +15,25 @@ use Rattle.rules.specs.Refusals.{pick}
 use Rattle.rules.specs.Search.{some}
 use Rattle.rules.proofs.Tests.{decide, both-l, both-r, both-in, same, pick-true, pick-false}
 use Rattle.rules.proofs.Search
-use Rattle.grid.specs.Ticks.{slot, isSlotStart}
-use Rattle.grid.specs.Channels.{channelCell}
-use Rattle.grid.specs.Plan.{inPlan}
-use Rattle.grid.proofs.Numbers.{mod-unique, divides-lower}
-use Rattle.grid.proofs.Ticks.{slot-pos}
-use Rattle.grid.proofs.Lanes.{lane-not-in}
-use Rattle.grid.proofs.Plan.{taken-in, taken-out}
+use Rattle.grid.proofs.Numbers.{mod-unique}
+use Rattle.scheme.specs.Scheme.{Scheme, starts, takes, filmIn}
+use Rattle.scheme.proofs.Takes.{taken-in, taken-out}
 use Rattle.story.specs.declared.Title.{Title}
-use Rattle.story.specs.Life.{Life, Course, isFilm, usualCell, isPlanned, isAdmission, isAwaited, isOwed}
+use Rattle.story.specs.Life.{Life, Course, scheme, isFilm, usualCell, isPlanned, isAdmission, isAwaited, isOwed}
 use Rattle.story.proofs.Ruled.{Ruled, Legal, admits, isAdmitting, lastEnd, admitted}
-use Rattle.story.specs.Kept.{wantsFrom, wants, keptAwaited, keptOwed}
+use Rattle.story.specs.Kept.{schemeIn, wantsFrom, wants, keptAwaited, keptOwed}
 use Rattle.story.proofs.Owed.{awaited-in, awaited-out}
 
 -- ---- slot starts as remainders
 
 -- the remainder by a slot is 0 at a slot start
-pub slot-start-zero : (K k t : ℕ) → isSlotStart K k t ≡ true → t % slot K k ≡ 0
-unfolding isSlotStart
-slot-start-zero K k t h = eqb-true (t % slot K k) 0 h
+pub slot-start-zero : (S : Scheme) (k t : ℕ) → starts S k t ≡ true → t % S .slotOf k ≡ 0
+unfolding starts
+slot-start-zero S k t h = eqb-true (t % S .slotOf k) 0 h
 
-pub zero-slot-start : (K k t : ℕ) → t % slot K k ≡ 0 → isSlotStart K k t ≡ true
-unfolding isSlotStart
-zero-slot-start K k t h = eq-eqb (t % slot K k) 0 h
-
--- a slot start of a count is one of every larger count
-pub slot-start-larger : (K m c t : ℕ) → m ≤ c → isSlotStart K m t ≡ true → isSlotStart K c t ≡ true
-unfolding slot
-slot-start-larger K m c t l h =
-    zero-slot-start K c t (divides-lower (K - c) (K - m) t (omega arith) (slot-start-zero K m t h))
+pub zero-slot-start : (S : Scheme) (k t : ℕ) → t % S .slotOf k ≡ 0 → starts S k t ≡ true
+unfolding starts
+zero-slot-start S k t h = eq-eqb (t % S .slotOf k) 0 h
 
 -- of two multiples of w the larger is at least w more
 multiples : (w a e : ℕ) → 0 < w → a % w ≡ 0 → e % w ≡ 0 → a < e → a + w ≤ e
@@ -64,10 +54,10 @@ multiple-less w e p ze l =
 
 module _ (L : Life) (legal : Legal L) (c : ℕ) (some : 0 < c) where
   -- a count begins and ends at its own slot starts
-  ends-at : (m : ℕ) → admits L m ≡ c → (admits L (suc m) ≡ c → ⊥) → isSlotStart (L .cap) c (suc m) ≡ true
+  ends-at : (m : ℕ) → admits L m ≡ c → (admits L (suc m) ≡ c → ⊥) → starts (scheme L) c (suc m) ≡ true
   ends-at m h f = rw (← h) (legal .ends m (omega arith) (λ e. f (sym e ∙ h)))
 
-  begins-at : (m : ℕ) → admits L (suc m) ≡ c → (admits L m ≡ c → ⊥) → isSlotStart (L .cap) c (suc m) ≡ true
+  begins-at : (m : ℕ) → admits L (suc m) ≡ c → (admits L m ≡ c → ⊥) → starts (scheme L) c (suc m) ≡ true
   begins-at m h f = rw (← h) (legal .begins m (omega arith) (λ e. f (e ∙ h)))
 
   -- no start of a slot lies inside another
@@ -78,8 +68,8 @@ module _ (L : Life) (legal : Legal L) (c : ℕ) (some : 0 < c) where
       omega arith
 
   -- a count that admits boxes at the end of one of its slots does in the whole slot
-  pub whole-slot : (m j : ℕ) → isSlotStart (L .cap) c (suc m) ≡ true → admits L m ≡ c → j < slot (L .cap) c →
-      slot (L .cap) c ≤ suc m → admits L (m - j) ≡ c
+  pub whole-slot : (m j : ℕ) → starts (scheme L) c (suc m) ≡ true → admits L m ≡ c → j < scheme L .slotOf c →
+      scheme L .slotOf c ≤ suc m → admits L (m - j) ≡ c
   whole-slot m zero s h b w = let e : m - 0 ≡ m = omega arith in rw e h
   whole-slot m (suc j) s h b w =
       let before : admits L (m - j) ≡ c = whole-slot m j s h (omega arith) w in
@@ -87,15 +77,15 @@ module _ (L : Life) (legal : Legal L) (c : ℕ) (some : 0 < c) where
       let e : m - j ≡ suc i = omega arith in
       ⊎-elim (λ t. eqb-true (admits L i) c t)
       (λ t.
-      let start : isSlotStart (L .cap) c (suc i) ≡ true = begins-at i (rw e at before) (eqb-false (admits L i) c t) in
+      let start : starts (scheme L) c (suc i) ≡ true = begins-at i (rw e at before) (eqb-false (admits L i) c t) in
       absurd
-      (inside (slot (L .cap) c) m j (slot-start-zero (L .cap) c (suc m) s) b (omega arith)
-      (rw e (slot-start-zero (L .cap) c (suc i) start))))
+      (inside (scheme L .slotOf c) m j (slot-start-zero (scheme L) c (suc m) s) b (omega arith)
+      (rw e (slot-start-zero (scheme L) c (suc i) start))))
       (decide (eqb (admits L i) c))
 
   -- where a count last stopped before T is a slot start of it, unless it admits boxes at T
   pub end-slot : (T m : ℕ) → (admits L T ≡ c → ⊥) → lastEnd L c T ≡ suc m →
-      (admits L m ≡ c) × (isSlotStart (L .cap) c (suc m) ≡ true)
+      (admits L m ≡ c) × (starts (scheme L) c (suc m) ≡ true)
   unfolding lastEnd
   end-slot T m off e =
       let last : admits L m ≡ c = eqb-true (admits L m) c (Search.after-last (isAdmitting L c) T m e) in (
@@ -135,50 +125,50 @@ module _ (L : Life) (ruled : Ruled L) (legal : Legal L) (l T u : ℕ) (lane : l 
     (from : T ≤ u) where
   -- an admission that awaits the lane's cell had the lane, and its slot ends by where its count last stopped
   pub awaited-end : (a : ℕ) → a < T → isAdmission L a ≡ true → isPlanned L a (usualCell L l u) u ≡ true →
-      (l < L .rule a) × (a + slot (L .cap) (L .rule a) ≤ lastEnd L (L .rule a) T)
+      (l < L .rule a) × (a + scheme L .slotOf (L .rule a) ≤ lastEnd L (L .rule a) T)
   awaited-end a b ad pl =
       let c : ℕ = L .rule a in
-      let w : ℕ = slot (L .cap) c in
+      let w : ℕ = scheme L .slotOf c in
       let k = admitted L ruled a ad in
-      let t = taken-out (L .floor) (L .cap) c a (usualCell L l u) u pl in
+      let t = taken-out (scheme L) c a (usualCell L l u) u pl in
       let had : l < c =
       ⊎-elim (λ x. ltb-true l c x)
       (λ x.
       absurd
-      (lane-not-in (L .floor) (L .cap) c l u (k .low) (ltb-false l c x) lane (t .0, t .1 .channel, t .1 .carries)))
+      (ruled .laws .off-lane c l (t .0) u (k .low) (ltb-false l c x) lane (t .1 .channel) (t .1 .carries)))
       (decide (ltb l c)) in
       let e : ℕ = lastEnd L c T in
       let above : a < e = lastEnd-above L c T a b (admits-rule L a (k .unheld)) in
       let q : e ≡ suc (e - 1) = omega arith in
       let s = end-slot L legal c (k .some) T (e - 1) (λ same. omega (arith, admits-le L T)) q in
-      let ze : e % w ≡ 0 = rw q (slot-start-zero (L .cap) c (suc (e - 1)) (s .1)) in
-      (had, multiples w a e (slot-pos (L .cap) c) (slot-start-zero (L .cap) c a (k .start)) ze above)
+      let ze : e % w ≡ 0 = rw q (slot-start-zero (scheme L) c (suc (e - 1)) (s .1)) in
+      (had, multiples w a e (ruled .laws .slot-pos c) (slot-start-zero (scheme L) c a (k .start)) ze above)
 
   -- the other way round, a slot before a count last stopped there is an admission
   pub end-admission : (c : ℕ) → l < c → L .floor ≤ c → 0 < lastEnd L c T →
-      (a : ℕ) × (a < T) × (a + slot (L .cap) c ≡ lastEnd L c T) × (L .rule a ≡ c) × (isAdmission L a ≡ true)
+      (a : ℕ) × (a < T) × (a + scheme L .slotOf c ≡ lastEnd L c T) × (L .rule a ≡ c) × (isAdmission L a ≡ true)
   unfolding isAdmission
   end-admission c had low some =
       let e : ℕ = lastEnd L c T in
-      let w : ℕ = slot (L .cap) c in
-      let wp : 0 < w = slot-pos (L .cap) c in
+      let w : ℕ = scheme L .slotOf c in
+      let wp : 0 < w = ruled .laws .slot-pos c in
       let q : e ≡ suc (e - 1) = omega arith in
       let pos : 0 < c = omega arith in
       let s = end-slot L legal c pos T (e - 1) (λ same. omega (arith, admits-le L T)) q in
-      let ze : e % w ≡ 0 = rw q (slot-start-zero (L .cap) c (suc (e - 1)) (s .1)) in
+      let ze : e % w ≡ 0 = rw q (slot-start-zero (scheme L) c (suc (e - 1)) (s .1)) in
       let fits : w ≤ e = omega (arith, multiples w 0 e wp (native.Mathlib.Nat.zero-mod w) ze some) in
       let a : ℕ = e - w in
       let back : e - 1 - (w - 1) ≡ a = omega arith in
       let admitting : admits L a ≡ c =
       rw back at (whole-slot L legal c pos (e - 1) (w - 1) (s .1) (s .0) (omega arith) (omega arith)) in
       let on = rules-unheld L a c pos admitting in
-      let start : isSlotStart (L .cap) c a ≡ true = zero-slot-start (L .cap) c a (multiple-less w e wp ze fits) in
+      let start : starts (scheme L) c a ≡ true = zero-slot-start (scheme L) c a (multiple-less w e wp ze fits) in
       let le : e ≤ T = lastEnd-le L c T in (
         a,
         omega arith,
         omega arith,
         on .0,
-        rw (on .0, on .1) (both-in (ltb 0 c) (isSlotStart (L .cap) c a) (lt-ltb 0 c pos) start),
+        rw (on .0, on .1) (both-in (ltb 0 c) (starts (scheme L) c a) (lt-ltb 0 c pos) start),
       )
 
 -- ---- the stored numbers
@@ -186,7 +176,7 @@ module _ (L : Life) (ruled : Ruled L) (legal : Legal L) (l T u : ℕ) (lane : l 
 -- the life that a stored title tells, on a course
 abbrev pub lifeIn : Title → Course → Life
 lifeIn t r =
-    record { opened = t .opened; length = t .length; floor = t .floor; cap = t .cap; rule = r .rule; shut = r .shut }
+    record { kind = t .kind; opened = t .opened; length = t .length; floor = t .floor; cap = t .cap; rule = r .rule; shut = r .shut }
 
 -- the stored ends, of the counts that had lane l, are where those counts last stopped before its drop at T
 abbrev pub EndsAt : Title → Course → ℕ → ℕ → Type 0
@@ -208,6 +198,9 @@ kept-awaited t r l T u ruled legal lane off from ends = same (isAwaited L T x u)
     K : ℕ
     K = t .cap
 
+    S : Scheme
+    S = schemeIn t
+
     x : ℕ
     x = usualCell L l u
 
@@ -215,10 +208,10 @@ kept-awaited t r l T u ruled legal lane off from ends = same (isAwaited L T x u)
     end c = getD (t .ends) c 0
 
     room : ℕ → ℕ → Bool
-    room c d = ltb (u + slot K c) (end c + slot K c * 2 ^ d)
+    room c d = ltb (u + S .slotOf c) (end c + S .span c d)
 
     carrying : ℕ → ℕ → Bool
-    carrying c d = eqb (channelCell A K c d u) x
+    carrying c d = eqb (S .onChannel c d u) x
 
     channel : ℕ → ℕ → Bool
     channel c d = both (room c d) (carrying c d)
@@ -236,18 +229,18 @@ kept-awaited t r l T u ruled legal lane off from ends = same (isAwaited L T x u)
         let c : ℕ = r .rule a in
         let k = admitted L ruled a (o .2) in
         let e = awaited-end L ruled legal l T u lane off from a (o .1) (o .2) (o .3) in
-        let s = taken-out A K c a x u (o .3) in
+        let s = taken-out S c a x u (o .3) in
         let d : ℕ = s .0 in
         let same-end : end c ≡ lastEnd L c T = ends c (e .0) (k .low) (ruled .high a) in
-        let before : u < a + slot K c * 2 ^ d = s .1 .before in
-        let by : a + slot K c ≤ lastEnd L c T = e .1 in
+        let before : u < a + S .span c d = s .1 .before in
+        let by : a + S .slotOf c ≤ lastEnd L c T = e .1 in
         let ch : channel c d ≡ true =
-        both-in (room c d) (carrying c d) (lt-ltb (u + slot K c) (end c + slot K c * 2 ^ d) (omega arith))
-        (eq-eqb (channelCell A K c d u) x (s .1 .carries)) in
+        both-in (room c d) (carrying c d) (lt-ltb (u + S .slotOf c) (end c + S .span c d) (omega arith))
+        (eq-eqb (S .onChannel c d u) x (s .1 .carries)) in
         Search.some-in test (suc K) c (omega (arith, ruled .high a))
         (both-in (ltb l c) (both (leb A c) (wanted c)) (lt-ltb l c (e .0))
         (both-in (leb A c) (wanted c) (le-leb A c (k .low))
-        (both-in (ltb 0 (end c)) (some (channel c) c) (lt-ltb 0 (end c) (omega (arith, slot-pos K c)))
+        (both-in (ltb 0 (end c)) (some (channel c) c) (lt-ltb 0 (end c) (omega (arith, ruled .laws .slot-pos c)))
         (Search.some-in (channel c) c d (s .1 .channel) ch))))
 
     back : some test (suc K) ≡ true → isAwaited L T x u ≡ true
@@ -262,15 +255,15 @@ kept-awaited t r l T u ruled legal lane off from ends = same (isAwaited L T x u)
         let ever : 0 < end c = ltb-true 0 (end c) (both-l (ltb 0 (end c)) (some (channel c) c) want) in
         let g = Search.some-out (channel c) c (both-r (ltb 0 (end c)) (some (channel c) c) want) in
         let d : ℕ = g .0 in
-        let fits : u + slot K c < end c + slot K c * 2 ^ d =
-        ltb-true (u + slot K c) (end c + slot K c * 2 ^ d) (both-l (room c d) (carrying c d) (g .2)) in
-        let carries : channelCell A K c d u ≡ x =
-        eqb-true (channelCell A K c d u) x (both-r (room c d) (carrying c d) (g .2)) in
+        let fits : u + S .slotOf c < end c + S .span c d =
+        ltb-true (u + S .slotOf c) (end c + S .span c d) (both-l (room c d) (carrying c d) (g .2)) in
+        let carries : S .onChannel c d u ≡ x =
+        eqb-true (S .onChannel c d u) x (both-r (room c d) (carrying c d) (g .2)) in
         let adm = end-admission L ruled legal l T u lane off from c had low (omega arith) in
         let a : ℕ = adm .0 in
-        let begun : a + slot K c ≡ lastEnd L c T = adm .2 in
-        let pl : inPlan A K c a x u ≡ true =
-        taken-in A K c a x u d
+        let begun : a + S .slotOf c ≡ lastEnd L c T = adm .2 in
+        let pl : takes S c a x u ≡ true =
+        taken-in S c a x u d
         (record { channel = g .1; from = omega (arith, adm .1); before = omega arith; carries = carries }) in
         awaited-in L T x u a (adm .1) (adm .4) (rw (adm .3) pl)
 

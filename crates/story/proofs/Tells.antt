@@ -11,13 +11,14 @@ use lib.Dec.{ltb, eqb}
 use lib.ListN.{getD, set, length, replicate, length-set}
 use lib.Seq.{getD-set-same, getD-set-other}
 use borrow.Author.Tests.{lt-ltb, eqb-true, eqb-false, ne-eqb}
-use Rattle.rules.specs.Limits.{both, either, eventTimeMax, lengthMin, lengthMax, floorMin, floorMax, countMax}
+use Rattle.rules.specs.Limits.{both, either, eventTimeMax}
 use Rattle.rules.specs.Limits.{titlesMax, countPlaces, lanePlaces}
 use Rattle.rules.specs.Refusals.{pick}
 use Rattle.rules.specs.Search.{howMany, after}
 use Rattle.rules.proofs.Tests.{decide, fails}
 use Rattle.rules.proofs.Search
-use Rattle.grid.specs.Ticks.{tickOf}
+use Rattle.scheme.specs.Scheme.{tickFor}
+use Rattle.scheme.proofs.Both.{lawful}
 use Rattle.story.specs.declared.Title.{Title}
 use Rattle.story.specs.declared.State.{State}
 use Rattle.story.specs.Life.{Life, Course, usualCell, droppedAt, isOwed, reach, owedWithin, owes}
@@ -29,6 +30,7 @@ use Rattle.story.specs.Story.{Event, unopened, lifeAfter, lifeOf, latest
 use Rattle.story.specs.Story.{tunes, tunedOf, isShutIn, heldOver, isThereIn}
 use Rattle.story.proofs.Owed.{awaited-out, owed-out}
 use Rattle.story.proofs.Stored.{lifeIn}
+use Rattle.story.proofs.Passed.{Offered}
 use Rattle.story.proofs.Kept.{Present, title-held-kept, later}
 use Rattle.story.proofs.Turn.{open-ruling}
 
@@ -53,21 +55,23 @@ abbrev pub fromStart : ℕ → Course
 fromStart k = record { rule = λ t. k; shut = λ t. false }
 
 -- a title just opened
-pub opened-present : (τ D A K k : ℕ) → τ ≤ eventTimeMax → lengthMin ≤ D → D ≤ lengthMax → floorMin ≤ A → A ≤ floorMax →
-    K ≤ countMax → A ≤ k → k ≤ K → Present (openedTitle τ D A K k) (fromStart k)
+pub opened-present : (m τ D A K k : ℕ) → τ ≤ eventTimeMax → Offered m D A K k → A ≤ k → k ≤ K →
+    Present (openedTitle m τ D A K k) (fromStart k)
 unfolding tickAt ruling lastEnd after droppedAt owes
-opened-present τ D A K k late d d′ a a′ K′ low high =
-    let start : (τ - τ) / tickOf D A K ≡ 0 = rw sub-self (zero-div (tickOf D A K)) in
+opened-present m τ D A K k late o low high =
+    let start : (τ - τ) / tickFor m D A K ≡ 0 = rw sub-self (zero-div (tickFor m D A K)) in
     record {
       mode = inl refl;
       sized =
           record {
+            kind-high = o .kind;
             opened-high = late;
-            length-low = d;
-            length-high = d′;
-            floor-low = a;
-            floor-high = a′;
-            cap-high = K′;
+            length-low = o .length-low;
+            length-high = o .length-high;
+            floor-low = o .floor-low;
+            floor-high = o .floor-high;
+            flat = o .flat;
+            cap-high = o .cap-high;
             count-low = low;
             count-high = high;
             mark-high = omega arith;
@@ -81,14 +85,14 @@ opened-present τ D A K k late d d′ a a′ K′ low high =
             owed-high = λ j. rw (zeros lanePlaces j) (omega arith);
           };
       since = omega arith;
-      on-tick = rw sub-self (zero-mod (tickOf D A K));
+      on-tick = rw sub-self (zero-mod (tickFor m D A K));
       steady = λ u le. refl;
       doors = λ e u le. refl;
-      ruled = record { low = λ u p. low; high = λ u. high };
+      ruled = record { laws = lawful m D A K (omega (arith, o .floor-low)) (omega arith) (o .flat); flat = o .flat; low = λ u p. low; high = λ u. high };
       legal = record { ends = λ u p f. absurd (f refl); begins = λ u p f. absurd (f refl) };
       ends = λ c lo hi. zeros countPlaces c ∙ rw start refl;
       drops = λ l lane off. zeros lanePlaces l ∙ rw start refl;
-      owing = λ l lane off. zeros lanePlaces l ∙ rw (zeros lanePlaces l) (sym (owes-none (lifeIn (openedTitle τ D A K k) (fromStart k)) l (reach K)));
+      owing = λ l lane off. zeros lanePlaces l ∙ rw (zeros lanePlaces l) (sym (owes-none (lifeIn (openedTitle m τ D A K k) (fromStart k)) l (reach K)));
     }
 
 -- what a slot keeps of an id: nothing, where no event has named it, or the course of its life

@@ -17,17 +17,17 @@ use Rattle.rules.specs.Refusals.{pick}
 use Rattle.rules.specs.Search.{after}
 use Rattle.rules.proofs.Tests.{decide, both-in, pick-true, pick-false}
 use Rattle.rules.proofs.Search
-use Rattle.grid.specs.Ticks.{tickOf, isSlotStart}
+use Rattle.scheme.specs.Scheme.{starts}
 use Rattle.story.specs.declared.Title.{Title}
 use Rattle.story.specs.Life.{Life, Course, isActive, droppedAt, isOwed, reach, owedWithin, owes}
 use Rattle.story.proofs.Ruled.{Ruled, Legal, admits, isAdmitting, lastEnd, SameAt}
 use Rattle.story.specs.Kept.{openMode, closingMode, heldMark, isShut, tickAt, ruling, keptOwed}
-use Rattle.story.specs.Kept.{keptWithin}
+use Rattle.story.specs.Kept.{keptWithin, schemeIn, titleTick}
 use Rattle.story.specs.Next.{ended, turned, turnedTitle}
 use Rattle.story.specs.Story.{turn}
 use Rattle.story.proofs.Clock.{later-tick}
 use Rattle.story.proofs.Held.{dropped-le, owes-local}
-use Rattle.story.proofs.Stored.{slot-start-larger, lifeIn, kept-owed, EndsAt}
+use Rattle.story.proofs.Stored.{lifeIn, kept-owed, EndsAt}
 use Rattle.story.proofs.Kept.{lastTick, dropTick, Sized, Present, tick-some}
 use Rattle.story.proofs.Rows.{filled, set-high, filled-length, filled-high, filled-in, filled-out, withRows}
 use Rattle.story.proofs.Rows.{isDropped, drop-rows}
@@ -41,10 +41,10 @@ pub record Turning (t : Title) (r r′ : Course) (τ q m c d v : ℕ) : Type 0 w
   pub is-open : t .mode ≡ openMode
   pub later : t .last < τ
   pub limit : τ ≤ eventTimeMax
-  pub on-tick : (τ - t .opened) % tickOf (t .length) (t .floor) (t .cap) ≡ 0
+  pub on-tick : (τ - t .opened) % titleTick t ≡ 0
   pub low : 0 < q → t .floor ≤ q
   pub high : q ≤ t .cap
-  pub at-slot : isSlotStart (t .cap) (max (t .floor) (min (t .count) q)) (tickAt t τ) ≡ true
+  pub at-slot : starts (schemeIn t) (max (t .floor) (min (t .count) q)) (tickAt t τ) ≡ true
   pub mode : (m ≡ openMode) ⊎ (m ≡ closingMode)
   pub count-low : t .floor ≤ c
   pub count-high : c ≤ t .cap
@@ -96,7 +96,7 @@ module _ (t : Title) (r r′ : Course) (τ q m c d v : ℕ) (h : Turning t r r�
   -- the turn comes in a later tick than the latest event
   pub after-now : lastTick t < tickAt t τ
   unfolding tickAt
-  after-now = later-tick (t .opened) (tickOf (t .length) (t .floor) (t .cap)) (tick-some t r (h .here)) (t .last) τ (h .here .since) (h .later) (h .on-tick)
+  after-now = later-tick (t .opened) (titleTick t) (tick-some t r (h .here)) (t .last) τ (h .here .since) (h .later) (h .on-tick)
 
   -- up to the turn the old count has ruled since the latest event, and the doors have stood as the mark says
   pub old-rules : (u : ℕ) → lastTick t ≤ u → r .rule u ≡ t .count
@@ -132,6 +132,8 @@ module _ (t : Title) (r r′ : Course) (τ q m c d v : ℕ) (h : Turning t r r�
   turn-ruled : Ruled (lifeIn t r′)
   turn-ruled =
       record {
+        laws = h .here .ruled .laws;
+        flat = h .here .ruled .flat;
         low = λ u p. ⊎-elim
             (λ x. let e = h .before u (ltb-true u (tickAt t τ) x) .rule in rw e (h .here .ruled .low u (rw e at p)))
             (λ x. let e = h .from u (ltb-false u (tickAt t τ) x) in rw e (h .low (rw e at p)))
@@ -143,14 +145,14 @@ module _ (t : Title) (r r′ : Course) (τ q m c d v : ℕ) (h : Turning t r r�
       }
 
   -- the turn's own tick is a slot start of the old count and of the new one
-  old-slot : isSlotStart (t .cap) (t .count) (tickAt t τ) ≡ true
+  old-slot : starts (schemeIn t) (t .count) (tickAt t τ) ≡ true
   old-slot =
-      slot-start-larger (t .cap) (max (t .floor) (min (t .count) q)) (t .count) (tickAt t τ)
+      h .here .ruled .laws .slots-nest (max (t .floor) (min (t .count) q)) (t .count) (tickAt t τ)
       (omega (arith, h .here .sized .count-low)) (h .at-slot)
 
-  new-slot : 0 < q → isSlotStart (t .cap) q (tickAt t τ) ≡ true
+  new-slot : 0 < q → starts (schemeIn t) q (tickAt t τ) ≡ true
   new-slot p =
-      slot-start-larger (t .cap) (max (t .floor) (min (t .count) q)) q (tickAt t τ) (omega (arith, h .low p)) (h .at-slot)
+      h .here .ruled .laws .slots-nest (max (t .floor) (min (t .count) q)) q (tickAt t τ) (omega (arith, h .low p)) (h .at-slot)
 
   turn-legal : Legal (lifeIn t r′)
   turn-legal =
@@ -166,14 +168,14 @@ module _ (t : Title) (r r′ : Course) (τ q m c d v : ℕ) (h : Turning t r r�
       adm = admits (lifeIn t r′)
 
       ends-below : (s : ℕ) → 0 < adm s → (adm s ≡ adm (suc s) → ⊥) → suc s < n →
-          isSlotStart (t .cap) (adm s) (suc s) ≡ true
+          starts (schemeIn t) (adm s) (suc s) ≡ true
       ends-below s p f b =
           let e : adm s ≡ admits (lifeIn t r) s = same-admits s (omega arith) in
           let e′ : adm (suc s) ≡ admits (lifeIn t r) (suc s) = same-admits (suc s) b in
           rw e (h .here .legal .ends s (rw e at p) (λ g. f (e ∙ g ∙ sym e′)))
 
       begins-below : (s : ℕ) → 0 < adm (suc s) → (adm s ≡ adm (suc s) → ⊥) → suc s < n →
-          isSlotStart (t .cap) (adm (suc s)) (suc s) ≡ true
+          starts (schemeIn t) (adm (suc s)) (suc s) ≡ true
       begins-below s p f b =
           let e : adm s ≡ admits (lifeIn t r) s = same-admits s (omega arith) in
           let e′ : adm (suc s) ≡ admits (lifeIn t r) (suc s) = same-admits (suc s) b in
@@ -185,7 +187,7 @@ module _ (t : Title) (r r′ : Course) (τ q m c d v : ℕ) (h : Turning t r r�
       chosen false k p = refl
 
       ends-from : (s : ℕ) → 0 < adm s → (adm s ≡ adm (suc s) → ⊥) → n ≤ suc s →
-          isSlotStart (t .cap) (adm s) (suc s) ≡ true
+          starts (schemeIn t) (adm s) (suc s) ≡ true
       ends-from s p f le =
           ⊎-elim
           (λ x.
@@ -198,7 +200,7 @@ module _ (t : Title) (r r′ : Course) (τ q m c d v : ℕ) (h : Turning t r r�
           (decide (ltb s n))
 
       begins-from : (s : ℕ) → 0 < adm (suc s) → (adm s ≡ adm (suc s) → ⊥) → n ≤ suc s →
-          isSlotStart (t .cap) (adm (suc s)) (suc s) ≡ true
+          starts (schemeIn t) (adm (suc s)) (suc s) ≡ true
       begins-from s p f le =
           ⊎-elim
           (λ x.
@@ -342,14 +344,16 @@ module _ (t : Title) (r r′ : Course) (τ q m c d v : ℕ) (h : Turning t r r�
   turn-sized =
       let z = h .here .sized in
       let n : ℕ = tickAt t τ in
-      let early : n ≤ eventTimeMax = omega (arith, div-le-self (τ - t .opened) (tickOf (t .length) (t .floor) (t .cap)), h .limit) in
+      let early : n ≤ eventTimeMax = omega (arith, div-le-self (τ - t .opened) (titleTick t), h .limit) in
       let small : n ≤ askedMax = omega arith in
       record {
+        kind-high = z .kind-high;
         opened-high = z .opened-high;
         length-low = z .length-low;
         length-high = z .length-high;
         floor-low = z .floor-low;
         floor-high = z .floor-high;
+        flat = z .flat;
         cap-high = z .cap-high;
         count-low = h .count-low;
         count-high = h .count-high;

@@ -8,7 +8,7 @@ use Prim.Native.Nat.{ℕ}
 use lib.Dec.{ltb, eqb}
 use Rattle.rules.specs.Limits.{either, within}
 use Rattle.rules.specs.Refusals.{pick, Rule, refuse, firstHit, done, outsideLimits, tooEarly, notThere, idTaken}
-use Rattle.rules.specs.Refusals.{isClosing, secondEvent, tooSoon, notAtSlot, noLanes}
+use Rattle.rules.specs.Refusals.{isClosing, isSteady, secondEvent, tooSoon, notAtSlot, noLanes}
 use Rattle.rules.proofs.Refusals.{hit-same}
 use Rattle.rules.proofs.Former.{formerly, formerly-done, renumbered, former-hit, joined, outside}
 use Rattle.story.specs.declared.State.{State}
@@ -24,13 +24,13 @@ abbrev pub wrongCount : ℕ
 wrongCount = 6
 
 abbrev pub countWrong : Act → ℕ → ℕ → ℕ → Bool
-countWrong (opens D A K k) _ _ _ = either (ltb K A) (not (within A K k))
+countWrong (opens m D A K k) _ _ _ = either (ltb K A) (not (within A K k))
 countWrong (changes n) A K k = either (not (within A K n)) (eqb n k)
 countWrong closes A K k = false
 countWrong (doors b) A K k = false
 
--- the orders as they stood, 1 2 4 6 9 and 1 2 3 5 6 7 8 9, of a count that is wrong or not; 16, which came later, has its
--- place
+-- the orders as they stood, 1 2 4 6 9 and 1 2 3 5 6 7 8 9, of a count that is wrong or not; 16 and 19, which came later,
+-- have their places
 abbrev pub formerOpen : Tests → Bool → List Rule
 formerOpen t wrong =
     refuse outsideLimits (t .outside)
@@ -46,6 +46,7 @@ formerChange t wrong =
     ∷ refuse tooEarly (t .early)
     ∷ refuse notThere (not (t .there))
     ∷ refuse isClosing (t .closing)
+    ∷ refuse isSteady (t .steady)
     ∷ refuse wrongCount wrong
     ∷ refuse secondEvent (t .second)
     ∷ refuse tooSoon (t .soon)
@@ -54,7 +55,7 @@ formerChange t wrong =
     ∷ []
 
 abbrev pub formerOrder : Act → Tests → Bool → List Rule
-formerOrder (opens D A K k) = formerOpen
+formerOrder (opens m D A K k) = formerOpen
 formerOrder (changes k) = formerChange
 formerOrder closes = λ t wrong. closeOrder t
 formerOrder (doors b) = λ t wrong. doorsOrder t
@@ -97,13 +98,15 @@ change-place t wrong e =
     (λ z.
     hit-same isClosing _ _ _ _ refl
     (λ w.
+    hit-same isSteady _ _ _ _ refl
+    (λ v.
     joined wrongCount (t .below) (t .above) (refuse wrongCount (t .same) ∷ rest)
-    ∙ joined wrongCount (either (t .below) (t .above)) (t .same) rest)))))
+    ∙ joined wrongCount (either (t .below) (t .above)) (t .same) rest))))))
 
 pub same-place : (s : State) (i τ : ℕ) (a : Act) → formerly (callAnswer s i τ a) ≡ formerAnswer s i τ a
 unfolding callAnswer formerAnswer renumbered
-same-place s i τ (opens D A K k) =
-    open-place (testsIn s i τ (opens D A K k)) _ (ap (either (ltb K A)) (outside A K k))
+same-place s i τ (opens m D A K k) =
+    open-place (testsIn s i τ (opens m D A K k)) _ (ap (either (ltb K A)) (outside A K k))
 same-place s i τ (changes k) =
     let t = titleAt s i in
     change-place (testsIn s i τ (changes k)) _ (ap (λ b. either b (eqb k (t .count))) (outside (t .floor) (t .cap) k))

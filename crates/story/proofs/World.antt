@@ -14,15 +14,16 @@ use borrow.Author.Tests.{ltb-true, ltb-false, le-ltb, leb-false, lt-leb, eqb-tru
 use Rattle.rules.specs.Limits.{both, poolMax, titlesMax}
 use Rattle.rules.proofs.Tests.{decide, both-l, either-false-l, either-false-r}
 use Rattle.rules.proofs.Search
-use Rattle.grid.specs.Ticks.{isSlotStart}
-use Rattle.story.specs.Life.{Life, Course, onCourse, isFilm, isAdmission, isActive, cell, onAir, isHeld}
+use Rattle.scheme.specs.Scheme.{starts, filmIn}
+use Rattle.story.specs.Life.{Life, Course, onCourse, scheme, isFilm, isPlanned, isAdmission, isActive, cell, onAir, isHeld}
 use Rattle.story.specs.Story.{Act, opens, changes, closes, doors, Event, event, tickLength, tickIn}
 use Rattle.story.specs.Story.{momentOf, turn}
 use Rattle.story.specs.Story.{lifeAfter, lifeOf, latestOf, lastTime, upTo, countIn, isHeldIn, heldIn, isThereIn}
-use Rattle.story.specs.Story.{answerTo, answer, Accepted, none, more, lifeAt, airAt, InTick, Received, Begins}
-use Rattle.story.proofs.Ruled.{SameAt}
+use Rattle.story.specs.Story.{answerTo, answer, Accepted, none, more, lifeAt, airAt, InTick, ReceivedBy, Received, Begins}
+use Rattle.story.proofs.Ruled.{SameAt, admitted}
 use Rattle.story.proofs.Clock.{tick-mono, in-tick, begun, on-its-tick}
-use Rattle.story.proofs.InTime.{film-in-time}
+use Rattle.story.proofs.InTime.{planned-in-time}
+use Rattle.story.proofs.Reached.{upTo-accepted}
 use Rattle.story.proofs.Held.{air-local, held-falls}
 use Rattle.story.proofs.Turn.{turn-before}
 use Rattle.story.proofs.Passed.{Turned, opening, changing, closing, doored, in-order}
@@ -71,13 +72,13 @@ turn-stood L M r τ υ pos since on lt before w =
 
 -- the course that a title takes by an event other than an opening, and that it turns no earlier tick
 abbrev pub courseAfter : Life → ℕ → Act → Course
-courseAfter L n (opens D A K k) = record { rule = L .rule; shut = L .shut }
+courseAfter L n (opens m D A K k) = record { rule = L .rule; shut = L .shut }
 courseAfter L n (changes k) = record { rule = turn (L .rule) n k; shut = L .shut }
 courseAfter L n closes = record { rule = turn (L .rule) n 0; shut = L .shut }
 courseAfter L n (doors b) = record { rule = L .rule; shut = turn (L .shut) n b }
 
 pub same-before : (L : Life) (n : ℕ) (a : Act) (u : ℕ) → u < n → SameAt L (courseAfter L n a) u
-same-before L n (opens D A K k) u b = record { rule = refl; shut = refl }
+same-before L n (opens m D A K k) u b = record { rule = refl; shut = refl }
 same-before L n (changes k) u b = record { rule = turn-before (L .rule) n k u b; shut = refl }
 same-before L n closes u b = record { rule = turn-before (L .rule) n 0 u b; shut = refl }
 same-before L n (doors d) u b = record { rule = refl; shut = turn-before (L .shut) n d u b }
@@ -96,7 +97,7 @@ event-stood : (lanes : ℕ) (es : List Event) → lanes ≤ poolMax → Accepted
     answerTo lanes es (event i υ a) (lifeOf es i) a ≡ 0 → (M : Life) (τ : ℕ) → τ < υ →
     lifeAfter (lifeOf es i) υ a .opened ≤ τ → (lifeOf es i .opened ≤ τ → Stood (lifeOf es i) M τ) →
     Stood (lifeAfter (lifeOf es i) υ a) M τ
-event-stood lanes es high acc i υ (opens D A K k) h M τ lt since w = absurd (omega arith)
+event-stood lanes es high acc i υ (opens m D A K k) h M τ lt since w = absurd (omega arith)
 event-stood lanes es high acc i υ (changes k) h M τ lt since w =
     turned-stood lanes es high acc i υ (changing lanes es i υ k h .0) (changes k) M τ lt since (w since)
 event-stood lanes es high acc i υ closes h M τ lt since w =
@@ -157,44 +158,44 @@ air-stood lanes es high acc i l t τ pos h =
 -- ---- a box, seen after more events
 
 -- a box of the life L, begun at tick a, seen after more events: the opening is still the id's latest, or it is over and
--- every cell of the film has been received before the last event
+-- every cell of the film has been received by its planned tick, before the last event
 data Watched (es : List Event) (i : ℕ) (L : Life) (a : ℕ) : Type 0 where
   current : (r : Course) → lifeOf es i ≡ onCourse L r → ((u : ℕ) → u ≤ a → SameAt L r u) → Watched es i L a
-  over : ((c : ℕ) → isFilm L c ≡ true → (f : Received es i L a c) × (momentOf L (suc (f .tick)) ≤ lastTime es)) →
-      Watched es i L a
+  over : ((c n : ℕ) → isFilm L c ≡ true → isPlanned L a c n ≡ true →
+      (f : ReceivedBy es i L a c n) × (momentOf L (suc (f .tick)) ≤ lastTime es)) → Watched es i L a
 
 -- events after a moment don't count at it
 upTo-skip : (τ : ℕ) (e : Event) (es : List Event) → τ < e .time → upTo τ (e ∷ es) ≡ upTo τ es
 unfolding upTo
 upTo-skip τ e es lt = rw (lt-leb (e .time) τ lt) refl
 
-received-skip : (e : Event) (es : List Event) (i : ℕ) (L : Life) (a c : ℕ) (f : Received es i L a c) →
-    momentOf L (suc (f .tick)) ≤ e .time → Received (e ∷ es) i L a c
-received-skip e es i L a c f le =
+received-skip : (e : Event) (es : List Event) (i : ℕ) (L : Life) (a c n : ℕ) (f : ReceivedBy es i L a c n) →
+    momentOf L (suc (f .tick)) ≤ e .time → ReceivedBy (e ∷ es) i L a c n
+received-skip e es i L a c n f le =
     record {
       lane = f .lane;
       tick = f .tick;
       lane-low = f .lane-low;
       from-start = f .from-start;
-      by-turn = f .by-turn;
+      by-then = f .by-then;
       same-opening = λ τ h. rw (upTo-skip τ e es (omega (arith, h .until))) (f .same-opening τ h);
       carries = λ τ h. rw (upTo-skip τ e es (omega (arith, h .until))) (f .carries τ h);
     }
 
 -- where a cell is found in a life
-record Sight (L : Life) (a c : ℕ) : Type 0 where
+record Sight (L : Life) (a c n : ℕ) : Type 0 where
   lane : ℕ
   tick : ℕ
   lane-low : lane < L .cap
   from-start : a ≤ tick
-  by-turn : tick ≤ a + c
+  by-then : tick ≤ n
   carries : onAir L lane tick ≡ cell c
 
 -- no count, no admission
 nobody : (L : Life) (a : ℕ) → L .rule a ≡ 0 → isAdmission L a ≡ true → ⊥
 unfolding isAdmission
 nobody L a e h =
-    let rest : Bool = both (not (L .shut a)) (isSlotStart (L .cap) (L .rule a) a) in
+    let rest : Bool = both (not (L .shut a)) (starts (scheme L) (L .rule a) a) in
     false≢true (sym (rw e refl) ∙ both-l (ltb 0 (L .rule a)) rest h)
 
 module _ (lanes : ℕ) (es : List Event) (high : lanes ≤ poolMax) (acc : Accepted lanes es) (i : ℕ) (id : i < titlesMax)
@@ -212,14 +213,15 @@ module _ (lanes : ℕ) (es : List Event) (high : lanes ≤ poolMax) (acc : Accep
       (λ w. rw life at w)
       (lively lanes es high acc i id)
 
-  sight : (c : ℕ) → isFilm L c ≡ true → Sight (onCourse L r) a c
-  sight c film =
-      let f = film-in-time (onCourse L r) (alive .ruled) a c (alive .floor-some) still-admitted film in
-      record { lane = f .0; tick = f .2; lane-low = f .1; from-start = f .3; by-turn = f .4; carries = f .5 }
+  sight : (c n : ℕ) → isFilm L c ≡ true → isPlanned L a c n ≡ true → Sight (onCourse L r) a c n
+  sight c n film planned =
+      let plan : isPlanned (onCourse L r) a c n ≡ true = rw (agree a (omega arith) .rule) planned in
+      let f = planned-in-time (onCourse L r) (alive .ruled) a c n still-admitted plan film in
+      record { lane = f .0; tick = f .2; lane-low = f .1; from-start = f .3; by-then = f .4; carries = f .5 }
 
   -- what is seen in the life was on air then
-  sight-received : (c : ℕ) → Sight (onCourse L r) a c → Received es i L a c
-  sight-received c g =
+  sight-received : (c n : ℕ) → Sight (onCourse L r) a c n → ReceivedBy es i L a c n
+  sight-received c n g =
       let pos : 0 < tickLength (lifeOf es i) = rw life (alive .tick-some) in
       let then : (τ : ℕ) → InTick L (g .tick) τ → InTick (lifeOf es i) (g .tick) τ = λ τ h. rw life (record { from = h .from; until = h .until }) in
       record {
@@ -227,7 +229,7 @@ module _ (lanes : ℕ) (es : List Event) (high : lanes ≤ poolMax) (acc : Accep
         tick = g .tick;
         lane-low = g .lane-low;
         from-start = g .from-start;
-        by-turn = g .by-turn;
+        by-then = g .by-then;
         same-opening = λ τ h.
             let w = stood lanes es high acc i τ (omega (arith, then τ h .from)) in
             ap (λ (X : Life). X .opened) (w .life ∙ ap (λ X. onCourse X (w .course)) life);
@@ -235,10 +237,10 @@ module _ (lanes : ℕ) (es : List Event) (high : lanes ≤ poolMax) (acc : Accep
       }
 
   -- where the id may open again, the cell was seen before
-  seen-before : (c τ : ℕ) → lastTime es ≤ τ → isThereIn (lifeOf es i) τ ≡ false → (g : Sight (onCourse L r) a c) →
+  seen-before : (c n τ : ℕ) → lastTime es ≤ τ → isThereIn (lifeOf es i) τ ≡ false → (g : Sight (onCourse L r) a c n) →
       momentOf L (suc (g .tick)) ≤ τ
   unfolding isHeld isActive tickIn heldIn
-  seen-before c τ late away g =
+  seen-before c u τ late away g =
       let X : Life = onCourse L r in
       let p : ℕ = tickLength L in
       let n : ℕ = tickIn X τ in
@@ -287,14 +289,14 @@ own-event : (lanes : ℕ) (es : List Event) → lanes ≤ poolMax → Accepted l
     momentOf L a < τ → (r : Course) → lifeOf es i ≡ onCourse L r → ((u : ℕ) → u ≤ a → SameAt L r u) →
     Watched (event i τ b ∷ es) i L a
 unfolding lifeOf sight-received received-skip
-own-event lanes es high acc i τ (opens D A K k) h L a adm lt r life agree =
-    let o = opening lanes es i τ D A K k h in
+own-event lanes es high acc i τ (opens m D A K k) h L a adm lt r life agree =
+    let o = opening lanes es i τ m D A K k h in
     let id : i < titlesMax = omega (arith, o .timely .id) in
     over
-    (λ c film.
-    let g = sight lanes es high acc i id L a adm r life agree c film in
-    let before : momentOf L (suc (g .tick)) ≤ τ = seen-before lanes es high acc i id L a adm r life agree c τ (o .timely .late) (o .away) g in
-    (received-skip (event i τ (opens D A K k)) es i L a c (sight-received lanes es high acc i id L a adm r life agree c g) before, before))
+    (λ c n film planned.
+    let g = sight lanes es high acc i id L a adm r life agree c n film planned in
+    let before : momentOf L (suc (g .tick)) ≤ τ = seen-before lanes es high acc i id L a adm r life agree c n τ (o .timely .late) (o .away) g in
+    (received-skip (event i τ (opens m D A K k)) es i L a c n (sight-received lanes es high acc i id L a adm r life agree c n g) before, before))
 own-event lanes es high acc i τ (changes k) h L a adm lt r life agree =
     own-turn lanes es high acc i τ (changing lanes es i τ k h .0) L a lt r life agree (changes k) (λ X. refl)
 own-event lanes es high acc i τ closes h L a adm lt r life agree =
@@ -310,9 +312,9 @@ unfolding lifeOf received-skip
 follow-more lanes e es high acc h i L a adm lt (over f) =
     let late : lastTime es ≤ e .time = in-order lanes es (e .title) (e .time) (e .act) h .late in
     over
-    (λ c film.
-    let g = f c film in
-    (received-skip e es i L a c (g .0) (omega (arith, g .1)), omega (arith, g .1)))
+    (λ c n film planned.
+    let g = f c n film planned in
+    (received-skip e es i L a c n (g .0) (omega (arith, g .1)), omega (arith, g .1)))
 follow-more lanes e es high acc h i L a adm lt (current r life agree) =
     ⊎-elim
     (λ y.
@@ -346,17 +348,46 @@ follows lanes es high (more {e = e} {es = es′} acc h) i τ a b = begun-or-more
 
 -- ---- the demand
 
--- demand 3: whatever accepted events follow, a box that begins at an admission finds every cell that holds film on a lane
--- of its title, at or after its start and no later than the cell's turn
-pub no-box-runs-dry : (lanes : ℕ) (es : List Event) → lanes ≤ poolMax → Accepted lanes es → (i τ a c : ℕ) →
-    i < titlesMax → Begins es i τ a → isFilm (lifeAt es i τ) c ≡ true → Received es i (lifeAt es i τ) a c
-no-box-runs-dry lanes es high acc i τ a c id b film =
+-- whatever accepted events follow, a box that begins at an admission finds every cell that holds film on a lane of its title,
+-- at or after its start and no later than the tick at which its plan has it
+pub planned-received : (lanes : ℕ) (es : List Event) → lanes ≤ poolMax → Accepted lanes es → (i τ a c n : ℕ) →
+    i < titlesMax → Begins es i τ a → isFilm (lifeAt es i τ) c ≡ true → isPlanned (lifeAt es i τ) a c n ≡ true →
+    ReceivedBy es i (lifeAt es i τ) a c n
+planned-received lanes es high acc i τ a c n id b film planned =
     go (follows lanes es high acc i τ a b)
   where
     L : Life
     L = lifeAt es i τ
 
-    go : Watched es i L a → Received es i L a c
+    go : Watched es i L a → ReceivedBy es i L a c n
     go (current r life agree) =
-        sight-received lanes es high acc i id L a (b .admission) r life agree c (sight lanes es high acc i id L a (b .admission) r life agree c film)
-    go (over f) = f c film .0
+        sight-received lanes es high acc i id L a (b .admission) r life agree c n
+        (sight lanes es high acc i id L a (b .admission) r life agree c n film planned)
+    go (over f) = f c n film planned .0
+
+-- the life at which a box begins is lively
+pub begun-lively : (lanes : ℕ) (es : List Event) → lanes ≤ poolMax → Accepted lanes es → (i τ a : ℕ) → i < titlesMax →
+    Begins es i τ a → Lively (lifeAt es i τ) (latestOf (upTo τ es) i)
+begun-lively lanes es high acc i τ a id b =
+    ⊎-elim (λ e. absurd (nobody (lifeAt es i τ) a (ap (λ (X : Life). X .rule a) e) (b .admission))) (λ w. w)
+    (lively lanes (upTo τ es) high (upTo-accepted lanes τ es acc) i id)
+
+-- demand 3: so no later than the cell's turn, since the plan has it by then
+pub no-box-runs-dry : (lanes : ℕ) (es : List Event) → lanes ≤ poolMax → Accepted lanes es → (i τ a c : ℕ) →
+    i < titlesMax → Begins es i τ a → isFilm (lifeAt es i τ) c ≡ true → Received es i (lifeAt es i τ) a c
+unfolding filmIn
+no-box-runs-dry lanes es high acc i τ a c id b film =
+    let L : Life = lifeAt es i τ in
+    let ruled = begun-lively lanes es high acc i τ a id b .ruled in
+    let at = admitted L ruled a (b .admission) in
+    let plan = ruled .laws .in-time (L .rule a) a c (at .low) (ruled .high a) (at .start) film in
+    let r = planned-received lanes es high acc i τ a c (plan .0) id b film (plan .2) in
+    record {
+      lane = r .lane;
+      tick = r .tick;
+      lane-low = r .lane-low;
+      from-start = r .from-start;
+      by-then = omega (arith, r .by-then, plan .1);
+      same-opening = r .same-opening;
+      carries = r .carries;
+    }

@@ -8,13 +8,13 @@ use Rattle.rules.specs.Limits.{both, within, poolMin, poolMax, idMax, eventTime
 use Rattle.rules.specs.Limits.{lanePlaces, titlesMax}
 use Rattle.rules.specs.Refusals.{pick, Rule, refuse, firstHit, outsideLimits}
 use Rattle.rules.specs.Search.{every}
-use Rattle.grid.specs.Ticks.{isSlotStart}
+use Rattle.scheme.specs.Scheme.{paddedKind, starts}
 use Rattle.story.specs.declared.Title.{Title}
 use Rattle.story.specs.declared.State.{State}
 use Rattle.story.specs.Orders.{Tests, laneOrder, statusOrder}
 use Rattle.story.specs.Story.{Act, opens, changes, closes, doors, actLimits, permitted, orderOf}
 use Rattle.story.specs.Story.{isCrossed, isBelow, isAbove, isSame, isSameDoors}
-use Rattle.story.specs.Kept.{absentMode, closingMode, clearMark, titleAt, isShut, stateOk, tickAt, atTickStart}
+use Rattle.story.specs.Kept.{absentMode, closingMode, clearMark, titleAt, isShut, isSteadyTitle, schemeIn, stateOk, tickAt, atTickStart}
 use Rattle.story.specs.Kept.{ruling, keptHeld}
 use Rattle.story.specs.Kept.{settledAt, titleHeld, lanesHeld, isThere, shows}
 use Rattle.story.specs.Next.{callNext}
@@ -23,7 +23,7 @@ use Rattle.story.specs.Next.{callNext}
 abbrev pub blankTitle : Title
 blankTitle =
     record
-    { mode = absentMode; opened = 0; length = 0; floor = 0; cap = 0; count = 0; mark = clearMark; last = 0; tuned = 0; ends = replicate countPlaces 0; dropped = replicate lanePlaces 0; owed = replicate lanePlaces 0 }
+    { mode = absentMode; kind = paddedKind; opened = 0; length = 0; floor = 0; cap = 0; count = 0; mark = clearMark; last = 0; tuned = 0; ends = replicate countPlaces 0; dropped = replicate lanePlaces 0; owed = replicate lanePlaces 0 }
 
 -- a pool without titles
 abbrev pub emptyPool : ℕ → State
@@ -46,7 +46,7 @@ tooMany s τ = ltb (s .pool) (lanesHeld s τ)
 
 -- a time that is a slot start of count k of a title
 abbrev pub atSlotStart : Title → ℕ → ℕ → Bool
-atSlotStart t k τ = both (atTickStart t τ) (isSlotStart (t .cap) k (tickAt t τ))
+atSlotStart t k τ = both (atTickStart t τ) (starts (schemeIn t) k (tickAt t τ))
 
 -- what the refusals ask of an event of title i at τ, read off the state as it stands
 abbrev pub testsIn : State → ℕ → ℕ → Act → Tests
@@ -56,6 +56,7 @@ testsIn s i τ a =
       early = ltb τ (s .last);
       there = isThere (titleAt s i) τ;
       closing = eqb (titleAt s i .mode) closingMode;
+      steady = isSteadyTitle (titleAt s i);
       crossed = isCrossed a;
       below = isBelow a (titleAt s i .floor);
       above = isAbove a (titleAt s i .cap);
@@ -71,8 +72,9 @@ testsIn s i τ a =
 unfoldable pub callAnswer : State → ℕ → ℕ → Act → ℕ
 callAnswer s i τ a = firstHit (orderOf a (testsIn s i τ a))
 
-abbrev pub openAnswer : State → ℕ → ℕ → ℕ → ℕ → ℕ → ℕ → ℕ
-openAnswer s i τ D A K k = callAnswer s i τ (opens D A K k)
+-- of an opening of a kind: 02, 12 has a call for each
+abbrev pub openAnswer : State → ℕ → ℕ → ℕ → ℕ → ℕ → ℕ → ℕ → ℕ
+openAnswer s i τ m D A K k = callAnswer s i τ (opens m D A K k)
 
 abbrev pub changeAnswer : State → ℕ → ℕ → ℕ → ℕ
 changeAnswer s i τ k = callAnswer s i τ (changes k)

@@ -1,17 +1,15 @@
 -- What the scheduler keeps, and what it reads off it: the numbers' limits, ticks, lanes held, and what a lane shows (01,
 -- "Events", "Status" and "Numbers that calls give back").
 use Prim.Native.Nat.{ℕ, suc, _+_, _-_, _*_, _/_, _%_, _^_}
-use mathlib.Core.Bool.{Bool}
+use mathlib.Core.Bool.{Bool, not}
 use mathlib.Core.List.{List, []}
 use lib.Dec.{leb, ltb, eqb}
 use lib.ListN.{getD}
-use Rattle.rules.specs.Limits.{both, either, within, poolMin, poolMax, floorMin, floorMax, countMax, lengthMin}
+use Rattle.rules.specs.Limits.{both, either, within, poolMin, poolMax, floorMin, floorMax, countMax, steadyMax, lengthMin}
 use Rattle.rules.specs.Limits.{lengthMax, askedMax, titlesMax, countPlaces, lanePlaces}
 use Rattle.rules.specs.Refusals.{pick}
 use Rattle.rules.specs.Search.{some, every, first, howMany, total}
-use Rattle.grid.specs.Ticks.{tickOf, holdsFilm, slot}
-use Rattle.grid.specs.Channels.{channelCell}
-use Rattle.grid.specs.Lanes.{laneCell}
+use Rattle.scheme.specs.Scheme.{Scheme, steadyKind, schemeOf, tickFor, filmIn}
 use Rattle.story.specs.declared.Title.{Title}
 use Rattle.story.specs.declared.State.{State}
 use Rattle.story.specs.Life.{reach, floorSlot}
@@ -39,7 +37,7 @@ isShut t = eqb (t .mark) heldMark
 abbrev pub noTitle : Title
 noTitle =
     record
-    { mode = absentMode; opened = 0; length = 0; floor = 0; cap = 0; count = 0; mark = clearMark; last = 0; tuned = 0; ends = []; dropped = []; owed = [] }
+    { mode = absentMode; kind = 0; opened = 0; length = 0; floor = 0; cap = 0; count = 0; mark = clearMark; last = 0; tuned = 0; ends = []; dropped = []; owed = [] }
 
 -- the slot of an id
 abbrev pub titleAt : State → ℕ → Title
@@ -49,25 +47,41 @@ titleAt s i = getD (s .titles) i noTitle
 abbrev pub rowOk : List ℕ → ℕ → Bool
 rowOk row n = every (λ j. leb (getD row j 0) askedMax) n
 
+-- a skip-forward title
+abbrev pub isSteadyTitle : Title → Bool
+isSteadyTitle t = eqb (t .kind) steadyKind
+
+-- its scheme
+abbrev pub schemeIn : Title → Scheme
+schemeIn t = schemeOf (t .kind) (t .floor) (t .cap)
+
+-- and its tick in ms
+abbrev pub titleTick : Title → ℕ
+titleTick t = tickFor (t .kind) (t .length) (t .floor) (t .cap)
+
 -- upper limits hold for every slot
 unfoldable pub numbersOk : Title → Bool
 numbersOk t =
     both (leb (t .mode) closingMode)
+    (both (leb (t .kind) steadyKind)
     (both (leb (t .opened) askedMax)
     (both (leb (t .length) lengthMax)
-    (both (leb (t .floor) floorMax)
+    (both (leb (t .floor) (pick (isSteadyTitle t) steadyMax floorMax))
     (both (leb (t .cap) countMax)
     (both (leb (t .count) countMax)
     (both (leb (t .mark) heldMark)
     (both (leb (t .last) askedMax)
     (both (leb (t .tuned) askedMax)
-    (both (rowOk (t .ends) countPlaces) (both (rowOk (t .dropped) lanePlaces) (rowOk (t .owed) lanePlaces)))))))))))
+    (both (rowOk (t .ends) countPlaces) (both (rowOk (t .dropped) lanePlaces) (rowOk (t .owed) lanePlaces))))))))))))
 
--- a title that is there has its lower limits too, a floor no higher than its cap and a count from floor to cap
+-- a title that is there has its lower limits too, a floor no higher than its cap and a count from floor to cap; of a
+-- skip-forward title floor and cap are one
 unfoldable pub orderOk : Title → Bool
 orderOk t =
     both (leb lengthMin (t .length))
-    (both (leb floorMin (t .floor)) (both (leb (t .floor) (t .cap)) (within (t .floor) (t .cap) (t .count))))
+    (both (leb floorMin (t .floor))
+    (both (leb (t .floor) (t .cap))
+    (both (within (t .floor) (t .cap) (t .count)) (either (not (isSteadyTitle t)) (eqb (t .floor) (t .cap))))))
 
 unfoldable pub titleOk : Title → Bool
 titleOk t = both (numbersOk t) (either (eqb (t .mode) absentMode) (orderOk t))
@@ -81,15 +95,15 @@ stateOk s =
 
 -- the ticks begun since the opening at a time in ms: B + t ticks is the start of tick t
 unfoldable pub tickAt : Title → ℕ → ℕ
-tickAt t τ = (τ - t .opened) / tickOf (t .length) (t .floor) (t .cap)
+tickAt t τ = (τ - t .opened) / titleTick t
 
 -- a time that is the start of a tick
 unfoldable pub atTickStart : Title → ℕ → Bool
-atTickStart t τ = eqb ((τ - t .opened) % tickOf (t .length) (t .floor) (t .cap)) 0
+atTickStart t τ = eqb ((τ - t .opened) % titleTick t) 0
 
 -- 02, 9: the moment from which on the title may change again: a floor slot after its latest opening or change
 unfoldable pub settledAt : Title → ℕ
-settledAt t = t .tuned + floorSlot (t .length) (t .floor) (t .cap)
+settledAt t = t .tuned + floorSlot (t .kind) (t .length) (t .floor) (t .cap)
 
 -- the ruling count, 0 where the title isn't open
 unfoldable pub ruling : Title → ℕ
@@ -98,8 +112,7 @@ ruling t = pick (eqb (t .mode) openMode) (t .count) 0
 -- channel d of count c, whose last boxes began a slot before the stored end, is taken at tick u with cell x on it
 unfoldable pub wantsFrom : Title → ℕ → ℕ → ℕ → ℕ → Bool
 wantsFrom t x u c d =
-    both (ltb (u + slot (t .cap) c) (getD (t .ends) c 0 + slot (t .cap) c * 2 ^ d))
-    (eqb (channelCell (t .floor) (t .cap) c d u) x)
+    both (ltb (u + schemeIn t .slotOf c) (getD (t .ends) c 0 + schemeIn t .span c d)) (eqb (schemeIn t .onChannel c d u) x)
 
 -- the latest boxes of count c still take cell x at tick u
 unfoldable pub wants : Title → ℕ → ℕ → ℕ → Bool
@@ -112,8 +125,7 @@ keptAwaited t l x u = some (λ c. both (ltb l c) (both (leb (t .floor) c) (wants
 -- of lane l tick u is owed: its cell holds film, and is still awaited
 unfoldable pub keptOwed : Title → ℕ → ℕ → Bool
 keptOwed t l u =
-    both (holdsFilm (t .length) (t .floor) (t .cap) (laneCell (t .floor) (t .cap) l u))
-    (keptAwaited t l (laneCell (t .floor) (t .cap) l u) u)
+    both (filmIn (t .kind) (t .length) (t .floor) (t .cap) (schemeIn t .onLane l u)) (keptAwaited t l (schemeIn t .onLane l u) u)
 
 -- how many of the n ticks from T on lane l owes
 unfoldable pub keptWithin : Title → ℕ → ℕ → ℕ → ℕ
@@ -146,4 +158,4 @@ sendingTick t l n = getD (t .dropped) l 0 + first (keptNth t l (getD (t .dropped
 -- the cell that a held lane shows at tick n
 unfoldable pub shows : Title → ℕ → ℕ → ℕ
 shows t l n =
-    laneCell (t .floor) (t .cap) l (pick (ltb l (ruling t)) n (sendingTick t l n))
+    schemeIn t .onLane l (pick (ltb l (ruling t)) n (sendingTick t l n))

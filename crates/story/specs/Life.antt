@@ -7,13 +7,13 @@ use lib.Dec.{ltb, eqb}
 use Rattle.rules.specs.Limits.{both}
 use Rattle.rules.specs.Refusals.{pick}
 use Rattle.rules.specs.Search.{some, first, howMany, after}
-use Rattle.grid.specs.Ticks.{tickOf, holdsFilm, slot, isSlotStart}
-use Rattle.grid.specs.Lanes.{laneCell}
-use Rattle.grid.specs.Plan.{inPlan}
+use Rattle.scheme.specs.Scheme.{Scheme, schemeOf, tickFor, filmIn, starts, takes}
 
 -- a title since its latest opening; its rule gives the ruling count at a tick, 0 once the title is closing: a close is
 -- a change to no lanes
 pub record Life : Type 0 where
+  -- which scheme it is sent by
+  pub kind : ℕ
   pub opened : ℕ
   pub length : ℕ
   pub floor : ℕ
@@ -30,28 +30,32 @@ pub record Course : Type 0 where
 -- the same title on another course
 abbrev pub onCourse : Life → Course → Life
 onCourse L r =
-    record { opened = L .opened; length = L .length; floor = L .floor; cap = L .cap; rule = r .rule; shut = r .shut }
+    record { kind = L .kind; opened = L .opened; length = L .length; floor = L .floor; cap = L .cap; rule = r .rule; shut = r .shut }
 
 -- 02, 9: one slot of the floor, in ms, for which a modulator card settles
-abbrev pub floorSlot : ℕ → ℕ → ℕ → ℕ
-floorSlot D A K = slot K A * tickOf D A K
+abbrev pub floorSlot : ℕ → ℕ → ℕ → ℕ → ℕ
+floorSlot kind D A K = schemeOf kind A K .slotOf A * tickFor kind D A K
 
--- what the grid says of the title: cell c holds film,
+-- the title's scheme
+abbrev pub scheme : Life → Scheme
+scheme L = schemeOf (L .kind) (L .floor) (L .cap)
+
+-- what it says of the title: cell c holds film,
 abbrev pub isFilm : Life → ℕ → Bool
-isFilm L c = holdsFilm (L .length) (L .floor) (L .cap) c
+isFilm L c = filmIn (L .kind) (L .length) (L .floor) (L .cap) c
 
 -- the cell that lane l carries at tick t while it is active,
 abbrev pub usualCell : Life → ℕ → ℕ → ℕ
-usualCell L l t = laneCell (L .floor) (L .cap) l t
+usualCell L l t = scheme L .onLane l t
 
 -- and cell c is in the plan of a box that starts at tick a, at exactly tick t
 abbrev pub isPlanned : Life → ℕ → ℕ → ℕ → Bool
-isPlanned L a c t = inPlan (L .floor) (L .cap) (L .rule a) a c t
+isPlanned L a c t = takes (scheme L) (L .rule a) a c t
 
 -- 01, "Events", and 02, 7: a slot start under the count ruling at that tick, while the title is open and not closing, and
 -- its doors are not held
 unfoldable pub isAdmission : Life → ℕ → Bool
-isAdmission L a = both (ltb 0 (L .rule a)) (both (not (L .shut a)) (isSlotStart (L .cap) (L .rule a) a))
+isAdmission L a = both (ltb 0 (L .rule a)) (both (not (L .shut a)) (starts (scheme L) (L .rule a) a))
 
 -- 01, "Lanes are ours": with count k lanes 0 to k - 1 are active
 unfoldable pub isActive : Life → ℕ → ℕ → Bool

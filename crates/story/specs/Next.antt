@@ -12,23 +12,23 @@ use Rattle.story.specs.Story.{Act, opens, changes, closes, doors}
 use Rattle.story.specs.Kept.{openMode, closingMode, clearMark, heldMark, isShut, titleAt, tickAt}
 use Rattle.story.specs.Kept.{keptWithin}
 
--- a title opened at τ: no count has ended and no lane was dropped
-abbrev pub openedTitle : ℕ → ℕ → ℕ → ℕ → ℕ → Title
-openedTitle τ D A K k =
+-- a title of some kind opened at τ: no count has ended and no lane was dropped
+abbrev pub openedTitle : ℕ → ℕ → ℕ → ℕ → ℕ → ℕ → Title
+openedTitle kind τ D A K k =
     record
-    { mode = openMode; opened = τ; length = D; floor = A; cap = K; count = k; mark = clearMark; last = τ; tuned = τ; ends = replicate countPlaces 0; dropped = replicate lanePlaces 0; owed = replicate lanePlaces 0 }
+    { mode = openMode; kind = kind; opened = τ; length = D; floor = A; cap = K; count = k; mark = clearMark; last = τ; tuned = τ; ends = replicate countPlaces 0; dropped = replicate lanePlaces 0; owed = replicate lanePlaces 0 }
 
 -- the ruling count ends at tick n, where the slot of its latest admission does; while the doors are held it has ended already
 abbrev pub ended : Title → ℕ → Title
 ended t n =
     record
-    { mode = t .mode; opened = t .opened; length = t .length; floor = t .floor; cap = t .cap; count = t .count; mark = t .mark; last = t .last; tuned = t .tuned; ends = pick (isShut t) (t .ends) (set (t .ends) (t .count) n); dropped = t .dropped; owed = t .owed }
+    { mode = t .mode; kind = t .kind; opened = t .opened; length = t .length; floor = t .floor; cap = t .cap; count = t .count; mark = t .mark; last = t .last; tuned = t .tuned; ends = pick (isShut t) (t .ends) (set (t .ends) (t .count) n); dropped = t .dropped; owed = t .owed }
 
 -- lane l is dropped at tick n, and how many cells it owes is counted once, then
 abbrev pub dropLane : Title → ℕ → ℕ → Title
 dropLane t n l =
     record
-    { mode = t .mode; opened = t .opened; length = t .length; floor = t .floor; cap = t .cap; count = t .count; mark = t .mark; last = t .last; tuned = t .tuned; ends = t .ends; dropped = set (t .dropped) l n; owed = set (t .owed) l (keptWithin t l n (reach (t .cap))) }
+    { mode = t .mode; kind = t .kind; opened = t .opened; length = t .length; floor = t .floor; cap = t .cap; count = t .count; mark = t .mark; last = t .last; tuned = t .tuned; ends = t .ends; dropped = set (t .dropped) l n; owed = set (t .owed) l (keptWithin t l n (reach (t .cap))) }
 
 -- of the lanes below i, those from k up to the old count are dropped at tick n
 unfoldable pub dropLanes : Title → ℕ → ℕ → ℕ → Title
@@ -40,7 +40,7 @@ dropLanes t n k (suc i) =
 abbrev pub turned : Title → ℕ → ℕ → ℕ → ℕ → ℕ → Title
 turned t mode k mark τ u =
     record
-    { mode = mode; opened = t .opened; length = t .length; floor = t .floor; cap = t .cap; count = k; mark = mark; last = τ; tuned = u; ends = t .ends; dropped = t .dropped; owed = t .owed }
+    { mode = mode; kind = t .kind; opened = t .opened; length = t .length; floor = t .floor; cap = t .cap; count = k; mark = mark; last = τ; tuned = u; ends = t .ends; dropped = t .dropped; owed = t .owed }
 
 -- a turn at τ to q lanes: the ruling count ends, the lanes above are dropped, and mode m, count c, mark d and time u of
 -- the latest opening or change are stored
@@ -63,8 +63,8 @@ doorsTitle t τ b = turned (ended t (tickAt t τ)) openMode (t .count) (pick b h
 abbrev pub withTitle : State → ℕ → Title → ℕ → State
 withTitle s i t τ = record { pool = s .pool; last = τ; titles = set (s .titles) i t }
 
-abbrev pub openNext : State → ℕ → ℕ → ℕ → ℕ → ℕ → ℕ → State
-openNext s i τ D A K k = withTitle s i (openedTitle τ D A K k) τ
+abbrev pub openNext : State → ℕ → ℕ → ℕ → ℕ → ℕ → ℕ → ℕ → State
+openNext s i τ m D A K k = withTitle s i (openedTitle m τ D A K k) τ
 
 abbrev pub changeNext : State → ℕ → ℕ → ℕ → State
 changeNext s i τ k = withTitle s i (changedTitle (titleAt s i) τ k) τ
@@ -77,7 +77,7 @@ doorsNext s i τ b = withTitle s i (doorsTitle (titleAt s i) τ b) τ
 
 -- the state that an accepted event gives
 abbrev pub callNext : State → ℕ → ℕ → Act → State
-callNext s i τ (opens D A K k) = openNext s i τ D A K k
+callNext s i τ (opens m D A K k) = openNext s i τ m D A K k
 callNext s i τ (changes k) = changeNext s i τ k
 callNext s i τ closes = closeNext s i τ
 callNext s i τ (doors b) = doorsNext s i τ b

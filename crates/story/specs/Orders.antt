@@ -4,7 +4,7 @@ use mathlib.Core.Bool.{Bool, not}
 use mathlib.Core.List.{List, [], _∷_}
 use Rattle.rules.specs.Refusals.{Rule, refuse, outsideLimits, tooEarly, notThere, idTaken, isClosing, floorAboveCap}
 use Rattle.rules.specs.Refusals.{belowFloor, aboveCap, unchanged, secondEvent, notAtSlot, noLanes, wrongRows}
-use Rattle.rules.specs.Refusals.{tooSoon, doorsUnchanged}
+use Rattle.rules.specs.Refusals.{tooSoon, doorsUnchanged, isSteady}
 
 -- what the refusals of an event ask
 pub record Tests : Type 0 where
@@ -16,6 +16,8 @@ pub record Tests : Type 0 where
   pub there : Bool
   -- 5: the title is closing
   pub closing : Bool
+  -- 19: the title is a skip-forward title
+  pub steady : Bool
   -- 15: the floor is above the cap
   pub crossed : Bool
   -- 13: the count is below the floor
@@ -35,6 +37,7 @@ pub record Tests : Type 0 where
   -- 9: with the event more lanes than the pool would be held
   pub full : Bool
 
+-- of an opening; of a skip-forward title, whose floor, cap and count are one number, 15, 13 and 14 can't hit: 1 2 4 9
 abbrev pub openOrder : Tests → List Rule
 openOrder t =
     refuse outsideLimits (t .outside)
@@ -52,6 +55,7 @@ changeOrder t =
     ∷ refuse tooEarly (t .early)
     ∷ refuse notThere (not (t .there))
     ∷ refuse isClosing (t .closing)
+    ∷ refuse isSteady (t .steady)
     ∷ refuse belowFloor (t .below)
     ∷ refuse aboveCap (t .above)
     ∷ refuse unchanged (t .same)
@@ -78,6 +82,7 @@ doorsOrder t =
     ∷ refuse tooEarly (t .early)
     ∷ refuse notThere (not (t .there))
     ∷ refuse isClosing (t .closing)
+    ∷ refuse isSteady (t .steady)
     ∷ refuse doorsUnchanged (t .sameDoors)
     ∷ refuse secondEvent (t .second)
     ∷ refuse notAtSlot (t .off)

@@ -6,22 +6,26 @@ use mathlib.Core.Bool.{Bool, true, false, not}
 use mathlib.Core.List.{List, [], _∷_}
 use lib.Dec.{leb, ltb, eqb}
 use lib.ListN.{getD, length}
-use Rattle.rules.specs.Limits.{both, either, within, idMax, floorMin, floorMax, countMin, countMax, lengthMin}
+use Rattle.rules.specs.Limits.{both, either, within, idMax, floorMin, floorMax, countMin, countMax, lengthMin, steadyMax}
 use Rattle.rules.specs.Limits.{lengthMax, eventTimeMax, askedMax, laneMax, titlesMax}
 use Rattle.rules.specs.Refusals.{pick, Rule, firstHit}
 use Rattle.rules.specs.Search.{every, howMany, total}
-use Rattle.grid.specs.Ticks.{tickOf, isSlotStart}
-use Rattle.story.specs.Life.{Life, Course, onCourse, floorSlot, isAdmission, isActive, Air, cell, onAir, isHeld}
+use Rattle.scheme.specs.Scheme.{paddedKind, steadyKind, tickFor, starts}
+use Rattle.story.specs.Life.{Life, Course, onCourse, scheme, floorSlot, isAdmission, isActive, Air, cell, onAir, isHeld}
 use Rattle.story.specs.Orders.{Tests, openOrder, changeOrder, closeOrder, doorsOrder}
 use Rattle.story.specs.Orders.{laneOrder, statusOrder}
 
--- 01, "Events", and 02, 7: what an event does: open with length, floor, cap and count; change to a count; close; hold the doors,
--- or lift them
+-- 01, "Events", and 02, 7 and 12: what an event does: open a title of some kind with length, floor, cap and count; change to a
+-- count; close; hold the doors, or lift them
 pub data Act : Type 0 where
-  opens : ℕ → ℕ → ℕ → ℕ → Act
+  opens : ℕ → ℕ → ℕ → ℕ → ℕ → Act
   changes : ℕ → Act
   closes : Act
   doors : Bool → Act
+
+-- 02, 12: open a skip-forward title with length and count, which is its floor and its cap
+abbrev pub skips : ℕ → ℕ → Act
+skips D k = opens steadyKind D k k k
 
 abbrev pub holds : Act
 holds = doors true
@@ -40,15 +44,15 @@ event i τ a = record { time = τ; title = i; act = a }
 
 -- an id that was never opened: no cells, no lanes
 abbrev pub unopened : Life
-unopened = record { opened = 0; length = 0; floor = 0; cap = 0; rule = λ t. 0; shut = λ t. false }
+unopened = record { kind = paddedKind; opened = 0; length = 0; floor = 0; cap = 0; rule = λ t. 0; shut = λ t. false }
 
 -- the title's tick in ms
 abbrev pub tickLength : Life → ℕ
-tickLength L = tickOf (L .length) (L .floor) (L .cap)
+tickLength L = tickFor (L .kind) (L .length) (L .floor) (L .cap)
 
 -- 02, 9: how long its card settles after an opening or a change, in ms
 abbrev pub settling : Life → ℕ
-settling L = floorSlot (L .length) (L .floor) (L .cap)
+settling L = floorSlot (L .kind) (L .length) (L .floor) (L .cap)
 
 -- the tick that holds a moment: tick t begins at the opening plus t ticks
 unfoldable pub tickIn : Life → ℕ → ℕ
@@ -71,7 +75,8 @@ doorsFrom L n b = onCourse L (record { rule = L .rule; shut = turn (L .shut) n b
 
 -- the title after an event of its own
 abbrev pub lifeAfter : Life → ℕ → Act → Life
-lifeAfter L τ (opens D A K k) = record { opened = τ; length = D; floor = A; cap = K; rule = λ t. k; shut = λ t. false }
+lifeAfter L τ (opens m D A K k) =
+    record { kind = m; opened = τ; length = D; floor = A; cap = K; rule = λ t. k; shut = λ t. false }
 lifeAfter L τ (changes k) = ruledFrom L (tickIn L τ) k
 lifeAfter L τ closes = ruledFrom L (tickIn L τ) 0
 lifeAfter L τ (doors b) = doorsFrom L (tickIn L τ) b
@@ -88,7 +93,7 @@ latestOf (e ∷ es) i = pick (eqb (e .title) i) (e .time) (latestOf es i)
 
 -- 02, 9: after an opening and a change a card retunes; closing, holding and lifting don't concern it
 abbrev pub tunes : Act → Bool
-tunes (opens D A K k) = true
+tunes (opens m D A K k) = true
 tunes (changes k) = true
 tunes closes = false
 tunes (doors b) = false
@@ -142,7 +147,7 @@ isThereIn L τ = either (ltb 0 (countIn L τ)) (ltb 0 (heldIn L τ))
 
 -- a moment that is a slot start of count k
 abbrev pub isSlotIn : Life → ℕ → ℕ → Bool
-isSlotIn L k τ = both (eqb ((τ - L .opened) % tickLength L) 0) (isSlotStart (L .cap) k (tickIn L τ))
+isSlotIn L k τ = both (eqb ((τ - L .opened) % tickLength L) 0) (starts (scheme L) k (tickIn L τ))
 
 -- the numbers of any event within their limits, and those of an opening besides
 abbrev pub withinLimits : Event → Bool
@@ -153,9 +158,17 @@ openLimits D A K k =
     both (within lengthMin lengthMax D)
     (both (within floorMin floorMax A) (both (within countMin countMax K) (within countMin countMax k)))
 
+-- of a skip-forward title, whose floor and cap are its count
+abbrev pub skipLimits : ℕ → ℕ → ℕ → ℕ → Bool
+skipLimits D A K k = both (within lengthMin lengthMax D) (both (within countMin steadyMax k) (both (eqb A k) (eqb K k)))
+
+abbrev pub kindLimits : ℕ → ℕ → ℕ → ℕ → ℕ → Bool
+kindLimits m D A K k =
+    both (leb m steadyKind) (pick (eqb m steadyKind) (skipLimits D A K k) (openLimits D A K k))
+
 -- all numbers of an event within their limits, where the test b says so of those that every event has
 abbrev pub actLimits : Act → Bool → Bool
-actLimits (opens D A K k) b = both b (openLimits D A K k)
+actLimits (opens m D A K k) b = both b (kindLimits m D A K k)
 actLimits (changes k) b = both b (within countMin countMax k)
 actLimits closes b = b
 actLimits (doors d) b = b
@@ -163,32 +176,32 @@ actLimits (doors d) b = b
 -- which way the count of an event is wrong, for a title with floor A, cap K and count k: an opening has its own floor
 -- and cap, whose order is asked besides
 abbrev pub isCrossed : Act → Bool
-isCrossed (opens D A K n) = ltb K A
+isCrossed (opens m D A K n) = ltb K A
 isCrossed (changes n) = false
 isCrossed closes = false
 isCrossed (doors b) = false
 
 abbrev pub isBelow : Act → ℕ → Bool
-isBelow (opens D A K n) _ = ltb n A
+isBelow (opens m D A K n) _ = ltb n A
 isBelow (changes n) A = ltb n A
 isBelow closes A = false
 isBelow (doors b) A = false
 
 abbrev pub isAbove : Act → ℕ → Bool
-isAbove (opens D A K n) _ = ltb K n
+isAbove (opens m D A K n) _ = ltb K n
 isAbove (changes n) K = ltb K n
 isAbove closes K = false
 isAbove (doors b) K = false
 
 abbrev pub isSame : Act → ℕ → Bool
-isSame (opens D A K n) k = false
+isSame (opens m D A K n) k = false
 isSame (changes n) k = eqb n k
 isSame closes k = false
 isSame (doors b) k = false
 
 -- the doors of a title are held as the event wants them, or not
 abbrev pub isSameDoors : Act → Bool → Bool
-isSameDoors (opens D A K n) s = false
+isSameDoors (opens m D A K n) s = false
 isSameDoors (changes n) s = false
 isSameDoors closes s = false
 isSameDoors (doors b) s = pick b s (not s)
@@ -196,7 +209,7 @@ isSameDoors (doors b) s = pick b s (not s)
 -- the count at whose slot starts an event is permitted, for a title with floor A and count k: the smaller count of a
 -- change, the floor of a close, the ruling count of a hold and a lift; an opening may come at any time
 abbrev pub permitted : Act → ℕ → ℕ → ℕ
-permitted (opens D A K n) _ k = n
+permitted (opens m D A K n) _ k = n
 permitted (changes n) A k = min k n
 permitted closes A k = A
 permitted (doors b) A k = k
@@ -213,6 +226,7 @@ testsTo pool es e L a =
       early = ltb (e .time) (lastTime es);
       there = isThereIn L (e .time);
       closing = eqb (countIn L (e .time)) 0;
+      steady = eqb (L .kind) steadyKind;
       crossed = isCrossed a;
       below = isBelow a (L .floor);
       above = isAbove a (L .cap);
@@ -226,7 +240,7 @@ testsTo pool es e L a =
 
 -- the order of refusals by what the event does
 abbrev pub orderOf : Act → Tests → List Rule
-orderOf (opens D A K k) = openOrder
+orderOf (opens m D A K k) = openOrder
 orderOf (changes k) = changeOrder
 orderOf closes = closeOrder
 orderOf (doors b) = doorsOrder
@@ -283,16 +297,20 @@ pub record InTick (L : Life) (t τ : ℕ) : Type 0 where
   pub from : momentOf L t ≤ τ
   pub until : τ < momentOf L (suc t)
 
--- demand 3: a box that begins at tick a of the life L receives cell c: a lane of that title has it on air, at every moment
--- of a tick from the box's start on and no later than the cell's turn, and still under the same opening
-pub record Received (es : List Event) (i : ℕ) (L : Life) (a c : ℕ) : Type 0 where
+-- a box that begins at tick a of the life L receives cell c by tick n: a lane of that title has it on air, at every moment
+-- of a tick from the box's start on and no later than n, and still under the same opening
+pub record ReceivedBy (es : List Event) (i : ℕ) (L : Life) (a c n : ℕ) : Type 0 where
   pub lane : ℕ
   pub tick : ℕ
   pub lane-low : lane < L .cap
   pub from-start : a ≤ tick
-  pub by-turn : tick ≤ a + c
+  pub by-then : tick ≤ n
   pub same-opening : (τ : ℕ) → InTick L tick τ → lifeAt es i τ .opened ≡ L .opened
   pub carries : (τ : ℕ) → InTick L tick τ → airAt es i lane τ ≡ cell c
+
+-- demand 3: by the cell's turn
+abbrev pub Received : List Event → ℕ → Life → ℕ → ℕ → Type 0
+Received es i L a c = ReceivedBy es i L a c (a + c)
 
 -- a box may begin at a moment: the start of a tick that is an admission, of the life as it stands then
 pub record Begins (es : List Event) (i τ a : ℕ) : Type 0 where

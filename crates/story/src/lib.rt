@@ -21,6 +21,7 @@ pub const HELD: u64 = 1;
 // lanes one for each lane.
 pub struct Title {
     pub mode: u64,
+    pub kind: u64,
     pub opened: u64,
     pub length: u64,
     pub floor: u64,

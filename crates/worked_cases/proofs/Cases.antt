@@ -15,6 +15,7 @@ use Rattle.grid.specs.Ticks.{tickOf, holdsFilm, roundedUp, slot, isSlotStart, c
 use Rattle.grid.specs.Channels.{floorRem, shift, segment, channelCell}
 use Rattle.grid.specs.Lanes.{isInG, isAdded, addedChannel, laneCell}
 use Rattle.grid.specs.Plan.{takenFrom, inPlan, takenAfter, planAt}
+use Rattle.scheme.specs.Scheme.{schemeOf, starts, takes, takesFrom, tickFor, filmIn}
 use Rattle.story.specs.Life.{isAdmission, isActive, droppedAt, isAwaited, isOwed, reach, owedWithin, isNth, nthOwed}
 use Rattle.story.specs.Life.{sends, onAir, isHeld}
 use Rattle.story.specs.Story.{tickIn, lifeOf, latestOf, tunedOf, upTo, heldIn, heldOver, answerTo, accepted}
@@ -25,7 +26,7 @@ use Rattle.sharing.specs.Verdict.{rowsFit, allowed, ordered, eachTitle, verdict
 use Rattle.worked_cases.specs.Cases.{Case, case, table, upFrom, along, those, sameRow, agree}
 
 pub worked : agree table ≡ true
-unfolding agree table sameRow upFrom along those firstHit some first howMany after total tickOf holdsFilm roundedUp slot isSlotStart cellOf floorRem shift segment channelCell isInG isAdded addedChannel laneCell takenFrom inPlan takenAfter planAt isAdmission isActive droppedAt isAwaited isOwed reach owedWithin isNth nthOwed sends onAir isHeld tickIn lifeOf latestOf tunedOf upTo heldIn heldOver answerTo accepted flatMap titles rowTotal term sumOf lessOr atLeast prefers from ways better bestOf shared rowsFit allowed ordered eachTitle verdictOf rowAfter
+unfolding schemeOf starts takes takesFrom tickFor filmIn agree table sameRow upFrom along those firstHit some first howMany after total tickOf holdsFilm roundedUp slot isSlotStart cellOf floorRem shift segment channelCell isInG isAdded addedChannel laneCell takenFrom inPlan takenAfter planAt isAdmission isActive droppedAt isAwaited isOwed reach owedWithin isNth nthOwed sends onAir isHeld tickIn lifeOf latestOf tunedOf upTo heldIn heldOver answerTo accepted flatMap titles rowTotal term sumOf lessOr atLeast prefers from ways better bestOf shared rowsFit allowed ordered eachTitle verdictOf rowAfter
 worked = refl
 
 -- rows that pass the test are equal

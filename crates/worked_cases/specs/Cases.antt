@@ -14,6 +14,7 @@ use Rattle.grid.specs.Ticks.{cells, tickOf, holdsFilm}
 use Rattle.grid.specs.Lanes.{isInG, laneCell}
 use Rattle.grid.specs.Plan.{planAt, never}
 use Rattle.story.specs.Life.{Air, nothing, cell}
+use Rattle.scheme.specs.Scheme.{paddedKind}
 use Rattle.story.specs.Story.{Act, opens, changes, Event, answer, accepted, airAt}
 use Rattle.sharing.specs.Verdict.{verdictOf, rowAfter}
 
@@ -68,11 +69,11 @@ event τ a = record { time = τ; title = 0; act = a }
 
 -- the film of the cases, opened with a count
 abbrev pub film : ℕ → Event
-film k = event 0 (opens filmLength floor cap k)
+film k = event 0 (opens paddedKind filmLength floor cap k)
 
 -- a film whose list outlives a floor slot of 2 ticks, opened with 5 lanes and dropped to 4
 abbrev pub dropsLong : List Event
-dropsLong = event 2 (changes 4) ∷ event 0 (opens 30 4 5 5) ∷ []
+dropsLong = event 2 (changes 4) ∷ event 0 (opens paddedKind 30 4 5 5) ∷ []
 
 -- any pool that has the lanes of the cases
 abbrev pub pool : ℕ
