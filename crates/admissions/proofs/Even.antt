@@ -5,16 +5,18 @@ use mathlib.Core.Bool.{Bool, true, false, not, false≢true}
 use mathlib.Core.Logic.{⊎-elim}
 use Prim.Native.Nat.{ℕ, suc, _+_, _-_, _*_, _/_, _%_, _≤_, _<_, max}
 use native.Mathlib.Nat.{mul-assoc, mul-mod-left, mul-le-mul, mul-le-mul-right, le-of-mul-le-mul-right}
-use native.Mathlib.Nat.{lt-of-mul-lt-mul-right, add-mod-right, mul-lt-mul-of-pos-right, div-lt-iff-lt-mul}
+use native.Mathlib.Nat.{lt-of-mul-lt-mul-right, add-mod-right, mul-lt-mul-of-pos-right, div-lt-iff-lt-mul, div-add-mod'}
 use native.Mathlib.Omega.{arith}
 use borrow.Author.Tests.{ltb-true, ltb-false, lt-ltb, le-leb, eq-eqb, eqb-true}
 use lib.Dec.{leb, ltb}
 use Rattle.rules.specs.Limits.{both}
 use Rattle.rules.proofs.Tests.{decide, both-r, both-in, fails}
-use Rattle.grid.specs.Ticks.{roundedUp, slot, isSlotStart}
-use Rattle.grid.proofs.Ticks.{slot-pos, slot-start, rounded-enough}
-use Rattle.story.specs.Life.{Life, isAdmission}
+use Rattle.grid.specs.Ticks.{roundedUp}
+use Rattle.grid.proofs.Ticks.{rounded-enough}
+use Rattle.scheme.specs.Scheme.{Scheme, starts}
+use Rattle.story.specs.Life.{Life, scheme, isAdmission}
 use Rattle.story.specs.Story.{tickLength, momentOf}
+use Rattle.story.proofs.Stored.{slot-start-zero}
 use Rattle.admissions.specs.declared.Stretch.{Stretch}
 use Rattle.admissions.specs.Waits.{letsIn, Next}
 use Rattle.admissions.specs.Stretches.{nextIn}
@@ -28,6 +30,10 @@ rounded-least d g m pos h =
     let less : (d + (g - 1)) / g < suc m = div-lt-iff-lt-mul {k = g} {x = d + (g - 1)} {y = suc m} pos .1 (omega arith) in
     omega arith
 
+-- a slot start is a whole number of slots
+whole-slots : (S : Scheme) (k a : ℕ) → starts S k a ≡ true → a / S .slotOf k * S .slotOf k ≡ a
+whole-slots S k a h = omega (arith, slot-start-zero S k a h, div-add-mod' a (S .slotOf k))
+
 -- q slots of w ticks, of p ms each
 slots-ms : (q w p g : ℕ) → g ≡ w * p → q * w * p ≡ q * g
 slots-ms q w p g h = mul-assoc q w p ∙ ap (λ z. q * z) (sym h)
@@ -40,19 +46,20 @@ pub record Admits (L : Life) (k b : ℕ) : Type 0 where
 -- the stretch s is that of count k, from tick n on
 pub record Even (L : Life) (s : Stretch) (n k : ℕ) : Type 0 where
   pub tick-some : 0 < tickLength L
+  pub slot-some : 0 < scheme L .slotOf k
   pub count-some : 0 < k
   pub from-opening : s .opened ≡ L .opened
-  pub slot-is : s .slot ≡ slot (L .cap) k * tickLength L
+  pub slot-is : s .slot ≡ scheme L .slotOf k * tickLength L
   pub start-is : s .start ≡ momentOf L n
 
 -- the tick at which the stretch, were it endless, lets x in
 pub record Reached (L : Life) (s : Stretch) (n k x : ℕ) : Type 0 where
   pub tick : ℕ
   pub moment : momentOf L tick ≡ nextIn s x
-  pub at-slot : isSlotStart (L .cap) k tick ≡ true
+  pub at-slot : starts (scheme L) k tick ≡ true
   pub since : n ≤ tick
   pub in-time : x ≤ momentOf L tick
-  pub least : (b : ℕ) → n ≤ b → isSlotStart (L .cap) k b ≡ true → x ≤ momentOf L b → tick ≤ b
+  pub least : (b : ℕ) → n ≤ b → starts (scheme L) k b ≡ true → x ≤ momentOf L b → tick ≤ b
 
 module _ (L : Life) (s : Stretch) (n k : ℕ) (e : Even L s n k) where
   -- a later tick begins at a later moment
@@ -68,31 +75,28 @@ module _ (L : Life) (s : Stretch) (n k : ℕ) (e : Even L s n k) where
   ticks-down : (a b : ℕ) → momentOf L a ≤ momentOf L b → a ≤ b
   ticks-down a b h = le-of-mul-le-mul-right {m = a} {n = b} {k = tickLength L} (omega arith) (e .tick-some)
 
-  slot-some : 0 < slot (L .cap) k
-  slot-some = slot-pos (L .cap) k
-
   -- a slot further on
-  a-slot-on : (a : ℕ) → momentOf L (a + slot (L .cap) k) ≡ momentOf L a + s .slot
+  a-slot-on : (a : ℕ) → momentOf L (a + scheme L .slotOf k) ≡ momentOf L a + s .slot
   a-slot-on a = omega (arith, e .slot-is)
 
   -- two slot starts are a slot apart
-  apart : (a b : ℕ) → isSlotStart (L .cap) k a ≡ true → isSlotStart (L .cap) k b ≡ true → a < b →
-      a + slot (L .cap) k ≤ b
+  apart : (a b : ℕ) → starts (scheme L) k a ≡ true → starts (scheme L) k b ≡ true → a < b →
+      a + scheme L .slotOf k ≤ b
   apart a b p q lt =
-      let w = slot (L .cap) k in
-      let ea : a / w * w ≡ a = slot-start (L .cap) k a p in
-      let eb : b / w * w ≡ b = slot-start (L .cap) k b q in
+      let w = scheme L .slotOf k in
+      let ea : a / w * w ≡ a = whole-slots (scheme L) k a p in
+      let eb : b / w * w ≡ b = whole-slots (scheme L) k b q in
       let less : a / w < b / w = lt-of-mul-lt-mul-right w (omega arith) in
       let m : (suc (a / w)) * w ≤ b / w * w = mul-le-mul-right w less in
       omega arith
 
   slots-some : 0 < s .slot
-  slots-some = rw (e .slot-is) (mul-le-mul {n₁ = 1} {m₁ = 1} {n₂ = slot (L .cap) k} {m₂ = tickLength L} slot-some (e .tick-some))
+  slots-some = rw (e .slot-is) (mul-le-mul {n₁ = 1} {m₁ = 1} {n₂ = scheme L .slotOf k} {m₂ = tickLength L} (e .slot-some) (e .tick-some))
 
   pub reached : (x : ℕ) → Reached L s n k x
-  unfolding nextIn isSlotStart
+  unfolding nextIn starts
   reached x =
-      let w = slot (L .cap) k in
+      let w = scheme L .slotOf k in
       let d : ℕ = max x (s .start) - s .opened in
       let q : ℕ = roundedUp d (s .slot) in
       let is : momentOf L (q * w) ≡ s .opened + q * s .slot = omega (arith, slots-ms q w (tickLength L) (s .slot) (e .slot-is), e .from-opening) in
@@ -105,7 +109,7 @@ module _ (L : Life) (s : Stretch) (n k : ℕ) (e : Even L s n k) where
         since = ticks-down n (q * w) begun;
         in-time = omega (arith, e .start-is, e .from-opening);
         least = λ b lo at h.
-            let eb : b / w * w ≡ b = slot-start (L .cap) k b at in
+            let eb : b / w * w ≡ b = whole-slots (scheme L) k b at in
             let mb : b * tickLength L ≡ b / w * s .slot = ap (λ z. z * tickLength L) (sym eb) ∙ slots-ms (b / w) w (tickLength L) (s .slot) (e .slot-is) in
             let up : momentOf L n ≤ momentOf L b = ticks-up n b lo in
             let reach : d ≤ b / w * s .slot = omega (arith, e .start-is, e .from-opening) in
@@ -116,10 +120,10 @@ module _ (L : Life) (s : Stretch) (n k : ℕ) (e : Even L s n k) where
   -- ---- who gets in
 
   admission-slot : (b : ℕ) → n ≤ b → L .rule b ≡ k → isAdmission L b ≡ true →
-      isSlotStart (L .cap) k b ≡ true
+      starts (scheme L) k b ≡ true
   unfolding isAdmission
   admission-slot b lo rule h =
-      let start : Bool = isSlotStart (L .cap) (L .rule b) b in
+      let start : Bool = starts (scheme L) (L .rule b) b in
       rw rule at (both-r (not (L .shut b)) start (both-r (ltb 0 (L .rule b)) (both (not (L .shut b)) start) h))
 
   module _ (from : ℕ) (here : Settled L n from) where
@@ -132,7 +136,7 @@ module _ (L : Life) (s : Stretch) (n k : ℕ) (e : Even L s n k) where
           lets-in =
               both-in (leb (L .opened) x) (both (isAdmission L (r .tick)) (leb x (momentOf L (r .tick)))) (le-leb (L .opened) x (omega (arith, here .low)))
               (both-in (isAdmission L (r .tick)) (leb x (momentOf L (r .tick)))
-              (rw (rules (r .tick) (r .since) (omega arith) .rule, rules (r .tick) (r .since) (omega arith) .unheld) (both-in (ltb 0 k) (isSlotStart (L .cap) k (r .tick)) (lt-ltb 0 k (e .count-some)) (r .at-slot)))
+              (rw (rules (r .tick) (r .since) (omega arith) .rule, rules (r .tick) (r .since) (omega arith) .unheld) (both-in (ltb 0 k) (starts (scheme L) k (r .tick)) (lt-ltb 0 k (e .count-some)) (r .at-slot)))
               (le-leb x (momentOf L (r .tick)) (r .in-time)));
           none-before = λ b lt. fails (letsIn L x b) (λ h. too-soon b lt h (let-in L x b h));
         }
@@ -143,7 +147,7 @@ module _ (L : Life) (s : Stretch) (n k : ℕ) (e : Even L s n k) where
             (λ t. false≢true (sym (here .after x late b (ltb-true b n t)) ∙ h))
             (λ t.
             let lo : n ≤ b = ltb-false b n t in
-            let at : isSlotStart (L .cap) k b ≡ true = admission-slot b lo (rules b lo (omega arith) .rule) (g .admission) in
+            let at : starts (scheme L) k b ≡ true = admission-slot b lo (rules b lo (omega arith) .rule) (g .admission) in
             omega (arith, r .least b lo at (g .in-time)))
             (decide (ltb b n))
 
@@ -155,7 +159,7 @@ module _ (L : Life) (s : Stretch) (n k : ℕ) (e : Even L s n k) where
 
       -- an admission of it is a slot before the first slot start that is not
       within-stretch : (b : ℕ) → n ≤ b → b < m → isAdmission L b ≡ true →
-          b + slot (L .cap) k ≤ end .tick
+          b + scheme L .slotOf k ≤ end .tick
       within-stretch b lo lt h =
           let soon : momentOf L b < momentOf L (end .tick) = omega (arith, ticks-on b m lt, end .in-time) in
           apart b (end .tick) (admission-slot b lo (rules b lo lt .rule) h) (end .at-slot) (ticks-back b (end .tick) soon)
@@ -164,28 +168,28 @@ module _ (L : Life) (s : Stretch) (n k : ℕ) (e : Even L s n k) where
       pub none-within : nextIn s τ < s .start + s .slot → NoneIn L n m
       none-within short b lo lt = fails (isAdmission L b) (λ h. never (within-stretch b lo lt h))
         where
-          never : b + slot (L .cap) k ≤ end .tick → ⊥
+          never : b + scheme L .slotOf k ≤ end .tick → ⊥
           never far =
-              omega (arith, ticks-up (b + slot (L .cap) k) (end .tick) far, ticks-up n b lo, a-slot-on b, end .moment, e .start-is)
+              omega (arith, ticks-up (b + scheme L .slotOf k) (end .tick) far, ticks-up n b lo, a-slot-on b, end .moment, e .start-is)
 
       -- otherwise its last admission is a slot before the first slot start at or after its end
       module _ (whole : s .start + s .slot ≤ nextIn s τ) where
         abbrev last : ℕ
-        last = end .tick - slot (L .cap) k
+        last = end .tick - scheme L .slotOf k
 
-        far-enough : n + slot (L .cap) k ≤ end .tick
-        far-enough = ticks-down (n + slot (L .cap) k) (end .tick) (omega (arith, a-slot-on n, end .moment, e .start-is))
+        far-enough : n + scheme L .slotOf k ≤ end .tick
+        far-enough = ticks-down (n + scheme L .slotOf k) (end .tick) (omega (arith, a-slot-on n, end .moment, e .start-is))
 
-        last-slot : last + slot (L .cap) k ≡ end .tick
+        last-slot : last + scheme L .slotOf k ≡ end .tick
         last-slot = omega (arith, far-enough)
 
         last-since : n ≤ last
         last-since = omega (arith, far-enough)
 
-        last-at-slot : isSlotStart (L .cap) k last ≡ true
-        unfolding isSlotStart
+        last-at-slot : starts (scheme L) k last ≡ true
+        unfolding starts
         last-at-slot =
-            let w = slot (L .cap) k in
+            let w = scheme L .slotOf k in
             let none-over : end .tick % w ≡ 0 = eqb-true (end .tick % w) 0 (end .at-slot) in
             eq-eqb (last % w) 0 (sym (add-mod-right last w) ∙ ap (λ a. a % w) last-slot ∙ none-over)
 
@@ -195,7 +199,7 @@ module _ (L : Life) (s : Stretch) (n k : ℕ) (e : Even L s n k) where
         last-before : last < m
         last-before =
             ⊎-elim (λ t. ticks-back last m (omega (arith, ltb-true (momentOf L last) τ t)))
-            (λ t. absurd (omega (arith, end .least last last-since last-at-slot (ltb-false (momentOf L last) τ t), last-slot, slot-some)))
+            (λ t. absurd (omega (arith, end .least last last-since last-at-slot (ltb-false (momentOf L last) τ t), last-slot, e .slot-some)))
             (decide (ltb (momentOf L last) τ))
 
         pub lets-within : Lets L s m from (nextIn s τ - s .slot)

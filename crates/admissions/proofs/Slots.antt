@@ -13,11 +13,11 @@ use lib.ListN.{getD, length}
 use Rattle.rules.specs.Limits.{both, askedMax, countMax, lengthMax}
 use Rattle.rules.specs.Refusals.{pick}
 use Rattle.rules.proofs.Tests.{decide, both-l}
-use Rattle.grid.specs.Ticks.{roundedUp, tickOf, slot as slotOf}
+use Rattle.grid.specs.Ticks.{roundedUp}
 use Rattle.grid.specs.Bounds.{Exactly}
 use Rattle.grid.proofs.Ticks.{rounded-enough, slot-ms}
 use Rattle.story.specs.declared.Title.{Title}
-use Rattle.story.specs.Kept.{openMode, isShut}
+use Rattle.story.specs.Kept.{openMode, isShut, schemeIn, titleTick}
 use Rattle.admissions.specs.declared.Waits.{Waits}
 use Rattle.admissions.specs.declared.Stretch.{Stretch}
 use Rattle.admissions.specs.declared.Tally.{Tally}
@@ -65,8 +65,8 @@ next-soon s x z low = omega (arith, next-is s x z low .soon, z .short, z .early)
 
 -- ---- the stretch of a title
 
-pub stretch-spaced : (t : Title) (a b : ℕ) → Playing t → Exactly (slotOf (t .cap) (t .count)) 1 (2 ^ countMax) a →
-    Exactly (tickOf (t .length) (t .floor) (t .cap)) 1 (t .length) b
+pub stretch-spaced : (t : Title) (a b : ℕ) → Playing t → Exactly (schemeIn t .slotOf (t .count)) 1 (2 ^ countMax) a →
+    Exactly (titleTick t) 1 (t .length) b
     → (spacedAt (t .opened) (a * b) (t .last) ≡ stretchOf t) × Spaced (spacedAt (t .opened) (a * b) (t .last))
 unfolding stretchOf
 stretch-spaced t a b p x y =

@@ -15,10 +15,9 @@ use Rattle.rules.specs.Limits.{both, askedMax}
 use Rattle.rules.specs.Search.{first}
 use Rattle.rules.proofs.Tests.{decide, both-r}
 use Rattle.rules.proofs.Search
-use Rattle.grid.specs.Ticks.{tickOf}
 use Rattle.story.specs.declared.Title.{Title}
 use Rattle.story.specs.Life.{Life, Course, onCourse, isAdmission}
-use Rattle.story.specs.Kept.{isShut, tickAt, ruling}
+use Rattle.story.specs.Kept.{isShut, titleTick, tickAt, ruling}
 use Rattle.story.specs.Story.{unopened, tickLength, tickIn, momentOf}
 use Rattle.story.proofs.Ruled.{SameAt}
 use Rattle.story.proofs.Clock.{on-its-tick}
@@ -125,10 +124,10 @@ module _ (t : Title) (r : Course) (here : Present t r) where
   since = tickIn (lifeIn t r) (t .last)
 
   -- the tick of a moment at the start of a tick
-  starts : (τ : ℕ) → t .opened ≤ τ → (τ - t .opened) % tickOf (t .length) (t .floor) (t .cap) ≡ 0 →
+  starts : (τ : ℕ) → t .opened ≤ τ → (τ - t .opened) % titleTick t ≡ 0 →
       τ ≡ momentOf (lifeIn t r) (tickIn (lifeIn t r) τ)
   unfolding tickIn
-  starts τ lo on = on-its-tick (t .opened) (tickOf (t .length) (t .floor) (t .cap)) (tick-some t r here) τ lo on
+  starts τ lo on = on-its-tick (t .opened) (titleTick t) (tick-some t r here) τ lo on
 
   ticks : (τ : ℕ) → t .last ≤ τ → since ≤ tickIn (lifeIn t r) τ
   unfolding tickIn tickAt
@@ -160,6 +159,7 @@ module _ (t : Title) (r : Course) (here : Present t r) where
   even e =
       record {
         tick-some = tick-some t r here;
+        slot-some = here .ruled .laws .slot-pos (t .count);
         count-some = omega (arith, open-some t r here e, open-ruling t e);
         from-opening = refl;
         slot-is = refl;
@@ -198,7 +198,7 @@ module _ (t : Title) (r : Course) (here : Present t r) where
   module _ (xs : List ℕ) (y : Tally) (c : Counted (lifeIn t r) since xs y) where
     -- ---- an event ends its stretch
 
-    module _ (τ : ℕ) (late : t .last ≤ τ) (on : (τ - t .opened) % tickOf (t .length) (t .floor) (t .cap) ≡ 0) where
+    module _ (τ : ℕ) (late : t .last ≤ τ) (on : (τ - t .opened) % titleTick t ≡ 0) where
       abbrev until : ℕ
       until = tickIn (lifeIn t r) τ
 

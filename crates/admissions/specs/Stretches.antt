@@ -8,10 +8,10 @@ use lib.Dec.{leb, ltb, eqb}
 use lib.ListN.{getD, length}
 use Rattle.rules.specs.Limits.{both, askedMax, eventTimeMax, countMax, lengthMax}
 use Rattle.rules.specs.Refusals.{pick}
-use Rattle.grid.specs.Ticks.{roundedUp, tickOf, slot as slotOf}
+use Rattle.grid.specs.Ticks.{roundedUp}
 use Rattle.grid.specs.Bounds.{Length, FloorCap}
 use Rattle.story.specs.declared.Title.{Title}
-use Rattle.story.specs.Kept.{openMode, isShut}
+use Rattle.story.specs.Kept.{openMode, isShut, schemeIn, titleTick}
 use Rattle.admissions.specs.declared.Waits.{Waits}
 use Rattle.admissions.specs.declared.Stretch.{Stretch}
 use Rattle.admissions.specs.declared.Tally.{Tally}
@@ -65,7 +65,7 @@ pub record Playing (t : Title) : Type 0 where
 unfoldable pub stretchOf : Title → Stretch
 stretchOf t =
     record
-    { opened = t .opened; slot = slotOf (t .cap) (t .count) * tickOf (t .length) (t .floor) (t .cap); start = t .last }
+    { opened = t .opened; slot = schemeIn t .slotOf (t .count) * titleTick t; start = t .last }
 
 -- at an opening
 abbrev pub fresh : ℕ → Tally

@@ -1,17 +1,18 @@
 -- What a state within its limits gives of each title in it: the numbers of its film, its count, and its rows.
 -- Rests on the laws of tests and searches.
 use mathlib.Core.Path.{_≡_, sym, _∙_}
-use mathlib.Core.Bool.{true, false≢true}
+use mathlib.Core.Bool.{true, not, false≢true}
 use mathlib.Core.Logic.{⊎-elim}
 use mathlib.Core.List.{List}
 use Prim.Native.Nat.{ℕ, _≤_, _<_}
 use native.Mathlib.Omega.{arith}
 use lib.Dec.{leb, eqb}
 use lib.ListN.{getD}
-use borrow.Author.Tests.{leb-true, ne-eqb}
+use borrow.Author.Tests.{leb-true, eqb-true, eq-eqb, ne-eqb}
 use Rattle.rules.specs.Limits.{either, askedMax, countMax, titlesMax, poolMin, floorMin, countPlaces, lanePlaces}
 use Rattle.rules.proofs.Tests.{both-l, both-r, either-out}
 use Rattle.rules.proofs.Search.{every-out}
+use Rattle.scheme.specs.Scheme.{steadyKind}
 use Rattle.story.specs.declared.Title.{Title}
 use Rattle.story.specs.declared.State.{State}
 use Rattle.story.specs.Kept.{absentMode, titleAt, rowOk, numbersOk, orderOk, titleOk, stateOk}
@@ -37,6 +38,14 @@ module _ (t : Title) (ok : titleOk t ≡ true) where
   unfolding numbersOk
   tuned-high = let n = numbers in search (both-l, both-r, leb-true) depth 12
 
+  -- of a skip-forward title floor and cap are one
+  pub level : (t .mode ≡ absentMode → ⊥) → t .kind ≡ steadyKind → t .floor ≡ t .cap
+  unfolding orderOk
+  level there steady =
+      let o = order there in
+      let l : either (not (eqb (t .kind) steadyKind)) (eqb (t .floor) (t .cap)) ≡ true = search (both-r) depth 12 in
+      eqb-true (t .floor) (t .cap) (rw (eq-eqb (t .kind) steadyKind steady) at l)
+
   pub readable : Readable t
   unfolding numbersOk orderOk
   readable there =
@@ -47,6 +56,7 @@ module _ (t : Title) (ok : titleOk t ≡ true) where
             { low = search (both-l, leb-true) depth 12; high = search (both-l, both-r, leb-true) depth 12 };
         cut = record
             { low = let l : floorMin ≤ t .floor = search (both-l, both-r, leb-true) depth 12 in omega arith; fit = search (both-l, both-r, leb-true) depth 12; high = search (both-l, both-r, leb-true) depth 12 };
+        flat = level there;
       }
 
   pub count-low : (t .mode ≡ absentMode → ⊥) → t .floor ≤ t .count

@@ -3,11 +3,12 @@ use Prim.Native.Nat.{ℕ, _<_}
 use mathlib.Core.Path.{_≡_}
 use mathlib.Core.Bool.{Bool}
 use lib.Dec.{leb, eqb}
-use Rattle.rules.specs.Limits.{both, either, askedMax, poolMin, titlesMax, countPlaces, lanePlaces}
+use Rattle.rules.specs.Limits.{both, either, askedMax, countMax, poolMin, titlesMax, countPlaces, lanePlaces}
 use Rattle.grid.specs.Bounds.{Length, FloorCap}
+use Rattle.scheme.specs.Scheme.{steadyKind}
 use Rattle.story.specs.declared.Title.{Title}
 use Rattle.story.specs.declared.State.{State}
-use Rattle.story.specs.Kept.{absentMode, titleAt, rowOk, titleOk}
+use Rattle.story.specs.Kept.{absentMode, heldMark, titleAt, rowOk, titleOk}
 
 -- of a title's limits, those of its latest opening or change and of its rows
 abbrev pub keptOk : Title → Bool
@@ -15,14 +16,21 @@ keptOk t =
     both (leb (t .tuned) askedMax)
     (both (rowOk (t .ends) countPlaces) (both (rowOk (t .dropped) lanePlaces) (rowOk (t .owed) lanePlaces)))
 
+-- and those of everything that events turn
+abbrev pub restOk : Title → Bool
+restOk t =
+    both (leb (t .cap) countMax)
+    (both (leb (t .count) countMax) (both (leb (t .mark) heldMark) (both (leb (t .last) askedMax) (keptOk t))))
+
 -- the test of one slot of a state
 abbrev pub slotOk : State → ℕ → Bool
 slotOk s i = both (titleOk (titleAt s i)) (either (leb poolMin (s .pool)) (eqb (titleAt s i .mode) absentMode))
 
--- a length, a floor and a cap that a title may have
+-- a length, a floor and a cap that a title may have: of a skip-forward title floor and cap are one
 pub record Film (t : Title) : Type 0 where
   pub sized : Length (t .length)
   pub cut : FloorCap (t .floor) (t .cap)
+  pub flat : t .kind ≡ steadyKind → t .floor ≡ t .cap
 
 -- a slot without a title, or with one whose film is within its limits
 abbrev pub Readable : Title → Type 0

@@ -10,21 +10,26 @@ use rules::LENGTH_MAX;
 use rules::LENGTH_MIN;
 use rules::POOL_MAX;
 use rules::POOL_MIN;
+use rules::STEADY_MAX;
 use rules::TITLES_MAX;
 use rules::truth::also;
 use rules::truth::row_within;
 use rules::within;
+use scheme::STEADY;
 use story::ABSENT;
 use story::CLOSING;
 use story::HELD;
 use story::State;
 use story::Title;
 ghost use mathlib.Core.Path.{_≡_};
+ghost use mathlib.Core.Bool.{not};
 ghost use lib.Dec.{leb, eqb};
-ghost use Rattle.rules.specs.Limits.{both, either, poolMin, titlesMax};
+ghost use Rattle.rules.specs.Limits.{both, either, poolMin, titlesMax, floorMax, steadyMax};
+ghost use Rattle.rules.specs.Refusals.{pick};
 ghost use Rattle.rules.specs.Search.{every};
+ghost use Rattle.scheme.specs.Scheme.{steadyKind};
 ghost use Rattle.story.specs.Kept.{absentMode, numbersOk, orderOk, titleOk, stateOk};
-ghost use Rattle.measures.specs.Film.{keptOk, slotOk};
+ghost use Rattle.measures.specs.Film.{keptOk, restOk, slotOk};
 
 // The time of a title's latest opening or change, and its three rows.
 fn kept_ok(t: Title) -> bool
@@ -43,22 +48,20 @@ fn kept_ok(t: Title) -> bool
     also(t.tuned <= ASKED_MAX, rows)
 }
 
-// The upper limits, which hold for every slot.
-fn numbers_ok(t: Title) -> bool
-    ensures { λ r. ⌜ r ≡ numbersOk t ⌝ }
+// A floor up to the limit of its kind: that of a skip-forward title is its count.
+fn floor_ok(kind: u64, floor: u64) -> bool
+    ensures { λ r. ⌜ r ≡ leb floor (pick (eqb kind steadyKind) steadyMax floorMax) ⌝ }
 {
-    if t.mode > CLOSING {
-        return false;
+    if kind == STEADY {
+        return floor <= STEADY_MAX;
     }
-    if t.opened > ASKED_MAX {
-        return false;
-    }
-    if t.length > LENGTH_MAX {
-        return false;
-    }
-    if t.floor > FLOOR_MAX {
-        return false;
-    }
+    floor <= FLOOR_MAX
+}
+
+// The upper limits of what events turn.
+fn rest_ok(t: Title) -> bool
+    ensures { λ r. ⌜ r ≡ restOk t ⌝ }
+{
     if t.cap > COUNT_MAX {
         return false;
     }
@@ -74,6 +77,35 @@ fn numbers_ok(t: Title) -> bool
     kept_ok(t)
 }
 
+// The upper limits, which hold for every slot.
+fn numbers_ok(t: Title) -> bool
+    ensures { λ r. ⌜ r ≡ numbersOk t ⌝ }
+{
+    if t.mode > CLOSING {
+        return false;
+    }
+    if t.kind > STEADY {
+        return false;
+    }
+    if t.opened > ASKED_MAX {
+        return false;
+    }
+    if t.length > LENGTH_MAX {
+        return false;
+    }
+    also(floor_ok(t.kind, t.floor), rest_ok(t))
+}
+
+// Floor and cap are one where the kind asks for it.
+fn is_level(kind: u64, floor: u64, cap: u64) -> bool
+    ensures { λ r. ⌜ r ≡ either (not (eqb kind steadyKind)) (eqb floor cap) ⌝ }
+{
+    if kind == STEADY {
+        return floor == cap;
+    }
+    true
+}
+
 // What holds besides for a title that is there: lower limits, and the order of floor, count and cap.
 fn order_ok(t: Title) -> bool
     ensures { λ r. ⌜ r ≡ orderOk t ⌝ }
@@ -87,7 +119,10 @@ fn order_ok(t: Title) -> bool
     if t.floor > t.cap {
         return false;
     }
-    within(t.floor, t.cap, t.count)
+    also(
+        within(t.floor, t.cap, t.count),
+        is_level(t.kind, t.floor, t.cap),
+    )
 }
 
 // The numbers of a title, there or not.

@@ -23,7 +23,7 @@ pub fn tick_at(t: Title, time: u64) -> u64
     requires { ⌜ Film t ⌝ }
     ensures { λ r. ⌜ Exactly (tickAt t time) 0 time r ⌝ }
 {
-    since(t.opened, time) / grid::tick(t.length, t.floor, t.cap)
+    since(t.opened, time) / scheme::tick(t.kind, t.length, t.floor, t.cap)
 }
 
 // Whether a time is the start of a tick.
@@ -31,7 +31,7 @@ pub fn at_tick_start(t: Title, time: u64) -> bool
     requires { ⌜ Film t ⌝ }
     ensures { λ r. ⌜ r ≡ atTickStart t time ⌝ }
 {
-    since(t.opened, time) % grid::tick(t.length, t.floor, t.cap) == 0
+    since(t.opened, time) % scheme::tick(t.kind, t.length, t.floor, t.cap) == 0
 }
 
 // The moment from which on a title may change again: one slot of its floor after its latest opening or change.
@@ -40,6 +40,7 @@ pub fn settled_at(t: Title) -> u64
     requires { ⌜ t .tuned ≤ askedMax ⌝ }
     ensures { λ r. ⌜ r ≡ settledAt t ⌝ }
 {
-    let slot = grid::slot(t.cap, t.floor) * grid::tick(t.length, t.floor, t.cap);
+    let slot = scheme::slot(t.kind, t.floor, t.cap, t.floor)
+        * scheme::tick(t.kind, t.length, t.floor, t.cap);
     t.tuned + slot
 }

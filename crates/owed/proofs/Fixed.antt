@@ -19,6 +19,7 @@ use Rattle.owed.specs.Owing.{Owing, Sending, Changeable}
 
 -- a title with the same film, count and ends
 pub record Fixed (t q : Title) : Type 0 where
+  pub kind : q .kind ≡ t .kind
   pub length : q .length ≡ t .length
   pub floor : q .floor ≡ t .floor
   pub cap : q .cap ≡ t .cap
@@ -27,17 +28,17 @@ pub record Fixed (t q : Title) : Type 0 where
 
 pub fixed-drops : (t : Title) (n k i : ℕ) → Fixed t (dropLanes t n k i)
 unfolding dropLanes
-fixed-drops t n k zero = record { length = refl; floor = refl; cap = refl; count = refl; ends = refl }
+fixed-drops t n k zero = record { kind = refl; length = refl; floor = refl; cap = refl; count = refl; ends = refl }
 fixed-drops t n k (suc i) = go (both (leb k i) (ltb i (t .count))) (fixed-drops t n k i)
   where
     go : (b : Bool) → Fixed t (dropLanes t n k i) →
         Fixed t (pick b (dropLane (dropLanes t n k i) n i) (dropLanes t n k i))
-    go true f = record { length = f .length; floor = f .floor; cap = f .cap; count = f .count; ends = f .ends }
+    go true f = record { kind = f .kind; length = f .length; floor = f .floor; cap = f .cap; count = f .count; ends = f .ends }
     go false f = f
 
--- the film of a title with the same length, floor and cap
+-- the film of a title with the same kind, length, floor and cap
 pub fixed-film : (t q : Title) → Fixed t q → Film t → Film q
-fixed-film t q f o = record { sized = rw (f .length) (o .sized); cut = rw (f .floor, f .cap) (o .cut) }
+fixed-film t q f o = record { sized = rw (f .length) (o .sized); cut = rw (f .floor, f .cap) (o .cut); flat = rw (f .kind, f .floor, f .cap) (o .flat) }
 
 pub fixed-owing : (t q : Title) → Fixed t q → Owing t → Owing q
 fixed-owing t q f o = record { film = fixed-film t q f (o .film); ends = rw (f .ends) (o .ends) }
@@ -59,7 +60,7 @@ stored-row row n i v l ok =
 pub ended-owing : (t : Title) (n : ℕ) → n ≤ askedMax → Owing t → Owing (ended t n)
 ended-owing t n l o =
     record {
-      film = record { sized = o .film .sized; cut = o .film .cut };
+      film = record { sized = o .film .sized; cut = o .film .cut; flat = o .film .flat };
       ends = elim (isShut t) as (λ b. rowOk (pick b (t .ends) (set (t .ends) (t .count) n)) countPlaces ≡ true) [
         | true ↦ o .ends
         | false ↦ stored-row (t .ends) countPlaces (t .count) n l (o .ends)
@@ -92,5 +93,5 @@ unfolding changedTitle
 changed-film t τ k o =
     let u = ended t (tickAt t τ) in
     let d = dropLanes u (tickAt t τ) k (t .count) in
-    let f = fixed-film u d (fixed-drops u (tickAt t τ) k (t .count)) (record { sized = o .sized; cut = o .cut }) in
-    record { sized = f .sized; cut = f .cut }
+    let f = fixed-film u d (fixed-drops u (tickAt t τ) k (t .count)) (record { sized = o .sized; cut = o .cut; flat = o .flat }) in
+    record { sized = f .sized; cut = f .cut; flat = f .flat }

@@ -1,7 +1,7 @@
 -- Under a count a cell goes out on one channel only, so that the latest boxes of the count want it from there or not at
 -- all: where it goes out, just while they take that channel. A lane's own cell goes out under every count that has the
 -- lane. Rests on the grid's laws of lanes and of the plan.
-use mathlib.Core.Path.{_≡_, refl, sym, _∙_}
+use mathlib.Core.Path.{_≡_, refl, sym, ap, _∙_}
 use mathlib.Core.Bool.{Bool, true, false}
 use Prim.Native.Nat.{ℕ, _+_, _*_, _^_, _≤_, _<_}
 use native.Mathlib.Omega.{arith}
@@ -17,6 +17,8 @@ use Rattle.grid.specs.Lanes.{isInG, laneCell}
 use Rattle.grid.specs.Bounds.{Carrier}
 use Rattle.grid.proofs.Lanes.{isInG-in, cell-of-lane}
 use Rattle.grid.proofs.Plan.{carries-only, carrier-one, some-one, in-carried}
+use Rattle.scheme.specs.Scheme.{Scheme, steadyKind}
+use Rattle.scheme.proofs.Which.{padded-scheme}
 use Rattle.story.specs.declared.Title.{Title}
 use Rattle.story.specs.Kept.{wantsFrom, wants}
 use Rattle.owed.specs.Owing.{takesFrom, takes}
@@ -55,10 +57,15 @@ module _ (A K c end x u : ℕ) where
         ∙ rw (both-l (ltb d c) (eqb (channelCell A K c d u) x) carried, both-r (ltb d c) (eqb (channelCell A K c d u) x) carried)
         (both-true (ltb (u + slot K c) (end + slot K c * 2 ^ d))))
 
--- of a title's count
-pub takes-wants : (t : Title) (x u c : ℕ) → takes (t .floor) (t .cap) c (getD (t .ends) c 0) x u ≡ wants t x u c
+-- of a count of a title on the padded grid
+pub takes-wants : (t : Title) (x u c : ℕ) → (t .kind ≡ steadyKind → ⊥)
+    → takes (t .floor) (t .cap) c (getD (t .ends) c 0) x u ≡ wants t x u c
 unfolding wants wantsFrom takes takesFrom
-takes-wants t x u c = refl
+takes-wants t x u c off =
+    ap
+    (λ (S : Scheme). both (ltb 0 (getD (t .ends) c 0))
+    (some (λ d. both (ltb (u + S .slotOf c) (getD (t .ends) c 0 + S .span c d)) (eqb (S .onChannel c d u) x)) c))
+    (sym (padded-scheme (t .kind) (t .floor) (t .cap) off))
 
 -- and of the counts that have lane l, which all have its cell
 pub own-cell : (A K l k u x : ℕ) → k ≤ K → l < k → x ≡ laneCell A K l u → A ≤ k → isInG A K k u x ≡ true

@@ -1,21 +1,24 @@
 // Which ticks a dropped lane owes, over the boxes of every count (01, "Events").
 
 use grid::carrier;
-use grid::holds_film;
-use grid::lane_cell;
 use grid::pow2;
 use grid::slot;
 use rules::truth::either;
 use rules::truth::one_if;
+use scheme::STEADY;
+use scheme::holds_film;
+use scheme::lane_cell;
+use scheme::period;
 use story::Title;
 ghost use Prim.Native.Nat.{_+_, _^_, _≤_, _<_};
 ghost use mathlib.Core.Path.{_≡_};
 ghost use mathlib.Core.Bool.{true};
-ghost use lib.Dec.{leb};
-ghost use Rattle.rules.specs.Limits.{both, askedMax};
+ghost use lib.Dec.{leb, ltb};
+ghost use Rattle.rules.specs.Limits.{both, askedMax, countMax};
 ghost use Rattle.grid.specs.Lanes.{isInG, laneCell};
 ghost use Rattle.grid.specs.Bounds.{Exactly, CountCap, IsCell, tickMax};
-ghost use Rattle.story.specs.Kept.{keptAwaited, keptOwed, keptWithin};
+ghost use Rattle.scheme.specs.Scheme.{steadyKind, period as periodOf};
+ghost use Rattle.story.specs.Kept.{schemeIn, keptAwaited, keptOwed, keptWithin};
 ghost use Rattle.owed.specs.Owing.{Owing, takes};
 
 // A cell that goes out at a tick is owed to the latest boxes of a count, whose slot ended at tick `end`, while they
@@ -37,12 +40,12 @@ fn owed_to(floor: u64, cap: u64, count: u64, end: u64, cell: u64, tick: u64) -> 
     tick + width < end + width * pow2(channel)
 }
 
-// The boxes of some count that had the lane still await the lane's cell at a tick. Every such count has that cell on a
-// channel then, so that no other cell is asked for.
-pub fn is_awaited(t: Title, lane: u64, cell: u64, tick: u64) -> bool
+// Of a title on the padded grid: the boxes of some count that had the lane still await the lane's cell at a tick. Every such
+// count has that cell on a channel then, so that no other cell is asked for.
+fn awaited_by_some(t: Title, lane: u64, cell: u64, tick: u64) -> bool
     requires { ⌜ Owing t ⌝ }
     requires { ⌜ (lane < t .cap) × (tick ≤ tickMax) ⌝ }
-    requires { ⌜ IsCell (t .cap) (laneCell (t .floor) (t .cap) lane tick) cell ⌝ }
+    requires { ⌜ (IsCell (t .cap) (laneCell (t .floor) (t .cap) lane tick) cell) × (t .kind ≡ steadyKind → ⊥) ⌝ }
     ensures { λ r. ⌜ r ≡ keptAwaited t lane cell tick ⌝ }
 {
     let cap = t.cap;
@@ -58,14 +61,40 @@ pub fn is_awaited(t: Title, lane: u64, cell: u64, tick: u64) -> bool
     found
 }
 
+// Of a skip-forward title, whose latest boxes began a tick before `end`: they take each lane for one period.
+fn awaited_on(lane: u64, end: u64, tick: u64) -> bool
+    requires { ⌜ (lane ≤ countMax) × ((end ≤ askedMax) × (tick ≤ tickMax)) ⌝ }
+    ensures { λ r. ⌜ r ≡ both (ltb 0 end) (ltb (tick + 1) (end + periodOf lane)) ⌝ }
+{
+    if end == 0 {
+        return false;
+    }
+    tick + 1 < end + period(lane)
+}
+
+// The lane's cell is still awaited at a tick. The boxes of a skip-forward title all began under its one count.
+pub fn is_awaited(t: Title, lane: u64, cell: u64, tick: u64) -> bool
+    requires { ⌜ Owing t ⌝ }
+    requires { ⌜ (lane < t .cap) × (tick ≤ tickMax) ⌝ }
+    requires { ⌜ IsCell (t .cap) (schemeIn t .onLane lane tick) cell ⌝ }
+    ensures { λ r. ⌜ r ≡ keptAwaited t lane cell tick ⌝ }
+{
+    if t.kind == STEADY {
+        let count = t.cap;
+        let end = t.ends[count as usize];
+        return awaited_on(lane, end, tick);
+    }
+    awaited_by_some(t, lane, cell, tick)
+}
+
 // Of a dropped lane a tick is owed: its cell is no padding, and is still awaited.
 pub fn is_owed(t: Title, lane: u64, tick: u64) -> bool
     requires { ⌜ Owing t ⌝ }
     requires { ⌜ (lane < t .cap) × (tick ≤ tickMax) ⌝ }
     ensures { λ r. ⌜ r ≡ keptOwed t lane tick ⌝ }
 {
-    let cell = lane_cell(t.floor, t.cap, lane, tick);
-    if holds_film(t.length, t.floor, t.cap, cell) {
+    let cell = lane_cell(t.kind, t.floor, t.cap, lane, tick);
+    if holds_film(t.kind, t.length, t.floor, t.cap, cell) {
         return is_awaited(t, lane, cell, tick);
     }
     false

@@ -1,10 +1,10 @@
 // What a lane shows: its usual cell while it is active, else its owed cells in the order of their ticks (01, "Events").
 
 use crate::owing::is_owed;
-use grid::lane_cell;
 use grid::pow2;
 use measures::lanes::ruling;
 use measures::ticks::since;
+use scheme::lane_cell;
 use story::Title;
 ghost use Prim.Native.Nat.{_+_, _-_, _^_, _≤_, _<_};
 ghost use mathlib.Core.Path.{_≡_};
@@ -61,7 +61,7 @@ pub fn shows(t: Title, lane: u64, tick: u64) -> u64
     ensures { λ r. ⌜ r ≡ showsOf t lane tick ⌝ }
 {
     if lane < ruling(t) {
-        return lane_cell(t.floor, t.cap, lane, tick);
+        return lane_cell(t.kind, t.floor, t.cap, lane, tick);
     }
-    lane_cell(t.floor, t.cap, lane, sending_tick(t, lane, tick))
+    lane_cell(t.kind, t.floor, t.cap, lane, sending_tick(t, lane, tick))
 }

@@ -1,4 +1,4 @@
--- The lane question: where a title's floor and cap are the box's, answer and cell are the computing call's; an
+-- The lane question: where a title's scheme, floor and cap are the box's, answer and cell are the computing call's; an
 -- answered question has such a title; and what is looked up is that title's. Rests on the laws of refusals and of lane
 -- questions.
 use mathlib.Core.Path.{_≡_, refl, sym, ap, _∙_}
@@ -7,18 +7,20 @@ use mathlib.Core.Logic.{⊎-elim}
 use Prim.Native.Nat.{ℕ, _≤_, _<_}
 use native.Mathlib.Omega.{arith}
 use lib.Dec.{leb, ltb, eqb}
-use borrow.Author.Tests.{ne-eqb, eq-eqb, le-leb, lt-leb, lt-ltb, le-ltb}
-use Rattle.rules.specs.Limits.{both, idMax}
+use borrow.Author.Tests.{ne-eqb, eq-eqb, eqb-false, le-leb, lt-leb, lt-ltb, le-ltb}
+use Rattle.rules.specs.Limits.{both, either, idMax}
 use Rattle.rules.specs.Refusals.{pick, firstHit, outsideLimits}
-use Rattle.rules.proofs.Tests.{decide}
-use Rattle.grid.specs.Ticks.{holdsFilm}
+use Rattle.rules.proofs.Tests.{decide, either-false-l, either-false-r}
 use Rattle.grid.specs.Lanes.{laneCell}
 use Rattle.grid.specs.Bounds.{IsCell}
+use Rattle.scheme.specs.Scheme.{steadyKind, filmIn}
+use Rattle.scheme.proofs.Which.{padded-scheme}
 use Rattle.story.specs.declared.Title.{Title}
 use Rattle.story.specs.declared.State.{State}
 use Rattle.story.specs.Life.{reach}
-use Rattle.story.specs.Kept.{absentMode, titleAt, tickAt, ruling, keptAwaited, keptOwed, sendingTick, shows}
+use Rattle.story.specs.Kept.{absentMode, titleAt, isSteadyTitle, schemeIn, tickAt, ruling, keptAwaited, keptOwed, sendingTick, shows}
 use Rattle.story.specs.Calls.{laneAnswer, laneShows}
+use Rattle.owed.proofs.Shown.{shows-active, shows-sending}
 use Rattle.verdicts.proofs.Event.{lane-id, lane-slot}
 use Rattle.rom.specs.Table.{romFloor, romCap, romPeriod, isOther}
 use Rattle.rom.specs.Lanes.{isForeign, romLaneAnswer, romLaneShows, Own}
@@ -28,12 +30,16 @@ use Rattle.rom.proofs.Other.{own, own-numbers}
 
 own-title : (t : Title) → (t .mode ≡ absentMode → ⊥) → isForeign t ≡ false → Own t
 own-title t there h =
-    let e : isOther (t .floor) (t .cap) ≡ false = rw (ne-eqb (t .mode) absentMode there) at h in
-    let w = own-numbers (t .floor) (t .cap) e in
-    record { floor = w .0; cap = w .1 }
+    let e : either (isSteadyTitle t) (isOther (t .floor) (t .cap)) ≡ false = rw (ne-eqb (t .mode) absentMode there) at h in
+    let w = own-numbers (t .floor) (t .cap) (either-false-r (isSteadyTitle t) (isOther (t .floor) (t .cap)) e) in
+    record {
+      kind = eqb-false (t .kind) steadyKind (either-false-l (isSteadyTitle t) (isOther (t .floor) (t .cap)) e);
+      floor = w .0;
+      cap = w .1;
+    }
 
 title-own : (t : Title) → Own t → isForeign t ≡ false
-title-own t o = rw (own (t .floor) (t .cap) (o .floor) (o .cap)) (never-both (not (eqb (t .mode) absentMode)))
+title-own t o = rw (ne-eqb (t .kind) steadyKind (o .kind), own (t .floor) (t .cap) (o .floor) (o .cap)) (never-both (not (eqb (t .mode) absentMode)))
   where
     never-both : (b : Bool) → both b false ≡ false
     never-both true = refl
@@ -89,7 +95,7 @@ module _ (s : State) (i l τ : ℕ) where
   unfolding romLaneShows
   rom-refused n = rw (ne-eqb (romLaneAnswer s i l τ) 0 n) refl
 
-  -- the two boxes agree on a title of floor 3 and cap 10, whatever the state, the lane and the time
+  -- the two boxes agree on a title on the padded grid of floor 3 and cap 10, whatever the state, the lane and the time
   pub same-answer : Own (titleAt s i) → romLaneAnswer s i l τ ≡ laneAnswer s i l τ
   same-answer o = rule-passed (own-passed o)
 
@@ -105,19 +111,19 @@ module _ (s : State) (i l τ : ℕ) where
 -- ---- what is looked up
 
 module _ (t : Title) (o : Own t) (l u x : ℕ) where
-  pub own-lane : IsCell romCap (laneCell romFloor romCap l u) x → IsCell (t .cap) (laneCell (t .floor) (t .cap) l u) x
-  own-lane h = rw (o .floor, o .cap) h
+  pub own-lane : IsCell romCap (laneCell romFloor romCap l u) x → IsCell (t .cap) (schemeIn t .onLane l u) x
+  own-lane h = rw (padded-scheme (t .kind) (t .floor) (t .cap) (o .kind), o .floor, o .cap) h
 
-  own-film : (b : Bool) → holdsFilm (t .length) romFloor romCap x ≡ b → holdsFilm (t .length) (t .floor) (t .cap) x ≡ b
+  own-film : (b : Bool) → filmIn (t .kind) (t .length) romFloor romCap x ≡ b → filmIn (t .kind) (t .length) (t .floor) (t .cap) x ≡ b
   own-film b h = rw (o .floor, o .cap) h
 
   module _ (cell : IsCell romCap (laneCell romFloor romCap l u) x) where
-    pub own-owed : (r : Bool) → holdsFilm (t .length) romFloor romCap x ≡ true → r ≡ keptAwaited t l x u
+    pub own-owed : (r : Bool) → filmIn (t .kind) (t .length) romFloor romCap x ≡ true → r ≡ keptAwaited t l x u
         → r ≡ keptOwed t l u
     unfolding keptOwed
     own-owed r h w = rw (← own-lane cell .is, own-film true h) w
 
-    pub own-padding : holdsFilm (t .length) romFloor romCap x ≡ false → false ≡ keptOwed t l u
+    pub own-padding : filmIn (t .kind) (t .length) romFloor romCap x ≡ false → false ≡ keptOwed t l u
     unfolding keptOwed
     own-padding h = rw (← own-lane cell .is, own-film false h) refl
 
@@ -131,17 +137,12 @@ own-reach t o = rw (o .cap) refl
 -- the cell of a held lane: the usual one below the ruling count, else the one of the tick whose cell is sent
 module _ (t : Title) (o : Own t) (l n k x : ℕ) where
   pub shows-usual : k ≡ ruling t → l < k → IsCell romCap (laneCell romFloor romCap l n) x → x ≡ shows t l n
-  unfolding shows
   shows-usual e b h =
       let low : ltb l (ruling t) ≡ true = lt-ltb l (ruling t) (omega arith) in
-      own-lane t o l n x h .is
-      ∙ ap (λ b. laneCell (t .floor) (t .cap) l (pick b n (sendingTick t l n))) (sym low)
+      own-lane t o l n x h .is ∙ sym (shows-active t l n low)
 
   pub shows-sent : (u : ℕ) → k ≡ ruling t → k ≤ l → u ≡ sendingTick t l n
       → IsCell romCap (laneCell romFloor romCap l u) x → x ≡ shows t l n
-  unfolding shows
   shows-sent u e b f h =
       let high : ltb l (ruling t) ≡ false = le-ltb l (ruling t) (omega arith) in
-      own-lane t o l u x h .is
-      ∙ ap (laneCell (t .floor) (t .cap) l) f
-      ∙ ap (λ b. laneCell (t .floor) (t .cap) l (pick b n (sendingTick t l n))) (sym high)
+      own-lane t o l u x h .is ∙ ap (schemeIn t .onLane l) f ∙ sym (shows-sending t l n high)

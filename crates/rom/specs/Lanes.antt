@@ -1,21 +1,22 @@
--- The lane question of the small box (02, request 6): 01's, with 1 for a title of another floor or cap before all
--- others.
+-- The lane question of the small box (02, request 6): 01's, with 1 for a title of another floor or cap, and for a
+-- skip-forward title (02, request 12), before all others.
 use Prim.Native.Nat.{ℕ}
 use mathlib.Core.Bool.{Bool, not}
 use mathlib.Core.List.{List, _∷_}
 use mathlib.Core.Path.{_≡_}
 use lib.Dec.{leb, eqb}
-use Rattle.rules.specs.Limits.{both, idMax}
+use Rattle.rules.specs.Limits.{both, either, idMax}
 use Rattle.rules.specs.Refusals.{pick, Rule, refuse, firstHit, outsideLimits}
+use Rattle.scheme.specs.Scheme.{steadyKind}
 use Rattle.story.specs.declared.Title.{Title}
 use Rattle.story.specs.declared.State.{State}
-use Rattle.story.specs.Kept.{absentMode, titleAt}
+use Rattle.story.specs.Kept.{absentMode, titleAt, isSteadyTitle}
 use Rattle.story.specs.Calls.{laneRules, laneShows}
 use Rattle.rom.specs.Table.{romFloor, romCap, isOther}
 
--- a slot's title has another floor or cap; a slot never opened has neither
+-- a slot's title is sent by another scheme, or has another floor or cap; a slot never opened has none
 abbrev pub isForeign : Title → Bool
-isForeign t = both (not (eqb (t .mode) absentMode)) (isOther (t .floor) (t .cap))
+isForeign t = both (not (eqb (t .mode) absentMode)) (either (isSteadyTitle t) (isOther (t .floor) (t .cap)))
 
 abbrev pub romLaneRules : State → ℕ → ℕ → ℕ → List Rule
 romLaneRules s i l τ =
@@ -30,5 +31,6 @@ romLaneShows s i l τ = pick (eqb (romLaneAnswer s i l τ) 0) (laneShows s i l �
 
 -- what the functions ask of a title before its cells are looked up
 pub record Own (t : Title) : Type 0 where
+  pub kind : t .kind ≡ steadyKind → ⊥
   pub floor : t .floor ≡ romFloor
   pub cap : t .cap ≡ romCap

@@ -1,12 +1,11 @@
 // The lane question from the table: a lane's usual cell and what a dropped one still sends are looked up. `lane` is a
-// customer's call and has no `requires`; the others require a title of the box's floor and cap.
+// customer's call and has no `requires`; the others require a title of the box's scheme, floor and cap.
 
 use crate::table::CAP;
 use crate::table::FLOOR;
 use crate::table::PERIOD;
 use crate::table::cell_at;
 use crate::table::is_other;
-use grid::holds_film;
 use measures::lanes::ruling;
 use measures::slots::title_of;
 use measures::ticks::since;
@@ -16,6 +15,8 @@ use rules::DONE;
 use rules::ID_MAX;
 use rules::OUTSIDE_LIMITS;
 use scheduler::Shown;
+use scheme::STEADY;
+use scheme::holds_film;
 use story::ABSENT;
 use story::State;
 use story::Title;
@@ -39,7 +40,7 @@ fn is_owed(t: Title, lane: u64, tick: u64) -> bool
     ensures { λ r. ⌜ r ≡ keptOwed t lane tick ⌝ }
 {
     let cell = cell_at(lane, tick);
-    if holds_film(t.length, FLOOR, CAP, cell) {
+    if holds_film(t.kind, t.length, FLOOR, CAP, cell) {
         return is_awaited(t, lane, cell, tick);
     }
     false
@@ -90,17 +91,20 @@ fn shows(t: Title, lane: u64, tick: u64) -> u64
     cell_at(lane, sending_tick(t, lane, tick))
 }
 
-// Whether a slot's title has another floor or cap.
+// Whether a slot's title has another floor or cap, or another scheme.
 fn is_foreign(t: Title) -> bool
     ensures { λ r. ⌜ r ≡ isForeign t ⌝ }
 {
     if t.mode == ABSENT {
         return false;
     }
+    if t.kind == STEADY {
+        return true;
+    }
     is_other(t.floor, t.cap)
 }
 
-// Of a lane question: 1 for a title of another floor or cap, then as the computing call.
+// Of a lane question: 1 for a title of another floor or cap and for a skip-forward title, then as the computing call.
 fn rom_verdict(s: State, id: u64, lane: u64, time: u64) -> u8
     ensures { λ r. ⌜ r ≡ romLaneAnswer s id lane time ⌝ }
 {

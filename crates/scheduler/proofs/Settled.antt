@@ -22,12 +22,12 @@ pub with-readable : (s : State) (i τ : ℕ) (t : Title) → AllReadable s → R
 with-readable s i τ t all r j l = stored Readable (s .titles) i j t noTitle r (all j l)
 
 -- the answer of an opening and of a change, in two parts
-pub open-in-two : (s : State) (i τ D A K k : ℕ) →
-    openAnswer s i τ D A K k
-    ≡ pick (eqb (openBefore s i τ D A K k) 0) (settledAnswer (openNext s i τ D A K k) τ) (openBefore s i τ D A K k)
+pub open-in-two : (s : State) (i τ m D A K k : ℕ) →
+    openAnswer s i τ m D A K k
+    ≡ pick (eqb (openBefore s i τ m D A K k) 0) (settledAnswer (openNext s i τ m D A K k) τ) (openBefore s i τ m D A K k)
 unfolding callAnswer openBefore settledAnswer numbered
-open-in-two s i τ D A K k =
-    hit-append (openRules s i τ D A K k) (refuse noLanes (tooMany (openNext s i τ D A K k) τ) ∷ []) refl
+open-in-two s i τ m D A K k =
+    hit-append (openRules s i τ m D A K k) (refuse noLanes (tooMany (openNext s i τ m D A K k) τ) ∷ []) refl
 
 pub change-in-two : (s : State) (i τ k : ℕ) →
     changeAnswer s i τ k

@@ -9,6 +9,8 @@ use Rattle.scheduler.proofs.fresh.Kinds as fresh-kinds
 use Rattle.scheduler.proofs.fresh.Reads as fresh-call
 use Rattle.scheduler.proofs.open.Kinds as open-kinds
 use Rattle.scheduler.proofs.open.Reads as open-call
+use Rattle.scheduler.proofs.skip.Kinds as skip-kinds
+use Rattle.scheduler.proofs.skip.Reads as skip-call
 use Rattle.scheduler.proofs.change.Kinds as change-kinds
 use Rattle.scheduler.proofs.change.Reads as change-call
 use Rattle.scheduler.proofs.close.Kinds as close-kinds
@@ -34,6 +36,9 @@ both-told x y p q =
 
 pub open-one-outcome : OneOutcome 0 open-kinds.ps open-kinds.r open-call.Learnt
 open-one-outcome κs a x y e f p q = both-told x y p q
+
+pub skip-one-outcome : OneOutcome 0 skip-kinds.ps skip-kinds.r skip-call.Learnt
+skip-one-outcome κs a x y e f p q = both-told x y p q
 
 pub change-one-outcome : OneOutcome 0 change-kinds.ps change-kinds.r change-call.Learnt
 change-one-outcome κs a x y e f p q = both-told x y p q

@@ -18,6 +18,8 @@ use rules::POOL_MAX;
 use rules::POOL_MIN;
 use rules::TITLES_MAX;
 use rules::within;
+use scheme::PADDED;
+use scheme::STEADY;
 use story::ABSENT;
 use story::CLEAR;
 use story::OPEN;
@@ -33,6 +35,8 @@ ghost use mathlib.Core.Path.{_≡_};
 ghost use mathlib.Core.Bool.{true, false};
 ghost use lib.Dec.{eqb};
 ghost use Rattle.rules.specs.Refusals.{pick};
+ghost use Rattle.scheme.specs.Scheme.{paddedKind, steadyKind};
+ghost use Rattle.story.specs.Story.{skips};
 ghost use Rattle.story.specs.Next.{openedTitle, openNext, changeNext, closeNext, doorsNext};
 ghost use Rattle.story.specs.Calls.{
   blankTitle,
@@ -40,6 +44,7 @@ ghost use Rattle.story.specs.Calls.{
   freshAnswer,
   freshNext,
   tooMany,
+  callAnswer,
   openAnswer,
   changeAnswer,
   closeAnswer,
@@ -80,6 +85,7 @@ fn blank_title() -> Title
 {
     Title {
         mode: ABSENT,
+        kind: PADDED,
         opened: 0,
         length: 0,
         floor: 0,
@@ -125,12 +131,13 @@ pub fn fresh(pool: u64) -> Started
     }
 }
 
-// A title opened at a time: no count has ended and no lane was dropped.
-fn opened_title(time: u64, length: u64, floor: u64, cap: u64, count: u64) -> Title
-    ensures { λ r. ⌜ r ≡ openedTitle time length floor cap count ⌝ }
+// A title of a kind opened at a time: no count has ended and no lane was dropped.
+fn opened_title(kind: u64, time: u64, length: u64, floor: u64, cap: u64, count: u64) -> Title
+    ensures { λ r. ⌜ r ≡ openedTitle kind time length floor cap count ⌝ }
 {
     Title {
         mode: OPEN,
+        kind: kind,
         opened: time,
         length: length,
         floor: floor,
@@ -164,20 +171,50 @@ fn settle(s: State, next: State, time: u64) -> Outcome
     }
 }
 
-// Opens a title.
-pub fn open(s: State, id: u64, time: u64, length: u64, floor: u64, cap: u64, count: u64) -> Outcome
-    ensures { λ r. ⌜ r .answer ≡ openAnswer s id time length floor cap count ⌝ }
-    ensures { λ r. ⌜ r .state ≡ pick (eqb (openAnswer s id time length floor cap count) 0) (openNext s id time length floor cap count) s ⌝ }
+// Opens a title of a kind.
+fn opening(
+    s: State,
+    id: u64,
+    time: u64,
+    kind: u64,
+    length: u64,
+    floor: u64,
+    cap: u64,
+    count: u64,
+) -> Outcome
+    ensures { λ r. ⌜ r .answer ≡ openAnswer s id time kind length floor cap count ⌝ }
+    ensures { λ r. ⌜ r .state ≡ pick (eqb (openAnswer s id time kind length floor cap count) 0) (openNext s id time kind length floor cap count) s ⌝ }
 {
-    let first = open_verdict(s, id, time, length, floor, cap, count);
+    let first = open_verdict(s, id, time, kind, length, floor, cap, count);
     if first == DONE {
-        let next = with_title(s, id, opened_title(time, length, floor, cap, count), time);
+        let next = with_title(
+            s,
+            id,
+            opened_title(kind, time, length, floor, cap, count),
+            time,
+        );
         return settle(s, next, time);
     }
     Outcome {
         answer: first,
         state: s,
     }
+}
+
+// Opens a title on the padded grid.
+pub fn open(s: State, id: u64, time: u64, length: u64, floor: u64, cap: u64, count: u64) -> Outcome
+    ensures { λ r. ⌜ r .answer ≡ openAnswer s id time paddedKind length floor cap count ⌝ }
+    ensures { λ r. ⌜ r .state ≡ pick (eqb (openAnswer s id time paddedKind length floor cap count) 0) (openNext s id time paddedKind length floor cap count) s ⌝ }
+{
+    opening(s, id, time, PADDED, length, floor, cap, count)
+}
+
+// Opens a skip-forward title: its count is its floor and its cap.
+pub fn skip(s: State, id: u64, time: u64, length: u64, count: u64) -> Outcome
+    ensures { λ r. ⌜ r .answer ≡ callAnswer s id time (skips length count) ⌝ }
+    ensures { λ r. ⌜ r .state ≡ pick (eqb (callAnswer s id time (skips length count)) 0) (openNext s id time steadyKind length count count count) s ⌝ }
+{
+    opening(s, id, time, STEADY, length, count, count, count)
 }
 
 // Changes the count of a title.

@@ -6,7 +6,7 @@ use Prim.Native.Nat.{ℕ, _≤_, _<_}
 use native.Mathlib.Omega.{arith}
 use borrow.Author.Tests.{leb-true, ltb-true, ltb-false, eqb-false, not-false, not-true}
 use lib.Dec.{leb, ltb, eqb}
-use Rattle.rules.specs.Limits.{both, within, idMax, laneMax, eventTimeMax, askedMax, floorMin, countMin, countMax}
+use Rattle.rules.specs.Limits.{both, within, idMax, laneMax, eventTimeMax, askedMax, countMin, countMax}
 use Rattle.rules.specs.Refusals.{firstHit, outsideLimits, notThere, floorAboveCap}
 use Rattle.rules.proofs.Tests.{both-l, both-r}
 use Rattle.story.specs.declared.Title.{Title}
@@ -14,8 +14,9 @@ use Rattle.story.specs.declared.State.{State}
 use Rattle.story.specs.Kept.{absentMode, titleAt, stateOk, titleOk, titleHeld, isThere}
 use Rattle.story.specs.Next.{openedTitle}
 use Rattle.story.specs.Orders.{doorsOrder}
-use Rattle.story.specs.Story.{openLimits, doors}
+use Rattle.story.specs.Story.{kindLimits, doors}
 use Rattle.story.specs.Calls.{eventOk, testsIn, callAnswer, closeAnswer, doorsAnswer, laneHeld, laneRules, laneAnswer}
+use Rattle.story.proofs.Passed.{offered}
 use Rattle.measures.specs.Film.{Film, Readable}
 use Rattle.measures.proofs.Within.{title-ok, tuned-high, readable}
 use Rattle.owed.specs.Owing.{Sending, Changeable}
@@ -56,27 +57,25 @@ module _ (s : State) (i τ : ℕ) (ok : eventOk s i τ ≡ true) where
   standing-changeable h = there-changeable (cleared (standingRules s i τ) refl h notThere)
 
 -- an opening that only lanes may refuse
-module _ (s : State) (i τ D A K k : ℕ) (none : openBefore s i τ D A K k ≡ 0) where
-  open-numbers : both (eventOk s i τ) (openLimits D A K k) ≡ true
+module _ (s : State) (i τ m D A K k : ℕ) (none : openBefore s i τ m D A K k ≡ 0) where
+  open-numbers : both (eventOk s i τ) (kindLimits m D A K k) ≡ true
   unfolding openBefore hitsOf numbered
-  open-numbers = not-false (both (eventOk s i τ) (openLimits D A K k)) (cleared (openRules s i τ D A K k) refl none outsideLimits)
+  open-numbers = not-false (both (eventOk s i τ) (kindLimits m D A K k)) (cleared (openRules s i τ m D A K k) refl none outsideLimits)
 
   pub open-event : eventOk s i τ ≡ true
-  open-event = both-l (eventOk s i τ) (openLimits D A K k) open-numbers
+  open-event = both-l (eventOk s i τ) (kindLimits m D A K k) open-numbers
 
   open-fit : A ≤ K
   unfolding openBefore hitsOf numbered
-  open-fit = ltb-false K A (cleared (openRules s i τ D A K k) refl none floorAboveCap)
+  open-fit = ltb-false K A (cleared (openRules s i τ m D A K k) refl none floorAboveCap)
 
-  pub open-film : Film (openedTitle τ D A K k)
+  pub open-film : Film (openedTitle m τ D A K k)
   open-film =
-      let ok = both-r (eventOk s i τ) (openLimits D A K k) open-numbers in
-      let floored : floorMin ≤ A = search (both-l, both-r, leb-true) depth 12 in
+      let o = offered m D A K k (both-r (eventOk s i τ) (kindLimits m D A K k) open-numbers) in
       record {
-        sized = record
-            { low = search (both-l, both-r, leb-true) depth 12; high = search (both-l, both-r, leb-true) depth 12 };
-        cut = record
-            { low = omega arith; fit = open-fit; high = search (both-l, both-r, leb-true) depth 12 };
+        sized = record { low = o .length-low; high = o .length-high };
+        cut = record { low = omega (arith, o .floor-low); fit = open-fit; high = o .cap-high };
+        flat = o .flat;
       }
 
 -- a change that only lanes may refuse

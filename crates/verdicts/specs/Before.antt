@@ -10,19 +10,20 @@ use Rattle.story.specs.declared.Title.{Title}
 use Rattle.story.specs.declared.State.{State}
 use Rattle.story.specs.Orders.{Tests, openOrder, changeOrder, closeOrder, doorsOrder}
 use Rattle.story.specs.Story.{Act, opens, changes, closes, doors, isCrossed, isBelow, isAbove, isSame, isSameDoors}
-use Rattle.story.specs.Kept.{closingMode, isShut, settledAt, isThere}
+use Rattle.scheme.specs.Scheme.{paddedKind}
+use Rattle.story.specs.Kept.{closingMode, isShut, isSteadyTitle, settledAt, isThere}
 use Rattle.story.specs.Calls.{atSlotStart, testsIn}
 
 -- of an opening, before the want of lanes, and what of it is left where its numbers are within their limits
-abbrev pub openRules : State → ℕ → ℕ → ℕ → ℕ → ℕ → ℕ → List Rule
-openRules s i τ D A K k = before noLanes (openOrder (testsIn s i τ (opens D A K k)))
+abbrev pub openRules : State → ℕ → ℕ → ℕ → ℕ → ℕ → ℕ → ℕ → List Rule
+openRules s i τ m D A K k = before noLanes (openOrder (testsIn s i τ (opens m D A K k)))
 
--- (none of which asks for the length)
+-- (none of which asks for the kind or the length)
 abbrev pub openLater : State → ℕ → ℕ → ℕ → ℕ → ℕ → List Rule
-openLater s i τ A K k = behind outsideLimits (openRules s i τ 0 A K k)
+openLater s i τ A K k = behind outsideLimits (openRules s i τ paddedKind 0 A K k)
 
-unfoldable pub openBefore : State → ℕ → ℕ → ℕ → ℕ → ℕ → ℕ → ℕ
-openBefore s i τ D A K k = firstHit (openRules s i τ D A K k)
+unfoldable pub openBefore : State → ℕ → ℕ → ℕ → ℕ → ℕ → ℕ → ℕ → ℕ
+openBefore s i τ m D A K k = firstHit (openRules s i τ m D A K k)
 
 -- of a change, before the want of lanes
 abbrev pub changeRules : State → ℕ → ℕ → ℕ → List Rule
@@ -47,6 +48,7 @@ titleTests t τ a k =
       early = false;
       there = isThere t τ;
       closing = eqb (t .mode) closingMode;
+      steady = isSteadyTitle t;
       crossed = isCrossed a;
       below = isBelow a (t .floor);
       above = isAbove a (t .cap);

@@ -1,7 +1,6 @@
 // What an event answers, in 01's order: the first refusal that hits. The want of lanes is tested by the calls, on the next
 // state.
 
-use grid::is_slot_start;
 use measures::lanes::is_there;
 use measures::limits::state_ok;
 use measures::slots::title_of;
@@ -26,12 +25,15 @@ use rules::NOT_AT_SLOT;
 use rules::NOT_THERE;
 use rules::OUTSIDE_LIMITS;
 use rules::SECOND_EVENT;
+use rules::STEADY_MAX;
 use rules::TOO_EARLY;
 use rules::TOO_SOON;
 use rules::UNCHANGED;
 use rules::truth::also;
 use rules::truth::smaller;
 use rules::within;
+use scheme::STEADY;
+use scheme::starts;
 use story::CLOSING;
 use story::HELD;
 use story::State;
@@ -41,7 +43,7 @@ ghost use mathlib.Core.Path.{_≡_};
 ghost use mathlib.Core.Bool.{true};
 ghost use Rattle.rules.specs.Limits.{askedMax};
 ghost use Rattle.rules.specs.Refusals.{firstHit};
-ghost use Rattle.story.specs.Story.{openLimits, doors, isSameDoors};
+ghost use Rattle.story.specs.Story.{openLimits, skipLimits, kindLimits, doors, isSameDoors};
 ghost use Rattle.story.specs.Kept.{isShut};
 ghost use Rattle.story.specs.Calls.{eventOk, atSlotStart, closeAnswer, doorsAnswer};
 ghost use Rattle.measures.specs.Film.{Film};
@@ -56,7 +58,7 @@ pub fn event_ok(s: State, id: u64, time: u64) -> bool
     also(state_ok(s), also(id <= ID_MAX, time <= EVENT_TIME_MAX))
 }
 
-// The numbers that an opening has besides.
+// The numbers that an opening on the padded grid has besides.
 fn open_ok(length: u64, floor: u64, cap: u64, count: u64) -> bool
     ensures { λ r. ⌜ r ≡ openLimits length floor cap count ⌝ }
 {
@@ -67,6 +69,28 @@ fn open_ok(length: u64, floor: u64, cap: u64, count: u64) -> bool
     also(sized, also(floored, also(capped, counted)))
 }
 
+// Those of a skip-forward title, whose floor and cap are its count.
+fn skip_ok(length: u64, floor: u64, cap: u64, count: u64) -> bool
+    ensures { λ r. ⌜ r ≡ skipLimits length floor cap count ⌝ }
+{
+    let sized = within(LENGTH_MIN, LENGTH_MAX, length);
+    let counted = within(COUNT_MIN, STEADY_MAX, count);
+    also(sized, also(counted, also(floor == count, cap == count)))
+}
+
+// Those of an opening of either kind.
+fn kind_ok(kind: u64, length: u64, floor: u64, cap: u64, count: u64) -> bool
+    ensures { λ r. ⌜ r ≡ kindLimits kind length floor cap count ⌝ }
+{
+    if kind > STEADY {
+        return false;
+    }
+    if kind == STEADY {
+        return skip_ok(length, floor, cap, count);
+    }
+    open_ok(length, floor, cap, count)
+}
+
 // Whether a time is a slot start of a count of a title.
 fn at_slot_start(t: Title, count: u64, time: u64) -> bool
     requires { ⌜ Film t ⌝ }
@@ -74,7 +98,7 @@ fn at_slot_start(t: Title, count: u64, time: u64) -> bool
     ensures { λ r. ⌜ r ≡ atSlotStart t count time ⌝ }
 {
     if at_tick_start(t, time) {
-        return is_slot_start(t.cap, count, tick_at(t, time));
+        return starts(t.kind, t.floor, t.cap, count, tick_at(t, time));
     }
     false
 }
@@ -102,20 +126,21 @@ fn open_later(s: State, id: u64, time: u64, floor: u64, cap: u64, count: u64) ->
     DONE
 }
 
-// Of an opening.
+// Of an opening of a kind.
 pub fn open_verdict(
     s: State,
     id: u64,
     time: u64,
+    kind: u64,
     length: u64,
     floor: u64,
     cap: u64,
     count: u64,
 ) -> u8
-    ensures { λ r. ⌜ r ≡ openBefore s id time length floor cap count ⌝ }
+    ensures { λ r. ⌜ r ≡ openBefore s id time kind length floor cap count ⌝ }
 {
     if event_ok(s, id, time) {
-        if open_ok(length, floor, cap, count) {
+        if kind_ok(kind, length, floor, cap, count) {
             return open_later(s, id, time, floor, cap, count);
         }
     }
@@ -171,12 +196,15 @@ fn retune_verdict(t: Title, count: u64, time: u64) -> u8
     turn
 }
 
-// Whether an open title can change to a count at a time.
+// Whether an open title can change to a count at a time: a skip-forward title never can.
 fn count_verdict(t: Title, count: u64, time: u64) -> u8
     requires { ⌜ Film t ⌝ }
     requires { ⌜ (t .count ≤ t .cap) × (t .tuned ≤ askedMax) ⌝ }
     ensures { λ r. ⌜ r ≡ firstHit (countRules t count time) ⌝ }
 {
+    if t.kind == STEADY {
+        return rules::STEADY;
+    }
     if count < t.floor {
         return BELOW_FLOOR;
     }
@@ -228,12 +256,16 @@ fn same_doors(t: Title, held: bool) -> bool
     if held { mark == HELD } else { mark != HELD }
 }
 
-// Whether the doors of an open title can be held at a time, or lifted.
+// Whether the doors of an open title can be held at a time, or lifted: those of a skip-forward title never can.
 fn held_verdict(t: Title, held: bool, time: u64) -> u8
     requires { ⌜ Film t ⌝ }
     requires { ⌜ t .count ≤ t .cap ⌝ }
     ensures { λ r. ⌜ r ≡ firstHit (doorsRules t held time) ⌝ }
 {
+    let kind = t.kind;
+    if kind == STEADY {
+        return rules::STEADY;
+    }
     if same_doors(t, held) {
         return DOORS_UNCHANGED;
     }

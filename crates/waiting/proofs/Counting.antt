@@ -15,8 +15,9 @@ use Rattle.rules.specs.Refusals.{pick, outOfTurn}
 use Rattle.rules.proofs.Tests.{decide}
 use Rattle.notice.specs.declared.Notice.{Notice}
 use Rattle.notice.specs.declared.Kind.{Kind}
-use Rattle.notice.specs.declared.Kind.the-variants.{Open, Change, Close, Hold, Lift}
+use Rattle.notice.specs.declared.Kind.the-variants.{Open, Change, Close, Hold, Lift, Skip}
 use Rattle.notice.specs.declared.Reading.the-variants as reading
+use Rattle.scheme.specs.Scheme.{paddedKind, steadyKind}
 use Rattle.story.specs.declared.State.{State}
 use Rattle.story.specs.Kept.{titleAt}
 use Rattle.story.specs.Life.{Life, onCourse}
@@ -61,12 +62,15 @@ module _ (lanes : ℕ) (es : List Event) (s : State) (i : ℕ) (xs : List ℕ) (
       Counted (lifeAfter (lifeOf es i) τ (actOf k)) (tickIn (lifeAfter (lifeOf es i) τ (actOf k)) τ) xs (eventTally (titleAt s i) τ k xs y)
   unfolding tickIn
   event-counted τ (Open d a p n) ok =
-      let L : Life = record { opened = τ; length = d; floor = a; cap = p; rule = λ t. n; shut = λ t. false } in
+      let L : Life = record { kind = paddedKind; opened = τ; length = d; floor = a; cap = p; rule = λ t. n; shut = λ t. false } in
       rw (sub-self τ, zero-div) (opened-counted L xs)
   event-counted τ (Change n) ok = turns τ (changes n) (changing lanes es i τ n ok .0)
   event-counted τ Close ok = turns τ closes (closing lanes es i τ ok)
   event-counted τ Hold ok = turns τ holds (doored lanes es i τ true ok)
   event-counted τ Lift ok = turns τ lifts (doored lanes es i τ false ok)
+  event-counted τ (Skip d n) ok =
+      let L : Life = record { kind = steadyKind; opened = τ; length = d; floor = n; cap = n; rule = λ t. n; shut = λ t. false } in
+      rw (sub-self τ, zero-div) (opened-counted L xs)
 
   -- an accepted event of any title
   any-counted : (n : Notice) → answer lanes es (eventOf n) ≡ 0 →

@@ -9,7 +9,7 @@ use Rattle.rules.specs.Limits.{both, idMax, eventTimeMax}
 use Rattle.rules.specs.Refusals.{pick, Rule, firstHit, before, malformed}
 use Rattle.notice.specs.declared.Notice.{Notice}
 use Rattle.notice.specs.declared.Kind.{Kind}
-use Rattle.notice.specs.declared.Kind.the-variants.{Open, Change, Close, Hold, Lift}
+use Rattle.notice.specs.declared.Kind.the-variants.{Open, Change, Close, Hold, Lift, Skip}
 use Rattle.notice.specs.declared.Reading.the-variants as reading
 use Rattle.notice.specs.declared.Found.{Found}
 use Rattle.notice.specs.declared.Found.the-variants as found
@@ -25,13 +25,14 @@ use Rattle.waiting.specs.declared.Heard.{Heard}
 use Rattle.waiting.specs.declared.Played.{Played}
 use Rattle.waiting.specs.Report.{reportRules}
 
--- an accepted event of the title: only the latest opening counts
+-- an accepted event of the title: only the latest opening counts, of either kind
 abbrev pub eventTally : Title → ℕ → Kind → List ℕ → Tally → Tally
 eventTally t τ (Open d a k n) xs y = fresh τ
 eventTally t τ (Change n) xs y = settled t τ xs y
 eventTally t τ Close xs y = settled t τ xs y
 eventTally t τ Hold xs y = settled t τ xs y
 eventTally t τ Lift xs y = settled t τ xs y
+eventTally t τ (Skip d n) xs y = fresh τ
 
 -- the tally of title i after a notice
 unfoldable pub heardTally : Agent → ℕ → List ℕ → Notice → Tally → Tally

@@ -77,6 +77,10 @@ fn count_event(t: Title, n: Notice, arrivals: &[u64], tally: Tally) -> Tally
         Kind::Close => ended(t, time, arrivals, tally),
         Kind::Hold => ended(t, time, arrivals, tally),
         Kind::Lift => ended(t, time, arrivals, tally),
+        Kind::Skip {
+            length: _,
+            count: _,
+        } => opened(time),
     }
 }
 

@@ -34,6 +34,12 @@ enum-told-5 c = search needs
 ended-requires-4 : tie.Need-ended-requires-4
 ended-requires-4 c κs = search needs
 
+enum-told-6 : tie.Need-enum-told-6
+enum-told-6 c = search needs
+
+opened-requires-2 : tie.Need-opened-requires-2
+opened-requires-2 c κs = search needs
+
 returns : tie.Need-returns
 returns c = by-kind _ _ _ _ _ _ _ (c .before .enum-told .given .1) (c .opened .ensures)
 
@@ -49,6 +55,9 @@ returns-4 c = by-kind _ _ _ _ _ _ _ (c .before .enum-told4 .given .1) (c .ended3
 returns-5 : tie.Need-returns-5
 returns-5 c = by-kind _ _ _ _ _ _ _ (c .before .enum-told5 .given .1) (c .ended4 .ensures)
 
+returns-6 : tie.Need-returns-6
+returns-6 c = by-kind _ _ _ _ _ _ _ (c .before .enum-told6 .given .1) (c .opened2 .ensures)
+
 pub count-event-spec : {M : Type 1} → statement M
 count-event-spec =
     tie.close
@@ -63,8 +72,11 @@ count-event-spec =
     ended-requires-3
     enum-told-5
     ended-requires-4
+    enum-told-6
+    opened-requires-2
     returns
     returns-2
     returns-3
     returns-4
-    returns-5)
+    returns-5
+    returns-6)

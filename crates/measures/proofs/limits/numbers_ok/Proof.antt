@@ -21,28 +21,30 @@ returns-4 : tie.Need-returns-4
 unfolding numbersOk
 returns-4 c = search (le-leb, lt-leb)
 
+floor-ok-requires : tie.Need-floor-ok-requires
+floor-ok-requires c κs = search needs
+
+rest-ok-requires : tie.Need-rest-ok-requires
+rest-ok-requires c κs = search needs
+
+also-requires : tie.Need-also-requires
+also-requires c κs = search needs
+
 returns-5 : tie.Need-returns-5
 unfolding numbersOk
-returns-5 c = search (le-leb, lt-leb)
-
-returns-6 : tie.Need-returns-6
-unfolding numbersOk
-returns-6 c = search (le-leb, lt-leb)
-
-returns-7 : tie.Need-returns-7
-unfolding numbersOk
-returns-7 c = search (le-leb, lt-leb)
-
-returns-8 : tie.Need-returns-8
-unfolding numbersOk
-returns-8 c = search (le-leb, lt-leb)
-
-kept-ok-requires : tie.Need-kept-ok-requires
-kept-ok-requires c κs = search needs
-
-returns-9 : tie.Need-returns-9
-unfolding numbersOk
-returns-9 c = search (le-leb, lt-leb)
+returns-5 c =
+    let at-if4 = c .before .before .before in
+    let at-if3 = at-if4 .before .before in
+    let at-if2 = at-if3 .before .before in
+    simp (
+      le-leb _ _ (at-if2 .before .before .if1 .left),
+      le-leb _ _ (at-if2 .if2 .left),
+      le-leb _ _ (at-if3 .if3 .left),
+      le-leb _ _ (at-if4 .if4 .left),
+      ← c .before .before .floor-ok .ensures,
+      ← c .before .rest-ok .ensures,
+    )
+    (c .also .ensures)
 
 pub numbers-ok-spec : {M : Type 1} → statement M
 numbers-ok-spec =
@@ -52,9 +54,7 @@ numbers-ok-spec =
     returns-2
     returns-3
     returns-4
-    returns-5
-    returns-6
-    returns-7
-    returns-8
-    kept-ok-requires
-    returns-9)
+    floor-ok-requires
+    rest-ok-requires
+    also-requires
+    returns-5)

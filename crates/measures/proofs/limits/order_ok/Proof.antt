@@ -20,9 +20,34 @@ returns-3 c = search (le-leb, lt-leb)
 within-requires : tie.Need-within-requires
 within-requires c κs = search needs
 
+is-level-requires : tie.Need-is-level-requires
+is-level-requires c κs = search needs
+
+also-requires : tie.Need-also-requires
+also-requires c κs = search needs
+
 returns-4 : tie.Need-returns-4
 unfolding orderOk
-returns-4 c = search (le-leb, lt-leb)
+returns-4 c =
+    let at-if3 = c .before .before .before in
+    let at-if2 = at-if3 .before .before in
+    simp (
+      le-leb _ _ (at-if2 .before .before .if1 .left),
+      le-leb _ _ (at-if2 .if2 .left),
+      le-leb _ _ (at-if3 .if3 .left),
+      ← c .before .before .within .ensures,
+      ← c .before .is-level .ensures,
+    )
+    (c .also .ensures)
 
 pub order-ok-spec : {M : Type 1} → statement M
-order-ok-spec = tie.close (tie.spec returns returns-2 returns-3 within-requires returns-4)
+order-ok-spec =
+    tie.close
+    (tie.spec
+    returns
+    returns-2
+    returns-3
+    within-requires
+    is-level-requires
+    also-requires
+    returns-4)

@@ -1,104 +1,50 @@
--- `is_awaited` meets its contract: the loop's value is the test of some count passed, and no count up to the lane had
--- it. Rests on the law that a count with the lane has its cell.
-use Prim.Native.Nat.{suc, _+_, _-_, _≤_, _<_}
-use mathlib.Core.Path.{_≡_, refl, sym, ap, _∙_}
+-- `is_awaited` meets its contract: of a skip-forward title one count and one lane are asked, of another every count.
+-- Rests on what the boxes of each kind await.
+use mathlib.Core.Path.{_≡_, sym, _∙_}
 use native.Mathlib.Omega.{arith}
-use native.Mathlib.Numerals.{add-one}
-use native.Mathlib.Nat.{le-antisymm}
-use lib.Dec.{ltb, leb}
-use borrow.Author.Needs.{needs}
-use borrow.Author.Tests.{lt-ltb, le-ltb}
-use Rattle.rules.specs.Limits.{both, countPlaces}
-use Rattle.rules.specs.Search.{some}
-use Rattle.rules.proofs.Search.{some-none}
+use Rattle.rules.specs.Limits.{countPlaces}
+use Rattle.scheme.proofs.Which.{padded-scheme}
 use Rattle.measures.proofs.Within.{in-row}
-use Rattle.story.specs.Kept.{wants, keptAwaited}
-use Rattle.owed.proofs.Wanted.{takes-wants, own-cell}
+use Rattle.owed.proofs.OnLanes.{awaited-own}
+use borrow.Author.Needs.{needs}
 use Rattle.owed.proofs.owing.is_awaited.Statement.{statement}
 use Rattle.owed.proofs.owing.is_awaited.Tie as tie
 
-abbrev Inv-loop : tie.InvT-loop
-Inv-loop lane cell tick t cap floor found₀ count₀ found count =
-    (count ≤ suc cap) × (cap ≡ t .cap) × (lane < count)
-    × (found ≡ some (λ c. both (ltb lane c) (both (leb (t .floor) c) (wants t cell tick c))) count)
-
-abbrev μ-loop : tie.MeasureT-loop
-μ-loop lane cell tick t cap floor found₀ count₀ found count = suc cap - count
-
-add-count : tie.Need-add-count Inv-loop μ-loop
-add-count c = search needs
-
-loop-holds : tie.Need-loop-holds Inv-loop μ-loop
-loop-holds c =
-    let a = c .args in
-    let x = a .cell in (
-      omega arith,
-      refl,
-      omega arith,
-      sym (some-none (λ k. both (ltb (a .lane) k) (both (leb (a .t1 .floor) k) (wants (a .t1) x (a .tick) k)))
-          (a .lane + 1)
-          (λ k l. rw (le-ltb (a .lane) k (omega arith)) refl)),
-    )
-
-mul-end : tie.Need-mul-end Inv-loop μ-loop
+mul-end : tie.Need-mul-end
 mul-end c = search needs
 
-element-copy-out-end : tie.Need-element-copy-out-end Inv-loop μ-loop
+element-copy-out-end : tie.Need-element-copy-out-end
 element-copy-out-end c = search needs
 
-owed-to-requires : tie.Need-owed-to-requires Inv-loop μ-loop
-owed-to-requires c κs =
+awaited-on-requires : tie.Need-awaited-on-requires
+awaited-on-requires c κs =
+    let s = c .before .before in
+    let film = s .pre .0 .film .cut in
+    (omega arith, (in-row (s .args .t1 .ends) countPlaces (s .args .t1 .cap) (s .pre .0 .ends) (omega (arith, film .high)), s .pre .1 .0 .1))
+
+returns : tie.Need-returns
+returns c =
     let s = c .before .before .before in
     let a = s .args in
-    let k = c .before .before .loop .count in
-    let has = c .before .before .loop .inv .2 in
-    let low = c .before .loop-test .taken in
-    let film = s .pre .0 .film .cut in (
-      record { fit = low; high = film .high },
-      (
-        (in-row (a .t1 .ends) countPlaces k (s .pre .0 .ends) (omega (arith, low, film .high)), (s .pre .1 .1 .within, s .pre .1 .0 .1)),
-        λ floor. own-cell (a .t1 .floor) (a .t1 .cap) (a .lane) k (a .tick) (a .cell) low has (s .pre .1 .1 .is) floor,
-      ),
-    )
+    c .awaited-on .ensures
+    ∙ sym (awaited-own (a .t1) (c .before .before .if1 .taken) (a .lane) (a .cell) (a .tick) (s .pre .1 .1 .is) (s .pre .0 .film .flat (c .before .before .if1 .taken)) (s .pre .1 .0 .0))
 
-either-requires : tie.Need-either-requires Inv-loop μ-loop
-either-requires c κs = search needs
+awaited-by-some-requires : tie.Need-awaited-by-some-requires
+awaited-by-some-requires c κs =
+    let s = c .before in
+    let a = s .args in
+    (s .pre .0, (s .pre .1 .0, (rw (padded-scheme (a .t1 .kind) (a .t1 .floor) (a .t1 .cap) (c .if1 .left)) at (s .pre .1 .1), c .if1 .left)))
 
-add-count-2 : tie.Need-add-count-2 Inv-loop μ-loop
-add-count-2 c = search needs
-
-loop-less : tie.Need-loop-less Inv-loop μ-loop
-loop-less c = search needs
-
-loop-again : tie.Need-loop-again Inv-loop μ-loop
-unfolding some
-loop-again c =
-    let at = c .before .before .before .before in
-    let a = at .before .args in
-    let t = a .t1 in
-    let k = at .loop .count in
-    let x = a .cell in
-    let e : c .before .owed-to .result ≡ both (leb (t .floor) k) (wants t x (a .tick) k) =
-    c .before .owed-to .ensures ∙ ap (both (leb (t .floor) k)) (takes-wants t x (a .tick) k) in
-    (omega arith, search needs, omega arith, rw add-one (simp (lt-ltb _ _ (at .loop .inv .2)) (cc e)))
-
-returns : tie.Need-returns Inv-loop μ-loop
-unfolding keptAwaited
-returns c = cc (le-antisymm (c .before .loop .inv .0) (c .loop-test .left))
+returns-2 : tie.Need-returns-2
+returns-2 c = search needs
 
 pub is-awaited-spec : {M : Type 1} → statement M
 is-awaited-spec =
     tie.close
     (tie.spec
-    Inv-loop
-    μ-loop
-    add-count
-    loop-holds
     mul-end
     element-copy-out-end
-    owed-to-requires
-    either-requires
-    add-count-2
-    loop-less
-    loop-again
-    returns)
+    awaited-on-requires
+    returns
+    awaited-by-some-requires
+    returns-2)

@@ -9,13 +9,13 @@ at-tick-start-requires c κs = search needs
 tick-at-requires : tie.Need-tick-at-requires
 tick-at-requires c κs = search needs
 
-is-slot-start-requires : tie.Need-is-slot-start-requires
-is-slot-start-requires c κs = search needs
+starts-requires : tie.Need-starts-requires
+starts-requires c κs = search needs
 
 returns : tie.Need-returns
 returns c =
     simp (← c .before .before .before .at-tick-start .ensures, c .before .before .if1 .taken, ← c .before .tick-at .ensures .is)
-    (c .is-slot-start .ensures)
+    (c .starts .ensures)
 
 returns-2 : tie.Need-returns-2
 returns-2 c = simp (← c .before .at-tick-start .ensures, c .if1 .left)
@@ -23,4 +23,4 @@ returns-2 c = simp (← c .before .at-tick-start .ensures, c .if1 .left)
 pub at-slot-start-spec : {M : Type 1} → statement M
 at-slot-start-spec =
     tie.close
-    (tie.spec at-tick-start-requires tick-at-requires is-slot-start-requires returns returns-2)
+    (tie.spec at-tick-start-requires tick-at-requires starts-requires returns returns-2)

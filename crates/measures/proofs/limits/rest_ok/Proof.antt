@@ -1,0 +1,27 @@
+-- `rest_ok` meets its contract: each way out decides the tests up to it.
+use borrow.Author.Tests.{le-leb, lt-leb}
+use borrow.Author.Needs.{needs}
+use Rattle.measures.proofs.limits.rest_ok.Statement.{statement}
+use Rattle.measures.proofs.limits.rest_ok.Tie as tie
+
+returns : tie.Need-returns
+returns c = search (le-leb, lt-leb)
+
+returns-2 : tie.Need-returns-2
+returns-2 c = search (le-leb, lt-leb)
+
+returns-3 : tie.Need-returns-3
+returns-3 c = search (le-leb, lt-leb)
+
+returns-4 : tie.Need-returns-4
+returns-4 c = search (le-leb, lt-leb)
+
+kept-ok-requires : tie.Need-kept-ok-requires
+kept-ok-requires c κs = search needs
+
+returns-5 : tie.Need-returns-5
+returns-5 c = search (le-leb, lt-leb)
+
+pub rest-ok-spec : {M : Type 1} → statement M
+rest-ok-spec =
+    tie.close (tie.spec returns returns-2 returns-3 returns-4 kept-ok-requires returns-5)
