@@ -57,7 +57,7 @@ raised-timed : (t : Title) (τ k : ℕ) → t .count ≤ k → Timed t → Timed
 raised-timed t τ k le z =
     rw (raised t τ k le)
     (record {
-      film = record { sized = z .film .sized; cut = z .film .cut };
+      film = record { sized = z .film .sized; cut = z .film .cut; flat = z .film .flat };
       opened = z .opened;
       dropped = z .dropped;
       owed = z .owed;

@@ -16,10 +16,9 @@ use Rattle.rules.specs.Refusals.{pick}
 use Rattle.rules.specs.Search.{howMany}
 use Rattle.rules.proofs.Tests.{either-l, either-r, either-out}
 use Rattle.rules.proofs.Search
-use Rattle.grid.specs.Ticks.{tickOf}
 use Rattle.story.specs.declared.Title.{Title}
 use Rattle.story.specs.declared.State.{State}
-use Rattle.story.specs.Kept.{absentMode, openMode, noTitle, titleAt, tickAt, ruling, keptHeld, titleHeld, lanesHeld}
+use Rattle.story.specs.Kept.{absentMode, openMode, noTitle, titleTick, titleAt, tickAt, ruling, keptHeld, titleHeld, lanesHeld}
 use Rattle.story.specs.Next.{ended, turned, changedTitle, changeNext}
 use Rattle.story.proofs.Clock.{tick-mono}
 use Rattle.story.proofs.Rows.{drop-none}
@@ -27,7 +26,7 @@ use Rattle.story.proofs.Rows.{drop-none}
 -- later moments lie in later ticks, also of a title without a film
 tick-later : (t : Title) (τ υ : ℕ) → τ ≤ υ → tickAt t τ ≤ tickAt t υ
 unfolding tickAt
-tick-later t τ υ le = go (tickOf (t .length) (t .floor) (t .cap))
+tick-later t τ υ le = go (titleTick t)
   where
     go : (p : ℕ) → (τ - t .opened) / p ≤ (υ - t .opened) / p
     go zero = rw (div-zero (τ - t .opened), div-zero (υ - t .opened)) (omega arith)

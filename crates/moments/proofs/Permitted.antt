@@ -13,13 +13,15 @@ use lib.Pow.{pow-pos, pow-mono}
 use borrow.Author.Tests.{eqb-true, eq-eqb, ne-eqb, ltb-true, ltb-false, lt-ltb, le-ltb}
 use Rattle.rules.specs.Limits.{both, askedMax, countMax}
 use Rattle.rules.proofs.Tests.{decide, same, both-l, both-r, both-in}
-use Rattle.grid.specs.Ticks.{slot, isSlotStart, tickOf}
+use Rattle.grid.specs.Ticks.{slot}
 use Rattle.grid.proofs.Numbers.{mod-unique, ne-zero-pos}
-use Rattle.grid.proofs.Ticks.{slot-pos, slot-ms, tick-exactly}
+use Rattle.grid.proofs.Ticks.{slot-ms}
+use Rattle.scheme.specs.Scheme.{steadyKind, schemeOf, starts}
+use Rattle.scheme.proofs.Clock.{tick-pos, tick-high}
+use Rattle.scheme.proofs.Both.{lawful}
 use Rattle.story.specs.declared.Title.{Title}
-use Rattle.story.specs.Kept.{tickAt, atTickStart, settledAt}
+use Rattle.story.specs.Kept.{schemeIn, titleTick, tickAt, atTickStart, settledAt}
 use Rattle.story.specs.Calls.{atSlotStart}
-use Rattle.story.proofs.Clock.{tick-pos}
 use Rattle.measures.specs.Film.{Film}
 use Rattle.moments.specs.Steps.{slotMs, slotMost, Found, permits}
 
@@ -38,16 +40,19 @@ whole p w x a b =
     both-in (eqb (x % p) 0) (eqb (x / p % w) 0) (eq-eqb (x % p) 0 (omega arith)) (eq-eqb (x / p % w) 0 (omega arith)))
 
 module _ (t : Title) (c : ℕ) (film : Film t) where
-  tick-some : 0 < tickOf (t .length) (t .floor) (t .cap)
+  tick-some : 0 < titleTick t
   tick-some =
-      tick-pos (t .length) (t .floor) (t .cap) (omega (arith, film .sized .low)) (film .cut .low) (film .cut .fit)
+      tick-pos (t .kind) (t .length) (t .floor) (t .cap) (omega (arith, film .sized .low)) (film .cut .low) (film .cut .fit)
+
+  ticks-some : 0 < schemeIn t .slotOf c
+  ticks-some = lawful (t .kind) (t .length) (t .floor) (t .cap) (film .cut .low) (film .cut .fit) (film .flat) .slot-pos c
 
   pub slot-some : 0 < slotMs t c
-  slot-some = mul-le-mul {n₁ = 1} {m₁ = 1} {n₂ = slot (t .cap) c} (slot-pos (t .cap) c) tick-some
+  slot-some = mul-le-mul {n₁ = 1} {m₁ = 1} {n₂ = schemeIn t .slotOf c} ticks-some tick-some
 
   pub starts-by-slots : (τ : ℕ) → atSlotStart t c τ ≡ eqb ((τ - t .opened) % slotMs t c) 0
-  unfolding atTickStart tickAt isSlotStart
-  starts-by-slots τ = whole (tickOf (t .length) (t .floor) (t .cap)) (slot (t .cap) c) (τ - t .opened) tick-some (slot-pos (t .cap) c)
+  unfolding atTickStart tickAt starts
+  starts-by-slots τ = whole (titleTick t) (schemeIn t .slotOf c) (τ - t .opened) tick-some ticks-some
 
   pub start-here : (x hi : ℕ) → x ≤ hi → (x - t .opened) % slotMs t c ≡ 0 → Found (atSlotStart t c) x hi x
   start-here x hi le z =
@@ -167,16 +172,21 @@ module _ (t : Title) (c : ℕ) where
               (decide (ltb υ r));
         }
 
+-- no slot of a count has more ticks than a film has cells
+slot-high : (kind A K c : ℕ) → K ≤ countMax → schemeOf kind A K .slotOf c ≤ 2 ^ countMax
+unfolding schemeOf slot
+slot-high kind A K c le =
+    ⊎-elim (λ x. rw x (pow-pos countMax))
+    (λ x. rw x (let few : K - c ≤ countMax = omega arith in pow-mono few))
+    (decide (eqb kind steadyKind))
+
 -- a title that settles within its limits does so soon after them
 pub settled-high : (t : Title) → Film t → t .tuned ≤ askedMax → settledAt t ≤ askedMax + slotMost
-unfolding settledAt slot
+unfolding settledAt
 settled-high t film le =
-    let K : ℕ = t .cap in
-    let A : ℕ = t .floor in
-    let D : ℕ = t .length in
-    let tick = tick-exactly D A K (2 ^ K) (2 ^ (K - A)) (film .sized .low) (film .cut .low) (film .cut .fit) refl refl in
-    let short : tickOf D A K ≤ D = omega (arith, tick .is, tick .high) in
-    let less : K - A ≤ countMax = omega (arith, film .cut .high) in
-    let wide : 2 ^ (K - A) ≤ 2 ^ countMax = pow-mono less in
-    let some : 1 ≤ tickOf D A K = tick-some t A film in
-    omega (arith, slot-ms (2 ^ (K - A)) (tickOf D A K) D (pow-pos (K - A)) wide some short (film .sized .high) .1)
+    let long : 0 < t .length = omega (arith, film .sized .low) in
+    let short = tick-high (t .kind) (t .length) (t .floor) (t .cap) long (film .cut .low) (film .cut .fit) in
+    let wide = slot-high (t .kind) (t .floor) (t .cap) (t .floor) (film .cut .high) in
+    let some = ticks-some t (t .floor) film in
+    let tick = tick-some t (t .floor) film in
+    omega (arith, slot-ms (schemeIn t .slotOf (t .floor)) (titleTick t) (t .length) some wide tick short (film .sized .high) .1)

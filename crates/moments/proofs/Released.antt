@@ -13,12 +13,11 @@ use Rattle.rules.specs.Limits.{both, eventTimeMax, titlesMax}
 use Rattle.rules.specs.Refusals.{pick}
 use Rattle.rules.proofs.Tests.{decide, both-l, both-r, either-l, either-r, either-out}
 use Rattle.rules.proofs.Search
-use Rattle.grid.specs.Ticks.{tickOf}
+use Rattle.scheme.proofs.Clock.{tick-pos}
 use Rattle.story.specs.declared.Title.{Title}
 use Rattle.story.specs.declared.State.{State}
-use Rattle.story.specs.Kept.{absentMode, titleAt, tickAt, ruling, keptHeld, titleHeld, lanesHeld}
+use Rattle.story.specs.Kept.{absentMode, titleTick, titleAt, tickAt, ruling, keptHeld, titleHeld, lanesHeld}
 use Rattle.story.specs.Calls.{tooMany}
-use Rattle.story.proofs.Clock.{tick-pos}
 use Rattle.moments.specs.Steps.{Timed, AllTimed, releaseOf, soonerOf, lanesRelease, titleRelease, releaseIn}
 use Rattle.moments.specs.Steps.{Frees}
 
@@ -121,9 +120,9 @@ module _ (t : Title) (timed : Timed t) (τ υ : ℕ) (early : τ ≤ eventTimeMa
   unfolding keptHeld tickAt releaseOf
   lane-steady l until h =
       let n : ℕ = getD (t .dropped) l 0 + getD (t .owed) l 0 in
-      let p : ℕ = tickOf (t .length) (t .floor) (t .cap) in
+      let p : ℕ = titleTick t in
       let f = timed .film in
-      let pos : 0 < p = tick-pos (t .length) (t .floor) (t .cap) (omega (arith, f .sized .low)) (f .cut .low) (f .cut .fit) in
+      let pos : 0 < p = tick-pos (t .kind) (t .length) (t .floor) (t .cap) (omega (arith, f .sized .low)) (f .cut .low) (f .cut .fit) in
       ⊎-elim (λ a. either-l (ltb l (ruling t)) (ltb ((υ - t .opened) / p) n) a)
       (λ b.
       either-r (ltb l (ruling t)) (ltb ((υ - t .opened) / p) n)

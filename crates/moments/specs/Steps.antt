@@ -7,17 +7,16 @@ use lib.Dec.{leb, ltb, eqb}
 use lib.ListN.{getD}
 use Rattle.rules.specs.Limits.{both, eventTimeMax, askedMax, countMax, lengthMax, lanePlaces, titlesMax}
 use Rattle.rules.specs.Refusals.{pick}
-use Rattle.grid.specs.Ticks.{tickOf, slot}
 use Rattle.story.specs.declared.Title.{Title}
 use Rattle.story.specs.declared.State.{State}
-use Rattle.story.specs.Kept.{absentMode, titleAt, rowOk, settledAt, lanesHeld}
+use Rattle.story.specs.Kept.{absentMode, schemeIn, titleTick, titleAt, rowOk, settledAt, lanesHeld}
 use Rattle.story.specs.Calls.{atSlotStart}
 use Rattle.measures.specs.Film.{Film}
 use Rattle.moments.specs.Moments.{hasLanes}
 
 -- a slot of a count of a title, in ms, and the longest that there is
 abbrev pub slotMs : Title → ℕ → ℕ
-slotMs t c = slot (t .cap) c * tickOf (t .length) (t .floor) (t .cap)
+slotMs t c = schemeIn t .slotOf c * titleTick t
 
 abbrev pub slotMost : ℕ
 slotMost = 2 ^ countMax * lengthMax
@@ -47,7 +46,7 @@ AllTimed s = (i : ℕ) → i < titlesMax → (titleAt s i .mode ≡ absentMode �
 unfoldable pub releaseOf : Title → ℕ → ℕ
 releaseOf t l =
     t .opened
-    + min (getD (t .dropped) l 0 + getD (t .owed) l 0) (suc eventTimeMax) * tickOf (t .length) (t .floor) (t .cap)
+    + min (getD (t .dropped) l 0 + getD (t .owed) l 0) (suc eventTimeMax) * titleTick t
 
 -- the sooner of two moments, where the second lies after τ
 unfoldable pub soonerOf : ℕ → ℕ → ℕ → ℕ

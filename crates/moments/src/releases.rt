@@ -13,8 +13,7 @@ ghost use Prim.Native.Nat.{suc, _≤_, _<_};
 ghost use mathlib.Core.Path.{_≡_};
 ghost use lib.Dec.{leb};
 ghost use Rattle.rules.specs.Limits.{both, countMax, lengthMax, eventTimeMax, titlesMax};
-ghost use Rattle.grid.specs.Ticks.{tickOf};
-ghost use Rattle.story.specs.Kept.{absentMode};
+ghost use Rattle.story.specs.Kept.{absentMode, titleTick};
 ghost use Rattle.story.specs.Calls.{tooMany};
 ghost use Rattle.moments.specs.Steps.{Timed, AllTimed, releaseOf, soonerOf, lanesRelease, titleRelease};
 ghost use Rattle.moments.specs.Steps.{releaseIn, Frees};
@@ -32,7 +31,7 @@ fn sooner(time: u64, a: u64, b: u64) -> u64
 // The moment from which on a lane's list has gone, for a title with a tick of so many ms.
 fn release_of(t: Title, tick: u64, lane: u64) -> u64
     requires { ⌜ Timed t ⌝ }
-    requires { ⌜ (lane < countMax) × ((tick ≡ tickOf (t .length) (t .floor) (t .cap)) × (tick ≤ lengthMax)) ⌝ }
+    requires { ⌜ (lane < countMax) × ((tick ≡ titleTick t) × (tick ≤ lengthMax)) ⌝ }
     ensures { λ r. ⌜ r ≡ releaseOf t lane ⌝ }
 {
     let from = t.dropped[lane as usize];
@@ -48,7 +47,7 @@ fn lanes_release(t: Title, time: u64, soonest: u64) -> u64
     ensures { λ r. ⌜ r ≡ lanesRelease t time soonest (t .cap) ⌝ }
 {
     let cap = t.cap;
-    let tick = grid::tick(t.length, t.floor, t.cap);
+    let tick = scheme::tick(t.kind, t.length, t.floor, t.cap);
     let mut r = soonest;
     let mut lane = 0;
     while lane < cap {

@@ -24,7 +24,7 @@ fn slot_ms(t: Title, count: u64) -> u64
     requires { ⌜ count ≤ t .cap ⌝ }
     ensures { λ r. ⌜ Exactly (slotMs t count) 1 slotMost r ⌝ }
 {
-    grid::slot(t.cap, count) * grid::tick(t.length, t.floor, t.cap)
+    scheme::slot(t.kind, t.floor, t.cap, count) * scheme::tick(t.kind, t.length, t.floor, t.cap)
 }
 
 // The first slot start of a count from a time on. Times up to the opening count as slot starts.

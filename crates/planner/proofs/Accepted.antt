@@ -14,7 +14,7 @@ use Rattle.measures.proofs.Within.{title-ok, readable, order}
 use Rattle.story.specs.declared.Title.{Title}
 use Rattle.story.specs.declared.State.{State}
 use Rattle.story.specs.Orders.{Tests, changeOrder}
-use Rattle.story.specs.Kept.{absentMode, openMode, titleAt, stateOk, orderOk, isThere}
+use Rattle.story.specs.Kept.{absentMode, openMode, isSteadyTitle, titleAt, stateOk, orderOk, isThere}
 use Rattle.story.specs.Story.{event, changes}
 use Rattle.story.specs.Calls.{testsIn, callAnswer}
 use Rattle.story.specs.Runs.{answered}
@@ -25,20 +25,21 @@ pub record Ready (s : State) (i k : ℕ) : Type 0 where
   pub ok : stateOk s ≡ true
   pub an-id : i < titlesMax
   pub is-open : titleAt s i .mode ≡ openMode
+  pub padded : isSteadyTitle (titleAt s i) ≡ false
   pub low : titleAt s i .floor ≤ k
   pub high : k ≤ titleAt s i .cap
   pub other : k ≡ titleAt s i .count → ⊥
 
 -- over any tests: an answer 0 where none hits,
-all-clear : (t : Tests) → t .outside ≡ false → t .early ≡ false → t .there ≡ true → t .closing ≡ false → t .below ≡ false →
-    t .above ≡ false → t .same ≡ false → isPermittedBy t ≡ true → t .full ≡ false → firstHit (changeOrder t) ≡ 0
+all-clear : (t : Tests) → t .outside ≡ false → t .early ≡ false → t .there ≡ true → t .closing ≡ false → t .steady ≡ false →
+    t .below ≡ false → t .above ≡ false → t .same ≡ false → isPermittedBy t ≡ true → t .full ≡ false → firstHit (changeOrder t) ≡ 0
 unfolding firstHit
-all-clear t a b c d e f g p h =
+all-clear t a b c d n e f g p h =
     let second = not-true (t .second) (both-l (not (t .second)) (both (not (t .soon)) (not (t .off))) p) in
     let rest = both-r (not (t .second)) (both (not (t .soon)) (not (t .off))) p in
     let soon = not-true (t .soon) (both-l (not (t .soon)) (not (t .off)) rest) in
     let off = not-true (t .off) (both-r (not (t .soon)) (not (t .off)) rest) in
-    rw (a, b, c, d, e, f, g, second, soon, off, h) refl
+    rw (a, b, c, d, n, e, f, g, second, soon, off, h) refl
 
 -- and what it says of the time and of the lanes
 not-in : (b : Bool) → b ≡ false → not b ≡ true
@@ -82,6 +83,7 @@ module _ (s : State) (i k : ℕ) (r : Ready s i k) where
       (le-ltb τ (s .last) late)
       (there-open (titleAt s i) τ (r .is-open))
       (rw (r .is-open) refl)
+      (r .padded)
       (le-ltb k (titleAt s i .floor) (r .low))
       (le-ltb (titleAt s i .cap) k (r .high))
       (ne-eqb k (titleAt s i .count) (r .other))

@@ -13,7 +13,7 @@ use Rattle.rules.proofs.Tests.{both-l, both-r}
 use Rattle.rules.proofs.Refusals.{hitsOf, numbered, cleared, hit-append}
 use Rattle.story.specs.declared.State.{State}
 use Rattle.story.specs.Kept.{stateOk}
-use Rattle.wishes.specs.Wishes.{ratesOk, floorsOf, wishes}
+use Rattle.wishes.specs.Wishes.{ratesOk, floorsOf, sharedPool, wishes}
 use Rattle.planner.specs.Moves.{Move, fallsPast}
 use Rattle.planner.specs.Outcome.{moves, plannerAnswer, given, roomOf, rowFrom, Answered}
 use Rattle.planner.specs.Steps.{numbersOk, standingRules, standingAnswer}
@@ -23,7 +23,7 @@ pub record Stands (s : State) (τ : ℕ) (rates : List ℕ) : Type 0 where
   pub state : stateOk s ≡ true
   pub time : τ ≤ eventTimeMax
   pub rated : ratesOk rates ≡ true
-  pub floors : floorsOf s ≤ s .pool
+  pub floors : floorsOf s ≤ sharedPool s
 
 module _ (s : State) (τ : ℕ) (rates : List ℕ) where
   -- of the numbers within their limits, the state's
@@ -40,7 +40,7 @@ module _ (s : State) (τ : ℕ) (rates : List ℕ) where
         state = numbers-state ok;
         time = leb-true τ eventTimeMax (search (both-l, both-r));
         rated = search (both-l, both-r);
-        floors = ltb-false (s .pool) (floorsOf s) (cleared (standingRules s τ rates) refl none noLanes);
+        floors = ltb-false (sharedPool s) (floorsOf s) (cleared (standingRules s τ rates) refl none noLanes);
       }
 
   -- the rules behind: 10 18

@@ -1,7 +1,7 @@
--- A change keeps a state within its limits, and every title its mode, floor and cap, where the title is open and the count
+-- A change keeps a state within its limits, and every title its mode, kind, floor and cap, where the title is open and the count
 -- lies from its floor to its cap. Rests on the laws of dropped lanes and of searches.
 use mathlib.Core.Path.{_≡_, refl, sym, _∙_}
-use mathlib.Core.Bool.{Bool, true, false, false≢true}
+use mathlib.Core.Bool.{Bool, true, false, not, false≢true}
 use mathlib.Core.Logic.{⊎-elim}
 use mathlib.Core.List.{List, [], _∷_}
 use Prim.Native.Nat.{ℕ, zero, suc, _+_, _-_, _^_, _≤_, _<_}
@@ -12,17 +12,17 @@ use lib.ListN.{getD, set}
 use lib.Pow.{pow-mono}
 use borrow.Author.Tests.{leb-true, le-leb, ne-eqb}
 use Rattle.rules.specs.Limits.{both, either, askedMax, countMax, poolMin, poolMax, idMax, titlesMax, lengthMin, lengthMax}
-use Rattle.rules.specs.Limits.{floorMin, floorMax, lanePlaces}
+use Rattle.rules.specs.Limits.{floorMin, floorMax, steadyMax, lanePlaces}
 use Rattle.rules.specs.Refusals.{pick}
 use Rattle.rules.specs.Search.{every}
 use Rattle.rules.proofs.Tests.{both-l, both-r, both-in, either-l, either-r, either-out}
 use Rattle.rules.proofs.Search.{every-in, every-out, howMany-le}
-use Rattle.grid.specs.Ticks.{tickOf}
+use Rattle.scheme.specs.Scheme.{steadyKind}
 use Rattle.story.specs.declared.Title.{Title}
 use Rattle.story.specs.declared.State.{State}
 use Rattle.story.specs.Life.{reach}
 use Rattle.story.specs.Kept.{absentMode, openMode, heldMark, noTitle, titleAt, rowOk, numbersOk, orderOk, titleOk, stateOk}
-use Rattle.story.specs.Kept.{tickAt, keptOwed, keptWithin}
+use Rattle.story.specs.Kept.{isSteadyTitle, titleTick, tickAt, keptOwed, keptWithin}
 use Rattle.story.specs.Next.{ended, dropLane, dropLanes, changedTitle, changeNext}
 use Rattle.measures.specs.Film.{slotOk}
 use Rattle.measures.proofs.Within.{numbers, order, dropped-ok, title-ok}
@@ -65,7 +65,7 @@ dropping t n k (suc i) l h = go (both (leb k i) (ltb i (t .count))) (dropping t 
 
 tick-high : (t : Title) (τ : ℕ) → τ ≤ askedMax → tickAt t τ ≤ askedMax
 unfolding tickAt
-tick-high t τ l = le-trans (div-le-self (τ - t .opened) (tickOf (t .length) (t .floor) (t .cap))) (omega arith)
+tick-high t τ l = le-trans (div-le-self (τ - t .opened) (titleTick t)) (omega arith)
 
 -- an open title that changes at τ to k, a count from its floor to its cap
 module _ (t : Title) (τ k : ℕ) (ok : titleOk t ≡ true) (is-open : t .mode ≡ openMode) (low : t .floor ≤ k)
@@ -86,14 +86,17 @@ module _ (t : Title) (τ k : ℕ) (ok : titleOk t ≡ true) (is-open : t .mode �
       let d = dropping u (tickAt t τ) k (t .count) (tick-high t τ early) cap-high in
       let opening : leb (t .opened) askedMax ≡ true = search (both-l, both-r) depth 12 in
       let sized : leb (t .length) lengthMax ≡ true = search (both-l, both-r) depth 12 in
-      let floored : leb (t .floor) floorMax ≡ true = search (both-l, both-r) depth 12 in
+      let kinded : leb (t .kind) steadyKind ≡ true = search (both-l, both-r) depth 12 in
+      let floored : leb (t .floor) (pick (isSteadyTitle t) steadyMax floorMax) ≡ true = search (both-l, both-r) depth 12 in
       let marked : leb (t .mark) heldMark ≡ true = search (both-l, both-r) depth 12 in
       rw (
+        f .kind,
         f .length,
         f .floor,
         f .cap,
         f .ends,
         d .opened,
+        kinded,
         opening,
         sized,
         floored,
@@ -115,7 +118,8 @@ module _ (t : Title) (τ k : ℕ) (ok : titleOk t ≡ true) (is-open : t .mode �
       let sized : leb lengthMin (t .length) ≡ true = search (both-l, both-r) depth 12 in
       let floored : leb floorMin (t .floor) ≡ true = search (both-l, both-r) depth 12 in
       let fitted : leb (t .floor) (t .cap) ≡ true = search (both-l, both-r) depth 12 in
-      rw (f .length, f .floor, f .cap, le-leb (t .floor) k low, le-leb k (t .cap) high, sized, floored, fitted) refl
+      let level : either (not (isSteadyTitle t)) (eqb (t .floor) (t .cap)) ≡ true = search (both-r) depth 12 in
+      rw (f .kind, f .length, f .floor, f .cap, le-leb (t .floor) k low, le-leb k (t .cap) high, sized, floored, fitted, level) refl
 
   pub changed-ok : titleOk (changedTitle t τ k) ≡ true
   unfolding titleOk
@@ -129,20 +133,21 @@ module _ (t : Title) (τ k : ℕ) (ok : titleOk t ≡ true) (is-open : t .mode �
 -- what a change of count leaves of a title
 pub record Frame : Type 0 where
   pub mode : ℕ
+  pub kind : ℕ
   pub floor : ℕ
   pub cap : ℕ
 
 abbrev pub frameOf : Title → Frame
-frameOf t = record { mode = t .mode; floor = t .floor; cap = t .cap }
+frameOf t = record { mode = t .mode; kind = t .kind; floor = t .floor; cap = t .cap }
 
--- every title of one state has the mode, floor and cap that it has in the other
+-- every title of one state has the mode, kind, floor and cap that it has in the other
 abbrev pub Framed : State → State → Type 0
 Framed s q = (i : ℕ) → frameOf (titleAt q i) ≡ frameOf (titleAt s i)
 
 changed-frame : (t : Title) (τ k : ℕ) → t .mode ≡ openMode → frameOf (changedTitle t τ k) ≡ frameOf t
 unfolding changedTitle
 changed-frame t τ k is-open =
-    let f = fixed-drops (ended t (tickAt t τ)) (tickAt t τ) k (t .count) in rw (f .floor, f .cap, is-open) refl
+    let f = fixed-drops (ended t (tickAt t τ)) (tickAt t τ) k (t .count) in rw (f .kind, f .floor, f .cap, is-open) refl
 
 -- what a stored value shows as the old one did, every place shows as before
 same-shown : {A B : Type 0} (f : A → B) (row : List A) (i j : ℕ) (v d : A) → f v ≡ f (getD row i d) →

@@ -11,4 +11,5 @@ pub mod Drops
 pub mod Underway
 pub mod Passed
 pub mod Fares
+pub mod Goals
 pub mod Promise

@@ -15,7 +15,7 @@ use Rattle.rules.proofs.Tests.{decide, both-l, both-r, pick-false}
 use Rattle.rules.proofs.Refusals.{hitsOf, numbered, distinct, isListed, cleared, first-hit, hit-append}
 use Rattle.story.specs.declared.State.{State}
 use Rattle.story.specs.Kept.{stateOk}
-use Rattle.wishes.specs.Wishes.{ratesOk, floorsOf, wishes}
+use Rattle.wishes.specs.Wishes.{ratesOk, floorsOf, sharedPool, wishes}
 use Rattle.planner.specs.Moves.{fallsPast}
 use Rattle.planner.specs.Outcome.{moves, plannerAnswer}
 
@@ -25,7 +25,7 @@ pub record Standing (s : State) (τ : ℕ) (rates : List ℕ) (room : ℕ) : Typ
   pub clock : τ ≤ eventTimeMax
   pub rated : ratesOk rates ≡ true
   pub late : s .last ≤ τ
-  pub floors : floorsOf s ≤ s .pool
+  pub floors : floorsOf s ≤ sharedPool s
   pub sixteen : length rates ≡ titlesMax
   pub places : length (wishes s rates) ≤ room
 
@@ -35,7 +35,7 @@ module _ (s : State) (τ : ℕ) (rates : List ℕ) (room : ℕ) where
   earlier =
       refuse outsideLimits (not (both (stateOk s) (both (leb τ eventTimeMax) (ratesOk rates))))
       ∷ refuse tooEarly (ltb τ (s .last))
-      ∷ refuse noLanes (ltb (s .pool) (floorsOf s))
+      ∷ refuse noLanes (ltb (sharedPool s) (floorsOf s))
       ∷ refuse wrongRows (not (both (eqb (length rates) titlesMax) (leb (length (wishes s rates)) room)))
       ∷ []
 
@@ -50,7 +50,7 @@ module _ (s : State) (τ : ℕ) (rates : List ℕ) (room : ℕ) where
         clock = leb-true τ eventTimeMax (both-l (leb τ eventTimeMax) (ratesOk rates) rest);
         rated = both-r (leb τ eventTimeMax) (ratesOk rates) rest;
         late = ltb-false τ (s .last) (cleared earlier refl h tooEarly);
-        floors = ltb-false (s .pool) (floorsOf s) (cleared earlier refl h noLanes);
+        floors = ltb-false (sharedPool s) (floorsOf s) (cleared earlier refl h noLanes);
         sixteen = eqb-true (length rates) titlesMax (both-l (eqb (length rates) titlesMax) (leb (length (wishes s rates)) room) ten);
         places = leb-true (length (wishes s rates)) room (both-r (eqb (length rates) titlesMax) (leb (length (wishes s rates)) room) ten);
       }
@@ -64,7 +64,7 @@ module _ (s : State) (τ : ℕ) (rates : List ℕ) (room : ℕ) where
         le-leb τ eventTimeMax (st .clock),
         st .rated,
         le-ltb τ (s .last) (st .late),
-        le-ltb (s .pool) (floorsOf s) (st .floors),
+        le-ltb (sharedPool s) (floorsOf s) (st .floors),
         eq-eqb (length rates) titlesMax (st .sixteen),
         le-leb (length (wishes s rates)) room (st .places),
       )

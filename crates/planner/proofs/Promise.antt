@@ -8,13 +8,12 @@ use mathlib.Core.Logic.{_⊎_, inl, inr, ⊎-elim}
 use mathlib.Core.List.{List, [], _∷_}
 use Prim.Native.Nat.{ℕ, _≤_, _<_}
 use native.Mathlib.Omega.{arith}
-use borrow.Author.Tests.{eq-eqb}
 use Rattle.rules.specs.Limits.{titlesMax}
-use Rattle.rules.specs.Refusals.{pick, done, pastClock}
+use Rattle.rules.specs.Refusals.{done, pastClock}
 use Rattle.rules.specs.Search.{total}
-use Rattle.rules.proofs.Tests.{decide, pick-true}
+use Rattle.rules.proofs.Tests.{decide}
 use Rattle.story.specs.declared.State.{State}
-use Rattle.story.specs.Kept.{openMode, titleAt, ruling}
+use Rattle.story.specs.Kept.{titleAt, ruling}
 use Rattle.story.specs.Story.{Event}
 use Rattle.story.specs.Calls.{statusCount}
 use Rattle.story.specs.Runs.{lanesOf, Reached}
@@ -25,12 +24,9 @@ use Rattle.planner.specs.Moves.{allMoved, fallsPast}
 use Rattle.planner.specs.Outcome.{moves, plannerAnswer}
 use Rattle.planner.specs.Carried.{Carried, Past}
 use Rattle.planner.proofs.Passed.{Standing, left-answer, standing-done, standing-past, in-clock, past-clock}
-use Rattle.planner.proofs.Underway.{Left, Underway, pool-is}
+use Rattle.planner.proofs.Underway.{Left, Underway, pool-is, held-fits}
+use Rattle.planner.proofs.Goals.{goalOf, goal-share, part-rules, goals-fit}
 use Rattle.planner.proofs.Fares.{Fared, Fails, fares}
-
--- what a title is to have: its share where it takes part, and no lanes where it doesn't
-abbrev pub goalOf : State → List ℕ → ℕ → ℕ
-goalOf s rates i = pick (takesPart s i) (shareOf s rates i) 0
 
 -- ---- before the first event of the list
 
@@ -42,11 +38,12 @@ module _ (pool : ℕ) (es : List Event) (s : State) (run : Reached pool es s) (r
           ok = sound pool es s run;
           an-id = h .an-id;
           is-open = h .is-open;
+          padded = h .padded;
           low = h .low;
           high = h .high;
           other = h .other;
         };
-        meant = h .is-share ∙ sym (pick-true (takesPart s (w .title)) (shareOf s rates (w .title)) 0 (eq-eqb (titleAt s (w .title) .mode) openMode (h .is-open)));
+        meant = h .is-share ∙ sym (goal-share s rates (w .title) (h .is-open) (h .padded));
       }
 
   all-left : (ws : List Wish) → Each (Wished s rates) ws → Each (Left (goalOf s rates) s) ws
@@ -55,9 +52,8 @@ module _ (pool : ℕ) (es : List Event) (s : State) (run : Reached pool es s) (r
 
   at-goal : (ws : List Wish) → ((i : ℕ) → i < titlesMax → takesPart s i ≡ true → Without i ws → titleAt s i .count ≡ shareOf s rates i) →
       (i : ℕ) → i < titlesMax → Without i ws → ruling (titleAt s i) ≡ goalOf s rates i
-  unfolding ruling
   at-goal ws share i b away =
-      ⊎-elim (λ x. rw x (share i b x away)) (λ x. rw x refl) (decide (takesPart s i))
+      ⊎-elim (λ x. rw x (part-rules s i x ∙ share i b x away)) (λ x. rw x refl) (decide (takesPart s i))
 
   -- with the four refusals passed, the wishes are under way and fare
   module _ (τ room : ℕ) (st : Standing s τ rates room) where
@@ -72,7 +68,10 @@ module _ (pool : ℕ) (es : List Event) (s : State) (run : Reached pool es s) (r
         }
 
     fit : total (goalOf s rates) titlesMax ≤ lanesOf pool
-    fit = omega (arith, pool-is pool es s run, shares-fit s rates (st .ok) (st .sixteen, (st .rated, st .floors)))
+    fit =
+        let shares = shares-fit s rates (st .ok) (st .sixteen, (st .rated, st .floors)) in
+        let held = held-fits pool es s run (s .last) (omega arith) in
+        omega (arith, pool-is pool es s run, goals-fit s rates (st .ok) (s .last) held shares)
 
     fared : Fared pool (goalOf s rates) fit s τ (wishes s rates) ⊎ Fails pool (goalOf s rates) fit s τ (wishes s rates)
     fared = fares pool (goalOf s rates) fit (wishes s rates) es s τ started (st .late) (st .clock)
@@ -98,7 +97,7 @@ module _ (pool : ℕ) (es : List Event) (s : State) (run : Reached pool es s) (r
         (all : List Event) × Reached pool all (allMoved s τ (wishes s rates))
     reached-after h = (carried-out h .events, carried-out h .run)
 
-    -- and there every title that takes part has its share
+    -- and there every title that takes part has its share, and every other what it had
     pub brought : plannerAnswer s τ rates room ≡ done → (i : ℕ) → i < titlesMax →
         statusCount (allMoved s τ (wishes s rates)) i ≡ goalOf s rates i
     brought h = carried-out h .brought
@@ -111,7 +110,7 @@ module _ (pool : ℕ) (es : List Event) (s : State) (run : Reached pool es s) (r
         (λ f. f .past)
         (fared τ room (standing-past s τ rates room h))
 
--- 3. So a list is there for every state whose floors fit the pool and whose events fit the clock: where 1 2 9 and 10 pass, the
+-- 3. So a list is there for every state whose floors fit what is shared and whose events fit the clock: where 1 2 9 and 10 pass, the
 -- answer is 0 or 18
 pub a-list : (s : State) (τ : ℕ) (rates : List ℕ) (room : ℕ) → Standing s τ rates room →
     (plannerAnswer s τ rates room ≡ done) ⊎ (plannerAnswer s τ rates room ≡ pastClock)

@@ -31,7 +31,7 @@ pub running-none : (s : State) (τ : ℕ) → stateOk s ≡ true → τ ≤ even
 unfolding allMoved lastMoment
 running-none s τ ok l = record { state = refl; moment = refl; ok = ok; framed = λ i. refl; high = omega arith }
 
--- a wish that fits one state fits another with the same modes, floors and caps
+-- a wish that fits one state fits another with the same frames
 pub still-fits : (s q : State) (w : Wish) → Framed s q → Fits s w → Fits q w
 still-fits s q w same f =
     let e = same (w .title) in

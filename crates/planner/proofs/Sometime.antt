@@ -3,7 +3,7 @@
 use mathlib.Core.Path.{_≡_, refl, sym, subst, _∙_}
 use mathlib.Core.Bool.{Bool, true, false, not}
 use mathlib.Core.Logic.{_⊎_, ⊎-elim}
-use Prim.Native.Nat.{ℕ, zero, suc, _+_, _-_, _*_, _^_, _≤_, _<_}
+use Prim.Native.Nat.{ℕ, zero, suc, _+_, _*_, _≤_, _<_}
 use native.Mathlib.Omega.{arith}
 use native.Mathlib.Nat.{mul-le-mul}
 use lib.Dec.{leb, ltb, eqb}
@@ -14,16 +14,15 @@ use Rattle.rules.specs.Limits.{lengthMax, askedMax, lanePlaces, titlesMax}
 use Rattle.rules.specs.Search.{howMany, total}
 use Rattle.rules.proofs.Tests.{decide, both-l, both-r, either-l, either-r}
 use Rattle.rules.proofs.Search.{howMany-le, howMany-miss, total-le}
-use Rattle.grid.specs.Ticks.{tickOf}
-use Rattle.grid.proofs.Ticks.{rounded-high, held-pos}
+use Rattle.scheme.proofs.Clock.{tick-pos, tick-high}
 use Rattle.story.specs.declared.Title.{Title}
 use Rattle.story.specs.declared.State.{State}
-use Rattle.story.specs.Kept.{absentMode, openMode, noTitle, titleAt, titleOk, tickAt}
+use Rattle.story.specs.Kept.{absentMode, openMode, noTitle, titleTick, titleAt, titleOk, tickAt}
 use Rattle.story.specs.Kept.{ruling, keptHeld, titleHeld, lanesHeld, numbersOk}
 use Rattle.story.specs.Next.{ended, turned, changedTitle, changeNext}
 use Rattle.story.specs.Story.{changes}
 use Rattle.story.specs.Calls.{testsIn}
-use Rattle.story.proofs.Clock.{tick-pos, begins}
+use Rattle.story.proofs.Clock.{begins}
 use Rattle.measures.proofs.Within.{title-ok, numbers, readable, in-row}
 use Rattle.owed.proofs.Fixed.{stored}
 use Rattle.moments.specs.Moments.{hasLanes}
@@ -36,11 +35,6 @@ use Rattle.planner.proofs.Accepted.{Ready}
 abbrev pub allGone : ℕ
 allGone = askedMax + (askedMax + askedMax) * lengthMax
 
--- the tick of a film is at most its length
-tick-short : (D A K : ℕ) → 0 < D → 0 < A → A ≤ K → tickOf D A K ≤ D
-unfolding tickOf
-tick-short D A K d a l = rounded-high D (2 ^ K - 2 ^ (K - A)) d (omega (arith, held-pos A K a l))
-
 -- only the active lanes are held from then on
 gone : (t : Title) → titleOk t ≡ true → (t .mode ≡ absentMode → ⊥) → (l υ : ℕ) → l < lanePlaces → allGone ≤ υ →
     getD (t .dropped) l 0 + getD (t .owed) l 0 ≤ tickAt t υ
@@ -51,12 +45,12 @@ gone t ok there l υ below late =
     let from : getD (t .dropped) l 0 ≤ askedMax = in-row (t .dropped) lanePlaces l (search (both-l, both-r) depth 12) below in
     let many : getD (t .owed) l 0 ≤ askedMax = in-row (t .owed) lanePlaces l (search (both-l, both-r) depth 12) below in
     let opened : t .opened ≤ askedMax = search (both-l, both-r, borrow.Author.Tests.leb-true) depth 12 in
-    let p : ℕ = tickOf (t .length) (t .floor) (t .cap) in
+    let p : ℕ = titleTick t in
     let long : 0 < t .length = omega (arith, film .sized .low) in
-    let short : p ≤ t .length = tick-short (t .length) (t .floor) (t .cap) long (film .cut .low) (film .cut .fit) in
+    let short : p ≤ t .length = tick-high (t .kind) (t .length) (t .floor) (t .cap) long (film .cut .low) (film .cut .fit) in
     let far : (getD (t .dropped) l 0 + getD (t .owed) l 0) * p ≤ (askedMax + askedMax) * lengthMax =
     mul-le-mul {n₁ = getD (t .dropped) l 0 + getD (t .owed) l 0} {m₁ = p} {n₂ = askedMax + askedMax} {m₂ = lengthMax} (omega arith) (omega (arith, film .sized .high)) in
-    begins (t .opened) p (tick-pos (t .length) (t .floor) (t .cap) long (film .cut .low) (film .cut .fit)) υ
+    begins (t .opened) p (tick-pos (t .kind) (t .length) (t .floor) (t .cap) long (film .cut .low) (film .cut .fit)) υ
     (getD (t .dropped) l 0 + getD (t .owed) l 0) (omega arith)
 
 -- a test that fails from r on passes at most r times

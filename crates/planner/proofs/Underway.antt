@@ -124,6 +124,7 @@ module _ (pool : ℕ) (goal : ℕ → ℕ) (es : List Event) (s : State) (w : Wi
           ok = sound pool (wishEvent w τ ∷ es) (wishNext s w τ) (next-run run);
           an-id = r .an-id;
           is-open = rw same (r .is-open);
+          padded = rw same (r .padded);
           low = rw same (r .low);
           high = rw same (r .high);
           other = rw same (r .other);

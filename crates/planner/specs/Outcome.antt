@@ -9,7 +9,7 @@ use Rattle.rules.specs.Limits.{both, eventTimeMax, titlesMax}
 use Rattle.rules.specs.Refusals.{pick, refuse, firstHit, done, outsideLimits, tooEarly, noLanes, wrongRows, pastClock}
 use Rattle.story.specs.declared.State.{State}
 use Rattle.story.specs.Kept.{stateOk}
-use Rattle.wishes.specs.Wishes.{ratesOk, floorsOf, wishes}
+use Rattle.wishes.specs.Wishes.{ratesOk, floorsOf, sharedPool, wishes}
 use Rattle.planner.specs.Moves.{Move, listed, fallsPast}
 
 -- the changes that bring the pool to its sharing, from τ on
@@ -22,7 +22,7 @@ plannerAnswer s τ rates room =
     firstHit
     (refuse outsideLimits (not (both (stateOk s) (both (leb τ eventTimeMax) (ratesOk rates))))
     ∷ refuse tooEarly (ltb τ (s .last))
-    ∷ refuse noLanes (ltb (s .pool) (floorsOf s))
+    ∷ refuse noLanes (ltb (sharedPool s) (floorsOf s))
     ∷ refuse wrongRows (not (both (eqb (length rates) titlesMax) (leb (length (wishes s rates)) room)))
     ∷ refuse pastClock (fallsPast (moves s τ rates))
     ∷ [])

@@ -10,7 +10,7 @@ use Rattle.rules.specs.Refusals.{Rule, refuse, firstHit, outsideLimits, tooEarl
 use Rattle.story.specs.declared.State.{State}
 use Rattle.story.specs.Kept.{openMode, titleAt, stateOk}
 use Rattle.wishes.specs.declared.Wishes.{Wishes}
-use Rattle.wishes.specs.Wishes.{Wish, ratesOk, floorsOf, wishAt, wishesIn}
+use Rattle.wishes.specs.Wishes.{Wish, ratesOk, floorsOf, sharedPool, wishAt, wishesIn}
 use Rattle.planner.specs.declared.times.Times.{Times}
 use Rattle.planner.specs.Moves.{momentFor, movedAt, listed}
 
@@ -23,7 +23,7 @@ abbrev pub standingRules : State → ℕ → List ℕ → List Rule
 standingRules s τ rates =
     refuse outsideLimits (not (numbersOk s τ rates))
     ∷ refuse tooEarly (ltb τ (s .last))
-    ∷ refuse noLanes (ltb (s .pool) (floorsOf s))
+    ∷ refuse noLanes (ltb (sharedPool s) (floorsOf s))
     ∷ []
 
 unfoldable pub standingAnswer : State → ℕ → List ℕ → ℕ

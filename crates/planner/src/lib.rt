@@ -1,4 +1,5 @@
-// The planner (02, 11): the changes that bring a pool to its sharing, each with the moment at which it may come.
+// The planner (02, 11 and 12): the changes that bring a pool to its sharing, each with the moment at which it may come. It
+// leaves skip-forward titles out, and the lanes of those that are open out of the pool that it shares.
 //
 // `planner` is the one call. It has no `requires`: its contract settles the answer, the number of events and the three lent
 // rows for all inputs. It changes no state: the list is for the head-end, which enters the events one by one.
@@ -77,7 +78,7 @@ fn list(
 // Lists the changes that bring the counts to the sharing of the pool, from a time on, over sixteen rates by id: first the
 // drops, then the raises, each at the earliest time at which it would be accepted after those before it. Titles, times and
 // counts go into the first places of the three rows, later places stay. The answer is 0, or the first that hits of 1 (a
-// number outside its limits), 2 (before the last event), 9 (the floors exceed the pool), 10 (not sixteen rates, or too
+// number outside its limits), 2 (before the last event), 9 (the floors exceed what is shared), 10 (not sixteen rates, or too
 // little room) and 18 (an event would fall after the clock's last time); a refusal writes nothing.
 pub fn planner(
     s: State,

@@ -10,6 +10,7 @@ use rules::truth::also;
 use story::State;
 use wishes::floors;
 use wishes::rates_ok;
+use wishes::shared_pool;
 ghost use mathlib.Core.Path.{_≡_};
 ghost use Rattle.planner.specs.Steps.{numbersOk, standingAnswer};
 
@@ -28,7 +29,7 @@ pub fn standing(s: State, time: u64, rates: &[u32]) -> u8
         if time < s.last {
             return TOO_EARLY;
         }
-        if s.pool < floors(s) {
+        if shared_pool(s) < floors(s) {
             return NO_LANES;
         }
         return DONE;

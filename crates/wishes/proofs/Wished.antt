@@ -1,7 +1,7 @@
 -- What holds of every wish of a list, of a list's order, and of the wishes that a sharing gives.
 -- Rests on the sharing's own promise and on the laws of lists and searches.
 use mathlib.Core.Path.{_≡_, refl, ap}
-use mathlib.Core.Bool.{Bool, true}
+use mathlib.Core.Bool.{Bool, true, false}
 use mathlib.Core.List.{List, [], _∷_, _++_, map, map-append}
 use mathlib.Core.Logic.{⊎-elim}
 use Prim.Native.Nat.{ℕ, zero, suc, _≤_, _<_}
@@ -9,17 +9,18 @@ use native.Mathlib.Omega.{arith}
 use native.Mathlib.Nat.{le-antisymm}
 use lib.Dec.{ltb}
 use lib.ListN.{length, getD}
-use borrow.Author.Tests.{ltb-true, ltb-false, eqb-true}
+use borrow.Author.Tests.{ltb-true, ltb-false}
 use Rattle.rules.specs.Limits.{titlesMax}
 use Rattle.rules.specs.Refusals.{pick}
 use Rattle.rules.specs.Search.{howMany, total}
 use Rattle.rules.proofs.Tests.{decide, both-l, both-r, both-in, fails}
 use Rattle.sharing.specs.Choice.{Shared, shared}
 use Rattle.story.specs.declared.State.{State}
-use Rattle.story.specs.Kept.{openMode, titleAt, stateOk}
-use Rattle.wishes.specs.Wishes.{Wish, ratesOk, takesPart, idsWhere, sharers, rated, floorsOf, shareOf}
+use Rattle.story.specs.Kept.{openMode, isSteadyTitle, titleAt, stateOk}
+use Rattle.wishes.specs.Wishes.{Wish, ratesOk, takesPart, sharedPool, idsWhere, sharers, rated, floorsOf, shareOf}
 use Rattle.wishes.specs.Wishes.{isDrop, isRaise, wishFor, wishes}
 use Rattle.wishes.proofs.Ids.{ids-hit, ids-miss, ids-at, ids-read, ids-total, place-below}
+use Rattle.wishes.proofs.sharers.Laws.{sharer-open, sharer-padded}
 use Rattle.wishes.proofs.shares.Laws.{best-shares, shares-many, share-range}
 use Rattle.wishes.proofs.passes.Laws.{wishOf}
 
@@ -50,6 +51,7 @@ pub data DropsFirst (count : ℕ → ℕ) : List Wish → Type 0 where
 pub record Wished (s : State) (rates : List ℕ) (w : Wish) : Type 0 where
   pub an-id : w .title < titlesMax
   pub is-open : titleAt s (w .title) .mode ≡ openMode
+  pub padded : isSteadyTitle (titleAt s (w .title)) ≡ false
   pub low : titleAt s (w .title) .floor ≤ w .count
   pub high : w .count ≤ titleAt s (w .title) .cap
   pub is-share : w .count ≡ shareOf s rates (w .title)
@@ -143,16 +145,17 @@ module _ (s : State) (rates : List ℕ) where
   two-parts = map-append (wishFor s rates) (idsWhere (isDrop s rates) titlesMax) (idsWhere (isRaise s rates) titlesMax)
 
 module _ (s : State) (rates : List ℕ) (ok : stateOk s ≡ true)
-    (fit : (length rates ≡ titlesMax) × ((ratesOk rates ≡ true) × (floorsOf s ≤ s .pool))) where
+    (fit : (length rates ≡ titlesMax) × ((ratesOk rates ≡ true) × (floorsOf s ≤ sharedPool s))) where
   -- the shares by their titles are the counts that the sharing takes
-  pub is-sharing : Shared (s .pool) (rated s rates) (map (shareOf s rates) (sharers s))
+  pub is-sharing : Shared (sharedPool s) (rated s rates) (map (shareOf s rates) (sharers s))
   unfolding shareOf sharers
   is-sharing =
-      rw (ids-read (takesPart s) titlesMax (shared (s .pool) (rated s rates)) (shares-many s rates ok (fit .0) (fit .1 .0) (fit .1 .1)))
+      let many = shares-many s rates ok (fit .0) (fit .1 .0) (fit .1 .1) in
+      rw (ids-read (takesPart s) titlesMax (shared (sharedPool s) (rated s rates)) many)
       (best-shares s rates ok (fit .0) (fit .1 .0) (fit .1 .1))
 
-  -- together they fit the pool
-  pub shares-fit : total (λ i. pick (takesPart s i) (shareOf s rates i) 0) titlesMax ≤ s .pool
+  -- together they fit what is shared
+  pub shares-fit : total (λ i. pick (takesPart s i) (shareOf s rates i) 0) titlesMax ≤ sharedPool s
   unfolding sharers
   shares-fit = rw (← ids-total (takesPart s) (shareOf s rates) titlesMax) (is-sharing .choice .room)
 
@@ -163,7 +166,8 @@ module _ (s : State) (rates : List ℕ) (ok : stateOk s ≡ true)
       let range = share-range s rates ok (fit .0) (fit .1 .0) (fit .1 .1) i l part in
       record {
         an-id = l;
-        is-open = eqb-true (titleAt s i .mode) openMode part;
+        is-open = sharer-open (titleAt s i) part;
+        padded = sharer-padded (titleAt s i) part;
         low = range .0;
         high = range .1;
         is-share = refl;

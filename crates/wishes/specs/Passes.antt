@@ -2,19 +2,20 @@
 use Prim.Native.Nat.{ℕ, zero, suc, _+_}
 use mathlib.Core.Bool.{Bool}
 use mathlib.Core.List.{List}
-use lib.Dec.{eqb, ltb}
+use lib.Dec.{ltb}
 use lib.ListN.{getD, set}
 use Rattle.rules.specs.Limits.{both}
 use Rattle.rules.specs.Refusals.{pick}
 use Rattle.story.specs.declared.Title.{Title}
 use Rattle.story.specs.declared.State.{State}
-use Rattle.story.specs.Kept.{openMode, titleAt}
+use Rattle.story.specs.Kept.{titleAt}
 use Rattle.wishes.specs.declared.Wishes.{Wishes}
+use Rattle.wishes.specs.Wishes.{isSharer}
 use Rattle.wishes.specs.Sharers.{noRow}
 
 -- a title takes part, and its share is above its count, or else below it
 abbrev pub moves : Bool → Title → ℕ → Bool
-moves up t share = both (eqb (t .mode) openMode) (pick up (ltb (t .count) share) (ltb share (t .count)))
+moves up t share = both (isSharer t) (pick up (ltb (t .count) share) (ltb share (t .count)))
 
 -- the same of an id, by a row of shares
 abbrev pub movesAt : Bool → State → List ℕ → ℕ → Bool

@@ -1,27 +1,39 @@
--- Which changes the sharing of the pool asks for (02, 11): the titles that take part, what each gets, and the counts that
--- differ, drops before raises and each lowest id first.
-use Prim.Native.Nat.{ℕ, zero, suc}
-use mathlib.Core.Bool.{Bool}
+-- Which changes the sharing of the pool asks for (02, 11 and 12): the titles that take part, what each gets, and the counts
+-- that differ, drops before raises and each lowest id first.
+use Prim.Native.Nat.{ℕ, zero, suc, _-_}
+use mathlib.Core.Bool.{Bool, not}
 use mathlib.Core.List.{List, [], _∷_, _++_, map}
 use lib.Dec.{ltb, eqb}
 use lib.ListN.{getD, length}
 use Rattle.rules.specs.Limits.{both, within, rateMin, rateMax, titlesMax}
 use Rattle.rules.specs.Refusals.{pick}
-use Rattle.rules.specs.Search.{every, howMany}
+use Rattle.rules.specs.Search.{every, howMany, total}
 use Rattle.sharing.specs.declared.titles.Rated.{Rated}
 use Rattle.sharing.specs.Titles.{rowTotal}
 use Rattle.sharing.specs.Choice.{shared}
+use Rattle.story.specs.declared.Title.{Title}
 use Rattle.story.specs.declared.State.{State}
-use Rattle.story.specs.Kept.{openMode, titleAt}
+use Rattle.story.specs.Kept.{openMode, isSteadyTitle, titleAt, ruling}
 use Rattle.wishes.specs.declared.Wishes.{Wishes}
 
 -- every rate of the row is within its limits, also of ids that take no part
 unfoldable pub ratesOk : List ℕ → Bool
 ratesOk rates = every (λ j. within rateMin rateMax (getD rates j 0)) (length rates)
 
--- a title takes part while it is open and not closing
+-- a title takes part while it is open and not closing; a skip-forward title never does
+abbrev pub isSharer : Title → Bool
+isSharer t = both (eqb (t .mode) openMode) (not (isSteadyTitle t))
+
 abbrev pub takesPart : State → ℕ → Bool
-takesPart s i = eqb (titleAt s i .mode) openMode
+takesPart s i = isSharer (titleAt s i)
+
+-- the lanes that a skip-forward title keeps to itself: its count until it closes
+abbrev pub keptApart : Title → ℕ
+keptApart t = pick (isSteadyTitle t) (ruling t) 0
+
+-- what is left of the pool to share
+unfoldable pub sharedPool : State → ℕ
+sharedPool s = s .pool - total (λ i. keptApart (titleAt s i)) titlesMax
 
 -- the ids below n that pass a test, lowest first
 unfoldable pub idsWhere : (ℕ → Bool) → ℕ → List ℕ
@@ -44,9 +56,9 @@ rated s rates = map (ratedAt s rates) (sharers s)
 unfoldable pub floorsOf : State → ℕ
 floorsOf s = rowTotal (map (λ i. titleAt s i .floor) (sharers s))
 
--- what the sharing of the pool gives to a title that takes part
+-- what the sharing gives to a title that takes part
 unfoldable pub shareOf : State → List ℕ → ℕ → ℕ
-shareOf s rates i = getD (shared (s .pool) (rated s rates)) (howMany (takesPart s) i) 0
+shareOf s rates i = getD (shared (sharedPool s) (rated s rates)) (howMany (takesPart s) i) 0
 
 -- the sharing gives a title less than it has, or more
 abbrev pub isDrop : State → List ℕ → ℕ → Bool

@@ -1,17 +1,20 @@
 // The titles that share the pool, lowest id first, as the four rows that the sharing takes.
 
+use measures::lanes::ruling;
 use rules::TITLES_MAX;
+use rules::truth::also;
+use scheme::STEADY;
 use story::OPEN;
 use story::State;
 use story::Title;
 ghost use Prim.Native.Nat.{_≤_, _<_};
 ghost use mathlib.Core.Path.{_≡_};
 ghost use mathlib.Core.Bool.{true};
-ghost use lib.Dec.{eqb};
 ghost use lib.ListN.{length};
-ghost use Rattle.rules.specs.Limits.{floorMax, titlesMax};
+ghost use Rattle.rules.specs.Limits.{floorMax, countMax, titlesMax};
 ghost use Rattle.rules.specs.Refusals.{pick};
-ghost use Rattle.story.specs.Kept.{openMode, numbersOk, stateOk};
+ghost use Rattle.story.specs.Kept.{numbersOk, stateOk};
+ghost use Rattle.wishes.specs.Wishes.{isSharer, keptApart};
 ghost use Rattle.wishes.specs.Sharers.{joined as joinedBy, rowsTo};
 
 // Of the first `many` places of each row, a title's numbers.
@@ -23,19 +26,30 @@ pub struct Rows {
     pub caps: [u32; TITLES_MAX],
 }
 
-// A title shares the pool while it is open and not closing.
+// A title shares the pool while it is open and not closing; a skip-forward title never does.
 pub fn takes_part(t: Title) -> bool
-    ensures { λ r. ⌜ r ≡ eqb (t .mode) openMode ⌝ }
+    ensures { λ r. ⌜ r ≡ isSharer t ⌝ }
 {
-    t.mode == OPEN
+    also(t.mode == OPEN, t.kind != STEADY)
 }
 
 // The floor of a title that takes part, 0 of another.
 pub fn floor_of(t: Title) -> u64
-    requires { ⌜ t .floor ≤ floorMax ⌝ }
-    ensures { λ r. ⌜ (r ≡ pick (eqb (t .mode) openMode) (t .floor) 0) × (r ≤ floorMax) ⌝ }
+    requires { ⌜ numbersOk t ≡ true ⌝ }
+    ensures { λ r. ⌜ (r ≡ pick (isSharer t) (t .floor) 0) × (r ≤ floorMax) ⌝ }
 {
     if takes_part(t) { t.floor } else { 0 }
+}
+
+// The lanes that a skip-forward title keeps to itself: its count until it closes.
+pub fn kept_apart(t: Title) -> u64
+    requires { ⌜ t .count ≤ countMax ⌝ }
+    ensures { λ r. ⌜ (r ≡ keptApart t) × (r ≤ countMax) ⌝ }
+{
+    if t.kind == STEADY {
+        return ruling(t);
+    }
+    0
 }
 
 // A title joins the rows behind the others.
@@ -56,7 +70,7 @@ fn joined(q: Rows, t: Title, rate: u32) -> Rows
 // A title that takes part joins them, and no other does.
 fn joined_if_part(q: Rows, t: Title, rate: u32) -> Rows
     requires { ⌜ (q .many < titlesMax) × (numbersOk t ≡ true) ⌝ }
-    ensures { λ r. ⌜ r ≡ pick (eqb (t .mode) openMode) (joinedBy q t rate) q ⌝ }
+    ensures { λ r. ⌜ r ≡ pick (isSharer t) (joinedBy q t rate) q ⌝ }
 {
     if takes_part(t) {
         return joined(q, t, rate);

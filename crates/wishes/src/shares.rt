@@ -1,5 +1,6 @@
 // What the sharing of the pool gives to each title, by its id.
 
+use crate::shared_pool;
 use crate::sharers::Rows;
 use crate::sharers::rows_of;
 use crate::sharers::takes_part;
@@ -9,12 +10,11 @@ use story::Title;
 ghost use Prim.Native.Nat.{_+_, _≤_, _<_};
 ghost use mathlib.Core.Path.{_≡_};
 ghost use mathlib.Core.Bool.{true};
-ghost use lib.Dec.{eqb};
 ghost use lib.ListN.{length};
 ghost use Rattle.rules.specs.Limits.{titlesMax};
 ghost use Rattle.rules.specs.Refusals.{pick};
-ghost use Rattle.story.specs.Kept.{openMode, stateOk};
-ghost use Rattle.wishes.specs.Wishes.{ratesOk, floorsOf};
+ghost use Rattle.story.specs.Kept.{stateOk};
+ghost use Rattle.wishes.specs.Wishes.{isSharer, ratesOk, floorsOf, sharedPool};
 ghost use Rattle.wishes.specs.Sharers.{Whole};
 ghost use Rattle.wishes.specs.Shares.{countsOf, sharesTo, ByShare};
 
@@ -43,7 +43,7 @@ fn shared_counts(pool: u64, q: Rows) -> [u32; TITLES_MAX]
 // The place behind a title among those that take part.
 fn place_behind(place: usize, t: Title) -> usize
     requires { ⌜ place < titlesMax ⌝ }
-    ensures { λ r. ⌜ r ≡ place + pick (eqb (t .mode) openMode) 1 0 ⌝ }
+    ensures { λ r. ⌜ r ≡ place + pick (isSharer t) 1 0 ⌝ }
 {
     if takes_part(t) { place + 1 } else { place }
 }
@@ -74,9 +74,9 @@ fn by_id(s: State, counts: &[u32; TITLES_MAX]) -> [u64; TITLES_MAX]
 // The share of each title that takes part, at its id.
 pub fn shares_of(s: State, rates: &[u32]) -> [u64; TITLES_MAX]
     requires { ⌜ stateOk s ≡ true ⌝ }
-    requires { ⌜ (length (now rates) ≡ titlesMax) × ((ratesOk (now rates) ≡ true) × (floorsOf s ≤ s .pool)) ⌝ }
+    requires { ⌜ (length (now rates) ≡ titlesMax) × ((ratesOk (now rates) ≡ true) × (floorsOf s ≤ sharedPool s)) ⌝ }
     ensures { λ r. ⌜ ByShare s (now (rates .entry)) r ⌝ }
 {
-    let counts = shared_counts(s.pool, rows_of(s, rates));
+    let counts = shared_counts(shared_pool(s), rows_of(s, rates));
     by_id(s, &counts)
 }

@@ -11,7 +11,6 @@ use Rattle.story.specs.Kept.{titleAt}
 use Rattle.measures.proofs.Within.{title-ok, numbers}
 use Rattle.wishes.specs.Wishes.{takesPart, sharers, floorsOf}
 use Rattle.wishes.proofs.Ids.{ids-total}
-use Rattle.wishes.proofs.sharers.Laws.{floor-high}
 use borrow.Author.Needs.{needs}
 use Rattle.wishes.proofs.floors.Statement.{statement}
 use Rattle.wishes.proofs.floors.Tie as tie
@@ -35,7 +34,7 @@ element-copy-out-t c = search needs
 floor-of-requires : tie.Need-floor-of-requires Inv-loop μ-loop
 floor-of-requires c κs =
     let at = c .before .before in
-    floor-high _ (numbers _ (title-ok (at .before .args .t1) (at .before .pre) (at .loop .i) (c .before .loop-test .taken)))
+    numbers _ (title-ok (at .before .args .t1) (at .before .pre) (at .loop .i) (c .before .loop-test .taken))
 
 add-sum : tie.Need-add-sum Inv-loop μ-loop
 add-sum c = omega arith

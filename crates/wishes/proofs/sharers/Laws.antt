@@ -1,27 +1,36 @@
--- The numbers of a title fit the rows of the sharing, and the titles that take part fit their places.
+-- What a title that takes part is, that its numbers fit the rows of the sharing, and that those who take part fit their places.
 -- Rests on the limits of a state's numbers and the laws of searches.
 use mathlib.Core.Path.{_≡_, refl, sym, ap, _∙_}
-use mathlib.Core.Bool.{Bool, true}
+use mathlib.Core.Bool.{Bool, true, false, not}
 use mathlib.Core.List.{List}
 use mathlib.Core.Logic.{⊎-elim}
 use Prim.Native.Nat.{ℕ, zero, suc, _≤_, _<_}
 use native.Mathlib.Omega.{arith}
 use native.Mathlib.Numerals.{add-one}
+use lib.Dec.{eqb}
 use lib.ListN.{getD, length, take}
 use lib.Seq.{length-take-le}
-use borrow.Author.Tests.{leb-true}
-use Rattle.rules.specs.Limits.{lengthMax, floorMax, countMax, titlesMax}
+use borrow.Author.Tests.{leb-true, eqb-true, not-true}
+use Rattle.rules.specs.Limits.{lengthMax, floorMax, steadyMax, countMax, titlesMax}
 use Rattle.rules.specs.Refusals.{pick}
 use Rattle.rules.specs.Search.{howMany}
 use Rattle.rules.proofs.Tests.{decide, both-l, both-r}
 use Rattle.rules.proofs.Search.{howMany-le, howMany-hit, howMany-miss}
 use Rattle.story.specs.declared.Title.{Title}
 use Rattle.story.specs.declared.State.{State}
-use Rattle.story.specs.Kept.{titleAt, numbersOk}
+use Rattle.story.specs.Kept.{openMode, isSteadyTitle, titleAt, ruling, numbersOk}
 use Rattle.wishes.specs.declared.sharers.Rows.{Rows}
-use Rattle.wishes.specs.Wishes.{takesPart}
+use Rattle.wishes.specs.Wishes.{isSharer, takesPart}
 use Rattle.wishes.specs.Sharers.{noRow, joined, rowsTo, Whole}
 use Rattle.wishes.proofs.Ids.{rowTo, row-length}
+
+-- a title that takes part is open, and no skip-forward title
+module _ (t : Title) (part : isSharer t ≡ true) where
+  pub sharer-open : t .mode ≡ openMode
+  sharer-open = eqb-true (t .mode) openMode (both-l (eqb (t .mode) openMode) (not (isSteadyTitle t)) part)
+
+  pub sharer-padded : isSteadyTitle t ≡ false
+  sharer-padded = not-true (isSteadyTitle t) (both-r (eqb (t .mode) openMode) (not (isSteadyTitle t)) part)
 
 -- what the rows take of a title is at most its limit
 module _ (t : Title) (ok : numbersOk t ≡ true) where
@@ -29,13 +38,30 @@ module _ (t : Title) (ok : numbersOk t ≡ true) where
   unfolding numbersOk
   length-high = search (both-l, both-r, leb-true) depth 12
 
-  pub floor-high : t .floor ≤ floorMax
+  floor-cut : t .floor ≤ pick (isSteadyTitle t) steadyMax floorMax
   unfolding numbersOk
-  floor-high = search (both-l, both-r, leb-true) depth 12
+  floor-cut = search (both-l, both-r, leb-true) depth 12
+
+  pub floor-small : t .floor ≤ steadyMax
+  floor-small =
+      ⊎-elim (λ x. rw x at floor-cut) (λ x. let h : t .floor ≤ floorMax = rw x at floor-cut in omega arith)
+      (decide (isSteadyTitle t))
+
+  pub floor-high : isSharer t ≡ true → t .floor ≤ floorMax
+  floor-high part = rw (sharer-padded t part) at floor-cut
 
   pub cap-high : t .cap ≤ countMax
   unfolding numbersOk
   cap-high = search (both-l, both-r, leb-true) depth 12
+
+-- as many lanes rule as the count has, or none
+pub rules-few : (t : Title) → t .count ≤ countMax → ruling t ≤ countMax
+unfolding ruling
+rules-few t le = go (eqb (t .mode) openMode)
+  where
+    go : (b : Bool) → pick b (t .count) 0 ≤ countMax
+    go true = le
+    go false = omega arith
 
 -- the places in use of a row, as a slice of it
 pub in-use : (n : ℕ) (row : List ℕ) → n ≤ titlesMax → length row ≡ titlesMax → n ≡ length (take n row)

@@ -6,15 +6,15 @@ use mathlib.Core.List.{List, [], _∷_, map, map-map}
 use mathlib.Core.Logic.{⊎-elim}
 use Prim.Native.Nat.{ℕ, zero, suc, _≤_, _<_}
 use native.Mathlib.Omega.{arith}
-use lib.Dec.{leb, eqb}
+use lib.Dec.{leb}
 use lib.ListN.{length, getD, length-map, length-set}
 use lib.Seq.{getD-set-same, getD-set-other, getD-take}
-use borrow.Author.Tests.{leb-true, le-leb, eqb-true, eq-eqb, le-ltb}
-use Rattle.rules.specs.Limits.{either, within, poolMin, poolMax, rateMin, rateMax, floorMin, countMin, titlesMax}
-use Rattle.rules.specs.Refusals.{done, firstHit}
-use Rattle.rules.specs.Search.{howMany}
-use Rattle.rules.proofs.Tests.{both-l, both-r, both-in, either-out}
-use Rattle.rules.proofs.Search.{below-suc, every-out, howMany-le}
+use borrow.Author.Tests.{leb-true, le-leb, eq-eqb, le-ltb}
+use Rattle.rules.specs.Limits.{within, poolMin, poolMax, rateMin, rateMax, floorMin, countMin, titlesMax}
+use Rattle.rules.specs.Refusals.{pick, done, firstHit}
+use Rattle.rules.specs.Search.{howMany, total}
+use Rattle.rules.proofs.Tests.{both-l, both-r, both-in, pick-true}
+use Rattle.rules.proofs.Search.{below-suc, every-out, howMany-le, total-at}
 use Rattle.sharing.specs.declared.titles.Rated.{Rated}
 use Rattle.sharing.specs.Titles.{nobody, titles, rowTotal}
 use Rattle.sharing.specs.Titles as sharing
@@ -23,14 +23,13 @@ use Rattle.sharing.specs.Verdict.{allowed, ordered, eachTitle, rowsFit, verdict
 use Rattle.sharing.proofs.Search.{search-finds}
 use Rattle.sharing.proofs.Promise.{first-places}
 use Rattle.story.specs.declared.State.{State}
-use Rattle.story.specs.Kept.{absentMode, openMode, titleAt, orderOk, titleOk, stateOk}
-use Rattle.measures.specs.Film.{slotOk}
+use Rattle.story.specs.Kept.{absentMode, titleAt, orderOk, stateOk}
 use Rattle.measures.proofs.Within.{numbers, order, readable, title-ok, all-readable}
-use Rattle.wishes.specs.Wishes.{ratesOk, takesPart, sharers, ratedAt, rated, floorsOf, shareOf}
+use Rattle.wishes.specs.Wishes.{ratesOk, takesPart, sharedPool, sharers, ratedAt, rated, floorsOf, shareOf}
 use Rattle.wishes.specs.Sharers.{noRow, rowsTo}
 use Rattle.wishes.specs.Shares.{countsOf, sharesTo, ByShare}
-use Rattle.wishes.proofs.Ids.{ids-at, ids-each, ids-many, read-many, place-below, row-is}
-use Rattle.wishes.proofs.sharers.Laws.{rows-are, floor-high}
+use Rattle.wishes.proofs.Ids.{ids-at, ids-each, ids-many, ids-total, read-many, place-below, row-is}
+use Rattle.wishes.proofs.sharers.Laws.{sharer-open, rows-are, floor-high}
 
 -- ---- titles in rows
 
@@ -70,7 +69,7 @@ shares-at s counts (suc n) i few l =
 
 -- a title that takes part is not absent
 pub not-absent : (s : State) (i : ℕ) → takesPart s i ≡ true → titleAt s i .mode ≡ absentMode → ⊥
-not-absent s i part none = omega (arith, eqb-true (titleAt s i .mode) openMode part, none)
+not-absent s i part none = omega (arith, sharer-open (titleAt s i) part, none)
 
 module _ (s : State) (rates : List ℕ) (ok : stateOk s ≡ true)
     (many : length rates ≡ titlesMax) (good : ratesOk rates ≡ true) where
@@ -87,37 +86,41 @@ module _ (s : State) (rates : List ℕ) (ok : stateOk s ≡ true)
   abbrev cap : ℕ → ℕ
   cap i = titleAt s i .cap
 
-  -- the numbers of such a title are within the sharing's limits
+  -- such a title has a floor
+  part-floor : (i : ℕ) → i < titlesMax → takesPart s i ≡ true → floorMin ≤ titleAt s i .floor
+  unfolding orderOk
+  part-floor i l part =
+      let o = order (titleAt s i) (title-ok s ok i l) (not-absent s i part) in search (both-l, both-r, leb-true) depth 12
+
+  -- its numbers are within the sharing's limits
   part-allowed : (i : ℕ) → i < titlesMax → takesPart s i ≡ true → allowed (ratedAt s rates i) ≡ true
-  unfolding allowed orderOk ratesOk
+  unfolding allowed ratesOk
   part-allowed i l part =
       let t = titleAt s i in
       let fit = title-ok s ok i l in
       let n = numbers t fit in
-      let o = order t fit (not-absent s i part) in
       let inside = readable t fit (not-absent s i part) in
-      let low : floorMin ≤ t .floor = search (both-l, both-r, leb-true) depth 12 in
+      let low = part-floor i l part in
       let rate = every-out (λ j. within rateMin rateMax (getD rates j 0)) (length rates) i good (omega arith) in
       both-in _ _ rate
       (both-in _ _ (both-in _ _ (le-leb _ _ (inside .sized .low)) (le-leb _ _ (inside .sized .high)))
-      (both-in _ _ (both-in _ _ (le-leb _ _ low) (le-leb _ _ (floor-high t n)))
+      (both-in _ _ (both-in _ _ (le-leb _ _ low) (le-leb _ _ (floor-high t n part)))
       (both-in _ _ (le-leb countMin (t .cap) (omega (arith, inside .cut .fit))) (le-leb _ _ (inside .cut .high)))))
 
   part-ordered : (i : ℕ) → i < titlesMax → takesPart s i ≡ true → ordered (ratedAt s rates i) ≡ true
   unfolding ordered
   part-ordered i l part = le-leb _ _ (all-readable s ok i l (not-absent s i part) .cut .fit)
 
-  -- a pool with such a title has a lane
-  part-pool : (i : ℕ) → i < titlesMax → takesPart s i ≡ true → within poolMin poolMax (s .pool) ≡ true
-  unfolding stateOk
-  part-pool i l part =
-      let some = leb poolMin (s .pool) in
-      let none = eqb (titleAt s i .mode) absentMode in
-      let slot = every-out (slotOk s) titlesMax i (search (both-l, both-r)) l in
-      both-in some (leb (s .pool) poolMax)
-      (⊎-elim (λ lane. lane) (λ out. absurd (not-absent s i part (eqb-true (titleAt s i .mode) absentMode out)))
-      (either-out some none (both-r (titleOk (titleAt s i)) (either some none) slot)))
-      (both-l (leb (s .pool) poolMax) _ ok)
+  -- what is shared is a pool, where it has room for such a title
+  part-pool : floorsOf s ≤ sharedPool s → (i : ℕ) → i < titlesMax → takesPart s i ≡ true → within poolMin poolMax (sharedPool s) ≡ true
+  unfolding stateOk sharedPool floorsOf sharers
+  part-pool fit i l part =
+      let f : ℕ → ℕ = λ j. pick (takesPart s j) (floor j) 0 in
+      let own : f i ≡ floor i = pick-true (takesPart s i) (floor i) 0 part in
+      let all : floorsOf s ≡ total f titlesMax = ids-total (takesPart s) floor titlesMax in
+      let pool : s .pool ≤ poolMax = leb-true (s .pool) poolMax (both-l (leb (s .pool) poolMax) _ ok) in
+      both-in _ _ (le-leb poolMin (sharedPool s) (omega (arith, total-at f titlesMax i l, part-floor i l part)))
+      (le-leb (sharedPool s) poolMax (omega arith))
 
   -- each place of the titles that take part has one of them
   part-each : (P : Rated → Type 0) → ((i : ℕ) → i < titlesMax → takesPart s i ≡ true → P (ratedAt s rates i)) → (j : ℕ)
@@ -131,17 +134,17 @@ module _ (s : State) (rates : List ℕ) (ok : stateOk s ≡ true)
   all-ordered : eachTitle ordered (rated s rates) ≡ true
   all-ordered = each-in ordered (rated s rates) (part-each (λ t. ordered t ≡ true) part-ordered)
 
-  module _ (fit : floorsOf s ≤ s .pool) where
+  module _ (fit : floorsOf s ≤ sharedPool s) where
     -- the counts that the sharing gives are to be preferred to every choice
-    pub best-shares : Shared (s .pool) (rated s rates) (shared (s .pool) (rated s rates))
+    pub best-shares : Shared (sharedPool s) (rated s rates) (shared (sharedPool s) (rated s rates))
     unfolding ordered rated floorsOf
     best-shares =
-        search-finds (s .pool) (rated s rates)
+        search-finds (sharedPool s) (rated s rates)
         (part-each (λ t. t .floor ≤ t .cap) (λ i l part. leb-true _ _ (part-ordered i l part)))
         (rw (map-map (λ (t : Rated). t .floor) (ratedAt s rates) (sharers s)) fit)
 
     -- one for each title that takes part
-    pub shares-many : length (shared (s .pool) (rated s rates)) ≡ howMany (takesPart s) titlesMax
+    pub shares-many : length (shared (sharedPool s) (rated s rates)) ≡ howMany (takesPart s) titlesMax
     unfolding rated sharers
     shares-many = best-shares .choice .way .places ∙ read-many (takesPart s) (ratedAt s rates) titlesMax
 
@@ -157,8 +160,8 @@ module _ (s : State) (rates : List ℕ) (ok : stateOk s ≡ true)
         (rw here at (best-shares .choice .way .low j place), rw here at (best-shares .choice .way .high j place))
 
     -- the sharing refuses none of this
-    not-refused : within poolMin poolMax (s .pool) ≡ true →
-        verdictOf (s .pool) (map rate (sharers s)) (map film (sharers s)) (map floor (sharers s)) (map cap (sharers s))
+    not-refused : within poolMin poolMax (sharedPool s) ≡ true →
+        verdictOf (sharedPool s) (map rate (sharers s)) (map film (sharers s)) (map floor (sharers s)) (map cap (sharers s))
         titlesMax
         ≡ done
     unfolding verdictOf firstHit rowsFit rated sharers floorsOf
@@ -174,12 +177,12 @@ module _ (s : State) (rates : List ℕ) (ok : stateOk s ≡ true)
           pool,
           all-allowed,
           all-ordered,
-          le-ltb (s .pool) (rowTotal (map floor ids)) fit,
+          le-ltb (sharedPool s) (rowTotal (map floor ids)) fit,
         )
 
     -- the row that it leaves has the share of each at its place
     counts-at : (i : ℕ) → i < titlesMax → takesPart s i ≡ true →
-        getD (countsOf (s .pool) (rowsTo s rates titlesMax)) (howMany (takesPart s) i) 0 ≡ shareOf s rates i
+        getD (countsOf (sharedPool s) (rowsTo s rates titlesMax)) (howMany (takesPart s) i) 0 ≡ shareOf s rates i
     unfolding countsOf shareOf rated sharers
     counts-at i l part =
         let p = takesPart s in
@@ -196,14 +199,14 @@ module _ (s : State) (rates : List ℕ) (ok : stateOk s ≡ true)
           row-is p floor noRow titlesMax (omega arith),
           row-is p cap noRow titlesMax (omega arith),
         )
-        (sym (getD-take (length rs) (rowAfter (s .pool) rs ds fs ks noRow) j 0 (place-below p rate titlesMax i l part))
-        ∙ (ap (λ (xs : List ℕ). getD xs j 0) (first-places (s .pool) rs ds fs ks noRow (not-refused (part-pool i l part)))
-        ∙ ap (λ (ts : List Rated). getD (shared (s .pool) ts) j 0) (titles-map rate film floor cap ids)))
+        (sym (getD-take (length rs) (rowAfter (sharedPool s) rs ds fs ks noRow) j 0 (place-below p rate titlesMax i l part))
+        ∙ (ap (λ (xs : List ℕ). getD xs j 0) (first-places (sharedPool s) rs ds fs ks noRow (not-refused (part-pool fit i l part)))
+        ∙ ap (λ (ts : List Rated). getD (shared (sharedPool s) ts) j 0) (titles-map rate film floor cap ids)))
 
-    pub by-share : ByShare s rates (sharesTo s (countsOf (s .pool) (rowsTo s rates titlesMax)) titlesMax)
+    pub by-share : ByShare s rates (sharesTo s (countsOf (sharedPool s) (rowsTo s rates titlesMax)) titlesMax)
     by-share =
         record {
           each =
-              λ i l part. shares-at s (countsOf (s .pool) (rowsTo s rates titlesMax)) titlesMax i (omega arith) l
+              λ i l part. shares-at s (countsOf (sharedPool s) (rowsTo s rates titlesMax)) titlesMax i (omega arith) l
               ∙ counts-at i l part;
         }

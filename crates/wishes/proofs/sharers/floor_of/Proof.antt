@@ -1,5 +1,7 @@
 -- `floor_of` meets its contract, from the test of taking part.
+use mathlib.Core.Path.{sym, _∙_}
 use native.Mathlib.Omega.{arith}
+use Rattle.wishes.proofs.sharers.Laws.{floor-high}
 use borrow.Author.Needs.{needs}
 use Rattle.wishes.proofs.sharers.floor_of.Statement.{statement}
 use Rattle.wishes.proofs.sharers.floor_of.Tie as tie
@@ -8,7 +10,10 @@ takes-part-requires : tie.Need-takes-part-requires
 takes-part-requires c κs = search needs
 
 returns : tie.Need-returns
-returns c = (simp (← c .before .takes-part .ensures, c .if1 .taken), omega arith)
+returns c =
+    let part = c .before .takes-part in
+    let high = floor-high _ (c .before .before .pre) (sym (part .ensures) ∙ c .if1 .taken) in
+    (simp (← part .ensures, c .if1 .taken), omega (arith, high))
 
 returns-2 : tie.Need-returns-2
 returns-2 c = (simp (← c .before .takes-part .ensures, c .if1 .left), omega arith)

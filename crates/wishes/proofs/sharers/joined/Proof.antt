@@ -1,6 +1,6 @@
 -- `joined` meets its contract: the numbers of a title fit its rows.
 use native.Mathlib.Omega.{arith}
-use Rattle.wishes.proofs.sharers.Laws.{length-high, floor-high, cap-high}
+use Rattle.wishes.proofs.sharers.Laws.{length-high, floor-small, cap-high}
 use borrow.Author.Needs.{needs}
 use Rattle.wishes.proofs.sharers.joined.Statement.{statement}
 use Rattle.wishes.proofs.sharers.joined.Tie as tie
@@ -24,7 +24,7 @@ element-write-r-2 : tie.Need-element-write-r-2
 element-write-r-2 c = search needs
 
 cast-r-2 : tie.Need-cast-r-2
-cast-r-2 c = omega (arith, floor-high (c .before .before .args .t) (c .before .before .pre .1))
+cast-r-2 c = omega (arith, floor-small (c .before .before .args .t) (c .before .before .pre .1))
 
 mul-r-3 : tie.Need-mul-r-3
 mul-r-3 c = search needs

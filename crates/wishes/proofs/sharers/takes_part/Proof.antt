@@ -1,10 +1,13 @@
--- `takes_part` meets its contract: its test is the definition's.
-use mathlib.Core.Path.{refl}
+-- `takes_part` meets its contract: its tests are the definition's.
+use borrow.Author.Needs.{needs}
 use Rattle.wishes.proofs.sharers.takes_part.Statement.{statement}
 use Rattle.wishes.proofs.sharers.takes_part.Tie as tie
 
+also-requires : tie.Need-also-requires
+also-requires c κs = search needs
+
 returns : tie.Need-returns
-returns c = refl
+returns c = c .also .ensures
 
 pub takes-part-spec : {M : Type 1} → statement M
-takes-part-spec = tie.close (tie.spec returns)
+takes-part-spec = tie.close (tie.spec also-requires returns)

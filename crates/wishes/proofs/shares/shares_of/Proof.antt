@@ -5,6 +5,9 @@ use borrow.Author.Needs.{needs}
 use Rattle.wishes.proofs.shares.shares_of.Statement.{statement}
 use Rattle.wishes.proofs.shares.shares_of.Tie as tie
 
+shared-pool-requires : tie.Need-shared-pool-requires
+shared-pool-requires c κs = search needs
+
 rows-of-requires : tie.Need-rows-of-requires
 rows-of-requires c κs = search needs
 
@@ -17,10 +20,11 @@ by-id-requires c κs = search needs
 returns : tie.Need-returns
 returns c =
     let at-counts = c .before .before in
-    let start = at-counts .before .before .before in
+    let at-pool = at-counts .before .before in
+    let start = at-pool .before .before in
     let rules = start .pre .1 in
-    rw (c .by-id .ensures, at-counts .shared-counts .ensures, at-counts .before .rows-of .ensures)
+    rw (c .by-id .ensures, at-counts .shared-counts .ensures, at-counts .before .rows-of .ensures, at-pool .shared-pool .ensures)
     (by-share (start .args .s) (start .args .rates .now) (start .pre .0) (rules .0) (rules .1 .0) (rules .1 .1))
 
 pub shares-of-spec : {M : Type 1} → statement M
-shares-of-spec = tie.close (tie.spec rows-of-requires shared-counts-requires by-id-requires returns)
+shares-of-spec = tie.close (tie.spec shared-pool-requires rows-of-requires shared-counts-requires by-id-requires returns)
