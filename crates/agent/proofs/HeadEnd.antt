@@ -2,50 +2,61 @@
 -- the agent hears exactly those events, so the two answer alike. Rests on the codec's round trip, on what accepted events
 -- have passed, and on `alike`.
 use mathlib.Core.Path.{_≡_, refl, sym, ap, _∙_}
-use mathlib.Core.Bool.{true, false}
+use mathlib.Core.Bool.{Bool, true, false}
 use mathlib.Core.List.{List, [], _∷_, map}
-use Prim.Native.Nat.{ℕ, suc, _^_, _≤_, _<_}
+use Prim.Native.Nat.{ℕ, zero, suc, _^_, _≤_, _<_}
 use native.Mathlib.Omega.{arith}
 use lib.Dec.{leb, eqb}
 use lib.ListN.{length}
-use borrow.Author.Tests.{leb-true, eq-eqb}
-use Rattle.rules.specs.Limits.{both, within, idMax, eventTimeMax, lengthMin, lengthMax, floorMin, floorMax, countMin}
-use Rattle.rules.specs.Limits.{countMax}
+use borrow.Author.Tests.{leb-true, eqb-true, eqb-false, eq-eqb}
+use Rattle.rules.specs.Limits.{both, within, idMax, eventTimeMax, lengthMax, floorMax, countMin}
+use Rattle.rules.specs.Limits.{countMax, steadyMax}
+use Rattle.rules.specs.Refusals.{pick}
 use Rattle.rules.proofs.Tests.{both-l, both-r, both-in, pick-true}
 use Rattle.notice.specs.declared.Notice.{Notice}
+use Rattle.notice.specs.declared.Kind.the-variants.{Open, Skip}
 use Rattle.notice.specs.declared.Reading.the-variants as reading
 use Rattle.notice.specs.Log.{Typed, KindTyped}
-use Rattle.notice.specs.Encode.{bytesOf}
-use Rattle.notice.specs.Decode.{readOf}
 use Rattle.notice.proofs.RoundTrip.{written-reads}
 use Rattle.notice.proofs.Typed.{typed-fits}
+use Rattle.scheme.specs.Scheme.{paddedKind, steadyKind}
 use Rattle.story.specs.Story.{Act, opens, changes, closes, doors, Event, event, answer, accepted, Accepted, none}
-use Rattle.story.specs.Story.{more, withinLimits, openLimits, actLimits}
+use Rattle.story.specs.Story.{more, withinLimits, openLimits, skipLimits, kindLimits, actLimits}
 use Rattle.story.specs.Runs.{stateAfter, lanesOf}
 use Rattle.story.proofs.Passed.{in-limits}
 use Rattle.story.proofs.Reached.{accepted-is}
-use Rattle.agent.specs.Turns.{eventOf}
+use Rattle.agent.specs.Turns.{actOf, eventOf}
 use Rattle.agent.specs.Series.{agentAfter, hearing, heard, eventsHeard, kindFor, noticeFor, sent}
 use Rattle.agent.proofs.Alike.{alike}
 
--- the numbers of an event within their limits fit the notice's fields
-act-typed : (a : Act) (i τ : ℕ) → actLimits a (withinLimits (event i τ a)) ≡ true → KindTyped (kindFor a)
-act-typed (opens D A K k) i τ h =
-    let o : openLimits D A K k ≡ true = both-r (withinLimits (event i τ (opens D A K k))) (openLimits D A K k) h in
+-- the numbers of an opening within their limits fit the fields of its kind of notice
+opening-typed : (D A K k : ℕ) (t : Bool) → pick t (skipLimits D A K k) (openLimits D A K k) ≡ true →
+    KindTyped (pick t (Skip D k) (Open D A K k))
+opening-typed D A K k true h =
+    let D-high : D ≤ lengthMax = search (both-l, both-r, leb-true) depth 12 in
+    let k-high : k ≤ steadyMax = search (both-l, both-r, leb-true) depth 12 in
+    (omega arith, omega arith)
+opening-typed D A K k false h =
     let D-high : D ≤ lengthMax = search (both-l, both-r, leb-true) depth 12 in
     let A-high : A ≤ floorMax = search (both-l, both-r, leb-true) depth 12 in
     let K-high : K ≤ countMax = search (both-l, both-r, leb-true) depth 12 in
     let k-high : k ≤ countMax = search (both-l, both-r, leb-true) depth 12 in
     (omega arith, (omega arith, (omega arith, omega arith)))
-act-typed (changes k) i τ h =
+
+-- and so do those of any event
+act-typed : (a : Act) (b : Bool) → actLimits a b ≡ true → KindTyped (kindFor a)
+act-typed (opens m D A K k) b h =
+    opening-typed D A K k (eqb m steadyKind)
+    (both-r (leb m steadyKind) (pick (eqb m steadyKind) (skipLimits D A K k) (openLimits D A K k)) (both-r b (kindLimits m D A K k) h))
+act-typed (changes k) b h =
     let k-high : k ≤ countMax = search (both-l, both-r, leb-true) depth 12 in
     omega arith
-act-typed closes i τ h = tt
-act-typed (doors true) i τ h = tt
-act-typed (doors false) i τ h = tt
+act-typed closes b h = tt
+act-typed (doors true) b h = tt
+act-typed (doors false) b h = tt
 
 named : (a : Act) (e : Event) → actLimits a (withinLimits e) ≡ true → withinLimits e ≡ true
-named (opens D A K k) e h = both-l (withinLimits e) (openLimits D A K k) h
+named (opens m D A K k) e h = both-l (withinLimits e) (kindLimits m D A K k) h
 named (changes k) e h = both-l (withinLimits e) (within countMin countMax k) h
 named closes e h = h
 named (doors b) e h = h
@@ -60,42 +71,67 @@ typed lanes es e q small h =
       sequence-fits = small;
       title-fits = omega arith;
       time-fits = omega arith;
-      kind-fits = act-typed (e .act) (e .title) (e .time) all;
+      kind-fits = act-typed (e .act) (withinLimits e) all;
     }
 
--- the event of the notice of an event is that event
-same-act : (a : Act) → Rattle.agent.specs.Turns.actOf (kindFor a) ≡ a
-same-act (opens D A K k) = refl
-same-act (changes k) = refl
-same-act closes = refl
-same-act (doors true) = refl
-same-act (doors false) = refl
+below-one : (m : ℕ) → m ≤ 1 → (m ≡ 1 → ⊥) → m ≡ 0
+below-one zero low not-one = refl
+below-one (suc m) low not-one = absurd (not-one (omega arith))
 
-same-event : (q : ℕ) (e : Event) → eventOf (noticeFor q e) ≡ e
-same-event q e = ap (event (e .title) (e .time)) (same-act (e .act))
+-- what the notice of an opening does is that opening: a skip-forward title has its count for floor and cap
+same-opening : (m D A K k : ℕ) (t : Bool) → eqb m steadyKind ≡ t → m ≤ steadyKind →
+    pick t (skipLimits D A K k) (openLimits D A K k) ≡ true → actOf (pick t (Skip D k) (Open D A K k)) ≡ opens m D A K k
+same-opening m D A K k true e low h =
+    let is : m ≡ steadyKind = eqb-true m steadyKind e in
+    let floor : A ≡ k = eqb-true A k (search (both-l, both-r) depth 12) in
+    let cap : K ≡ k = eqb-true K k (search (both-l, both-r) depth 12) in
+    sym (λ i. opens (is i) D (floor i) (cap i) k)
+same-opening m D A K k false e low h =
+    let not-steady : m ≡ steadyKind → ⊥ = eqb-false m steadyKind e in
+    let is : m ≡ paddedKind = below-one m low not-steady in
+    sym (ap (λ x. opens x D A K k) is)
+
+-- the event of the notice of an event within its limits is that event
+same-act : (a : Act) (b : Bool) → actLimits a b ≡ true → actOf (kindFor a) ≡ a
+same-act (opens m D A K k) b h =
+    let of-kind : kindLimits m D A K k ≡ true = both-r b (kindLimits m D A K k) h in
+    let nums = pick (eqb m steadyKind) (skipLimits D A K k) (openLimits D A K k) in
+    same-opening m D A K k (eqb m steadyKind) refl (leb-true m steadyKind (both-l (leb m steadyKind) nums of-kind))
+    (both-r (leb m steadyKind) nums of-kind)
+same-act (changes k) b h = refl
+same-act closes b h = refl
+same-act (doors true) b h = refl
+same-act (doors false) b h = refl
+
+same-event : (lanes : ℕ) (es : List Event) (q : ℕ) (e : Event) → answer lanes es e ≡ 0 → eventOf (noticeFor q e) ≡ e
+same-event lanes es q e h =
+    ap (event (e .title) (e .time))
+    (same-act (e .act) (withinLimits e) (in-limits lanes es (e .title) (e .time) (e .act) h))
 
 -- the notices of accepted events, as many as there are sequences, are all heard
 numbered : List Event → List Notice
 numbered [] = []
 numbered (e ∷ es) = noticeFor (suc (length es)) e ∷ numbered es
 
-events-numbered : (es : List Event) → map eventOf (numbered es) ≡ es
+events-numbered : (lanes : ℕ) (es : List Event) → Accepted lanes es → map eventOf (numbered es) ≡ es
 unfolding numbered
-events-numbered [] = refl
-events-numbered (e ∷ es) = λ i. same-event (suc (length es)) e i ∷ events-numbered es i
+events-numbered lanes es none = refl
+events-numbered lanes es (more {e = e} {es = es′} acc h) =
+    λ i. same-event lanes es′ (suc (length es′)) e h i ∷ events-numbered lanes es′ acc i
 
 length-numbered : (es : List Event) → length (numbered es) ≡ length es
 unfolding numbered
 length-numbered [] = refl
 length-numbered (e ∷ es) = ap suc (length-numbered es)
 
-hears-next : (lanes : ℕ) (ns : List Notice) (es : List Event) (e : Event) → ns ≡ numbered es → answer lanes es e ≡ 0 →
+hears-next : (lanes : ℕ) (ns : List Notice) (es : List Event) (e : Event) → Accepted lanes es → ns ≡ numbered es → answer lanes es e ≡ 0 →
     hearing lanes ns (reading.Whole (noticeFor (suc (length es)) e)) ≡ noticeFor (suc (length es)) e ∷ numbered es
-hears-next lanes ns es e is h =
+hears-next lanes ns es e acc is h =
     let n : Notice = noticeFor (suc (length es)) e in
     let turn : suc (length es) ≡ suc (length (numbered es)) = ap suc (sym (length-numbered es)) in
     let done : answer lanes (map eventOf (numbered es)) (eventOf n) ≡ 0 =
-    ap (λ x. answer lanes x (eventOf n)) (events-numbered es) ∙ ap (answer lanes es) (same-event (suc (length es)) e) ∙ h in
+    ap (λ x. answer lanes x (eventOf n)) (events-numbered lanes es acc)
+    ∙ ap (answer lanes es) (same-event lanes es (suc (length es)) e h) ∙ h in
     rw is
     (pick-true (both (eqb (suc (length es)) (suc (length (numbered es)))) (eqb (answer lanes (map eventOf (numbered es)) (eventOf n)) 0))
     (n ∷ numbered es) (numbered es)
@@ -109,14 +145,14 @@ hears-all lanes es (more {e = e} {es = es′} acc h) small =
     let n : Notice = noticeFor (suc (length es′)) e in
     ap (hearing lanes (heard lanes (sent es′)))
     (written-reads n (typed-fits n (typed lanes es′ e (suc (length es′)) small h)))
-    ∙ hears-next lanes (heard lanes (sent es′)) es′ e (hears-all lanes es′ acc (omega arith)) h
+    ∙ hears-next lanes (heard lanes (sent es′)) es′ e acc (hears-all lanes es′ acc (omega arith)) h
 
 module _ (pool : ℕ) (cs : List Event) (few : length (accepted (lanesOf pool) cs) < 2 ^ 32) where
   -- the agent hears exactly the accepted events
   pub all-heard : eventsHeard pool (sent (accepted (lanesOf pool) cs)) ≡ accepted (lanesOf pool) cs
   all-heard =
       ap (map eventOf) (hears-all (lanesOf pool) (accepted (lanesOf pool) cs) (accepted-is (lanesOf pool) cs) few)
-      ∙ events-numbered (accepted (lanesOf pool) cs)
+      ∙ events-numbered (lanesOf pool) (accepted (lanesOf pool) cs) (accepted-is (lanesOf pool) cs)
 
   -- and its state is the head-end's: every lane question, status and lanes held are alike
   pub follows-head-end : stateAfter pool cs ≡ agentAfter pool (sent (accepted (lanesOf pool) cs)) .state

@@ -8,10 +8,10 @@ use Prim.Native.Nat.{ℕ, suc}
 use native.Mathlib.Omega.{arith}
 use Rattle.rules.specs.Refusals.{firstHit, outOfTurn}
 use Rattle.rules.specs.Search.{some, first, howMany, after, total}
-use Rattle.grid.specs.Ticks.{tickOf, holdsFilm, roundedUp, slot, isSlotStart, cellOf}
+use Rattle.grid.specs.Ticks.{tickOf, roundedUp, slot, cellOf}
 use Rattle.grid.specs.Channels.{floorRem, shift, segment, channelCell}
 use Rattle.grid.specs.Lanes.{isInG, isAdded, addedChannel, laneCell}
-use Rattle.grid.specs.Plan.{takenFrom, inPlan}
+use Rattle.scheme.specs.Scheme.{paddedKind, schemeOf, starts, takes, takesFrom, tickFor, filmIn}
 use Rattle.story.specs.Life.{isAdmission, isActive, droppedAt, isAwaited, isOwed, reach, owedWithin, isNth, nthOwed}
 use Rattle.story.specs.Life.{sends, onAir, isHeld}
 use Rattle.story.specs.Story.{tickIn, lifeOf, latestOf, tunedOf, heldIn, heldOver, answerTo, opens, changes, Event}
@@ -62,7 +62,7 @@ abbrev pub overtaken : List (List ℕ)
 overtaken = bytesOf dropped ∷ bytesOf raised ∷ bytesOf dropped ∷ bytesOf opened ∷ []
 
 pub heard-in-turn : heard 8 overtaken ≡ dropped ∷ raised ∷ opened ∷ []
-unfolding heard answerTo firstHit lifeOf latestOf tunedOf heldOver heldIn tickIn total howMany isHeld onAir isActive droppedAt after sends nthOwed isNth owedWithin isOwed isAwaited isAdmission reach some first inPlan takenFrom laneCell addedChannel isAdded isInG channelCell segment shift floorRem cellOf slot isSlotStart holdsFilm tickOf roundedUp readOf noticeIn kindIn valueAt standsTo rowStands headStands numberAt startOf spanOf table bigEndian bytesOf bytesTo rowBytes fieldBytes
+unfolding heard answerTo firstHit lifeOf latestOf tunedOf heldOver heldIn tickIn total howMany isHeld onAir isActive droppedAt after sends nthOwed isNth owedWithin isOwed isAwaited isAdmission reach some first takes takesFrom schemeOf laneCell addedChannel isAdded isInG channelCell segment shift floorRem cellOf slot starts tickFor tickOf filmIn roundedUp readOf noticeIn kindIn valueAt standsTo rowStands headStands numberAt startOf spanOf table bigEndian bytesOf bytesTo rowBytes fieldBytes
 heard-in-turn = refl
 
 -- the same notices in order, and that both series are of one log: no two of its notices share a sequence
@@ -70,7 +70,7 @@ abbrev pub in-order : List (List ℕ)
 in-order = bytesOf dropped ∷ bytesOf raised ∷ bytesOf opened ∷ []
 
 heard-in-order : heard 8 in-order ≡ dropped ∷ raised ∷ opened ∷ []
-unfolding heard answerTo firstHit lifeOf latestOf tunedOf heldOver heldIn tickIn total howMany isHeld onAir isActive droppedAt after sends nthOwed isNth owedWithin isOwed isAwaited isAdmission reach some first inPlan takenFrom laneCell addedChannel isAdded isInG channelCell segment shift floorRem cellOf slot isSlotStart holdsFilm tickOf roundedUp readOf noticeIn kindIn valueAt standsTo rowStands headStands numberAt startOf spanOf table bigEndian bytesOf bytesTo rowBytes fieldBytes
+unfolding heard answerTo firstHit lifeOf latestOf tunedOf heldOver heldIn tickIn total howMany isHeld onAir isActive droppedAt after sends nthOwed isNth owedWithin isOwed isAwaited isAdmission reach some first takes takesFrom schemeOf laneCell addedChannel isAdded isInG channelCell segment shift floorRem cellOf slot starts tickFor tickOf filmIn roundedUp readOf noticeIn kindIn valueAt standsTo rowStands headStands numberAt startOf spanOf table bigEndian bytesOf bytesTo rowBytes fieldBytes
 heard-in-order = refl
 
 data Log : Notice → Type 0 where
@@ -90,15 +90,15 @@ one-each m n third-of second-of e = absurd (omega arith)
 one-each m n third-of third-of e = refl
 
 reads-opened : readOf (bytesOf opened) ≡ reading.Whole opened
-unfolding heard answerTo firstHit lifeOf latestOf tunedOf heldOver heldIn tickIn total howMany isHeld onAir isActive droppedAt after sends nthOwed isNth owedWithin isOwed isAwaited isAdmission reach some first inPlan takenFrom laneCell addedChannel isAdded isInG channelCell segment shift floorRem cellOf slot isSlotStart holdsFilm tickOf roundedUp readOf noticeIn kindIn valueAt standsTo rowStands headStands numberAt startOf spanOf table bigEndian bytesOf bytesTo rowBytes fieldBytes
+unfolding heard answerTo firstHit lifeOf latestOf tunedOf heldOver heldIn tickIn total howMany isHeld onAir isActive droppedAt after sends nthOwed isNth owedWithin isOwed isAwaited isAdmission reach some first takes takesFrom schemeOf laneCell addedChannel isAdded isInG channelCell segment shift floorRem cellOf slot starts tickFor tickOf filmIn roundedUp readOf noticeIn kindIn valueAt standsTo rowStands headStands numberAt startOf spanOf table bigEndian bytesOf bytesTo rowBytes fieldBytes
 reads-opened = refl
 
 reads-raised : readOf (bytesOf raised) ≡ reading.Whole raised
-unfolding heard answerTo firstHit lifeOf latestOf tunedOf heldOver heldIn tickIn total howMany isHeld onAir isActive droppedAt after sends nthOwed isNth owedWithin isOwed isAwaited isAdmission reach some first inPlan takenFrom laneCell addedChannel isAdded isInG channelCell segment shift floorRem cellOf slot isSlotStart holdsFilm tickOf roundedUp readOf noticeIn kindIn valueAt standsTo rowStands headStands numberAt startOf spanOf table bigEndian bytesOf bytesTo rowBytes fieldBytes
+unfolding heard answerTo firstHit lifeOf latestOf tunedOf heldOver heldIn tickIn total howMany isHeld onAir isActive droppedAt after sends nthOwed isNth owedWithin isOwed isAwaited isAdmission reach some first takes takesFrom schemeOf laneCell addedChannel isAdded isInG channelCell segment shift floorRem cellOf slot starts tickFor tickOf filmIn roundedUp readOf noticeIn kindIn valueAt standsTo rowStands headStands numberAt startOf spanOf table bigEndian bytesOf bytesTo rowBytes fieldBytes
 reads-raised = refl
 
 reads-dropped : readOf (bytesOf dropped) ≡ reading.Whole dropped
-unfolding heard answerTo firstHit lifeOf latestOf tunedOf heldOver heldIn tickIn total howMany isHeld onAir isActive droppedAt after sends nthOwed isNth owedWithin isOwed isAwaited isAdmission reach some first inPlan takenFrom laneCell addedChannel isAdded isInG channelCell segment shift floorRem cellOf slot isSlotStart holdsFilm tickOf roundedUp readOf noticeIn kindIn valueAt standsTo rowStands headStands numberAt startOf spanOf table bigEndian bytesOf bytesTo rowBytes fieldBytes
+unfolding heard answerTo firstHit lifeOf latestOf tunedOf heldOver heldIn tickIn total howMany isHeld onAir isActive droppedAt after sends nthOwed isNth owedWithin isOwed isAwaited isAdmission reach some first takes takesFrom schemeOf laneCell addedChannel isAdded isInG channelCell segment shift floorRem cellOf slot starts tickFor tickOf filmIn roundedUp readOf noticeIn kindIn valueAt standsTo rowStands headStands numberAt startOf spanOf table bigEndian bytesOf bytesTo rowBytes fieldBytes
 reads-dropped = refl
 
 logged : (m n : Notice) → Log m → readOf (bytesOf m) ≡ reading.Whole m → readOf (bytesOf m) ≡ reading.Whole n → Log n
@@ -125,10 +125,10 @@ caught-up =
 
 -- and a head-end with those events is in its state
 abbrev calls : List Event
-calls = event 0 8 (changes 3) ∷ event 0 4 (changes 4) ∷ event 0 0 (opens 12 2 4 3) ∷ []
+calls = event 0 8 (changes 3) ∷ event 0 4 (changes 4) ∷ event 0 0 (opens paddedKind 12 2 4 3) ∷ []
 
 same-events : accepted 8 calls ≡ eventsHeard 8 overtaken
-unfolding accepted heard answerTo firstHit lifeOf latestOf tunedOf heldOver heldIn tickIn total howMany isHeld onAir isActive droppedAt after sends nthOwed isNth owedWithin isOwed isAwaited isAdmission reach some first inPlan takenFrom laneCell addedChannel isAdded isInG channelCell segment shift floorRem cellOf slot isSlotStart holdsFilm tickOf roundedUp readOf noticeIn kindIn valueAt standsTo rowStands headStands numberAt startOf spanOf table bigEndian bytesOf bytesTo rowBytes fieldBytes
+unfolding accepted heard answerTo firstHit lifeOf latestOf tunedOf heldOver heldIn tickIn total howMany isHeld onAir isActive droppedAt after sends nthOwed isNth owedWithin isOwed isAwaited isAdmission reach some first takes takesFrom schemeOf laneCell addedChannel isAdded isInG channelCell segment shift floorRem cellOf slot starts tickFor tickOf filmIn roundedUp readOf noticeIn kindIn valueAt standsTo rowStands headStands numberAt startOf spanOf table bigEndian bytesOf bytesTo rowBytes fieldBytes
 same-events = refl
 
 pub as-the-head-end : stateAfter 8 calls ≡ agentAfter 8 overtaken .state

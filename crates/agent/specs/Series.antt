@@ -10,11 +10,12 @@ use Rattle.rules.specs.Limits.{both}
 use Rattle.rules.specs.Refusals.{pick}
 use Rattle.notice.specs.declared.Notice.{Notice}
 use Rattle.notice.specs.declared.Kind.{Kind}
-use Rattle.notice.specs.declared.Kind.the-variants.{Open, Change, Close, Hold, Lift}
+use Rattle.notice.specs.declared.Kind.the-variants.{Open, Change, Close, Hold, Lift, Skip}
 use Rattle.notice.specs.declared.Reading.{Reading}
 use Rattle.notice.specs.declared.Reading.the-variants as reading
 use Rattle.notice.specs.Encode.{bytesOf}
 use Rattle.notice.specs.Decode.{readOf}
+use Rattle.scheme.specs.Scheme.{steadyKind}
 use Rattle.story.specs.Story.{Act, opens, changes, closes, doors, Event, answer}
 use Rattle.story.specs.Runs.{lanesOf, Reached}
 use Rattle.agent.specs.declared.Agent.{Agent}
@@ -38,7 +39,7 @@ heard lanes (bs ∷ bss) = hearing lanes (heard lanes bss) (readOf bs)
 
 -- the notice that a head-end writes of an event that it accepted, with its sequence
 abbrev pub kindFor : Act → Kind
-kindFor (opens D A K k) = Open D A K k
+kindFor (opens m D A K k) = pick (eqb m steadyKind) (Skip D k) (Open D A K k)
 kindFor (changes k) = Change k
 kindFor closes = Close
 kindFor (doors true) = Hold

@@ -4,22 +4,24 @@ use lib.Dec.{eqb}
 use Rattle.rules.specs.Refusals.{pick, malformed, outOfTurn}
 use Rattle.notice.specs.declared.Notice.{Notice}
 use Rattle.notice.specs.declared.Kind.{Kind}
-use Rattle.notice.specs.declared.Kind.the-variants.{Open, Change, Close, Hold, Lift}
+use Rattle.notice.specs.declared.Kind.the-variants.{Open, Change, Close, Hold, Lift, Skip}
 use Rattle.notice.specs.declared.Reading.{Reading}
 use Rattle.notice.specs.declared.Reading.the-variants as reading
+use Rattle.scheme.specs.Scheme.{paddedKind}
 use Rattle.story.specs.Calls.{freshNext}
-use Rattle.story.specs.Story.{Act, opens, changes, closes, holds, lifts, Event}
+use Rattle.story.specs.Story.{Act, opens, skips, changes, closes, holds, lifts, Event}
 use Rattle.story.specs.Next.{callNext}
 use Rattle.story.specs.Runs.{answered}
 use Rattle.agent.specs.declared.Agent.{Agent}
 
 -- what a notice's kind does
 abbrev pub actOf : Kind → Act
-actOf (Open d a k n) = opens d a k n
+actOf (Open d a k n) = opens paddedKind d a k n
 actOf (Change n) = changes n
 actOf Close = closes
 actOf Hold = holds
 actOf Lift = lifts
+actOf (Skip d n) = skips d n
 
 -- the event that a notice carries
 abbrev pub eventOf : Notice → Event

@@ -72,6 +72,7 @@ pub fn enact(s: State, n: Notice) -> Outcome
         Kind::Close => scheduler::close(s, id, time),
         Kind::Hold => scheduler::hold(s, id, time),
         Kind::Lift => scheduler::lift(s, id, time),
+        Kind::Skip { length, count } => scheduler::skip(s, id, time, length as u64, count as u64),
     }
 }
 

@@ -11,7 +11,7 @@ use Rattle.story.specs.Calls.{freshNext}
 use Rattle.scheduler.specs.Outcomes.{heldAnswer, heldShown}
 use Rattle.notice.specs.declared.Notice.{Notice}
 use Rattle.notice.specs.declared.Kind.{Kind}
-use Rattle.notice.specs.declared.Kind.the-variants.{Open, Change, Close, Hold, Lift}
+use Rattle.notice.specs.declared.Kind.the-variants.{Open, Change, Close, Hold, Lift, Skip}
 use Rattle.notice.specs.declared.Reading.the-variants as reading
 use Rattle.agent.specs.declared.Agent.{Agent}
 use Rattle.agent.specs.Turns.{noticeNext, freshAgent}
@@ -30,6 +30,7 @@ own-time g n = go (n .kind)
     go Close = refl
     go Hold = refl
     go Lift = refl
+    go (Skip d c) = refl
 
 -- with nothing accepted no lane is held, at any time
 nothing : (b : Bool) → _≡_ {A = ℕ} (pick b 0 0) 0

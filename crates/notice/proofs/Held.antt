@@ -7,7 +7,7 @@ use denote.Enum.Laws as EL
 use denote.Struct.Laws as LL
 use Rattle.notice.specs.declared.Notice.{Notice}
 use Rattle.notice.specs.declared.Kind.{Kind}
-use Rattle.notice.specs.declared.Kind.the-variants.{Open, Change, Close, Hold, Lift}
+use Rattle.notice.specs.declared.Kind.the-variants.{Open, Change, Close, Hold, Lift, Skip}
 use Rattle.notice.specs.Log.{KindTyped, FitsFields}
 use Rattle.notice.proofs.Notice as N
 use Rattle.notice.proofs.Notice.Laws as N′
@@ -21,6 +21,7 @@ kind-held (Change n) vs g = let f = EL.owed K.the-type K′.the-laws (Change n) 
 kind-held Close vs g = tt
 kind-held Hold vs g = tt
 kind-held Lift vs g = tt
+kind-held (Skip l n) vs g = let f = EL.owed K.the-type K′.the-laws (Skip l n) vs g in (f .0 .1, f .1 .0 .1)
 
 pub held : (n : Notice) (vs : List Val) → Is N.the-row n vs → FitsFields n
 held n vs g =

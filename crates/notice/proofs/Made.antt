@@ -11,7 +11,7 @@ use lib.ListN.{getD}
 use Rattle.rules.specs.Refusals.{pick}
 use Rattle.notice.specs.declared.Notice.{Notice}
 use Rattle.notice.specs.declared.Kind.{Kind}
-use Rattle.notice.specs.declared.Kind.the-variants.{Open, Change, Close, Hold, Lift}
+use Rattle.notice.specs.declared.Kind.the-variants.{Open, Change, Close, Hold, Lift, Skip}
 use Rattle.notice.specs.Fields.{table, sequenceRow, titleRow, timeRow, lengthRow, floorRow, capRow, countRow}
 use Rattle.notice.specs.Fields.{rows, isCarried, isKnown, startOf}
 use Rattle.notice.specs.Numbers.{numberAt}
@@ -30,6 +30,7 @@ kind-known (Change n) = refl
 kind-known Close = refl
 kind-known Hold = refl
 kind-known Lift = refl
+kind-known (Skip l n) = refl
 
 -- each row that kind k carries has at place p the value that vs has for it
 abbrev pub Shows : List ℕ → ℕ → ℕ → List ℕ → Type 0
@@ -50,6 +51,7 @@ kind-back bs p (Change n) s t u v = simp (v countRow (omega arith) refl)
 kind-back bs p Close s t u v = refl
 kind-back bs p Hold s t u v = refl
 kind-back bs p Lift s t u v = refl
+kind-back bs p (Skip l n) s t u v = simp (v lengthRow (omega arith) refl, v countRow (omega arith) refl)
 
 module _ (bs : List ℕ) (p : ℕ) where
   -- the value of row i at place p, 0 where kind k has no such row
@@ -64,7 +66,7 @@ module _ (bs : List ℕ) (p : ℕ) where
   -- the notice that the rows of a kind make has that kind's number, and these values
   made : (k : ℕ) → isKnown k ≡ true → valuesIn (noticeIn bs p k) ≡ allOf k
   unfolding noticeIn kindIn table
-  made = by-kind (λ (k : ℕ). valuesIn (noticeIn bs p k) ≡ allOf k) (refl, (refl, (refl, (refl, refl))))
+  made = by-kind (λ (k : ℕ). valuesIn (noticeIn bs p k) ≡ allOf k) (refl, (refl, (refl, (refl, (refl, refl)))))
 
 -- ---- over the rows
 

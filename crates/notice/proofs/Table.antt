@@ -15,7 +15,7 @@ use Rattle.rules.specs.Refusals.{pick}
 use Rattle.rules.proofs.Tests.{both-l, both-r}
 use Rattle.notice.specs.declared.fields.Field.{Field}
 use Rattle.notice.specs.Fields.{table, rows, row, fieldOf, isCarried, isKnown, spanOf, startOf, lengthOf}
-use Rattle.notice.specs.Fields.{openKind, changeKind, closeKind, holdKind, liftKind, longestNotice}
+use Rattle.notice.specs.Fields.{openKind, changeKind, closeKind, holdKind, liftKind, skipKind, longestNotice}
 use Rattle.notice.proofs.Each.{by-order, each, false-true}
 
 -- the test passes at every row of a list
@@ -64,7 +64,7 @@ no-bit k i h far = beyond i 8 k (sound i h .bits) far
 
 -- the kinds are numbered from open on; this is the last
 abbrev pub lastKind : ℕ
-lastKind = liftKind
+lastKind = skipKind
 
 -- no other number is a kind's
 pub no-kind-of : (k : ℕ) → (openKind ≤ k → k ≤ lastKind → ⊥) → isKnown k ≡ false
@@ -76,16 +76,16 @@ no-kind-of k out =
 
 -- a fact of each kind, in the order of their numbers
 abbrev pub OfKinds : (ℕ → Type 0) → Type 0
-OfKinds P = P openKind × (P changeKind × (P closeKind × (P holdKind × P liftKind)))
+OfKinds P = P openKind × (P changeKind × (P closeKind × (P holdKind × (P liftKind × P skipKind))))
 
 -- is a fact of every kind that the table knows: only eight could have a bit
 pub by-kind : (P : ℕ → Type 0) → OfKinds P → (k : ℕ) → isKnown k ≡ true → P k
 unfolding table
-by-kind P (a, (b, (c, (d, f)))) k e =
+by-kind P (a, (b, (c, (d, (f, g))))) k e =
     by-order k 8
     (λ lt.
     each (λ (j : ℕ). isKnown j ≡ true → P j) 8
-    ((((((((tt, false-true), (λ _. a)), (λ _. b)), (λ _. c)), (λ _. d)), (λ _. f)), false-true), false-true) k lt e)
+    ((((((((tt, false-true), (λ _. a)), (λ _. b)), (λ _. c)), (λ _. d)), (λ _. f)), (λ _. g)), false-true) k lt e)
     (λ far. false-true (sym (no-bit k 0 (omega arith) far) ∙ e))
 
 -- ---- places

@@ -6,7 +6,7 @@ use native.Mathlib.Omega.{arith}
 use lib.ListN.{getD}
 use Rattle.notice.specs.declared.Notice.{Notice}
 use Rattle.notice.specs.declared.Kind.{Kind}
-use Rattle.notice.specs.declared.Kind.the-variants.{Open, Change, Close, Hold, Lift}
+use Rattle.notice.specs.declared.Kind.the-variants.{Open, Change, Close, Hold, Lift, Skip}
 use Rattle.notice.specs.Fields.{table, kindRow, lengthRow, floorRow, capRow, countRow, sizeOf, rows}
 use Rattle.notice.specs.Encode.{kindOf, dataIn, valuesIn}
 use Rattle.notice.specs.Log.{KindTyped, Typed, FitsFields}
@@ -26,6 +26,7 @@ data-fits (Change n) h = omega arith
 data-fits Close h = omega arith
 data-fits Hold h = omega arith
 data-fits Lift h = omega arith
+data-fits (Skip l n) h = omega arith
 
 pub typed-fits : (n : Notice) → Typed n → FitsFields n
 unfolding table

@@ -1,4 +1,5 @@
--- Worked numbers of 01, "Notices", and of 02's request 7: each kind's length, case 12, and values outside the limits.
+-- Worked numbers of 01, "Notices", and of 02's requests 7 and 12: each kind's length, case 12, the opening of a
+-- skip-forward title, and values outside the limits.
 -- Rests on the table and on the round trip.
 use mathlib.Core.Path.{_≡_, refl}
 use mathlib.Core.List.{[], _∷_}
@@ -6,10 +7,10 @@ use Prim.Native.Nat.{_-_, _≤_, _^_}
 use native.Mathlib.Omega.{arith}
 use lib.ListN.{length}
 use Rattle.notice.specs.declared.Notice.{Notice}
-use Rattle.notice.specs.declared.Kind.the-variants.{Open, Change}
+use Rattle.notice.specs.declared.Kind.the-variants.{Open, Change, Skip}
 use Rattle.notice.specs.declared.Reading.the-variants as reading
-use Rattle.notice.specs.Fields.{table, openKind, changeKind, closeKind, holdKind, liftKind, spanOf, startOf}
-use Rattle.notice.specs.Fields.{lengthOf, longestNotice}
+use Rattle.notice.specs.Fields.{table, openKind, changeKind, closeKind, holdKind, liftKind, skipKind, spanOf}
+use Rattle.notice.specs.Fields.{startOf, lengthOf, longestNotice}
 use Rattle.notice.specs.Numbers.{bigEndian}
 use Rattle.notice.specs.Encode.{kindOf, fieldBytes, rowBytes, bytesTo, bytesOf}
 use Rattle.notice.specs.Decode.{readOf}
@@ -39,6 +40,10 @@ pub lift-length : lengthOf liftKind ≡ 26
 unfolding table startOf spanOf
 lift-length = refl
 
+pub skip-length : lengthOf skipKind ≡ 37
+unfolding table startOf spanOf
+skip-length = refl
+
 -- sequence 2, title 0, time 4, count 3
 pub case-12 : bytesOf (record { sequence = 2; title = 0; time = 4; kind = Change 3 })
     ≡ 1 ∷ 0 ∷ 1 ∷ 2
@@ -49,6 +54,18 @@ pub case-12 : bytesOf (record { sequence = 2; title = 0; time = 4; kind = Change
     ∷ []
 unfolding table bytesOf bytesTo rowBytes fieldBytes bigEndian
 case-12 = refl
+
+-- sequence 9, title 4, time 16, a film of 5,400,000 ms on 4 lanes
+pub skip-bytes : bytesOf (record { sequence = 9; title = 4; time = 16; kind = Skip 5400000 4 })
+    ≡ 1 ∷ 0 ∷ 1 ∷ 6
+    ∷ 2 ∷ 0 ∷ 4 ∷ 0 ∷ 0 ∷ 0 ∷ 9
+    ∷ 3 ∷ 0 ∷ 1 ∷ 4
+    ∷ 4 ∷ 0 ∷ 8 ∷ 0 ∷ 0 ∷ 0 ∷ 0 ∷ 0 ∷ 0 ∷ 0 ∷ 16
+    ∷ 5 ∷ 0 ∷ 4 ∷ 0 ∷ 82 ∷ 101 ∷ 192
+    ∷ 8 ∷ 0 ∷ 1 ∷ 4
+    ∷ []
+unfolding table bytesOf bytesTo rowBytes fieldBytes bigEndian
+skip-bytes = refl
 
 -- values outside the limits are well formed and survive
 abbrev outside : Notice

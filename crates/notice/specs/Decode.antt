@@ -9,14 +9,14 @@ use Rattle.rules.specs.Limits.{both}
 use Rattle.rules.specs.Refusals.{pick, firstHit, refuse, done, malformed}
 use Rattle.notice.specs.declared.Notice.{Notice}
 use Rattle.notice.specs.declared.Kind.{Kind}
-use Rattle.notice.specs.declared.Kind.the-variants.{Open, Change, Close, Hold, Lift}
+use Rattle.notice.specs.declared.Kind.the-variants.{Open, Change, Close, Hold, Lift, Skip}
 use Rattle.notice.specs.declared.Reading.{Reading}
 use Rattle.notice.specs.declared.Reading.the-variants as reading
 use Rattle.notice.specs.declared.Found.{Found}
 use Rattle.notice.specs.declared.Found.the-variants as found
 use Rattle.notice.specs.Fields.{sequenceRow, titleRow, timeRow, lengthRow, floorRow, capRow, countRow, openKind}
-use Rattle.notice.specs.Fields.{changeKind, closeKind, holdKind, headSize, tagOf, sizeOf, isCarried, isKnown}
-use Rattle.notice.specs.Fields.{startOf, lengthOf, rows}
+use Rattle.notice.specs.Fields.{changeKind, closeKind, holdKind, skipKind, headSize, tagOf, sizeOf, isCarried}
+use Rattle.notice.specs.Fields.{isKnown, startOf, lengthOf, rows}
 use Rattle.notice.specs.Numbers.{numberAt}
 
 -- tag and length of row i stand at a place
@@ -42,9 +42,10 @@ kindIn bs p k =
     pick (eqb k openKind)
     (Open (valueAt bs p k lengthRow) (valueAt bs p k floorRow) (valueAt bs p k capRow) (valueAt bs p k countRow))
     (pick (eqb k changeKind) (Change (valueAt bs p k countRow))
+    (pick (eqb k skipKind) (Skip (valueAt bs p k lengthRow) (valueAt bs p k countRow))
     (pick (eqb k closeKind) Close
     (pick (eqb k holdKind) Hold
-    Lift)))
+    Lift))))
 
 unfoldable pub noticeIn : List ℕ → ℕ → ℕ → Notice
 noticeIn bs p k =

@@ -1,4 +1,4 @@
--- The bytes of a notice, field by field (01, "Notices"; hold and lift by 02, request 7).
+-- The bytes of a notice, field by field (01, "Notices"; hold, lift and skip by 02, requests 7 and 12).
 use Prim.Native.Nat.{ℕ, zero, suc}
 use mathlib.Core.Path.{_≡_}
 use mathlib.Core.Bool.{Bool}
@@ -8,9 +8,9 @@ use lib.ListN.{length, drop, getD}
 use Rattle.rules.specs.Refusals.{pick, firstHit, refuse, wrongRows}
 use Rattle.notice.specs.declared.Notice.{Notice}
 use Rattle.notice.specs.declared.Kind.{Kind}
-use Rattle.notice.specs.declared.Kind.the-variants.{Open, Change, Close, Hold, Lift}
-use Rattle.notice.specs.Fields.{openKind, changeKind, closeKind, holdKind, liftKind, tagOf, sizeOf, isCarried}
-use Rattle.notice.specs.Fields.{rows}
+use Rattle.notice.specs.declared.Kind.the-variants.{Open, Change, Close, Hold, Lift, Skip}
+use Rattle.notice.specs.Fields.{openKind, changeKind, closeKind, holdKind, liftKind, skipKind, tagOf, sizeOf}
+use Rattle.notice.specs.Fields.{isCarried, rows}
 use Rattle.notice.specs.Numbers.{bigEndian}
 
 abbrev pub kindOf : Kind → ℕ
@@ -19,6 +19,7 @@ kindOf (Change n) = changeKind
 kindOf Close = closeKind
 kindOf Hold = holdKind
 kindOf Lift = liftKind
+kindOf (Skip d n) = skipKind
 
 -- length, floor, cap and count, 0 where the kind has none
 abbrev pub dataIn : Kind → List ℕ
@@ -27,6 +28,7 @@ dataIn (Change n) = 0 ∷ 0 ∷ 0 ∷ n ∷ []
 dataIn Close = 0 ∷ 0 ∷ 0 ∷ 0 ∷ []
 dataIn Hold = 0 ∷ 0 ∷ 0 ∷ 0 ∷ []
 dataIn Lift = 0 ∷ 0 ∷ 0 ∷ 0 ∷ []
+dataIn (Skip d n) = d ∷ 0 ∷ 0 ∷ n ∷ []
 
 -- what goes into each row of the table
 abbrev pub valuesIn : Notice → List ℕ

@@ -1,5 +1,5 @@
--- The field table (01, "Notices"; hold and lift by 02, request 7), and what follows from it. A later kind is a bit in
--- the rows that it carries.
+-- The field table (01, "Notices"; hold and lift by 02, request 7, the opening of a skip-forward title by request 12), and
+-- what follows from it. A later kind is a bit in the rows that it carries.
 use Prim.Native.Nat.{ℕ, zero, suc, _+_, _/_, _%_, _^_}
 use mathlib.Core.Bool.{Bool}
 use mathlib.Core.List.{List, [], _∷_}
@@ -24,12 +24,15 @@ holdKind = 4
 abbrev pub liftKind : ℕ
 liftKind = 5
 
+abbrev pub skipKind : ℕ
+skipKind = 6
+
 -- one row: the tag, the bytes of its value, and the sum of 2 ^ k over the kinds k that carry it
 abbrev pub row : ℕ → ℕ → ℕ → Field
 row t s ks = record { tag = t; size = s; kinds = ks }
 
 abbrev pub allKinds : ℕ
-allKinds = 2 ^ openKind + 2 ^ changeKind + 2 ^ closeKind + 2 ^ holdKind + 2 ^ liftKind
+allKinds = 2 ^ openKind + 2 ^ changeKind + 2 ^ closeKind + 2 ^ holdKind + 2 ^ liftKind + 2 ^ skipKind
 
 -- kind, sequence, title id, time, length, floor, cap, count
 unfoldable pub table : List Field
@@ -38,10 +41,10 @@ table =
     ∷ row 2 4 allKinds
     ∷ row 3 1 allKinds
     ∷ row 4 8 allKinds
-    ∷ row 5 4 (2 ^ openKind)
+    ∷ row 5 4 (2 ^ openKind + 2 ^ skipKind)
     ∷ row 6 1 (2 ^ openKind)
     ∷ row 7 1 (2 ^ openKind)
-    ∷ row 8 1 (2 ^ openKind + 2 ^ changeKind)
+    ∷ row 8 1 (2 ^ openKind + 2 ^ changeKind + 2 ^ skipKind)
     ∷ []
 
 -- the rows by what they hold, the first being the kind

@@ -7,7 +7,7 @@ use lib.Dec.{leb}
 use lib.ListN.{length, getD}
 use Rattle.notice.specs.declared.Notice.{Notice}
 use Rattle.notice.specs.declared.Kind.{Kind}
-use Rattle.notice.specs.declared.Kind.the-variants.{Open, Change, Close, Hold, Lift}
+use Rattle.notice.specs.declared.Kind.the-variants.{Open, Change, Close, Hold, Lift, Skip}
 use Rattle.notice.specs.declared.Found.{Found}
 use Rattle.notice.specs.declared.Found.the-variants as found
 use Rattle.notice.specs.Fields.{sizeOf, isCarried, rows}
@@ -25,6 +25,7 @@ KindTyped (Change n) = n < 2 ^ 8
 KindTyped Close = Unit {0}
 KindTyped Hold = Unit {0}
 KindTyped Lift = Unit {0}
+KindTyped (Skip d n) = (d < 2 ^ 32) × (n < 2 ^ 8)
 
 pub record Typed (n : Notice) : Type 0 where
   pub sequence-fits : n .sequence < 2 ^ 32

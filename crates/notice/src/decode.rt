@@ -6,6 +6,7 @@ use super::HOLD;
 use super::Kind;
 use super::Notice;
 use super::OPEN;
+use super::SKIP;
 use super::fields::CAP;
 use super::fields::COUNT;
 use super::fields::FLOOR;
@@ -98,6 +99,11 @@ fn kind_in(bytes: &[u8], place: usize, kind: u8) -> Kind
     if kind == CHANGE {
         let count = value(bytes, place, kind, COUNT) as u8;
         return Kind::Change { count };
+    }
+    if kind == SKIP {
+        let length = value(bytes, place, kind, LENGTH) as u32;
+        let count = value(bytes, place, kind, COUNT) as u8;
+        return Kind::Skip { length, count };
     }
     if kind == CLOSE {
         return Kind::Close;

@@ -7,6 +7,7 @@ use super::Kind;
 use super::LIFT;
 use super::Notice;
 use super::OPEN;
+use super::SKIP;
 use super::fields::HEAD;
 use super::fields::ROWS;
 use super::fields::carried;
@@ -48,6 +49,16 @@ pub fn values(n: Notice) -> [u64; ROWS]
         Kind::Close => [CLOSE as u64, sequence, title, time, 0, 0, 0, 0],
         Kind::Hold => [HOLD as u64, sequence, title, time, 0, 0, 0, 0],
         Kind::Lift => [LIFT as u64, sequence, title, time, 0, 0, 0, 0],
+        Kind::Skip { length, count } => [
+            SKIP as u64,
+            sequence,
+            title,
+            time,
+            length as u64,
+            0,
+            0,
+            count as u64,
+        ],
     }
 }
 

@@ -35,7 +35,7 @@ pub const COUNT: usize = 7;
 pub const HEAD: usize = 3;
 
 // The bits of the rows that every kind carries: one for each kind that there is.
-const ALL: u8 = 0b0011_1110;
+const ALL: u8 = 0b0111_1110;
 
 const FIELDS: [Field; ROWS] = [
     Field {
@@ -61,7 +61,7 @@ const FIELDS: [Field; ROWS] = [
     Field {
         tag: 5,
         size: 4,
-        kinds: 0b0000_0010,
+        kinds: 0b0100_0010,
     },
     Field {
         tag: 6,
@@ -76,7 +76,7 @@ const FIELDS: [Field; ROWS] = [
     Field {
         tag: 8,
         size: 1,
-        kinds: 0b0000_0110,
+        kinds: 0b0100_0110,
     },
 ];
 

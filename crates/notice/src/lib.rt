@@ -1,6 +1,6 @@
-// The notices that carry the head-end's events to every box (01, "Notices"; hold and lift by 02, request 7): one record
-// in memory, its bytes, and a reader of logs. Every record can be written, since each part has exactly the width of its
-// field in the table.
+// The notices that carry the head-end's events to every box (01, "Notices"; hold and lift by 02, request 7, the
+// opening of a skip-forward title by request 12): one record in memory, its bytes, and a reader of logs. Every record can be
+// written, since each part has exactly the width of its field in the table.
 // No public function has a `requires`: any bytes and any place have an answer.
 
 use decode::notice_in;
@@ -44,6 +44,10 @@ pub enum Kind {
     Close,
     Hold,
     Lift,
+    Skip {
+        length: u32,
+        count: u8,
+    },
 }
 
 // The kinds by their numbers.
@@ -56,6 +60,9 @@ pub const CLOSE: u8 = 3;
 pub const HOLD: u8 = 4;
 
 pub const LIFT: u8 = 5;
+
+// Opens a skip-forward title.
+pub const SKIP: u8 = 6;
 
 // The bytes of the longest notice, an open.
 pub const LONGEST: usize = 45;
@@ -74,6 +81,10 @@ pub fn kind_number(kind: Kind) -> u8
         Kind::Close => CLOSE,
         Kind::Hold => HOLD,
         Kind::Lift => LIFT,
+        Kind::Skip {
+            length: _,
+            count: _,
+        } => SKIP,
     }
 }
 

@@ -1,6 +1,6 @@
 // Runs notices through the product's calls and prints what they answer, for the gate to compare: case 12 of 01 and its
-// neighbours of 29 and 31 bytes, a hold and a lift (02, request 7), a room that is too short, a log read to its end,
-// and notices with one thing wrong.
+// neighbours of 29 and 31 bytes, a hold and a lift (02, request 7), the opening of a skip-forward title (request 12) and
+// its neighbours, rooms that are too short, a log read to its end, and notices with one thing wrong.
 
 use libc::STDOUT_FILENO;
 use notice::Found;
@@ -113,6 +113,51 @@ fn lift_bytes() -> [u8; 26] {
     ]
 }
 
+// The opening of skip-forward title 4 at 16, with sequence 9, for a film of 5,400,000 ms on 4 lanes, as worked out by hand,
+// and one byte more.
+fn skip_bytes() -> [u8; 38] {
+    [
+        1,
+        0,
+        1,
+        6,
+        2,
+        0,
+        4,
+        0,
+        0,
+        0,
+        9,
+        3,
+        0,
+        1,
+        4,
+        4,
+        0,
+        8,
+        0,
+        0,
+        0,
+        0,
+        0,
+        0,
+        0,
+        16,
+        5,
+        0,
+        4,
+        0,
+        82,
+        101,
+        192,
+        8,
+        0,
+        1,
+        4,
+        0,
+    ]
+}
+
 // A call's answer starts a line, and each number after it has a space before it.
 fn print_answer(n: u8) {
     io::print_decimal(STDOUT_FILENO, n as u64);
@@ -165,6 +210,10 @@ fn print_notice(n: Notice) {
         Kind::Close => {}
         Kind::Hold => {}
         Kind::Lift => {}
+        Kind::Skip { length, count } => {
+            print_number(length as u64);
+            print_number(count as u64);
+        }
     }
 }
 
@@ -248,6 +297,35 @@ fn print_written(sequence: u32, time: u64, kind: Kind) {
     print_bytes(&room);
 }
 
+// The opening of a skip-forward title read from its bytes, cut, whole and with a byte more, and with an open's kind; then
+// written again, into room enough and into a byte too little.
+fn skipping() {
+    let mut bytes = skip_bytes();
+    print_first(&bytes, 36);
+    print_first(&bytes, 37);
+    print_first(&bytes, 38);
+    bytes[3] = notice::OPEN;
+    print_first(&bytes, 37);
+    let n = Notice {
+        sequence: 9,
+        title: 4,
+        time: 16,
+        kind: Kind::Skip {
+            length: 5400000,
+            count: 4,
+        },
+    };
+    print_number(notice::size(n) as u64);
+    end_line();
+    let mut room = [255u8; 38];
+    print_answer(notice::write(n, &mut room));
+    print_bytes(&room);
+    let mut short = [255u8; 36];
+    print_answer(notice::write(n, &mut short));
+    print_bytes(&short);
+    print_reading(survives(n));
+}
+
 // Case 12 with one byte changed.
 fn changed(at: usize, to: u8)
     requires { ⌜ at < 30 ⌝ }
@@ -318,10 +396,12 @@ fn main() {
     neighbours();
     written();
     doors();
-    // an unknown kind, a hold and a lift with a count, another tag, a descending tag, and another length in either byte
+    skipping();
+    // an unknown kind, a hold and a lift with a count, a skip without a length, another tag, a descending tag, and another length in either byte
     changed(3, 7);
     changed(3, 4);
     changed(3, 5);
+    changed(3, 6);
     changed(4, 9);
     changed(11, 1);
     changed(6, 5);

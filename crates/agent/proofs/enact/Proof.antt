@@ -52,6 +52,18 @@ enum-told-3 c = search needs
 lift-requires : tie.Need-lift-requires
 lift-requires c κs = search needs
 
+enum-known-kind-3 : tie.Need-enum-known-kind-3
+enum-known-kind-3 c = search needs
+
+cast-skip : tie.Need-cast-skip
+cast-skip c = search needs
+
+cast-skip-2 : tie.Need-cast-skip-2
+cast-skip-2 c = search needs
+
+skip-requires : tie.Need-skip-requires
+skip-requires c κs = search needs
+
 returns : tie.Need-returns
 returns c = enacts _ (c .before .before .before .before .before .args .n) _ _ _ (c .before .before .kind .given .1) (c .«open» .ensures .0) (c .«open» .ensures .1)
 
@@ -66,6 +78,11 @@ returns-4 c = enacts _ (c .before .before .before .before .args .n) _ _ _ (c .be
 
 returns-5 : tie.Need-returns-5
 returns-5 c = enacts _ (c .before .before .before .before .args .n) _ _ _ (c .before .enum-told3 .given .1) (c .lift .ensures .0) (c .lift .ensures .1)
+
+returns-6 : tie.Need-returns-6
+returns-6 c =
+    enacts _ (c .before .before .before .before .before .args .n) _ _ _ (c .before .before .kind3 .given .1) (c .skip .ensures .0)
+    (c .skip .ensures .1)
 
 pub enact-spec : {M : Type 1} → statement M
 enact-spec =
@@ -87,8 +104,13 @@ enact-spec =
     hold-requires
     enum-told-3
     lift-requires
+    enum-known-kind-3
+    cast-skip
+    cast-skip-2
+    skip-requires
     returns
     returns-2
     returns-3
     returns-4
-    returns-5)
+    returns-5
+    returns-6)

@@ -64,21 +64,46 @@ unfolding kindIn
 returns-2 c =
     simp (ne-eqb _ _ (c .before .before .if1 .left), eq-eqb _ _ (c .before .if2 .taken), c .value5 .ensures .0)
 
+value-requires-6 : tie.Need-value-requires-6
+unfolding table
+value-requires-6 c κs = (omega arith, (c .before .before .before .before .pre .0, rw (c .if3 .taken)))
+
+cast-length-2 : tie.Need-cast-length-2
+unfolding table
+cast-length-2 c = record { fits = c .value6 .ensures .1 }
+
+value-requires-7 : tie.Need-value-requires-7
+unfolding table
+value-requires-7 c κs =
+    let tested = c .before in
+    (omega arith, (tested .before .before .before .before .pre .0, rw (tested .if3 .taken)))
+
+cast-count-3 : tie.Need-cast-count-3
+unfolding table
+cast-count-3 c = record { fits = c .value7 .ensures .1 }
+
 returns-3 : tie.Need-returns-3
 unfolding kindIn
 returns-3 c =
-    let change = c .before in
-    simp (ne-eqb _ _ (change .before .if1 .left), ne-eqb _ _ (change .if2 .left), eq-eqb _ _ (c .if3 .taken))
+    let skip = c .before .before in
+    let change = skip .before in
+    simp (
+      ne-eqb _ _ (change .before .if1 .left),
+      ne-eqb _ _ (change .if2 .left),
+      eq-eqb _ _ (skip .if3 .taken),
+      c .before .value6 .ensures .0,
+      c .value7 .ensures .0,
+    )
 
 returns-4 : tie.Need-returns-4
 unfolding kindIn
 returns-4 c =
-    let close = c .before in
-    let change = close .before in
+    let skip = c .before in
+    let change = skip .before in
     simp (
       ne-eqb _ _ (change .before .if1 .left),
       ne-eqb _ _ (change .if2 .left),
-      ne-eqb _ _ (close .if3 .left),
+      ne-eqb _ _ (skip .if3 .left),
       eq-eqb _ _ (c .if4 .taken),
     )
 
@@ -86,12 +111,28 @@ returns-5 : tie.Need-returns-5
 unfolding kindIn
 returns-5 c =
     let close = c .before in
-    let change = close .before in
+    let skip = close .before in
+    let change = skip .before in
     simp (
       ne-eqb _ _ (change .before .if1 .left),
       ne-eqb _ _ (change .if2 .left),
-      ne-eqb _ _ (close .if3 .left),
-      ne-eqb _ _ (c .if4 .left),
+      ne-eqb _ _ (skip .if3 .left),
+      ne-eqb _ _ (close .if4 .left),
+      eq-eqb _ _ (c .if5 .taken),
+    )
+
+returns-6 : tie.Need-returns-6
+unfolding kindIn
+returns-6 c =
+    let close = c .before in
+    let skip = close .before in
+    let change = skip .before in
+    simp (
+      ne-eqb _ _ (change .before .if1 .left),
+      ne-eqb _ _ (change .if2 .left),
+      ne-eqb _ _ (skip .if3 .left),
+      ne-eqb _ _ (close .if4 .left),
+      ne-eqb _ _ (c .if5 .left),
     )
 
 pub kind-in-spec : {M : Type 1} → statement M
@@ -110,6 +151,11 @@ kind-in-spec =
     value-requires-5
     cast-count-2
     returns-2
+    value-requires-6
+    cast-length-2
+    value-requires-7
+    cast-count-3
     returns-3
     returns-4
-    returns-5)
+    returns-5
+    returns-6)
