@@ -9,6 +9,8 @@ use Rattle.rules.specs.Refusals.{pick, done}
 use Rattle.story.specs.declared.State.{State}
 use Rattle.story.specs.Calls.{laneAnswer, laneShows, statusAnswer, statusCount, statusHeld, statusMark}
 use Rattle.plan.specs.Row.{Planned}
+use Rattle.skipping.specs.Plan.{blocks}
+use Rattle.skipping.specs.Row.{SkipPlanned}
 use Rattle.rom.specs.Lanes.{romLaneAnswer, romLaneShows}
 use Rattle.rom.specs.Plans.{RomPlanned}
 use Rattle.sharing.specs.Verdict.{Answered}
@@ -18,7 +20,7 @@ use Rattle.console_answers.specs.Words.{missed}
 use Rattle.console_answers.specs.Entries.{numbersText, cellsText, titlesText}
 use Rattle.console_answers.specs.Outcomes.{doneText, withText, valueText}
 use Rattle.console_answers.specs.Questions.{laneText, statusText, plannedText, planText, romLaneText}
-use Rattle.console_answers.specs.Questions.{romPlanText, shareText}
+use Rattle.console_answers.specs.Questions.{romPlanText, skipPlanText, shareText}
 
 -- what is told stands behind the 0
 pub told : (p q r : Page) (a x : ℕ) (more : List ℕ) → q ≡ puts p (doneText a x) → a ≡ done → r ≡ puts q more
@@ -82,6 +84,16 @@ module _ (p q r : Page) where
     pub rom-planned-told : RomPlanned A K k a row n row' → r ≡ puts p (romPlanText A K k a row)
     unfolding romPlanText
     rom-planned-told e = rw (← e .answer, ← e .left) g
+
+  -- the plan of a skip-forward title's box
+  module _ (k a n : ℕ) (row row' : List ℕ) (e : SkipPlanned k a row n row') (g : q ≡ puts p (doneText n 0)) where
+    pub skip-plan-refused : (n ≡ done → ⊥) → q ≡ puts p (skipPlanText k a row)
+    unfolding skipPlanText
+    skip-plan-refused z = rw (sym (e .answer)) (refused p q n 0 _ g z)
+
+    pub skip-plan-told : n ≡ done → r ≡ puts q (cellsText row' (blocks k)) → r ≡ puts p (skipPlanText k a row)
+    unfolding skipPlanText
+    skip-plan-told z f = rw (sym (e .answer)) (told p q r n 0 _ g z (rw (e .left) at f))
 
   module _ (pool n : ℕ) (rates lengths floors caps row row' : List ℕ)
       (e : Answered pool rates lengths floors caps row n row')

@@ -4,7 +4,7 @@ use mathlib.Core.List.{List, [], _∷_, _++_}
 use Rattle.rules.specs.Refusals.{malformed}
 use Rattle.notice.specs.declared.Notice.{Notice}
 use Rattle.notice.specs.declared.Kind.{Kind}
-use Rattle.notice.specs.declared.Kind.the-variants.{Open, Change, Close, Hold, Lift}
+use Rattle.notice.specs.declared.Kind.the-variants.{Open, Change, Close, Hold, Lift, Skip}
 use Rattle.notice.specs.declared.Reading.{Reading}
 use Rattle.notice.specs.declared.Reading.the-variants as reading
 use Rattle.text.specs.Texts.{text}
@@ -18,6 +18,7 @@ kindText id time (Change n) = text " change" ++ numbersText (id ∷ time ∷ n �
 kindText id time Close = text " close" ++ numbersText (id ∷ time ∷ []) 2
 kindText id time Hold = text " hold" ++ numbersText (id ∷ time ∷ []) 2
 kindText id time Lift = text " lift" ++ numbersText (id ∷ time ∷ []) 2
+kindText id time (Skip d n) = text " skip" ++ numbersText (id ∷ time ∷ d ∷ n ∷ []) 4
 
 unfoldable pub noticeText : Notice → List ℕ
 noticeText n = (text "0" ++ entry (n .sequence)) ++ kindText (n .title) (n .time) (n .kind)

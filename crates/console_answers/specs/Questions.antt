@@ -1,4 +1,5 @@
--- What the console's questions answer (docs/CONSOLE.md, "Commands": lane, status, plan, share, romlane, romplan and planner).
+-- What the console's questions answer (docs/CONSOLE.md, "Commands": lane, status, plan, share, romlane, romplan, skipplan and
+-- planner).
 use Prim.Native.Nat.{ℕ, zero, suc, _+_, _-_, _*_, _/_, min}
 use mathlib.Core.List.{List, map}
 use lib.ListN.{length, getD, take, drop, set, replicate}
@@ -7,6 +8,8 @@ use Rattle.story.specs.Calls.{laneAnswer, laneShows, statusAnswer, statusCount,
 use Rattle.grid.specs.Ticks.{cells}
 use Rattle.grid.specs.Plan.{planAnswer}
 use Rattle.plan.specs.Row as plan
+use Rattle.skipping.specs.Plan.{blocks, skipAnswer}
+use Rattle.skipping.specs.Row.{skipRow}
 use Rattle.rom.specs.Lanes.{romLaneAnswer, romLaneShows}
 use Rattle.rom.specs.Plans.{romPlanAnswer, romPlanRow}
 use Rattle.planner.specs.Moves.{Move}
@@ -47,6 +50,10 @@ romLaneText s i l τ = valueText (romLaneAnswer s i l τ) (romLaneShows s i l τ
 
 unfoldable pub romPlanText : ℕ → ℕ → ℕ → ℕ → List ℕ → List ℕ
 romPlanText A K k a row = plannedText (romPlanAnswer A K k a (length row)) A K (romPlanRow A K k a row)
+
+-- the 2^(k-1) numbers of a skip-forward title's plan
+unfoldable pub skipPlanText : ℕ → ℕ → List ℕ → List ℕ
+skipPlanText k a row = withText (skipAnswer k a (length row)) 0 (cellsText (skipRow k a row) (blocks k))
 
 unfoldable pub zeros : ℕ → List ℕ
 zeros n = replicate n 0

@@ -32,7 +32,8 @@ refusals =
     text "floor above its cap" ∷
     text "change too soon, not before " ∷
     text "doors already held or lifted" ∷
-    text "an event would fall after the clock's last time" ∷ []
+    text "an event would fall after the clock's last time" ∷
+    text "a skip-forward title has a steady count and no doors to hold" ∷ []
 
 unfoldable pub refusalWords : ℕ → List ℕ
 refusalWords n = getD refusals n []
@@ -81,4 +82,4 @@ faultText f p = ((text "? " ++ faultWords f) ++ text " at byte ") ++ decimal (fr
 unfoldable pub helpText : List ℕ
 helpText =
     text
-    "fresh POOL\nopen ID TIME LENGTH FLOOR CAP COUNT\nchange ID TIME COUNT\nclose ID TIME\nhold ID TIME\nlift ID TIME\nlane ID LANE TIME\nstatus TIME ID ..\nplan FLOOR CAP COUNT ARRIVAL [PLACES]\nshare POOL RATE LENGTH FLOOR CAP ..\nromlane ID LANE TIME\nromplan FLOOR CAP COUNT ARRIVAL [PLACES]\nplanner TIME ROOM RATE ..\nwrite SEQ open ID TIME LENGTH FLOOR CAP COUNT\nwrite SEQ change ID TIME COUNT\nwrite SEQ close ID TIME\nwrite SEQ hold ID TIME\nwrite SEQ lift ID TIME\nread HEX\nnotice HEX\nhelp"
+    "fresh POOL\nopen ID TIME LENGTH FLOOR CAP COUNT\nchange ID TIME COUNT\nclose ID TIME\nhold ID TIME\nlift ID TIME\nskip ID TIME LENGTH COUNT\nlane ID LANE TIME\nstatus TIME ID ..\nplan FLOOR CAP COUNT ARRIVAL [PLACES]\nshare POOL RATE LENGTH FLOOR CAP ..\nromlane ID LANE TIME\nromplan FLOOR CAP COUNT ARRIVAL [PLACES]\nplanner TIME ROOM RATE ..\nskipplan COUNT ARRIVAL [PLACES]\nwrite SEQ open ID TIME LENGTH FLOOR CAP COUNT\nwrite SEQ change ID TIME COUNT\nwrite SEQ close ID TIME\nwrite SEQ hold ID TIME\nwrite SEQ lift ID TIME\nwrite SEQ skip ID TIME LENGTH COUNT\nread HEX\nnotice HEX\nhelp"

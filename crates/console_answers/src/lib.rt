@@ -11,5 +11,6 @@ pub mod parts;
 pub mod plans;
 pub mod roms;
 pub mod shares;
+pub mod skips;
 pub mod titles;
 pub mod words;

@@ -10,6 +10,7 @@ use text::output;
 ghost use mathlib.Core.Path.{_≡_};
 ghost use mathlib.Core.List.{_++_};
 ghost use lib.ListN.{length};
+ghost use Rattle.notice.specs.declared.Kind.the-variants.{Open};
 ghost use Rattle.text.specs.Output.{Written};
 ghost use Rattle.console_answers.specs.Entries.{numbersText};
 ghost use Rattle.console_answers.specs.Notices.{kindText, noticeText, readingText};
@@ -23,6 +24,23 @@ fn put_event(out: &mut [u8], at: usize, word: &[u8], row: &[u64]) -> usize
     entries::put_numbers(out, a, row)
 }
 
+// An opening on the padded grid, which has the most numbers.
+fn put_open(
+    out: &mut [u8],
+    at: usize,
+    id: u64,
+    time: u64,
+    length: u64,
+    floor: u64,
+    cap: u64,
+    count: u64,
+) -> usize
+    ensures { λ r. ⌜ Written (now (out .entry)) at (kindText id time (Open length floor cap count)) (now (out .exit)) r ⌝ }
+{
+    let row = [id, time, length, floor, cap, count];
+    put_event(out, at, b" open", &row)
+}
+
 // The kind with the numbers of its notice.
 fn put_kind(out: &mut [u8], at: usize, id: u64, time: u64, kind: Kind) -> usize
     ensures { λ r. ⌜ Written (now (out .entry)) at (kindText id time kind) (now (out .exit)) r ⌝ }
@@ -33,17 +51,16 @@ fn put_kind(out: &mut [u8], at: usize, id: u64, time: u64, kind: Kind) -> usize
             floor,
             cap,
             count,
-        } => {
-            let row = [
-                id,
-                time,
-                length as u64,
-                floor as u64,
-                cap as u64,
-                count as u64,
-            ];
-            put_event(out, at, b" open", &row)
-        }
+        } => put_open(
+            out,
+            at,
+            id,
+            time,
+            length as u64,
+            floor as u64,
+            cap as u64,
+            count as u64,
+        ),
         Kind::Change { count } => {
             let row = [id, time, count as u64];
             put_event(out, at, b" change", &row)
@@ -59,6 +76,10 @@ fn put_kind(out: &mut [u8], at: usize, id: u64, time: u64, kind: Kind) -> usize
         Kind::Lift => {
             let row = [id, time];
             put_event(out, at, b" lift", &row)
+        }
+        Kind::Skip { length, count } => {
+            let row = [id, time, length as u64, count as u64];
+            put_event(out, at, b" skip", &row)
         }
     }
 }

@@ -17,7 +17,7 @@ ghost use Rattle.console_answers.specs.Words.{
 };
 
 // How many refusals there are, with done, and faults of a line, with none.
-const REFUSAL_COUNT: usize = 19;
+const REFUSAL_COUNT: usize = 20;
 
 const FAULT_COUNT: usize = 12;
 
@@ -43,6 +43,7 @@ const REFUSALS: [usize; REFUSAL_COUNT + 1] = [
     389,
     417,
     464,
+    524,
 ];
 
 // The same for the faults of a line, of which 0 is none.
@@ -70,7 +71,8 @@ fn refusal_words(out: &mut [u8], at: usize, number: u8) -> usize
         floor above its cap\
         change too soon, not before \
         doors already held or lifted\
-        an event would fall after the clock's last time";
+        an event would fall after the clock's last time\
+        a skip-forward title has a steady count and no doors to hold";
     let cuts = REFUSALS;
     put_part(out, at, words, &cuts, number)
 }
@@ -161,6 +163,6 @@ pub fn put_help(out: &mut [u8], at: usize) -> usize
     output::put(
         out,
         at,
-        b"fresh POOL\nopen ID TIME LENGTH FLOOR CAP COUNT\nchange ID TIME COUNT\nclose ID TIME\nhold ID TIME\nlift ID TIME\nlane ID LANE TIME\nstatus TIME ID ..\nplan FLOOR CAP COUNT ARRIVAL [PLACES]\nshare POOL RATE LENGTH FLOOR CAP ..\nromlane ID LANE TIME\nromplan FLOOR CAP COUNT ARRIVAL [PLACES]\nplanner TIME ROOM RATE ..\nwrite SEQ open ID TIME LENGTH FLOOR CAP COUNT\nwrite SEQ change ID TIME COUNT\nwrite SEQ close ID TIME\nwrite SEQ hold ID TIME\nwrite SEQ lift ID TIME\nread HEX\nnotice HEX\nhelp",
+        b"fresh POOL\nopen ID TIME LENGTH FLOOR CAP COUNT\nchange ID TIME COUNT\nclose ID TIME\nhold ID TIME\nlift ID TIME\nskip ID TIME LENGTH COUNT\nlane ID LANE TIME\nstatus TIME ID ..\nplan FLOOR CAP COUNT ARRIVAL [PLACES]\nshare POOL RATE LENGTH FLOOR CAP ..\nromlane ID LANE TIME\nromplan FLOOR CAP COUNT ARRIVAL [PLACES]\nplanner TIME ROOM RATE ..\nskipplan COUNT ARRIVAL [PLACES]\nwrite SEQ open ID TIME LENGTH FLOOR CAP COUNT\nwrite SEQ change ID TIME COUNT\nwrite SEQ close ID TIME\nwrite SEQ hold ID TIME\nwrite SEQ lift ID TIME\nwrite SEQ skip ID TIME LENGTH COUNT\nread HEX\nnotice HEX\nhelp",
     )
 }

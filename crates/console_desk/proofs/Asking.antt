@@ -17,11 +17,11 @@ use Rattle.console_answers.specs.Words.{helpText}
 use Rattle.console_answers.specs.Outcomes.{doneText}
 use Rattle.console_answers.specs.Notices.{readingText}
 use Rattle.console_answers.specs.Questions.{laneText, statusText, idsIn, planText, roomOf, shareIn}
-use Rattle.console_answers.specs.Questions.{romLaneText, romPlanText, plannerIn}
+use Rattle.console_answers.specs.Questions.{romLaneText, romPlanText, plannerIn, skipPlanText}
 use Rattle.console_desk.specs.Acts.{numberIn, bytesIn, answerAfter, agentActed}
 use Rattle.console_desk.specs.Named.{namedIn}
 use Rattle.console_desk.specs.Writing.{noticeIn}
-use Rattle.console_desk.specs.Desk.{followedText, actText, tellText, placesIn, romText, askText}
+use Rattle.console_desk.specs.Desk.{followedText, actText, tellText, planPlace, skipPlanPlace, placesIn, romText, askText}
 
 module _ (l : Line) (s : List ℕ) (p q : Page) where
   pub acts-fresh : (g : Agent) (n : ℕ) → l .command ≡ Commands.doFresh → n ≡ answerAfter g l s
@@ -59,7 +59,7 @@ module _ (l : Line) (s : List ℕ) (p q : Page) where
     asks-rom-lane h e = rw (eq-eqb _ _ h) e
 
     module _ (no-lane : l .command ≡ Commands.doRomLane → ⊥) where
-      pub asks-rom-plan : (places : ℕ) → l .command ≡ Commands.doRomPlan → places ≡ placesIn l
+      pub asks-rom-plan : (places : ℕ) → l .command ≡ Commands.doRomPlan → places ≡ placesIn l planPlace
           → q ≡ puts p (romPlanText (numberIn l 0) (numberIn l 1) (numberIn l 2) (numberIn l 3) (roomOf places))
           → q ≡ puts p (romText t l s)
       unfolding romText
@@ -87,7 +87,7 @@ module _ (l : Line) (s : List ℕ) (p q : Page) where
         asks-share h e = rw (ne-eqb _ _ no-lane, ne-eqb _ _ no-status, eq-eqb _ _ h) e
 
         module _ (no-share : l .command ≡ Commands.doShare → ⊥) where
-          pub asks-plan : (places : ℕ) → l .command ≡ Commands.doPlan → places ≡ placesIn l
+          pub asks-plan : (places : ℕ) → l .command ≡ Commands.doPlan → places ≡ placesIn l planPlace
               → q ≡ puts p (planText (numberIn l 0) (numberIn l 1) (numberIn l 2) (numberIn l 3) (roomOf places))
               → q ≡ puts p (askText t l s)
           unfolding askText
@@ -101,8 +101,13 @@ module _ (l : Line) (s : List ℕ) (p q : Page) where
             asks-planner h e =
                 rw (ne-eqb _ _ no-lane, ne-eqb _ _ no-status, ne-eqb _ _ no-share, ne-eqb _ _ no-plan, eq-eqb _ _ h) e
 
-            pub asks-else : (l .command ≡ Commands.doPlanner → ⊥) → q ≡ puts p (romText t l s)
-                → q ≡ puts p (askText t l s)
+            pub asks-else : (l .command ≡ Commands.doPlanner → ⊥) → (l .command ≡ Commands.doSkipPlan → ⊥)
+                → q ≡ puts p (romText t l s) → q ≡ puts p (askText t l s)
             unfolding askText
-            asks-else h e =
-                rw (ne-eqb _ _ no-lane, ne-eqb _ _ no-status, ne-eqb _ _ no-share, ne-eqb _ _ no-plan, ne-eqb _ _ h) e
+            asks-else h k e =
+                rw (ne-eqb _ _ no-lane, ne-eqb _ _ no-status, ne-eqb _ _ no-share, ne-eqb _ _ no-plan, ne-eqb _ _ h, ne-eqb _ _ k) e
+
+    pub asks-skip-plan : (places : ℕ) → l .command ≡ Commands.doSkipPlan → places ≡ placesIn l skipPlanPlace
+        → q ≡ puts p (skipPlanText (numberIn l 0) (numberIn l 1) (roomOf places)) → q ≡ puts p (askText t l s)
+    unfolding askText placesIn
+    asks-skip-plan places h f e = rw h (rw f at e)

@@ -1,10 +1,11 @@
 -- Each test on the command says which case of the definitions it is.
 use Prim.Native.Nat.{ℕ}
-use mathlib.Core.Path.{_≡_, ap}
+use mathlib.Core.Path.{_≡_, refl, ap}
 use mathlib.Core.List.{List}
 use borrow.Author.Tests.{eq-eqb, ne-eqb}
+use Rattle.scheme.specs.Scheme.{paddedKind}
 use Rattle.story.specs.declared.State.{State}
-use Rattle.story.specs.Story.{Act, opens, changes, closes, holds, lifts, Event}
+use Rattle.story.specs.Story.{Act, opens, skips, changes, closes, holds, lifts, Event}
 use Rattle.story.specs.Calls.{freshAnswer}
 use Rattle.story.specs.Runs.{answered, called}
 use Rattle.notice.specs.Decode.{readOf}
@@ -26,7 +27,7 @@ happened s l a n t e f g = rw e (f, g)
 
 module _ (l : Line) where
   pub is-open : l .command ≡ Commands.doOpen
-      → actIn l ≡ opens (numberIn l 2) (numberIn l 3) (numberIn l 4) (numberIn l 5)
+      → actIn l ≡ opens paddedKind (numberIn l 2) (numberIn l 3) (numberIn l 4) (numberIn l 5)
   unfolding actIn
   is-open h = rw (eq-eqb _ _ h)
 
@@ -43,9 +44,14 @@ module _ (l : Line) where
     unfolding actIn
     is-lift n h = rw (ne-eqb _ _ o, ne-eqb _ _ c, ne-eqb _ _ n, eq-eqb _ _ h)
 
-    pub is-close : (l .command ≡ Commands.doHold → ⊥) → (l .command ≡ Commands.doLift → ⊥) → actIn l ≡ closes
+    pub is-close : (l .command ≡ Commands.doHold → ⊥) → (l .command ≡ Commands.doLift → ⊥)
+        → (l .command ≡ Commands.doSkip → ⊥) → actIn l ≡ closes
     unfolding actIn
-    is-close n h = rw (ne-eqb _ _ o, ne-eqb _ _ c, ne-eqb _ _ n, ne-eqb _ _ h)
+    is-close n h k = rw (ne-eqb _ _ o, ne-eqb _ _ c, ne-eqb _ _ n, ne-eqb _ _ h, ne-eqb _ _ k)
+
+  pub is-skip : l .command ≡ Commands.doSkip → actIn l ≡ skips (numberIn l 2) (numberIn l 3)
+  unfolding actIn
+  is-skip h = rw h refl
 
 module _ (g : Agent) (l : Line) (s : List ℕ) (n : ℕ) (after : Agent) where
   -- what is to be shown of each way

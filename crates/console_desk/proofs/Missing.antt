@@ -28,12 +28,17 @@ module _ {x : ℕ} (a : ℕ) (s : State) where
     unfolding actIn
     opening h e = rw (eq-eqb _ _ h) e
 
-    -- any other event reads its title
-    pub other : (l .command ≡ Commands.doOpen → ⊥) → x ≡ missedAt a s (numberIn l 0)
+    pub skipping : l .command ≡ Commands.doSkip → x ≡ missed a (numberIn l 3) (numberIn l 3)
         → x ≡ missedBy a s (eventIn l)
     unfolding actIn
-    other h e =
-        rw (ne-eqb _ _ h)
+    skipping h e = rw h e
+
+    -- any other event reads its title
+    pub other : (l .command ≡ Commands.doOpen → ⊥) → (l .command ≡ Commands.doSkip → ⊥) → x ≡ missedAt a s (numberIn l 0)
+        → x ≡ missedBy a s (eventIn l)
+    unfolding actIn
+    other h k e =
+        rw (ne-eqb _ _ h, ne-eqb _ _ k)
         (go (eqb (l .command) Commands.doChange) (eqb (l .command) Commands.doHold) (eqb (l .command) Commands.doLift))
       where
         go : (b c d : Bool) →

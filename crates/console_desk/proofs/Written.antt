@@ -8,11 +8,11 @@ use lib.ListN.{length, take, drop}
 use lib.Seq.{take-at}
 use Rattle.notice.specs.declared.Notice.{Notice}
 use Rattle.notice.specs.declared.Kind.{Kind}
-use Rattle.notice.specs.declared.Kind.the-variants.{Open, Change, Close, Hold, Lift}
+use Rattle.notice.specs.declared.Kind.the-variants.{Open, Change, Close, Hold, Lift, Skip}
 use Rattle.notice.specs.Fields.{lengthOf}
 use Rattle.notice.specs.Encode.{kindOf, bytesOf, Writes}
 use Rattle.notice.proofs.Bytes.{length-notice}
-use Rattle.notice.proofs.Worked.{open-length, change-length, close-length, hold-length, lift-length}
+use Rattle.notice.proofs.Worked.{open-length, change-length, close-length, hold-length, lift-length, skip-length}
 use Rattle.console_lines.specs.Commands
 use Rattle.console_lines.specs.declared.lines.Line.{Line}
 use Rattle.console_desk.specs.Acts.{numberIn}
@@ -38,9 +38,14 @@ module _ (l : Line) where
     unfolding kindIn
     kind-lift n h = rw (ne-eqb _ _ o, ne-eqb _ _ c, ne-eqb _ _ n, eq-eqb _ _ h)
 
-    pub kind-close : (l .command ≡ Commands.writeHold → ⊥) → (l .command ≡ Commands.writeLift → ⊥) → Close ≡ kindIn l
+    pub kind-close : (l .command ≡ Commands.writeHold → ⊥) → (l .command ≡ Commands.writeLift → ⊥)
+        → (l .command ≡ Commands.writeSkip → ⊥) → Close ≡ kindIn l
     unfolding kindIn
-    kind-close n h = rw (ne-eqb _ _ o, ne-eqb _ _ c, ne-eqb _ _ n, ne-eqb _ _ h)
+    kind-close n h k = rw (ne-eqb _ _ o, ne-eqb _ _ c, ne-eqb _ _ n, ne-eqb _ _ h, ne-eqb _ _ k)
+
+  pub kind-skip : (a d : ℕ) → l .command ≡ Commands.writeSkip → a ≡ fourBytesIn l 3 → d ≡ byteIn l 4 → Skip a d ≡ kindIn l
+  unfolding kindIn
+  kind-skip a d h e f = rw h (cc)
 
   pub notice-made : (a b : ℕ) (k : Kind) → a ≡ fourBytesIn l 0 → b ≡ byteIn l 1 → k ≡ kindIn l
       → record { sequence = a; title = b; time = numberIn l 2; kind = k } ≡ noticeIn l
@@ -54,6 +59,7 @@ short-kind (Change n) = omega (arith, change-length)
 short-kind Close = omega (arith, close-length)
 short-kind Hold = omega (arith, hold-length)
 short-kind Lift = omega (arith, lift-length)
+short-kind (Skip d n) = omega (arith, skip-length)
 
 pub short : (n : Notice) → length (bytesOf n) ≤ 45
 short n = rw length-notice (short-kind (n .kind))

@@ -4,8 +4,9 @@ use mathlib.Core.List.{List, []}
 use lib.Dec.{eqb, ltb}
 use lib.ListN.{length, getD, take, drop}
 use Rattle.rules.specs.Refusals.{pick}
+use Rattle.scheme.specs.Scheme.{paddedKind}
 use Rattle.story.specs.Calls.{freshAnswer}
-use Rattle.story.specs.Story.{Act, opens, changes, closes, holds, lifts, Event}
+use Rattle.story.specs.Story.{Act, opens, skips, changes, closes, holds, lifts, Event}
 use Rattle.story.specs.Runs.{answered, called}
 use Rattle.notice.specs.Decode.{readOf}
 use Rattle.agent.specs.declared.Agent.{Agent}
@@ -32,11 +33,12 @@ bytesIn s l = bytesOf s (numberIn l 0) (numberIn l 1)
 
 unfoldable pub actIn : Line → Act
 actIn l =
-    pick (eqb (l .command) Commands.doOpen) (opens (numberIn l 2) (numberIn l 3) (numberIn l 4) (numberIn l 5))
+    pick (eqb (l .command) Commands.doOpen) (opens paddedKind (numberIn l 2) (numberIn l 3) (numberIn l 4) (numberIn l 5))
     (pick (eqb (l .command) Commands.doChange) (changes (numberIn l 2))
     (pick (eqb (l .command) Commands.doHold) holds
     (pick (eqb (l .command) Commands.doLift) lifts
-    closes)))
+    (pick (eqb (l .command) Commands.doSkip) (skips (numberIn l 2) (numberIn l 3))
+    closes))))
 
 -- the event of a line: id, time, and what its word says
 abbrev pub eventIn : Line → Event

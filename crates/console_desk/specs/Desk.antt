@@ -20,14 +20,14 @@ use Rattle.console_answers.specs.Words.{faultText, helpText}
 use Rattle.console_answers.specs.Outcomes.{doneText, valueText}
 use Rattle.console_answers.specs.Notices.{readingText}
 use Rattle.console_answers.specs.Questions.{laneText, statusText, idsIn, planText, roomOf, shareIn}
-use Rattle.console_answers.specs.Questions.{romLaneText, romPlanText, plannerIn}
+use Rattle.console_answers.specs.Questions.{romLaneText, romPlanText, plannerIn, skipPlanText}
 use Rattle.console_desk.specs.Acts.{numberIn, bytesIn, answerAfter, agentActed}
 use Rattle.console_desk.specs.Named.{namedIn}
 use Rattle.console_desk.specs.Writing.{noticeIn}
 
 -- the commands that may change the agent: fresh, the events, notice
 unfoldable pub mayChange : ℕ → Bool
-mayChange c = either (eqb c Commands.doNotice) (within Commands.doFresh Commands.doLift c)
+mayChange c = either (eqb c Commands.doNotice) (within Commands.doFresh Commands.doSkip c)
 
 -- what an event or a notice was answered, with the lanes held at its time, which is that of the last accepted event; of
 -- a refusal, the number that its words name
@@ -46,16 +46,24 @@ tellText l s =
     (pick (eqb (l .command) Commands.doRead) (readingText (readOf (bytesIn s l)))
     (hexText (bytesOf (noticeIn l))))
 
+-- where the places stand in a line that asks for a plan: behind the four numbers of a title and a box, or behind count and
+-- arrival
+abbrev pub planPlace : ℕ
+planPlace = 4
+
+abbrev pub skipPlanPlace : ℕ
+skipPlanPlace = 2
+
 -- the places that a plan is lent, the most where the line leaves them out
-unfoldable pub placesIn : Line → ℕ
-placesIn l = pick (ltb 4 (l .count)) (numberIn l 4) Commands.placesMost
+unfoldable pub placesIn : Line → ℕ → ℕ
+placesIn l i = pick (ltb i (l .count)) (numberIn l i) Commands.placesMost
 
 -- a question to the small box, or what is told
 unfoldable pub romText : State → Line → List ℕ → List ℕ
 romText t l s =
     pick (eqb (l .command) Commands.doRomLane) (romLaneText t (numberIn l 0) (numberIn l 1) (numberIn l 2))
     (pick (eqb (l .command) Commands.doRomPlan)
-    (romPlanText (numberIn l 0) (numberIn l 1) (numberIn l 2) (numberIn l 3) (roomOf (placesIn l)))
+    (romPlanText (numberIn l 0) (numberIn l 1) (numberIn l 2) (numberIn l 3) (roomOf (placesIn l planPlace)))
     (tellText l s))
 
 -- a question, which changes nothing
@@ -65,9 +73,11 @@ askText t l s =
     (pick (eqb (l .command) Commands.doStatus) (statusText t (numberIn l 0) (idsIn (l .numbers) (l .count)))
     (pick (eqb (l .command) Commands.doShare) (shareIn (l .numbers) (l .count))
     (pick (eqb (l .command) Commands.doPlan)
-    (planText (numberIn l 0) (numberIn l 1) (numberIn l 2) (numberIn l 3) (roomOf (placesIn l)))
+    (planText (numberIn l 0) (numberIn l 1) (numberIn l 2) (numberIn l 3) (roomOf (placesIn l planPlace)))
     (pick (eqb (l .command) Commands.doPlanner) (plannerIn t (l .numbers) (l .count))
-    (romText t l s)))))
+    (pick (eqb (l .command) Commands.doSkipPlan)
+    (skipPlanText (numberIn l 0) (numberIn l 1) (roomOf (placesIn l skipPlanPlace)))
+    (romText t l s))))))
 
 abbrev pub newline : List ℕ
 newline = 10 ∷ []

@@ -27,7 +27,7 @@ missedAt a t i =
 
 -- of what an event does to an id: an opening has its own floor and cap
 abbrev pub missedAs : ℕ → State → ℕ → Act → ℕ
-missedAs a t i (opens D A K k) = missed a A K
+missedAs a t i (opens m D A K k) = missed a A K
 missedAs a t i (changes k) = missedAt a t i
 missedAs a t i closes = missedAt a t i
 missedAs a t i (doors b) = missedAt a t i

@@ -1,11 +1,11 @@
 -- The notice that a line writes (docs/CONSOLE.md, "Commands": write). A number too large for its field is an error of
 -- the line, so that none is cut here.
-use Prim.Native.Nat.{ℕ, _+_, min}
+use Prim.Native.Nat.{ℕ, min}
 use lib.Dec.{eqb}
 use Rattle.rules.specs.Refusals.{pick}
 use Rattle.notice.specs.declared.Notice.{Notice}
 use Rattle.notice.specs.declared.Kind.{Kind}
-use Rattle.notice.specs.declared.Kind.the-variants.{Open, Change, Close, Hold, Lift}
+use Rattle.notice.specs.declared.Kind.the-variants.{Open, Change, Close, Hold, Lift, Skip}
 use Rattle.text.specs.Numbers.{byteMost, fourBytesMost}
 use Rattle.console_lines.specs.Commands
 use Rattle.console_lines.specs.declared.lines.Line.{Line}
@@ -23,7 +23,8 @@ kindIn l =
     (pick (eqb (l .command) (Commands.writeChange)) (Change (byteIn l 3))
     (pick (eqb (l .command) Commands.writeHold) Hold
     (pick (eqb (l .command) Commands.writeLift) Lift
-    Close)))
+    (pick (eqb (l .command) Commands.writeSkip) (Skip (fourBytesIn l 3) (byteIn l 4))
+    Close))))
 
 unfoldable pub noticeIn : Line → Notice
 noticeIn l = record { sequence = fourBytesIn l 0; title = byteIn l 1; time = numberIn l 2; kind = kindIn l }

@@ -33,6 +33,9 @@ fn happen(s: State, line: Line) -> Outcome
     if command == commands::LIFT {
         return scheduler::lift(s, n[0], n[1]);
     }
+    if command == commands::SKIP {
+        return scheduler::skip(s, n[0], n[1], n[2], n[3]);
+    }
     scheduler::close(s, n[0], n[1])
 }
 

@@ -11,6 +11,7 @@ use console_answers::outcomes;
 use console_answers::plans;
 use console_answers::roms;
 use console_answers::shares;
+use console_answers::skips;
 use console_answers::titles;
 use console_answers::words;
 use console_lines::commands;
@@ -19,10 +20,10 @@ use console_lines::lines::Line;
 use story::State;
 use text::output;
 ghost use mathlib.Core.Path.{_≡_};
-ghost use Prim.Native.Nat.{_≤_};
+ghost use Prim.Native.Nat.{_<_, _≤_};
 ghost use lib.ListN.{length};
 ghost use Rattle.text.specs.Output.{Written};
-ghost use Rattle.console_lines.specs.Lines.{longest};
+ghost use Rattle.console_lines.specs.Lines.{longest, numbersMost};
 ghost use Rattle.console_desk.specs.Acts.{agentActed};
 ghost use Rattle.console_desk.specs.Desk.{
   mayChange,
@@ -59,7 +60,7 @@ fn may_change(command: u8) -> bool
     }
     rules::within(
         commands::FRESH as u64,
-        commands::LIFT as u64,
+        commands::SKIP as u64,
         command as u64,
     )
 }
@@ -114,14 +115,21 @@ fn tell(line: Line, s: &[u8], out: &mut [u8], at: usize) -> usize
     writing::put_bytes(out, at, writing::notice_of(line))
 }
 
-// The places that a plan is lent, the most where the line leaves them out.
-fn places_of(line: Line) -> u64
-    ensures { λ r. ⌜ r ≡ placesIn line ⌝ }
+// Where the places stand in a line that asks for a plan: behind the four numbers of a title and a box, or behind count and
+// arrival.
+const PLAN_PLACE: usize = 4;
+
+const SKIP_PLAN_PLACE: usize = 2;
+
+// The places that a plan is lent, from their own place in the line; the most where the line leaves them out.
+fn places_of(line: Line, place: usize) -> u64
+    requires { ⌜ place < numbersMost ⌝ }
+    ensures { λ r. ⌜ r ≡ placesIn line place ⌝ }
 {
     let count = line.count;
     let n = line.numbers;
-    if 4 < count {
-        return n[4];
+    if place < count {
+        return n[place];
     }
     commands::PLACES_MOST as u64
 }
@@ -137,7 +145,7 @@ fn ask_rom(state: State, line: Line, s: &[u8], out: &mut [u8], at: usize) -> usi
         return roms::put_lane(out, at, state, n[0], n[1], n[2]);
     }
     if command == commands::ROM_PLAN {
-        return roms::put_plan(out, at, n[0], n[1], n[2], n[3], places_of(line));
+        return roms::put_plan(out, at, n[0], n[1], n[2], n[3], places_of(line, PLAN_PLACE));
     }
     tell(line, s, out, at)
 }
@@ -159,10 +167,13 @@ fn ask(state: State, line: Line, s: &[u8], out: &mut [u8], at: usize) -> usize
         return shares::put_share(out, at, n, line.count);
     }
     if command == commands::PLAN {
-        return plans::put_plan(out, at, n[0], n[1], n[2], n[3], places_of(line));
+        return plans::put_plan(out, at, n[0], n[1], n[2], n[3], places_of(line, PLAN_PLACE));
     }
     if command == commands::PLANNER {
         return moves::put_planner(out, at, state, n, line.count);
+    }
+    if command == commands::SKIP_PLAN {
+        return skips::put_plan(out, at, n[0], n[1], places_of(line, SKIP_PLAN_PLACE));
     }
     ask_rom(state, line, s, out, at)
 }

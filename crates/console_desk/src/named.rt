@@ -36,7 +36,7 @@ fn by_title(answer: u8, s: State, id: u64) -> u64
     0
 }
 
-// Of the event of a line: an opening has its own floor and cap.
+// Of the event of a line: an opening has its own floor and cap, both of them its count if it is of a skip-forward title.
 fn by_event(answer: u8, s: State, line: Line) -> u64
     ensures { λ r. ⌜ r ≡ missedBy answer s (eventIn line) ⌝ }
 {
@@ -44,6 +44,9 @@ fn by_event(answer: u8, s: State, line: Line) -> u64
     let n = line.numbers;
     if command == commands::OPEN {
         return words::missed(answer, n[3], n[4]);
+    }
+    if command == commands::SKIP {
+        return words::missed(answer, n[3], n[3]);
     }
     by_title(answer, s, n[0])
 }
@@ -65,6 +68,7 @@ fn by_notice(answer: u8, s: State, n: Notice) -> u64
         Kind::Close => by_title(answer, s, id),
         Kind::Hold => by_title(answer, s, id),
         Kind::Lift => by_title(answer, s, id),
+        Kind::Skip { length: _, count } => words::missed(answer, count as u64, count as u64),
     }
 }
 

@@ -36,6 +36,12 @@ fn kind_of(line: Line) -> Kind
     if command == commands::WRITE_LIFT {
         return Kind::Lift;
     }
+    if command == commands::WRITE_SKIP {
+        return Kind::Skip {
+            length: numbers::as_four_bytes(n[3]),
+            count: numbers::as_byte(n[4]),
+        };
+    }
     Kind::Close
 }
 

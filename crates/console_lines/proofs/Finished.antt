@@ -103,9 +103,9 @@ kind-less c v n h g =
 kind-falls : (w : List ℕ) (l : Line) (a e : ℕ) → l .command ≡ Commands.doWrite → Falls l (withKind w l a e)
 unfolding withKind room
 kind-falls w l a e h =
-    pick-case (Falls l) (within Commands.doOpen Commands.doLift (Commands.verbOf w)) _ _
+    pick-case (Falls l) (within Commands.doOpen Commands.doSkip (Commands.verbOf w)) _ _
     (λ t u. kind-less (l .command) (Commands.verbOf w) (Commands.wordsMost - l .count) h
-    (leb-true _ _ (both-l (leb Commands.doOpen (Commands.verbOf w)) (leb (Commands.verbOf w) Commands.doLift) t)))
+    (leb-true _ _ (both-l (leb Commands.doOpen (Commands.verbOf w)) (leb (Commands.verbOf w) Commands.doSkip) t)))
     (λ t. stops l Commands.unknownWord a (λ u. omega arith))
 
 hex-one : (c : ℕ) → Commands.takesHex c ≡ true → Commands.mostOf c ≡ 1

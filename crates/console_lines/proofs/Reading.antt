@@ -23,7 +23,7 @@ use Rattle.console_lines.specs.Commands.{
   tooLong,
   unread,
   doOpen,
-  doLift,
+  doSkip,
   doWrite,
   mostOf,
   crowded,
@@ -87,11 +87,11 @@ module _ (s : List ℕ) (l : Line) (a e : ℕ) where
   unfolding withKind
   kind-low v q h = rw (← q, lt-leb _ _ h)
 
-  pub kind-high : (v : ℕ) → v ≡ verbOf s → doOpen ≤ v → doLift < v → withFault l unknownWord a ≡ withKind s l a e
+  pub kind-high : (v : ℕ) → v ≡ verbOf s → doOpen ≤ v → doSkip < v → withFault l unknownWord a ≡ withKind s l a e
   unfolding withKind
   kind-high v q h g = rw (← q, le-leb _ _ h, lt-leb _ _ g)
 
-  pub kind-told : (v : ℕ) → v ≡ verbOf s → doOpen ≤ v → v ≤ doLift
+  pub kind-told : (v : ℕ) → v ≡ verbOf s → doOpen ≤ v → v ≤ doSkip
       → record { command = doWrite + v; fault = l .fault; place = e; count = l .count; numbers = l .numbers }
       ≡ withKind s l a e
   unfolding withKind

@@ -29,59 +29,69 @@ doClose = 4
 abbrev pub doHold : ℕ
 doHold = 5
 
--- the last of the events
 abbrev pub doLift : ℕ
 doLift = 6
 
+-- opens a skip-forward title; the last of the events
+abbrev pub doSkip : ℕ
+doSkip = 7
+
 abbrev pub doLane : ℕ
-doLane = 7
+doLane = 8
 
 abbrev pub doStatus : ℕ
-doStatus = 8
+doStatus = 9
 
 abbrev pub doPlan : ℕ
-doPlan = 9
+doPlan = 10
 
 abbrev pub doShare : ℕ
-doShare = 10
+doShare = 11
 
 abbrev pub doRead : ℕ
-doRead = 11
+doRead = 12
 
 abbrev pub doNotice : ℕ
-doNotice = 12
+doNotice = 13
 
 -- lane and plan, asked of the small box
 abbrev pub doRomLane : ℕ
-doRomLane = 13
+doRomLane = 14
 
 abbrev pub doRomPlan : ℕ
-doRomPlan = 14
+doRomPlan = 15
 
 abbrev pub doPlanner : ℕ
-doPlanner = 15
+doPlanner = 16
+
+-- the plan of a skip-forward title's box
+abbrev pub doSkipPlan : ℕ
+doSkipPlan = 17
 
 -- a write whose kind has not been read; the kind's number is added to it
 abbrev pub doWrite : ℕ
-doWrite = 16
+doWrite = 18
 
 abbrev pub doHelp : ℕ
-doHelp = 17
+doHelp = 19
 
 abbrev pub writeOpen : ℕ
-writeOpen = 18
+writeOpen = 20
 
 abbrev pub writeChange : ℕ
-writeChange = 19
+writeChange = 21
 
 abbrev pub writeClose : ℕ
-writeClose = 20
+writeClose = 22
 
 abbrev pub writeHold : ℕ
-writeHold = 21
+writeHold = 23
 
 abbrev pub writeLift : ℕ
-writeLift = 22
+writeLift = 24
+
+abbrev pub writeSkip : ℕ
+writeSkip = 25
 
 -- the command that a word names
 unfoldable pub verbOf : List ℕ → ℕ
@@ -92,6 +102,7 @@ verbOf w =
     (pick (same w (text "close")) doClose
     (pick (same w (text "hold")) doHold
     (pick (same w (text "lift")) doLift
+    (pick (same w (text "skip")) doSkip
     (pick (same w (text "lane")) doLane
     (pick (same w (text "status")) doStatus
     (pick (same w (text "plan")) doPlan
@@ -101,8 +112,9 @@ verbOf w =
     (pick (same w (text "romlane")) doRomLane
     (pick (same w (text "romplan")) doRomPlan
     (pick (same w (text "planner")) doPlanner
+    (pick (same w (text "skipplan")) doSkipPlan
     (pick (same w (text "write")) doWrite
-    (pick (same w (text "help")) doHelp none))))))))))))))))
+    (pick (same w (text "help")) doHelp none))))))))))))))))))
 
 -- what a line may name at most: ids of a status, titles of a share and rates of a planner, places of a plan, as many as the
 -- longest has, and places for a planner's list, one for each title. One title or rate more than the product takes, so that
@@ -129,12 +141,12 @@ wordsMost = 1 + titleNumbers * titlesMost
 
 -- by command: the fewest words after its own, and the most
 abbrev pub leastTable : List ℕ
-leastTable = 0 ∷ 1 ∷ 6 ∷ 3 ∷ 2 ∷ 2 ∷ 2 ∷ 3 ∷ 1 ∷ 4 ∷ 1 ∷ 1 ∷ 1 ∷ 3 ∷ 4 ∷ 2 ∷ 2 ∷ 0 ∷ 7 ∷ 4 ∷ 3 ∷ 3 ∷ 3 ∷ []
+leastTable = 0 ∷ 1 ∷ 6 ∷ 3 ∷ 2 ∷ 2 ∷ 2 ∷ 4 ∷ 3 ∷ 1 ∷ 4 ∷ 1 ∷ 1 ∷ 1 ∷ 3 ∷ 4 ∷ 2 ∷ 2 ∷ 2 ∷ 0 ∷ 7 ∷ 4 ∷ 3 ∷ 3 ∷ 3 ∷ 5 ∷ []
 
 abbrev pub mostTable : List ℕ
 mostTable =
-    0 ∷ 1 ∷ 6 ∷ 3 ∷ 2 ∷ 2 ∷ 2 ∷ 3 ∷ (1 + idsMost) ∷ 5 ∷ wordsMost ∷ 1 ∷ 1 ∷ 3 ∷ 5 ∷ (2 + titlesMost) ∷ 2 ∷ 0 ∷ 7 ∷ 4 ∷ 3 ∷ 3
-    ∷ 3 ∷ []
+    0 ∷ 1 ∷ 6 ∷ 3 ∷ 2 ∷ 2 ∷ 2 ∷ 4 ∷ 3 ∷ (1 + idsMost) ∷ 5 ∷ wordsMost ∷ 1 ∷ 1 ∷ 3 ∷ 5 ∷ (2 + titlesMost)
+    ∷ 3 ∷ 2 ∷ 0 ∷ 7 ∷ 4 ∷ 3 ∷ 3 ∷ 3 ∷ 5 ∷ []
 
 unfoldable pub leastOf : ℕ → ℕ
 leastOf c = getD leastTable c 0
@@ -156,19 +168,21 @@ takesKind c n = both (eqb c doWrite) (eqb n 1)
 
 -- the command asks for a plan, whose places may stand last
 unfoldable pub asksPlan : ℕ → Bool
-asksPlan c = either (eqb c doPlan) (eqb c doRomPlan)
+asksPlan c = either (eqb c doPlan) (either (eqb c doSkipPlan) (eqb c doRomPlan))
 
 -- the largest value of each number of a command, where a larger one is an error of the line; 0 where any is handed on.
 -- Of a notice's fields (01, "Notices"), and of the places lent for a plan and for a planner's list
 unfoldable pub limitsOf : ℕ → List ℕ
 limitsOf c =
-    pick (asksPlan c) (0 ∷ 0 ∷ 0 ∷ 0 ∷ placesMost ∷ 0 ∷ 0 ∷ [])
+    pick (eqb c doSkipPlan) (0 ∷ 0 ∷ placesMost ∷ 0 ∷ 0 ∷ 0 ∷ 0 ∷ [])
+    (pick (asksPlan c) (0 ∷ 0 ∷ 0 ∷ 0 ∷ placesMost ∷ 0 ∷ 0 ∷ [])
     (pick (eqb c doWrite) (fourBytesMost ∷ 0 ∷ 0 ∷ 0 ∷ 0 ∷ 0 ∷ 0 ∷ [])
     (pick (eqb c writeOpen) (fourBytesMost ∷ byteMost ∷ top ∷ fourBytesMost ∷ byteMost ∷ byteMost ∷ byteMost ∷ [])
     (pick (eqb c writeChange) (fourBytesMost ∷ byteMost ∷ top ∷ byteMost ∷ 0 ∷ 0 ∷ 0 ∷ [])
     (pick (within writeClose writeLift c) (fourBytesMost ∷ byteMost ∷ top ∷ 0 ∷ 0 ∷ 0 ∷ 0 ∷ [])
+    (pick (eqb c writeSkip) (fourBytesMost ∷ byteMost ∷ top ∷ fourBytesMost ∷ byteMost ∷ 0 ∷ 0 ∷ [])
     (pick (eqb c doPlanner) (0 ∷ roomMost ∷ 0 ∷ 0 ∷ 0 ∷ 0 ∷ 0 ∷ [])
-    (0 ∷ 0 ∷ 0 ∷ 0 ∷ 0 ∷ 0 ∷ 0 ∷ []))))))
+    (0 ∷ 0 ∷ 0 ∷ 0 ∷ 0 ∷ 0 ∷ 0 ∷ []))))))))
 
 -- no command limits more of its numbers than these
 abbrev pub limited : ℕ

@@ -57,7 +57,7 @@ withNumber s l a e =
 -- the word is the kind of the notice to write: that of an event
 unfoldable pub withKind : List ℕ → Line → ℕ → ℕ → Line
 withKind w l a e =
-    pick (within Commands.doOpen Commands.doLift (Commands.verbOf w))
+    pick (within Commands.doOpen Commands.doSkip (Commands.verbOf w))
     (record {
       command = Commands.doWrite + Commands.verbOf w;
       fault = l .fault;

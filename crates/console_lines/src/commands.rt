@@ -37,42 +37,49 @@ pub const CLOSE: u8 = 4;
 
 pub const HOLD: u8 = 5;
 
-// The last of the events.
 pub const LIFT: u8 = 6;
 
-pub const LANE: u8 = 7;
+// Opens a skip-forward title; the last of the events.
+pub const SKIP: u8 = 7;
 
-pub const STATUS: u8 = 8;
+pub const LANE: u8 = 8;
 
-pub const PLAN: u8 = 9;
+pub const STATUS: u8 = 9;
 
-pub const SHARE: u8 = 10;
+pub const PLAN: u8 = 10;
 
-pub const READ: u8 = 11;
+pub const SHARE: u8 = 11;
 
-pub const NOTICE: u8 = 12;
+pub const READ: u8 = 12;
+
+pub const NOTICE: u8 = 13;
 
 // Lane and plan, asked of the small box.
-pub const ROM_LANE: u8 = 13;
+pub const ROM_LANE: u8 = 14;
 
-pub const ROM_PLAN: u8 = 14;
+pub const ROM_PLAN: u8 = 15;
 
-pub const PLANNER: u8 = 15;
+pub const PLANNER: u8 = 16;
+
+// The plan of a skip-forward title's box.
+pub const SKIP_PLAN: u8 = 17;
 
 // A write whose kind has not been read yet; the kind's own number is added to it.
-pub const WRITE: u8 = 16;
+pub const WRITE: u8 = 18;
 
-pub const HELP: u8 = 17;
+pub const HELP: u8 = 19;
 
-pub const WRITE_OPEN: u8 = 18;
+pub const WRITE_OPEN: u8 = 20;
 
-pub const WRITE_CHANGE: u8 = 19;
+pub const WRITE_CHANGE: u8 = 21;
 
-pub const WRITE_CLOSE: u8 = 20;
+pub const WRITE_CLOSE: u8 = 22;
 
-pub const WRITE_HOLD: u8 = 21;
+pub const WRITE_HOLD: u8 = 23;
 
-pub const WRITE_LIFT: u8 = 22;
+pub const WRITE_LIFT: u8 = 24;
+
+pub const WRITE_SKIP: u8 = 25;
 
 // What can be wrong with a line.
 pub const NO_FAULT: u8 = 0;
@@ -103,7 +110,7 @@ pub const TOO_MANY_PLACES: u8 = 11;
 pub const UNREAD: u8 = 12;
 
 // How many there are.
-const COMMANDS: usize = 23;
+const COMMANDS: usize = 26;
 
 // What a line may name at most: ids of a status, titles of a share and rates of a planner, places of a plan, as many as the
 // longest has, and places for a planner's list, one for each title. One title or rate more than the product takes, so that
@@ -135,6 +142,7 @@ const LEAST: [usize; COMMANDS] = [
     2,
     2,
     2,
+    4,
     3,
     1,
     4,
@@ -143,6 +151,7 @@ const LEAST: [usize; COMMANDS] = [
     1,
     3,
     4,
+    2,
     2,
     2,
     0,
@@ -151,6 +160,7 @@ const LEAST: [usize; COMMANDS] = [
     3,
     3,
     3,
+    5,
 ];
 
 const MOST: [usize; COMMANDS] = [
@@ -161,6 +171,7 @@ const MOST: [usize; COMMANDS] = [
     2,
     2,
     2,
+    4,
     3,
     STATUS_MOST,
     5,
@@ -170,6 +181,7 @@ const MOST: [usize; COMMANDS] = [
     3,
     5,
     PLANNER_MOST,
+    3,
     2,
     0,
     7,
@@ -177,6 +189,7 @@ const MOST: [usize; COMMANDS] = [
     3,
     3,
     3,
+    5,
 ];
 
 // verb where the word is that name, or other.
@@ -195,21 +208,23 @@ pub fn verb(word: &[u8]) -> u8
 {
     let a = named(word, b"help", HELP, NONE);
     let b = named(word, b"write", WRITE, a);
-    let c = named(word, b"planner", PLANNER, b);
-    let d = named(word, b"romplan", ROM_PLAN, c);
-    let e = named(word, b"romlane", ROM_LANE, d);
-    let f = named(word, b"notice", NOTICE, e);
-    let g = named(word, b"read", READ, f);
-    let h = named(word, b"share", SHARE, g);
-    let i = named(word, b"plan", PLAN, h);
-    let j = named(word, b"status", STATUS, i);
-    let k = named(word, b"lane", LANE, j);
-    let l = named(word, b"lift", LIFT, k);
-    let m = named(word, b"hold", HOLD, l);
-    let n = named(word, b"close", CLOSE, m);
-    let o = named(word, b"change", CHANGE, n);
-    let p = named(word, b"open", OPEN, o);
-    named(word, b"fresh", FRESH, p)
+    let c = named(word, b"skipplan", SKIP_PLAN, b);
+    let d = named(word, b"planner", PLANNER, c);
+    let e = named(word, b"romplan", ROM_PLAN, d);
+    let f = named(word, b"romlane", ROM_LANE, e);
+    let g = named(word, b"notice", NOTICE, f);
+    let h = named(word, b"read", READ, g);
+    let i = named(word, b"share", SHARE, h);
+    let j = named(word, b"plan", PLAN, i);
+    let k = named(word, b"status", STATUS, j);
+    let l = named(word, b"lane", LANE, k);
+    let m = named(word, b"skip", SKIP, l);
+    let n = named(word, b"lift", LIFT, m);
+    let o = named(word, b"hold", HOLD, n);
+    let p = named(word, b"close", CLOSE, o);
+    let q = named(word, b"change", CHANGE, p);
+    let r = named(word, b"open", OPEN, q);
+    named(word, b"fresh", FRESH, r)
 }
 
 // The most words that a command takes after its own.
@@ -271,6 +286,9 @@ fn asks_plan(command: u8) -> bool
     if command == PLAN {
         return true;
     }
+    if command == SKIP_PLAN {
+        return true;
+    }
     command == ROM_PLAN
 }
 
@@ -281,6 +299,9 @@ const LIMITED: usize = 7;
 fn limits(command: u8) -> [u64; LIMITED]
     ensures { λ r. ⌜ r ≡ limitsOf command ⌝ }
 {
+    if command == SKIP_PLAN {
+        return [0, 0, PLACES_MOST as u64, 0, 0, 0, 0];
+    }
     if asks_plan(command) {
         return [0, 0, 0, 0, PLACES_MOST as u64, 0, 0];
     }
@@ -303,6 +324,17 @@ fn limits(command: u8) -> [u64; LIMITED]
     }
     if rules::within(WRITE_CLOSE as u64, WRITE_LIFT as u64, command as u64) {
         return [FOUR_BYTES_MOST, BYTE_MOST, TOP, 0, 0, 0, 0];
+    }
+    if command == WRITE_SKIP {
+        return [
+            FOUR_BYTES_MOST,
+            BYTE_MOST,
+            TOP,
+            FOUR_BYTES_MOST,
+            BYTE_MOST,
+            0,
+            0,
+        ];
     }
     if command == PLANNER {
         return [0, ROOM_MOST as u64, 0, 0, 0, 0, 0];

@@ -100,7 +100,7 @@ fn take_kind(word: &[u8], line: Line, a: usize, e: usize) -> Line
     if v < commands::OPEN {
         return faulted(line, commands::UNKNOWN_WORD, a);
     }
-    if commands::LIFT < v {
+    if commands::SKIP < v {
         return faulted(line, commands::UNKNOWN_WORD, a);
     }
     let mut l = line;

@@ -5,6 +5,7 @@ use mathlib.Core.Path.{_≡_, ap, _∙_}
 use borrow.Author.Tests.{eq-eqb, ne-eqb, lt-ltb, le-ltb}
 use lib.Dec.{eqb}
 use Rattle.rules.specs.Refusals.{pick}
+use Rattle.scheme.specs.Scheme.{paddedKind}
 use Rattle.story.specs.declared.State.{State}
 use Rattle.story.specs.Calls.{freshNext, openAnswer, changeAnswer, laneAnswer, laneShows}
 use Rattle.story.specs.Next.{openNext, changeNext}
@@ -14,19 +15,19 @@ use Rattle.figures.specs.Transitions.{changedTo, sentOf}
 
 -- three calls in turn leave the state that the definitions name
 pub in-turn : (pool D A K k τ n : ℕ) (a b c : State) → a ≡ freshNext pool →
-    b ≡ pick (eqb (openAnswer a 0 0 D A K k) 0) (openNext a 0 0 D A K k) a →
+    b ≡ pick (eqb (openAnswer a 0 0 paddedKind D A K k) 0) (openNext a 0 0 paddedKind D A K k) a →
     c ≡ pick (eqb (changeAnswer b 0 τ n) 0) (changeNext b 0 τ n) b →
-    c ≡ called (called (freshNext pool) (record { time = 0; title = 0; act = opens D A K k }))
+    c ≡ called (called (freshNext pool) (record { time = 0; title = 0; act = opens paddedKind D A K k }))
     (record { time = τ; title = 0; act = changes n })
 in-turn pool D A K k τ n a b c first second third =
     third
     ∙ ap (λ (s : State). called s (record { time = τ; title = 0; act = changes n }))
-    (second ∙ ap (λ (s : State). called s (record { time = 0; title = 0; act = opens D A K k })) first)
+    (second ∙ ap (λ (s : State). called s (record { time = 0; title = 0; act = opens paddedKind D A K k })) first)
 
 -- the three states of figures 6 and 7
 pub record Run (n : ℕ) (a b c : State) : Type 0 where
   pub first : a ≡ freshNext 4
-  pub second : b ≡ pick (eqb (openAnswer a 0 0 12 2 4 4) 0) (openNext a 0 0 12 2 4 4) a
+  pub second : b ≡ pick (eqb (openAnswer a 0 0 paddedKind 12 2 4 4) 0) (openNext a 0 0 paddedKind 12 2 4 4) a
   pub third : c ≡ pick (eqb (changeAnswer b 0 4 n) 0) (changeNext b 0 4 n) b
 
 run-is : (n : ℕ) (a b c : State) → Run n a b c → c ≡ changedTo n

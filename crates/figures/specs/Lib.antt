@@ -2,5 +2,6 @@
 pub mod Holding
 pub mod Rows
 pub mod Segments
+pub mod Steady
 pub mod Times
 pub mod Transitions

@@ -5,5 +5,6 @@
 pub mod holding;
 pub mod rows;
 pub mod segments;
+pub mod steady;
 pub mod times;
 pub mod transitions;

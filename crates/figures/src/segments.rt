@@ -65,7 +65,7 @@ pub fn unbuffered(start: u64) -> u64
     if needs_no_buffer(start) { 1 } else { 0 }
 }
 
-fn wide(x: u16) -> u64
+pub fn wide(x: u16) -> u64
     ensures { λ r. ⌜ r ≡ x ⌝ }
 {
     x as u64

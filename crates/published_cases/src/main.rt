@@ -1,7 +1,8 @@
 // Figures that others published, beside what the product computes: source 000 is the paper of the scheme itself, source 002
-// has its transitions in figures, source 004 compares schemes of its kind. What is expected was taken from the papers' text by
-// hand, at the place that the row names. Where a row says "derived" it was worked out from the paper's formulas, since the
-// drawing is not in the text. A time is rounded to the nearest unit that the row names.
+// has its transitions in figures and the scheme of a skip-forward title, source 004 compares schemes of its kind. What is
+// expected was taken from the papers' text by hand, at the place that the row names. Where a row says "derived" it was worked
+// out from the paper's formulas or tables, since the drawing is not in the text. A time is rounded to the nearest unit that the
+// row names.
 
 use figures::holding::holding_tenths;
 use figures::rows::agree;
@@ -10,6 +11,8 @@ use figures::segments::on_channel;
 use figures::segments::segment_of;
 use figures::segments::taken_in;
 use figures::segments::unbuffered;
+use figures::steady::on_lane;
+use figures::steady::taken_from;
 use figures::times::average_wait;
 use figures::times::increase;
 use figures::times::longest_slot;
@@ -448,6 +451,84 @@ fn table_3_4() {
     );
 }
 
+// A skip-forward title with 4 channels: the block on each in slots t0 to t15.
+fn figure_3_5b() {
+    show(
+        b"source 002, figure 3.5b: blocks on channel 0 of 4, t0 to t15",
+        &on_lane(4, 0),
+        &[1, 1, 1, 1, 1, 1, 1, 1, 1, 1, 1, 1, 1, 1, 1, 1],
+    );
+    show(
+        b"source 002, figure 3.5b: on channel 1",
+        &on_lane(4, 1),
+        &[2, 2, 2, 2, 2, 2, 2, 2, 2, 2, 2, 2, 2, 2, 2, 2],
+    );
+    show(
+        b"source 002, figure 3.5b: on channel 2",
+        &on_lane(4, 2),
+        &[3, 4, 3, 4, 3, 4, 3, 4, 3, 4, 3, 4, 3, 4, 3, 4],
+    );
+    show(
+        b"source 002, figure 3.5b: on channel 3",
+        &on_lane(4, 3),
+        &[5, 6, 7, 8, 5, 6, 7, 8, 5, 6, 7, 8, 5, 6, 7, 8],
+    );
+}
+
+// The same with 5 channels.
+fn figure_3_14b() {
+    show(
+        b"source 002, figure 3.14b: blocks on channel 0 of 5, t0 to t15",
+        &on_lane(5, 0),
+        &[1, 1, 1, 1, 1, 1, 1, 1, 1, 1, 1, 1, 1, 1, 1, 1],
+    );
+    show(
+        b"source 002, figure 3.14b: on channel 1",
+        &on_lane(5, 1),
+        &[2, 2, 2, 2, 2, 2, 2, 2, 2, 2, 2, 2, 2, 2, 2, 2],
+    );
+    show(
+        b"source 002, figure 3.14b: on channel 2",
+        &on_lane(5, 2),
+        &[3, 4, 3, 4, 3, 4, 3, 4, 3, 4, 3, 4, 3, 4, 3, 4],
+    );
+    show(
+        b"source 002, figure 3.14b: on channel 3",
+        &on_lane(5, 3),
+        &[5, 6, 7, 8, 5, 6, 7, 8, 5, 6, 7, 8, 5, 6, 7, 8],
+    );
+    show(
+        b"source 002, figure 3.14b: on channel 4",
+        &on_lane(5, 4),
+        &[9, 10, 11, 12, 13, 14, 15, 16, 9, 10, 11, 12, 13, 14, 15, 16],
+    );
+}
+
+// A box of figure 3.5b takes each block at its first occurrence. The shading of figure 3.6a is not in the text; which slots
+// these are is derived from the table.
+fn figure_3_6a() {
+    show(
+        b"source 002, figure 3.6a, derived: slots after a start at t0 in which blocks 1 to 8 of 4 channels are taken",
+        &taken_from(0),
+        &[0, 0, 0, 1, 0, 1, 2, 3],
+    );
+    show(
+        b"source 002, figure 3.6a, derived: after a start at t1",
+        &taken_from(1),
+        &[0, 0, 1, 0, 3, 0, 1, 2],
+    );
+    show(
+        b"source 002, figure 3.6a, derived: after a start at t2",
+        &taken_from(2),
+        &[0, 0, 0, 1, 2, 3, 0, 1],
+    );
+    show(
+        b"source 002, figure 3.6a, derived: after a start at t3",
+        &taken_from(3),
+        &[0, 0, 1, 0, 1, 2, 3, 0],
+    );
+}
+
 // Table II, 120 minutes: the row SSB has the numbers of floor 2.
 fn table_2_ssb() {
     show(
@@ -557,6 +638,9 @@ fn main() {
     figure_6c();
     figure_7();
     table_3_4();
+    figure_3_5b();
+    figure_3_14b();
+    figure_3_6a();
     table_2_ssb();
     table_2_sfb();
     table_2_seb();

@@ -1,6 +1,6 @@
 -- `console_desk::ask` meets its contract: each question's own answer.
 use Rattle.text.specs.Output.{page}
-use Rattle.console_desk.proofs.Asking.{asks-lane, asks-status, asks-share, asks-plan, asks-planner, asks-else}
+use Rattle.console_desk.proofs.Asking.{asks-lane, asks-status, asks-share, asks-plan, asks-planner, asks-skip-plan, asks-else}
 use borrow.Author.Needs.{needs}
 use Rattle.console_desk.proofs.ask.Statement.{statement}
 use Rattle.console_desk.proofs.ask.Tie as tie
@@ -119,16 +119,44 @@ returns-5 c =
     asks-planner (x .line) (x .s .now) p _ (x .state) (at-if1 .if1 .left) (at-if2 .if2 .left) (at-if3 .if3 .left)
     (at-if4 .if4 .left) (at-if5 .if5 .taken) (at-put-planner .put-planner .ensures)
 
-ask-rom-requires : tie.Need-ask-rom-requires
-ask-rom-requires c κs = search needs
+array-read-put-plan-5 : tie.Need-array-read-put-plan-5
+array-read-put-plan-5 c = search needs
+
+array-read-put-plan-6 : tie.Need-array-read-put-plan-6
+array-read-put-plan-6 c = search needs
+
+places-of-requires-2 : tie.Need-places-of-requires-2
+places-of-requires-2 c κs = search needs
+
+put-plan-requires-2 : tie.Need-put-plan-requires-2
+put-plan-requires-2 c κs = search needs
 
 same-length-6 : tie.Need-same-length-6
 same-length-6 c = search needs
 
 returns-6 : tie.Need-returns-6
 returns-6 c =
+    let at-put-plan = c .before .before in
+    let at-places-of = at-put-plan .before in
+    let at-if6 = at-places-of .before .before in
+    let at-if1 = at-if6 .before .before .before .before .before in
+    let at-start = at-if1 .before .before .before .before in
+    let x = at-start .args in
+    let p = page (x .out .now) (x .at) in
+    asks-skip-plan (x .line) (x .s .now) p _ (x .state) _ (at-if6 .if6 .taken) (at-places-of .places-of2 .ensures)
+    (at-put-plan .put-plan2 .ensures)
+
+ask-rom-requires : tie.Need-ask-rom-requires
+ask-rom-requires c κs = search needs
+
+same-length-7 : tie.Need-same-length-7
+same-length-7 c = search needs
+
+returns-7 : tie.Need-returns-7
+returns-7 c =
     let at-ask-rom = c .before .before in
-    let at-if5 = at-ask-rom .before .before in
+    let at-if6 = at-ask-rom .before .before in
+    let at-if5 = at-if6 .before in
     let at-if4 = at-if5 .before in
     let at-if3 = at-if4 .before in
     let at-if2 = at-if3 .before in
@@ -137,7 +165,7 @@ returns-6 c =
     let x = at-start .args in
     let p = page (x .out .now) (x .at) in
     asks-else (x .line) (x .s .now) p _ (x .state) (at-if1 .if1 .left) (at-if2 .if2 .left) (at-if3 .if3 .left)
-    (at-if4 .if4 .left) (at-if5 .if5 .left) (at-ask-rom .ask-rom .ensures)
+    (at-if4 .if4 .left) (at-if5 .if5 .left) (at-if6 .if6 .left) (at-ask-rom .ask-rom .ensures)
 
 pub ask-spec : {M : Type 1} → statement M
 ask-spec =
@@ -166,6 +194,12 @@ ask-spec =
     put-planner-requires
     same-length-5
     returns-5
-    ask-rom-requires
+    array-read-put-plan-5
+    array-read-put-plan-6
+    places-of-requires-2
+    put-plan-requires-2
     same-length-6
-    returns-6)
+    returns-6
+    ask-rom-requires
+    same-length-7
+    returns-7)

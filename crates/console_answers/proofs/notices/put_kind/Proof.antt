@@ -7,17 +7,26 @@ use Rattle.console_answers.proofs.notices.put_kind.Tie as tie
 enum-known-kind : tie.Need-enum-known-kind
 enum-known-kind c = search needs
 
-cast-t22 : tie.Need-cast-t22
-cast-t22 c = search needs
+cast-put-open : tie.Need-cast-put-open
+cast-put-open c = search needs
 
-cast-t23 : tie.Need-cast-t23
-cast-t23 c = search needs
+cast-put-open-2 : tie.Need-cast-put-open-2
+cast-put-open-2 c = search needs
 
-cast-t24 : tie.Need-cast-t24
-cast-t24 c = search needs
+cast-put-open-3 : tie.Need-cast-put-open-3
+cast-put-open-3 c = search needs
 
-cast-t25 : tie.Need-cast-t25
-cast-t25 c = search needs
+cast-put-open-4 : tie.Need-cast-put-open-4
+cast-put-open-4 c = search needs
+
+put-open-requires : tie.Need-put-open-requires
+put-open-requires c κs = search needs
+
+enum-known-kind-2 : tie.Need-enum-known-kind-2
+enum-known-kind-2 c = search needs
+
+cast-t30 : tie.Need-cast-t30
+cast-t30 c = search needs
 
 slice-aggregate-put-event : tie.Need-slice-aggregate-put-event
 slice-aggregate-put-event c = search needs
@@ -28,11 +37,8 @@ slice-aggregate-put-event-2 c = search needs
 put-event-requires : tie.Need-put-event-requires
 put-event-requires c κs = search needs
 
-enum-known-kind-2 : tie.Need-enum-known-kind-2
-enum-known-kind-2 c = search needs
-
-cast-t32 : tie.Need-cast-t32
-cast-t32 c = search needs
+enum-told : tie.Need-enum-told
+enum-told c = search needs
 
 slice-aggregate-put-event-3 : tie.Need-slice-aggregate-put-event-3
 slice-aggregate-put-event-3 c = search needs
@@ -43,8 +49,8 @@ slice-aggregate-put-event-4 c = search needs
 put-event-requires-2 : tie.Need-put-event-requires-2
 put-event-requires-2 c κs = search needs
 
-enum-told : tie.Need-enum-told
-enum-told c = search needs
+enum-told-2 : tie.Need-enum-told-2
+enum-told-2 c = search needs
 
 slice-aggregate-put-event-5 : tie.Need-slice-aggregate-put-event-5
 slice-aggregate-put-event-5 c = search needs
@@ -55,8 +61,8 @@ slice-aggregate-put-event-6 c = search needs
 put-event-requires-3 : tie.Need-put-event-requires-3
 put-event-requires-3 c κs = search needs
 
-enum-told-2 : tie.Need-enum-told-2
-enum-told-2 c = search needs
+enum-told-3 : tie.Need-enum-told-3
+enum-told-3 c = search needs
 
 slice-aggregate-put-event-7 : tie.Need-slice-aggregate-put-event-7
 slice-aggregate-put-event-7 c = search needs
@@ -67,8 +73,14 @@ slice-aggregate-put-event-8 c = search needs
 put-event-requires-4 : tie.Need-put-event-requires-4
 put-event-requires-4 c κs = search needs
 
-enum-told-3 : tie.Need-enum-told-3
-enum-told-3 c = search needs
+enum-known-kind-3 : tie.Need-enum-known-kind-3
+enum-known-kind-3 c = search needs
+
+cast-t55 : tie.Need-cast-t55
+cast-t55 c = search needs
+
+cast-t56 : tie.Need-cast-t56
+cast-t56 c = search needs
 
 slice-aggregate-put-event-9 : tie.Need-slice-aggregate-put-event-9
 slice-aggregate-put-event-9 c = search needs
@@ -83,10 +95,8 @@ same-length : tie.Need-same-length
 same-length c = search needs
 
 returns : tie.Need-returns
-unfolding text
 returns c =
-    rw (c .before .before .before .before .before .before .before .kind .given .1)
-    (c .before .before .put-event .ensures)
+    rw (c .before .before .before .before .before .kind .given .1) (c .before .before .put-open .ensures)
 
 same-length-2 : tie.Need-same-length-2
 same-length-2 c = search needs
@@ -94,8 +104,7 @@ same-length-2 c = search needs
 returns-2 : tie.Need-returns-2
 unfolding text
 returns-2 c =
-    rw (c .before .before .before .before .before .before .before .kind2 .given .1)
-    (c .before .before .put-event2 .ensures)
+    rw (c .before .before .before .before .before .before .before .kind2 .given .1) (c .before .before .put-event .ensures)
 
 same-length-3 : tie.Need-same-length-3
 same-length-3 c = search needs
@@ -103,7 +112,7 @@ same-length-3 c = search needs
 returns-3 : tie.Need-returns-3
 unfolding text
 returns-3 c =
-    rw (c .before .before .before .before .before .before .enum-told .given .1) (c .before .before .put-event3 .ensures)
+    rw (c .before .before .before .before .before .before .enum-told .given .1) (c .before .before .put-event2 .ensures)
 
 same-length-4 : tie.Need-same-length-4
 same-length-4 c = search needs
@@ -111,7 +120,7 @@ same-length-4 c = search needs
 returns-4 : tie.Need-returns-4
 unfolding text
 returns-4 c =
-    rw (c .before .before .before .before .before .before .enum-told2 .given .1) (c .before .before .put-event4 .ensures)
+    rw (c .before .before .before .before .before .before .enum-told2 .given .1) (c .before .before .put-event3 .ensures)
 
 same-length-5 : tie.Need-same-length-5
 same-length-5 c = search needs
@@ -119,34 +128,46 @@ same-length-5 c = search needs
 returns-5 : tie.Need-returns-5
 unfolding text
 returns-5 c =
-    rw (c .before .before .before .before .before .before .enum-told3 .given .1) (c .before .before .put-event5 .ensures)
+    rw (c .before .before .before .before .before .before .enum-told3 .given .1) (c .before .before .put-event4 .ensures)
+
+same-length-6 : tie.Need-same-length-6
+same-length-6 c = search needs
+
+returns-6 : tie.Need-returns-6
+unfolding text
+returns-6 c =
+    rw (c .before .before .before .before .before .before .before .kind3 .given .1) (c .before .before .put-event5 .ensures)
 
 pub put-kind-spec : {M : Type 1} → statement M
 put-kind-spec =
     tie.close
     (tie.spec
     enum-known-kind
-    cast-t22
-    cast-t23
-    cast-t24
-    cast-t25
+    cast-put-open
+    cast-put-open-2
+    cast-put-open-3
+    cast-put-open-4
+    put-open-requires
+    enum-known-kind-2
+    cast-t30
     slice-aggregate-put-event
     slice-aggregate-put-event-2
     put-event-requires
-    enum-known-kind-2
-    cast-t32
+    enum-told
     slice-aggregate-put-event-3
     slice-aggregate-put-event-4
     put-event-requires-2
-    enum-told
+    enum-told-2
     slice-aggregate-put-event-5
     slice-aggregate-put-event-6
     put-event-requires-3
-    enum-told-2
+    enum-told-3
     slice-aggregate-put-event-7
     slice-aggregate-put-event-8
     put-event-requires-4
-    enum-told-3
+    enum-known-kind-3
+    cast-t55
+    cast-t56
     slice-aggregate-put-event-9
     slice-aggregate-put-event-10
     put-event-requires-5
@@ -159,4 +180,6 @@ put-kind-spec =
     same-length-4
     returns-4
     same-length-5
-    returns-5)
+    returns-5
+    same-length-6
+    returns-6)

@@ -1,5 +1,5 @@
 -- `console_desk::acts::happen` meets its contract: each word is the scheduler's call of its act.
-use Rattle.console_desk.proofs.Following.{happened, is-open, is-change, is-hold, is-lift, is-close}
+use Rattle.console_desk.proofs.Following.{happened, is-open, is-change, is-hold, is-lift, is-skip, is-close}
 use borrow.Author.Needs.{needs}
 use Rattle.console_desk.proofs.acts.happen.Statement.{statement}
 use Rattle.console_desk.proofs.acts.happen.Tie as tie
@@ -81,6 +81,28 @@ returns-4 c =
     (is-lift _ (at-if2 .before .if1 .left) (at-if2 .if2 .left) (at-if3 .if3 .left) (at-if4 .if4 .taken))
     (c .lift .ensures .0) (c .lift .ensures .1)
 
+array-read-skip : tie.Need-array-read-skip
+array-read-skip c = search needs
+
+array-read-skip-2 : tie.Need-array-read-skip-2
+array-read-skip-2 c = search needs
+
+array-read-skip-3 : tie.Need-array-read-skip-3
+array-read-skip-3 c = search needs
+
+array-read-skip-4 : tie.Need-array-read-skip-4
+array-read-skip-4 c = search needs
+
+skip-requires : tie.Need-skip-requires
+skip-requires c κs = search needs
+
+returns-5 : tie.Need-returns-5
+returns-5 c =
+    let at-if5 = c .before in
+    let at-if2 = at-if5 .before .before .before in
+    happened _ (at-if2 .before .before .before .args .line) _ _ _ (is-skip _ (at-if5 .if5 .taken)) (c .skip .ensures .0)
+    (c .skip .ensures .1)
+
 array-read-close : tie.Need-array-read-close
 array-read-close c = search needs
 
@@ -90,13 +112,14 @@ array-read-close-2 c = search needs
 close-requires : tie.Need-close-requires
 close-requires c κs = search needs
 
-returns-5 : tie.Need-returns-5
-returns-5 c =
-    let at-if4 = c .before in
+returns-6 : tie.Need-returns-6
+returns-6 c =
+    let at-if5 = c .before in
+    let at-if4 = at-if5 .before in
     let at-if3 = at-if4 .before in
     let at-if2 = at-if3 .before in
     happened _ (at-if2 .before .before .before .args .line) _ _ _
-    (is-close _ (at-if2 .before .if1 .left) (at-if2 .if2 .left) (at-if3 .if3 .left) (at-if4 .if4 .left))
+    (is-close _ (at-if2 .before .if1 .left) (at-if2 .if2 .left) (at-if3 .if3 .left) (at-if4 .if4 .left) (at-if5 .if5 .left))
     (c .close .ensures .0) (c .close .ensures .1)
 
 pub happen-spec : {M : Type 1} → statement M
@@ -124,7 +147,13 @@ happen-spec =
     array-read-lift-2
     lift-requires
     returns-4
+    array-read-skip
+    array-read-skip-2
+    array-read-skip-3
+    array-read-skip-4
+    skip-requires
+    returns-5
     array-read-close
     array-read-close-2
     close-requires
-    returns-5)
+    returns-6)

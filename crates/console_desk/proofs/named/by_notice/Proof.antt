@@ -43,6 +43,18 @@ enum-told-4 c = search needs
 by-title-requires-4 : tie.Need-by-title-requires-4
 by-title-requires-4 c κs = search needs
 
+enum-known-kind-2 : tie.Need-enum-known-kind-2
+enum-known-kind-2 c = search needs
+
+cast-missed-3 : tie.Need-cast-missed-3
+cast-missed-3 c = search needs
+
+cast-missed-4 : tie.Need-cast-missed-4
+cast-missed-4 c = search needs
+
+missed-requires-2 : tie.Need-missed-requires-2
+missed-requires-2 c κs = search needs
+
 returns : tie.Need-returns
 returns c =
     let at-kind = c .before .before in
@@ -73,6 +85,12 @@ returns-5 c =
     let x = at-told .before .before .before .args in
     by-kind (x .answer) (x .s) (x .n) _ (at-told .enum-told4 .given .1) (c .by-title4 .ensures)
 
+returns-6 : tie.Need-returns-6
+returns-6 c =
+    let at-kind = c .before .before in
+    let x = at-kind .before .before .before .args in
+    by-kind (x .answer) (x .s) (x .n) _ (at-kind .kind2 .given .1) (c .missed2 .ensures)
+
 pub by-notice-spec : {M : Type 1} → statement M
 by-notice-spec =
     tie.close
@@ -90,8 +108,13 @@ by-notice-spec =
     by-title-requires-3
     enum-told-4
     by-title-requires-4
+    enum-known-kind-2
+    cast-missed-3
+    cast-missed-4
+    missed-requires-2
     returns
     returns-2
     returns-3
     returns-4
-    returns-5)
+    returns-5
+    returns-6)

@@ -1,5 +1,5 @@
 -- `console_desk::writing::kind_of` meets its contract: the kind that the line's word says.
-use Rattle.console_desk.proofs.Written.{kind-open, kind-change, kind-hold, kind-lift, kind-close}
+use Rattle.console_desk.proofs.Written.{kind-open, kind-change, kind-hold, kind-lift, kind-skip, kind-close}
 use borrow.Author.Needs.{needs}
 use Rattle.console_desk.proofs.writing.kind_of.Statement.{statement}
 use Rattle.console_desk.proofs.writing.kind_of.Tie as tie
@@ -57,12 +57,32 @@ returns-4 c =
     kind-lift (at-if2 .before .before .before .args .line) (at-if2 .before .if1 .left) (at-if2 .if2 .left)
     (at-if3 .if3 .left) (c .if4 .taken)
 
+array-read-as-four-bytes-2 : tie.Need-array-read-as-four-bytes-2
+array-read-as-four-bytes-2 c = search needs
+
+as-four-bytes-requires-2 : tie.Need-as-four-bytes-requires-2
+as-four-bytes-requires-2 c κs = search needs
+
+array-read-as-byte-5 : tie.Need-array-read-as-byte-5
+array-read-as-byte-5 c = search needs
+
+as-byte-requires-5 : tie.Need-as-byte-requires-5
+as-byte-requires-5 c κs = search needs
+
 returns-5 : tie.Need-returns-5
 returns-5 c =
-    let at-if3 = c .before in
+    let at-if5 = c .before .before in
+    let at-if2 = at-if5 .before .before .before in
+    kind-skip (at-if2 .before .before .before .args .line) _ _ (at-if5 .if5 .taken) (c .before .as-four-bytes2 .ensures)
+    (c .as-byte5 .ensures)
+
+returns-6 : tie.Need-returns-6
+returns-6 c =
+    let at-if4 = c .before in
+    let at-if3 = at-if4 .before in
     let at-if2 = at-if3 .before in
     kind-close (at-if2 .before .before .before .args .line) (at-if2 .before .if1 .left) (at-if2 .if2 .left)
-    (at-if3 .if3 .left) (c .if4 .left)
+    (at-if3 .if3 .left) (at-if4 .if4 .left) (c .if5 .left)
 
 pub kind-of-spec : {M : Type 1} → statement M
 kind-of-spec =
@@ -82,4 +102,9 @@ kind-of-spec =
     returns-2
     returns-3
     returns-4
-    returns-5)
+    array-read-as-four-bytes-2
+    as-four-bytes-requires-2
+    array-read-as-byte-5
+    as-byte-requires-5
+    returns-5
+    returns-6)

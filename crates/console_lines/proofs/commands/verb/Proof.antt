@@ -8,6 +8,7 @@ use Rattle.console_lines.specs.Commands.{
   doClose,
   doHold,
   doLift,
+  doSkip,
   doLane,
   doStatus,
   doPlan,
@@ -17,6 +18,7 @@ use Rattle.console_lines.specs.Commands.{
   doRomLane,
   doRomPlan,
   doPlanner,
+  doSkipPlan,
   doWrite,
   doHelp,
 }
@@ -130,13 +132,27 @@ slice-aggregate-named-17 c = search needs
 named-requires-17 : tie.Need-named-requires-17
 named-requires-17 c κs = search needs
 
+slice-aggregate-named-18 : tie.Need-slice-aggregate-named-18
+slice-aggregate-named-18 c = search needs
+
+named-requires-18 : tie.Need-named-requires-18
+named-requires-18 c κs = search needs
+
+slice-aggregate-named-19 : tie.Need-slice-aggregate-named-19
+slice-aggregate-named-19 c = search needs
+
+named-requires-19 : tie.Need-named-requires-19
+named-requires-19 c κs = search needs
+
 chosen : (w n : List ℕ) (v : ℕ) {r s x : ℕ} → r ≡ pick (same w n) v s → s ≡ x → r ≡ pick (same w n) v x
 chosen w n v e f = rw (← f) e
 
 returns : tie.Need-returns
 unfolding verbOf text
 returns c =
-    let at-named16 = c .before .before in
+    let at-named18 = c .before .before in
+    let at-named17 = at-named18 .before .before in
+    let at-named16 = at-named17 .before .before in
     let at-named15 = at-named16 .before .before in
     let at-named14 = at-named15 .before .before in
     let at-named13 = at-named14 .before .before in
@@ -154,24 +170,26 @@ returns c =
     let at-named = at-named2 .before .before in
     let at-start = at-named .before .before .before in
     let w = at-start .args .word .now in
-    chosen w (text "fresh") doFresh (c .named17 .ensures)
-    (chosen w (text "open") doOpen (at-named16 .named16 .ensures)
-    (chosen w (text "change") doChange (at-named15 .named15 .ensures)
-    (chosen w (text "close") doClose (at-named14 .named14 .ensures)
-    (chosen w (text "hold") doHold (at-named13 .named13 .ensures)
-    (chosen w (text "lift") doLift (at-named12 .named12 .ensures)
-    (chosen w (text "lane") doLane (at-named11 .named11 .ensures)
-    (chosen w (text "status") doStatus (at-named10 .named10 .ensures)
-    (chosen w (text "plan") doPlan (at-named9 .named9 .ensures)
-    (chosen w (text "share") doShare (at-named8 .named8 .ensures)
-    (chosen w (text "read") doRead (at-named7 .named7 .ensures)
-    (chosen w (text "notice") doNotice (at-named6 .named6 .ensures)
-    (chosen w (text "romlane") doRomLane (at-named5 .named5 .ensures)
-    (chosen w (text "romplan") doRomPlan (at-named4 .named4 .ensures)
-    (chosen w (text "planner") doPlanner (at-named3 .named3 .ensures)
+    chosen w (text "fresh") doFresh (c .named19 .ensures)
+    (chosen w (text "open") doOpen (at-named18 .named18 .ensures)
+    (chosen w (text "change") doChange (at-named17 .named17 .ensures)
+    (chosen w (text "close") doClose (at-named16 .named16 .ensures)
+    (chosen w (text "hold") doHold (at-named15 .named15 .ensures)
+    (chosen w (text "lift") doLift (at-named14 .named14 .ensures)
+    (chosen w (text "skip") doSkip (at-named13 .named13 .ensures)
+    (chosen w (text "lane") doLane (at-named12 .named12 .ensures)
+    (chosen w (text "status") doStatus (at-named11 .named11 .ensures)
+    (chosen w (text "plan") doPlan (at-named10 .named10 .ensures)
+    (chosen w (text "share") doShare (at-named9 .named9 .ensures)
+    (chosen w (text "read") doRead (at-named8 .named8 .ensures)
+    (chosen w (text "notice") doNotice (at-named7 .named7 .ensures)
+    (chosen w (text "romlane") doRomLane (at-named6 .named6 .ensures)
+    (chosen w (text "romplan") doRomPlan (at-named5 .named5 .ensures)
+    (chosen w (text "planner") doPlanner (at-named4 .named4 .ensures)
+    (chosen w (text "skipplan") doSkipPlan (at-named3 .named3 .ensures)
     (chosen w (text "write") doWrite (at-named2 .named2 .ensures)
     (chosen w (text "help") doHelp (at-named .named .ensures)
-    refl))))))))))))))))
+    refl))))))))))))))))))
 
 pub verb-spec : {M : Type 1} → statement M
 verb-spec =
@@ -211,4 +229,8 @@ verb-spec =
     named-requires-16
     slice-aggregate-named-17
     named-requires-17
+    slice-aggregate-named-18
+    named-requires-18
+    slice-aggregate-named-19
+    named-requires-19
     returns)
