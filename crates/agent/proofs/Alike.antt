@@ -4,13 +4,11 @@
 use mathlib.Core.Path.{_≡_, sym, ap, _∙_}
 use mathlib.Core.List.{List}
 use Prim.Native.Nat.{ℕ}
-use Rattle.story.specs.declared.State.{State}
 use Rattle.story.specs.Kept.{lanesHeld}
 use Rattle.story.specs.Calls.{laneAnswer, laneShows, statusAnswer, statusCount, statusHeld, statusMark}
 use Rattle.story.specs.Story.{Event, accepted}
 use Rattle.story.specs.Runs.{stateAfter, lanesOf}
 use Rattle.story.proofs.Demands.{every-run, left-alone}
-use Rattle.agent.specs.declared.Agent.{Agent}
 use Rattle.agent.specs.Series.{agentAfter, eventsHeard}
 use Rattle.agent.proofs.Order.{state-heard}
 

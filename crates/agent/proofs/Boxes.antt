@@ -2,7 +2,7 @@
 -- events heard are reached with the agent's own state, so every theorem of the story's page holds of them: what the agent
 -- answers is what is on air, no box that begins by them runs dry, and the pool is never exceeded.
 -- Rests on `follows`, and cites the story's page for the rest.
-use mathlib.Core.Path.{_≡_, sym, ap, _∙_}
+use mathlib.Core.Path.{_≡_}
 use mathlib.Core.Bool.{true}
 use mathlib.Core.List.{List}
 use Prim.Native.Nat.{ℕ, _≤_, _<_}
@@ -17,7 +17,6 @@ use Rattle.story.specs.Runs.{stateAfter, lanesOf, Reached}
 use Rattle.story.proofs.Demands.{in-sequence, every-lane, on-air, every-status, every-count, every-held, every-mark}
 use Rattle.story.proofs.Demands.{all-held}
 use Rattle.story.proofs.Demands.{boxes, by-the-calls, the-pool}
-use Rattle.agent.specs.declared.Agent.{Agent}
 use Rattle.agent.specs.Series.{agentAfter, eventsHeard}
 use Rattle.agent.proofs.Order.{follows, state-heard}
 

@@ -17,12 +17,12 @@ use Rattle.notice.specs.declared.Reading.{Reading}
 use Rattle.notice.specs.declared.Reading.the-variants as reading
 use Rattle.notice.specs.Decode.{readOf}
 use Rattle.story.specs.Story.{answer, none}
-use Rattle.story.specs.Runs.{answered, stateAfter, lanesOf, Reached}
+use Rattle.story.specs.Runs.{answered, stateAfter, lanesOf}
 use Rattle.story.proofs.Reached.{reached, run-more, run-state}
 use Rattle.story.proofs.Demands.{every-answer}
 use Rattle.agent.specs.declared.Agent.{Agent}
 use Rattle.agent.specs.Turns.{eventOf, freshAgent, noticeAnswer, noticeNext, noticed}
-use Rattle.agent.specs.Series.{agentAfter, hearing, heard, eventsHeard, Hearing, InTurn, start, next}
+use Rattle.agent.specs.Series.{agentAfter, hearing, heard, eventsHeard, Hearing, start, next}
 
 fresh-hearing : (pool : ℕ) → Hearing pool [] (freshAgent pool)
 unfolding stateAfter

@@ -10,8 +10,6 @@ use rules::OUT_OF_TURN;
 use scheduler::Outcome;
 use story::State;
 ghost use mathlib.Core.Path.{_≡_};
-ghost use lib.Dec.{eqb};
-ghost use Rattle.rules.specs.Refusals.{pick};
 ghost use Rattle.notice.specs.declared.Reading.the-variants as reading;
 ghost use Rattle.notice.specs.Decode.{readOf};
 ghost use Rattle.story.specs.Calls.{freshAnswer};

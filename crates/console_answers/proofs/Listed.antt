@@ -1,7 +1,7 @@
 -- What the planner gave, put behind a place, is what the definitions say: its list behind a 0, or the refusal alone. Rests on
 -- the planner's own account of its answer and of the rows that it leaves.
 use Prim.Native.Nat.{ℕ, _≤_, _<_}
-use mathlib.Core.Path.{_≡_, refl, sym, _∙_, ap}
+use mathlib.Core.Path.{_≡_, sym, _∙_, ap}
 use mathlib.Core.List.{List, map, _++_}
 use native.Mathlib.Omega.{arith}
 use lib.ListN.{length, getD, take, drop, length-append, length-map, List·getD-append}
@@ -10,7 +10,7 @@ use Rattle.story.specs.declared.State.{State}
 use Rattle.planner.specs.Moves.{Move}
 use Rattle.planner.specs.Outcome.{Answered, given, roomOf, rowFrom}
 use Rattle.text.specs.Output.{Page, puts}
-use Rattle.console_answers.specs.Entries.{moveEntry, movesText}
+use Rattle.console_answers.specs.Entries.{movesText}
 use Rattle.console_answers.specs.Outcomes.{doneText}
 use Rattle.console_answers.specs.Questions.{listText, plannerText}
 use Rattle.console_answers.proofs.Rows.{each-same, counted}

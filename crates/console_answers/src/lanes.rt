@@ -2,7 +2,6 @@
 
 use crate::outcomes;
 use story::State;
-ghost use mathlib.Core.Path.{_≡_};
 ghost use Rattle.text.specs.Output.{Written};
 ghost use Rattle.console_answers.specs.Questions.{laneText};
 

@@ -7,7 +7,6 @@ use notice::Notice;
 use notice::Reading;
 use rules::MALFORMED;
 use text::output;
-ghost use mathlib.Core.Path.{_≡_};
 ghost use mathlib.Core.List.{_++_};
 ghost use lib.ListN.{length};
 ghost use Rattle.notice.specs.declared.Kind.the-variants.{Open};

@@ -4,7 +4,6 @@ use crate::entries;
 use crate::words;
 use rules::DONE;
 use text::output;
-ghost use mathlib.Core.Path.{_≡_};
 ghost use Rattle.text.specs.Output.{Written};
 ghost use Rattle.console_answers.specs.Outcomes.{doneText, valueText};
 

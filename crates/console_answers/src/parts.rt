@@ -1,7 +1,6 @@
 // A row of bytes that is cut into parts, of which one is written.
 
 use text::output;
-ghost use mathlib.Core.Path.{_≡_};
 ghost use lib.ListN.{length};
 ghost use Rattle.text.specs.Output.{Written};
 ghost use Rattle.console_answers.specs.Parts.{Cuts, partOf};

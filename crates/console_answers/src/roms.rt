@@ -5,7 +5,6 @@ use crate::plans::blank_row;
 use crate::plans::places_of;
 use crate::plans::put_planned;
 use story::State;
-ghost use mathlib.Core.Path.{_≡_};
 ghost use Rattle.text.specs.Output.{Written};
 ghost use Rattle.console_answers.specs.Questions.{romLaneText, romPlanText, roomOf};
 

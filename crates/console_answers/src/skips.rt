@@ -5,7 +5,6 @@ use crate::outcomes;
 use crate::plans::blank_row;
 use crate::plans::places_of;
 use rules::DONE;
-ghost use mathlib.Core.Path.{_≡_};
 ghost use Rattle.text.specs.Output.{Written};
 ghost use Rattle.console_answers.specs.Questions.{skipPlanText, roomOf};
 

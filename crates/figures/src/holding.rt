@@ -15,7 +15,7 @@ ghost use Rattle.story.specs.Calls.{laneAnswer};
 ghost use Rattle.grid.specs.Bounds.{FloorCap, Exactly};
 ghost use Rattle.grid.specs.Ticks.{tickOf};
 ghost use Rattle.figures.specs.Times.{film, roundTo};
-ghost use Rattle.figures.specs.Holding.{returnedAt, heldTicks, longestHeld, dropTick, drops};
+ghost use Rattle.figures.specs.Holding.{returnedAt, heldTicks, longestHeld, drops};
 
 // The state once the last of `count` lanes was given back at a tick.
 fn returned(floor: u64, count: u64, drop: u64) -> State

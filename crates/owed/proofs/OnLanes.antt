@@ -10,7 +10,6 @@ use lib.Dec.{leb, ltb, eqb}
 use lib.ListN.{getD}
 use borrow.Author.Tests.{leb-true, le-leb, lt-ltb, ltb-true, ltb-false, eqb-true, eq-eqb}
 use Rattle.rules.specs.Limits.{both}
-use Rattle.rules.specs.Search.{some}
 use Rattle.rules.proofs.Tests.{decide, both-l, both-r}
 use Rattle.grid.proofs.Plan.{some-one}
 use Rattle.scheme.specs.Scheme.{steadyKind, steadyCell, period}

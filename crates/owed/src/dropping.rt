@@ -9,7 +9,7 @@ use story::CLOSING;
 use story::HELD;
 use story::OPEN;
 use story::Title;
-ghost use Prim.Native.Nat.{ℕ, _≤_, _<_};
+ghost use Prim.Native.Nat.{_≤_, _<_};
 ghost use mathlib.Core.Path.{_≡_};
 ghost use lib.Dec.{leb};
 ghost use Rattle.rules.specs.Limits.{askedMax, countMax};

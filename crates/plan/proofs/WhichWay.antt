@@ -2,9 +2,9 @@
 -- that number: the same plans are done and the same refused.
 -- Rests on the laws of former answers.
 use mathlib.Core.Path.{_≡_, refl, sym, ap, _∙_}
-use mathlib.Core.Bool.{Bool, not}
+use mathlib.Core.Bool.{not}
 use mathlib.Core.List.{List, [], _∷_}
-use Prim.Native.Nat.{ℕ, _^_}
+use Prim.Native.Nat.{ℕ}
 use lib.Dec.{ltb, eqb}
 use Rattle.rules.specs.Limits.{either, within}
 use Rattle.rules.specs.Refusals.{Rule, refuse, firstHit, done, outsideLimits, notAtSlot, wrongRows}

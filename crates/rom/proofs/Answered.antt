@@ -7,7 +7,7 @@ use mathlib.Core.Logic.{⊎-elim}
 use Prim.Native.Nat.{ℕ, _≤_, _<_}
 use native.Mathlib.Omega.{arith}
 use lib.Dec.{leb, ltb, eqb}
-use borrow.Author.Tests.{ne-eqb, eq-eqb, eqb-false, le-leb, lt-leb, lt-ltb, le-ltb}
+use borrow.Author.Tests.{ne-eqb, eqb-false, le-leb, lt-leb, lt-ltb, le-ltb}
 use Rattle.rules.specs.Limits.{both, either, idMax}
 use Rattle.rules.specs.Refusals.{pick, firstHit, outsideLimits}
 use Rattle.rules.proofs.Tests.{decide, either-false-l, either-false-r}

@@ -1,16 +1,16 @@
 -- The plan call by its two ways: what holds where it is not refused, and that row and answer are then the computing
 -- call's. Rests on the plan crate's laws of refusals and of the row.
 use mathlib.Core.Path.{_≡_, refl, sym, _∙_}
-use mathlib.Core.Bool.{true, false}
+use mathlib.Core.Bool.{false}
 use mathlib.Core.List.{List}
 use mathlib.Core.Logic.{⊎-elim}
 use Prim.Native.Nat.{ℕ, _^_}
 use native.Mathlib.Omega.{arith}
 use lib.ListN.{length}
-use Rattle.rules.specs.Refusals.{pick, done}
+use Rattle.rules.specs.Refusals.{done}
 use Rattle.rules.proofs.Tests.{decide}
 use Rattle.grid.specs.Plan.{planAt, planAnswer}
-use Rattle.plan.specs.Row.{written, planRow, Planned}
+use Rattle.plan.specs.Row.{written, Planned}
 use Rattle.plan.proofs.Refusals.{Accepted, accepted-only}
 use Rattle.plan.proofs.Row.{row-done, row-refused}
 use Rattle.rom.specs.Table.{romFloor, romCap, isOther}

@@ -1,6 +1,6 @@
 -- A cell's plan tick is its first showing, from the start on, on lanes 0 to k - 1; a cell that no box takes is never
 -- shown. Once over floor, cap and count. Rests on the grid's laws of lanes and of the plan.
-use mathlib.Core.Path.{_≡_, refl, sym, _∙_}
+use mathlib.Core.Path.{_≡_, sym, _∙_}
 use mathlib.Core.Bool.{Bool, true}
 use mathlib.Core.Logic.{⊎-elim}
 use Prim.Native.Nat.{ℕ, suc, _+_, _-_, _*_, _/_, _%_, _^_, _≤_, _<_}
@@ -14,7 +14,7 @@ use Rattle.rules.specs.Search.{some, first}
 use Rattle.rules.proofs.Tests.{decide, fails}
 use Rattle.rules.proofs.Search.{some-in, some-out, first-hit, first-least}
 use Rattle.grid.specs.Ticks.{slot, isSlotStart}
-use Rattle.grid.specs.Channels.{channelCell, InG}
+use Rattle.grid.specs.Channels.{InG}
 use Rattle.grid.specs.Lanes.{laneCell}
 use Rattle.grid.specs.Bounds.{Carrier}
 use Rattle.grid.specs.Plan.{planAt, never}

@@ -1,5 +1,4 @@
 -- The tick of a title of either kind lasts some ms, and no longer than the film. Rests on the rounding up.
-use mathlib.Core.Path.{_≡_}
 use mathlib.Core.Logic.{⊎-elim}
 use Prim.Native.Nat.{ℕ, _-_, _^_, _≤_, _<_}
 use native.Mathlib.Omega.{arith}

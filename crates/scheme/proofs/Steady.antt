@@ -1,21 +1,19 @@
 -- The steady lanes of a skip-forward title are lawful, for K lanes. Rests on remainders by powers of two: lane i from 1 on
 -- has the cells from 2^(i-1) up to its double, each once in every 2^(i-1) ticks.
-use mathlib.Core.Path.{_≡_, refl, sym, ap, _∙_}
+use mathlib.Core.Path.{_≡_, refl}
 use mathlib.Core.Bool.{true}
-use mathlib.Core.Logic.{⊎-elim}
 use Prim.Native.Nat.{ℕ, zero, suc, _+_, _-_, _*_, _%_, _/_, _^_, _≤_, _<_}
 use native.Mathlib.Omega.{arith}
 use native.Mathlib.Nat.{mod-lt, div-add-mod, lt-of-mul-lt-mul-right}
 use lib.Count.{leading-top}
-use lib.Dec.{ltb, eqb}
+use lib.Dec.{ltb}
 use lib.Pow.{pow-pos, pow-mono}
-use borrow.Author.Tests.{ltb-true, eqb-true, eq-eqb}
-use Rattle.rules.proofs.Tests.{decide}
+use borrow.Author.Tests.{ltb-true, eq-eqb}
 use Rattle.grid.specs.Ticks.{roundedUp}
 use Rattle.grid.proofs.Numbers.{mod-unique}
 use Rattle.grid.proofs.Ticks.{rounded-enough}
 use Rattle.scheme.specs.Scheme.{steady, starts, takes, period, steadyCell}
-use Rattle.scheme.proofs.Takes.{Taken, taken-in}
+use Rattle.scheme.proofs.Takes.{taken-in}
 use Rattle.scheme.proofs.Lawful.{Lawful}
 
 -- each tick is a slot start

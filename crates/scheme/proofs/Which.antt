@@ -1,14 +1,13 @@
 -- Which scheme and tick a kind has, and the numbers of a steady lane as the code computes them. Rests on both definitions.
-use mathlib.Core.Path.{_≡_, refl, sym, _∙_}
+use mathlib.Core.Path.{_≡_, refl}
 use Prim.Native.Nat.{ℕ, zero, suc, _+_, _-_, _/_, _%_, _^_, _≤_, _<_}
 use native.Mathlib.Omega.{arith}
 use lib.Pow.{pow-pos, pow-mono}
 use borrow.Author.Tests.{eq-eqb, ne-eqb}
-use Rattle.rules.specs.Limits.{countMax}
-use Rattle.grid.specs.Bounds.{Exactly, IsCell}
+use Rattle.grid.specs.Bounds.{Exactly}
 use Rattle.grid.specs.Ticks.{roundedUp, tickOf}
 use Rattle.grid.proofs.Ticks.{rounded-low, rounded-high}
-use Rattle.scheme.specs.Scheme.{Scheme, steady, padded, steadyKind, schemeOf, tickFor, period, steadyCell}
+use Rattle.scheme.specs.Scheme.{steady, padded, steadyKind, schemeOf, tickFor, period, steadyCell}
 use Rattle.scheme.proofs.Steady.{cell-range}
 
 module _ (kind A K : ℕ) where

@@ -1,7 +1,7 @@
 -- A floor above its cap has the number 15 where it had 6, and nothing else moved: the same sharings are done and the
 -- same refused.
 -- Rests on the laws of former answers.
-use mathlib.Core.Path.{_≡_, refl, sym, ap, _∙_}
+use mathlib.Core.Path.{_≡_, sym, ap, _∙_}
 use mathlib.Core.Bool.{not}
 use mathlib.Core.List.{List, [], _∷_}
 use Prim.Native.Nat.{ℕ}

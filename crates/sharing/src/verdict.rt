@@ -1,7 +1,6 @@
 // Which sharings are refused, and with which number.
 use rules::truth::also;
 ghost use mathlib.Core.Path.{_≡_};
-ghost use Rattle.rules.specs.Limits.{both};
 ghost use Rattle.sharing.specs.Titles.{titles, Even};
 ghost use Rattle.sharing.specs.Verdict.{rowsFit, allowed as allowedOf, Tallied, verdictOf};
 use super::titles::Rated;

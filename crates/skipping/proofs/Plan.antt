@@ -1,9 +1,8 @@
 -- Laws of the plan of a skip-forward title's box with k lanes: each block is taken at the number that the plan gives, no later than
 -- its turn, at no other tick, and no lane has it sooner; and the number's closed form.
 -- Rest on when a box takes each cell, and on the laws of searches.
-use mathlib.Core.Path.{_≡_, refl, sym, ap, _∙_}
+use mathlib.Core.Path.{_≡_, sym, _∙_}
 use mathlib.Core.Bool.{Bool, true, false, false≢true}
-use mathlib.Core.Logic.{⊎-elim}
 use Prim.Native.Nat.{ℕ, zero, suc, _+_, _-_, _%_, _^_, _≤_, _<_}
 use native.Mathlib.Omega.{arith}
 use native.Mathlib.Nat.{add-zero, mod-lt}

@@ -13,7 +13,6 @@ use story::CLEAR;
 use story::State;
 use story::Title;
 use verdicts::questions::asked_verdict;
-ghost use Prim.Native.Nat.{ℕ};
 ghost use mathlib.Core.Path.{_≡_};
 ghost use mathlib.Core.Bool.{true};
 ghost use mathlib.Core.List.{map};

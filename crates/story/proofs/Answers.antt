@@ -9,7 +9,7 @@ use native.Mathlib.Omega.{arith}
 use native.Mathlib.Nat.{le-antisymm}
 use lib.Dec.{ltb, leb, eqb}
 use borrow.Author.Tests.{ltb-true, ltb-false, leb-true, eqb-true, eqb-false, not-false}
-use Rattle.rules.specs.Limits.{both, either, within, idMax, eventTimeMax}
+use Rattle.rules.specs.Limits.{both, within, idMax, eventTimeMax}
 use Rattle.rules.specs.Limits.{countMin, countMax}
 use Rattle.rules.specs.Refusals.{Rule, refuse, firstHit, outsideLimits, tooEarly, notThere, idTaken, isClosing}
 use Rattle.rules.specs.Refusals.{floorAboveCap, belowFloor, aboveCap, isSteady, unchanged, doorsUnchanged, secondEvent, notAtSlot}

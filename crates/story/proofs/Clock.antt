@@ -2,7 +2,7 @@
 -- Rest on division with remainder.
 use mathlib.Core.Path.{_≡_}
 use mathlib.Core.Logic.{⊎-elim}
-use Prim.Native.Nat.{ℕ, suc, _+_, _-_, _*_, _/_, _%_, _^_, _≤_, _<_}
+use Prim.Native.Nat.{ℕ, suc, _+_, _-_, _*_, _/_, _%_, _≤_, _<_}
 use native.Mathlib.Omega.{arith}
 use native.Mathlib.Nat.{le-antisymm, div-lt-iff-lt-mul, div-add-mod', div-mul-le-self, le-div-iff-mul-le}
 use native.Mathlib.Nat.{mul-div-cancel, mul-le-mul-right}

@@ -2,14 +2,14 @@
 -- changes lie at least one floor slot apart, whatever else comes between. Refusal 16 is exact: a change that gets it comes
 -- sooner, one that is accepted does not, and no other event gets it. Rests on the laws of listed refusals.
 use mathlib.Core.Path.{_≡_, refl, sym, _∙_}
-use mathlib.Core.Bool.{Bool, true, false, false≢true}
+use mathlib.Core.Bool.{true, false, false≢true}
 use mathlib.Core.Logic.{⊎-elim}
 use mathlib.Core.List.{List, [], _∷_, _++_}
 use Prim.Native.Nat.{ℕ, _+_, _≤_, _<_}
 use native.Mathlib.Omega.{arith}
-use lib.Dec.{lit<, ltb, eqb}
+use lib.Dec.{lit<, eqb}
 use borrow.Author.Tests.{ltb-true, ltb-false, eqb-true, eq-eqb}
-use Rattle.rules.specs.Refusals.{pick, tooSoon}
+use Rattle.rules.specs.Refusals.{tooSoon}
 use Rattle.rules.proofs.Tests.{decide}
 use Rattle.rules.proofs.Refusals.{hitsOf, numbered, distinct, isListed, cleared, first-hit}
 use Rattle.story.specs.Life.{Life}

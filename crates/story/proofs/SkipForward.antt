@@ -1,10 +1,10 @@
 -- Skip-forward titles (02, 12): a box has the next block in time for a skip, over every accepted sequence, and what a lane
 -- owes at a close: what the boxes of the tick before it still await. Rests on `planned-received` and on the steady lanes' laws.
-use mathlib.Core.Path.{_≡_, refl, sym, ap, _∙_}
-use mathlib.Core.Bool.{Bool, true, false}
+use mathlib.Core.Path.{_≡_, sym, ap, _∙_}
+use mathlib.Core.Bool.{Bool, true}
 use mathlib.Core.Logic.{⊎-elim}
 use mathlib.Core.List.{List}
-use Prim.Native.Nat.{ℕ, zero, suc, _+_, _≤_, _<_}
+use Prim.Native.Nat.{ℕ, suc, _+_, _≤_, _<_}
 use native.Mathlib.Omega.{arith}
 use native.Mathlib.Nat.{le-antisymm}
 use lib.Dec.{ltb, eqb}
@@ -20,7 +20,7 @@ use Rattle.scheme.proofs.Turns.{ahead}
 use Rattle.story.specs.Life.{Life, scheme, isFilm, usualCell, isPlanned, isAdmission, isAwaited, isOwed, reach, owedWithin, owes}
 use Rattle.story.specs.Story.{Event, Accepted, lifeAt, ReceivedBy, Begins}
 use Rattle.story.proofs.Ruled.{Ruled, admitted}
-use Rattle.story.proofs.Owed.{awaited-in, awaited-out, owed-in, owed-out}
+use Rattle.story.proofs.Owed.{awaited-in, awaited-out, owed-out}
 use Rattle.story.proofs.World.{planned-received, begun-lively}
 
 module _ (L : Life) (kind : L .kind ≡ steadyKind) where

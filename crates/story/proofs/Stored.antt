@@ -1,10 +1,10 @@
 -- Owed ticks need no history: of each count the end of its latest admission's slot decides. Shown for any life whose
 -- counts begin and end to admit boxes only at slot starts of their own: the stored ends say of a lane's ticks what is defined over all admissions.
 -- Rests on the laws of a scheme and on the laws of owed ticks.
-use mathlib.Core.Path.{_≡_, refl, sym, ap, _∙_}
+use mathlib.Core.Path.{_≡_, sym, ap, _∙_}
 use mathlib.Core.Bool.{Bool, true, false}
 use mathlib.Core.Logic.{⊎-elim}
-use Prim.Native.Nat.{ℕ, zero, suc, _+_, _-_, _*_, _/_, _%_, _^_, _≤_, _<_}
+use Prim.Native.Nat.{ℕ, zero, suc, _+_, _-_, _*_, _/_, _%_, _≤_, _<_}
 use native.Mathlib.Omega.{arith}
 use native.Mathlib.Nat.{div-add-mod', mul-le-mul-right}
 use lib.Dec.{ltb, leb, eqb}
@@ -16,7 +16,7 @@ use Rattle.rules.specs.Search.{some}
 use Rattle.rules.proofs.Tests.{decide, both-l, both-r, both-in, same, pick-true, pick-false}
 use Rattle.rules.proofs.Search
 use Rattle.grid.proofs.Numbers.{mod-unique}
-use Rattle.scheme.specs.Scheme.{Scheme, starts, takes, filmIn}
+use Rattle.scheme.specs.Scheme.{Scheme, starts, takes}
 use Rattle.scheme.proofs.Takes.{taken-in, taken-out}
 use Rattle.story.specs.declared.Title.{Title}
 use Rattle.story.specs.Life.{Life, Course, scheme, isFilm, usualCell, isPlanned, isAdmission, isAwaited, isOwed}

@@ -1,6 +1,6 @@
 -- What the scheduler keeps, and what it reads off it: the numbers' limits, ticks, lanes held, and what a lane shows (01,
 -- "Events", "Status" and "Numbers that calls give back").
-use Prim.Native.Nat.{ℕ, suc, _+_, _-_, _*_, _/_, _%_, _^_}
+use Prim.Native.Nat.{ℕ, suc, _+_, _-_, _/_, _%_}
 use mathlib.Core.Bool.{Bool, not}
 use mathlib.Core.List.{List, []}
 use lib.Dec.{leb, ltb, eqb}

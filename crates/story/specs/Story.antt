@@ -11,7 +11,7 @@ use Rattle.rules.specs.Limits.{lengthMax, eventTimeMax, askedMax, laneMax, titl
 use Rattle.rules.specs.Refusals.{pick, Rule, firstHit}
 use Rattle.rules.specs.Search.{every, howMany, total}
 use Rattle.scheme.specs.Scheme.{paddedKind, steadyKind, tickFor, starts}
-use Rattle.story.specs.Life.{Life, Course, onCourse, scheme, floorSlot, isAdmission, isActive, Air, cell, onAir, isHeld}
+use Rattle.story.specs.Life.{Life, onCourse, scheme, floorSlot, isAdmission, isActive, Air, cell, onAir, isHeld}
 use Rattle.story.specs.Orders.{Tests, openOrder, changeOrder, closeOrder, doorsOrder}
 use Rattle.story.specs.Orders.{laneOrder, statusOrder}
 

@@ -1,7 +1,6 @@
 // The buffer between what was read and the lines in it: a line goes from its start up to the newline that
 // `bytes::run_end` finds with `Sort::Line`; what is left of a block moves to the buffer's front before the next is read.
 
-ghost use mathlib.Core.Path.{_≡_};
 ghost use Rattle.text.specs.Feed.{Moved};
 
 // Moves the bytes from `from` up to `to` to the buffer's front and gives back how many they are. Bytes past them stay.

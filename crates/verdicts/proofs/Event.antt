@@ -5,7 +5,7 @@ use mathlib.Core.Bool.{Bool, true, false, not, false≢true}
 use Prim.Native.Nat.{ℕ, _≤_, _<_}
 use native.Mathlib.Omega.{arith}
 use borrow.Author.Tests.{leb-true, ltb-true, ltb-false, eqb-false, not-false, not-true}
-use lib.Dec.{leb, ltb, eqb}
+use lib.Dec.{leb, eqb}
 use Rattle.rules.specs.Limits.{both, within, idMax, laneMax, eventTimeMax, askedMax, countMin, countMax}
 use Rattle.rules.specs.Refusals.{firstHit, outsideLimits, notThere, floorAboveCap}
 use Rattle.rules.proofs.Tests.{both-l, both-r}

@@ -6,7 +6,6 @@ use text::numbers::Number;
 use text::numbers::grow;
 use text::output::put_value;
 ghost use mathlib.Core.Path.{_≡_};
-ghost use lib.ListN.{length};
 ghost use Rattle.waits_io.specs.Arrivals.{isGap, soFar, ending, taking, allTaken};
 
 // A text as far as it was read: how many numbers of it are in the row; the number being spelt, and whether one is; and whether

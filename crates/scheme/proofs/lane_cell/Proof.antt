@@ -1,5 +1,4 @@
 -- `lane_cell` meets its contract: the lane's cell by the scheme of its kind. Rests on the laws of lanes.
-use mathlib.Core.Path.{_≡_}
 use borrow.Author.Needs.{needs}
 use Rattle.scheme.proofs.Which.{steady-scheme, padded-scheme, steady-within}
 use Rattle.scheme.proofs.lane_cell.Statement.{statement}

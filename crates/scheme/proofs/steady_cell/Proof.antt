@@ -1,5 +1,5 @@
 -- `steady_cell` meets its contract: a lane's first cell, and how far it has come from there. Rests on the laws of lanes.
-use mathlib.Core.Path.{_≡_, refl, sym}
+use mathlib.Core.Path.{refl}
 use Prim.Native.Nat.{_%_, _<_}
 use native.Mathlib.Omega.{arith}
 use native.Mathlib.Nat.{mod-lt}

@@ -1,7 +1,7 @@
 -- `console_answers::entries::put_cells` meets its contract: of the plan, the cells passed are written.
 use Prim.Native.Nat.{ℕ, _-_}
 use native.Mathlib.Omega.{arith}
-use lib.ListN.{length, getD}
+use lib.ListN.{getD}
 use Rattle.text.specs.Output.{page}
 use Rattle.console_answers.specs.Entries.{cellEntry}
 use Rattle.console_answers.proofs.Rows.{Passed, passed-none, passed-on, passed-all}

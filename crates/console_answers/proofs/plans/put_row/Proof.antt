@@ -1,7 +1,6 @@
 -- `console_answers::plans::put_row` meets its contract: the plan that the call left is told.
-use mathlib.Core.Path.{_≡_, sym, _∙_}
+use mathlib.Core.Path.{sym, _∙_}
 use native.Mathlib.Omega.{arith}
-use Prim.Native.Nat.{_^_, _≤_}
 use lib.ListN.{length}
 use Rattle.text.specs.Output.{page}
 use Rattle.plan.proofs.Refusals.{accepted-only}

@@ -1,5 +1,5 @@
 -- `console_answers::roms::put_row` meets its contract: the plan that the small box's call left is told.
-use mathlib.Core.Path.{_≡_, sym, _∙_}
+use mathlib.Core.Path.{sym, _∙_}
 use native.Mathlib.Omega.{arith}
 use Prim.Native.Nat.{_^_, _≤_}
 use lib.ListN.{length}

@@ -1,7 +1,7 @@
 -- `console_answers::words::refusal_words` meets its contract: each text is its part of the row (proofs/parts/Laws).
 use mathlib.Core.Path.{_∙_, ap}
 use Rattle.text.specs.Texts.{text}
-use Rattle.text.specs.Output.{page, puts}
+use Rattle.text.specs.Output.{puts}
 use Rattle.console_answers.specs.Words.{refusals, refusalWords}
 use Rattle.console_answers.proofs.parts.Laws.{joined, begins, cut, parts}
 use borrow.Author.Needs.{needs}

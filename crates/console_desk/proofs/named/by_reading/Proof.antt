@@ -1,5 +1,4 @@
 -- `console_desk::named::by_reading` meets its contract: a notice's own, and nothing of other bytes.
-use Rattle.console_desk.specs.Named.{missedOf}
 use borrow.Author.Needs.{needs}
 use Rattle.console_desk.proofs.named.by_reading.Statement.{statement}
 use Rattle.console_desk.proofs.named.by_reading.Tie as tie

@@ -3,12 +3,11 @@
 use mathlib.Core.Path.{_≡_, refl, ap, _∙_}
 use Prim.Native.Nat.{ℕ, _+_, _-_, _^_, _≤_, _<_}
 use native.Mathlib.Omega.{arith}
-use native.Mathlib.Nat.{le-antisymm}
 use lib.ListN.{length, length-set}
 use lib.Pow.{pow-mono}
 use borrow.Author.Needs.{needs}
 use Rattle.rules.specs.Limits.{countMax}
-use Rattle.scheme.specs.Scheme.{schemeOf, steadyKind, steadyCell}
+use Rattle.scheme.specs.Scheme.{schemeOf, steadyKind}
 use Rattle.figures.specs.Steady.{blockOn}
 use Rattle.figures.proofs.Filling.{Filled, filled-next}
 use Rattle.figures.proofs.steady.on_lane.Statement.{statement}

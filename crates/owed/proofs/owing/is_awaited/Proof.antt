@@ -1,6 +1,6 @@
 -- `is_awaited` meets its contract: of a skip-forward title one count and one lane are asked, of another every count.
 -- Rests on what the boxes of each kind await.
-use mathlib.Core.Path.{_≡_, sym, _∙_}
+use mathlib.Core.Path.{sym, _∙_}
 use native.Mathlib.Omega.{arith}
 use Rattle.rules.specs.Limits.{countPlaces}
 use Rattle.scheme.proofs.Which.{padded-scheme}

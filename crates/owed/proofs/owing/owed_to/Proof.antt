@@ -1,7 +1,7 @@
 -- `owed_to` meets its contract: each way out decides the tests up to it, and of the channels the one that carries the
 -- cell decides. A slot and a power of two are at most 2^countMax each, so no sum or product wraps. Rests on the laws
 -- of what boxes want.
-use Prim.Native.Nat.{_*_, _^_, _≤_, _<_}
+use Prim.Native.Nat.{_*_, _^_, _≤_}
 use mathlib.Core.Path.{_≡_, sym}
 use mathlib.Core.Bool.{true}
 use native.Mathlib.Omega.{arith}

@@ -1,6 +1,6 @@
 -- `lane` meets its contract: a question that is answered shows the lane's cell at the tick of the time.
 -- Rests on the laws of answered questions.
-use mathlib.Core.Path.{refl, sym, _∙_}
+use mathlib.Core.Path.{sym, _∙_}
 use borrow.Author.Needs.{needs}
 use Rattle.verdicts.proofs.Event.{lane-id, lane-film, lane-sending, lane-capped}
 use Rattle.rom.proofs.Answered.{rom-answered, rom-own, rom-shown, rom-refused, own-capped}

@@ -1,6 +1,5 @@
 -- `shows` meets its contract: the lane's cell at the tick itself, or at the one whose cell is sent.
 -- Rests on the law that what is looked up is the title's.
-use mathlib.Core.Path.{sym, _∙_}
 use borrow.Author.Needs.{needs}
 use Rattle.rom.proofs.Answered.{shows-usual, shows-sent}
 use Rattle.rom.proofs.lanes.shows.Statement.{statement}

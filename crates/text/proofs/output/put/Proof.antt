@@ -4,7 +4,7 @@ use mathlib.Core.Path.{_≡_, refl, _∙_, ap}
 use native.Mathlib.Omega.{arith}
 use borrow.Author.Needs.{needs}
 use lib.ListN.{length, getD, drop}
-use Rattle.text.specs.Output.{Page, page, put, puts}
+use Rattle.text.specs.Output.{Page, page, puts}
 use Rattle.text.proofs.Pages.{puts-on, puts-end, put-length}
 use Rattle.text.proofs.output.put.Statement.{statement}
 use Rattle.text.proofs.output.put.Tie as tie

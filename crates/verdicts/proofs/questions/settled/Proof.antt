@@ -1,5 +1,5 @@
 -- `settled` meets its contract: a state within its limits has a readable title, tuned within its limit.
-use mathlib.Core.Path.{_≡_, sym, _∙_}
+use mathlib.Core.Path.{_≡_}
 use mathlib.Core.Bool.{true}
 use Prim.Native.Nat.{_≤_}
 use native.Mathlib.Omega.{arith}

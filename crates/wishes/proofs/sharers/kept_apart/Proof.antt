@@ -1,5 +1,4 @@
 -- `kept_apart` meets its contract: each way out decides the kind.
-use mathlib.Core.Path.{_∙_}
 use native.Mathlib.Omega.{arith}
 use borrow.Author.Tests.{eq-eqb, ne-eqb}
 use Rattle.wishes.proofs.sharers.Laws.{rules-few}
