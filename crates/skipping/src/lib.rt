@@ -28,7 +28,7 @@ fn in_limits(count: u64, arrival: u64) -> bool
 }
 
 // The call's answer for a lent row of `places` places, by the order of refusals.
-pub fn answer(count: u64, arrival: u64, places: usize) -> u8
+fn answer(count: u64, arrival: u64, places: usize) -> u8
     ensures { λ r. ⌜ r ≡ skipAnswer count arrival places ⌝ }
 {
     if in_limits(count, arrival) {
