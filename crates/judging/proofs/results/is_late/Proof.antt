@@ -1,0 +1,42 @@
+-- `judging::results::is_late` meets its contract: the film test, then the comparison of the next tick with the turn.
+use Prim.Native.Nat.{_*_, _≤_}
+use native.Mathlib.Omega.{arith}
+use native.Mathlib.Nat.{mul-le-mul}
+use borrow.Author.Tests.{lt-ltb, le-ltb}
+use Rattle.rules.specs.Limits.{planPlaces, lengthMax}
+use Rattle.judging.specs.Walk.{isLate}
+use borrow.Author.Needs.{needs}
+use Rattle.judging.proofs.results.is_late.Statement.{statement}
+use Rattle.judging.proofs.results.is_late.Tie as tie
+
+mul-if1 : tie.Need-mul-if1
+mul-if1 c =
+    let a = c .args in
+    let within : a .cell ≤ planPlaces = omega arith in
+    let most : a .cell * a .tick ≤ planPlaces * lengthMax = mul-le-mul within (c .pre .1 .0) in
+    record { fits = omega arith }
+
+add-result : tie.Need-add-result
+add-result c = search needs
+
+mul-result : tie.Need-mul-result
+mul-result c = search needs
+
+shared-slice-read-result : tie.Need-shared-slice-read-result
+shared-slice-read-result c = search needs
+
+cast-result : tie.Need-cast-result
+cast-result c = omega (arith, c .shared-slice-known .given (c .before .before .args .cell))
+
+returns : tie.Need-returns
+unfolding isLate
+returns c = simp (lt-ltb _ _ (c .before .if1 .taken))
+
+returns-2 : tie.Need-returns-2
+unfolding isLate
+returns-2 c = simp (le-ltb _ _ (c .if1 .left))
+
+pub is-late-spec : {M : Type 1} → statement M
+is-late-spec =
+    tie.close
+    (tie.spec mul-if1 add-result mul-result shared-slice-read-result cast-result returns returns-2)
