@@ -122,7 +122,7 @@ fn stretch_of(t: Title) -> Stretch
 }
 
 // Whether a title admits boxes: it is open, and its doors are not held.
-fn admitting(t: Title) -> bool
+pub fn admitting(t: Title) -> bool
     ensures { λ r. ⌜ r ≡ isAdmitting t ⌝ }
 {
     let mode = t.mode;

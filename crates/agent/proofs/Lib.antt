@@ -7,4 +7,5 @@ pub mod Overtaken
 pub mod Alike
 pub mod HeadEnd
 pub mod Played
+pub mod Reading
 pub mod Unique

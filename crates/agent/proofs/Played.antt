@@ -3,7 +3,13 @@
 -- Rests on what a log gives at a place being that notice's bytes.
 use Prim.Native.Nat.{ℕ, zero, suc}
 use mathlib.Core.Path.{_≡_, refl, sym, ap, _∙_}
+use mathlib.Core.Bool.{true}
 use mathlib.Core.List.{List, [], _∷_, map}
+use lib.Dec.{eqb}
+use lib.ListN.{length}
+use Rattle.rules.specs.Limits.{within, poolMin, poolMax}
+use Rattle.rules.specs.Refusals.{pick, outOfTurn}
+use Rattle.rules.proofs.Tests.{pick-true}
 use Rattle.notice.specs.declared.Notice.{Notice}
 use Rattle.notice.specs.declared.Reading.the-variants as reading
 use Rattle.notice.specs.declared.Found.{Found}
@@ -13,11 +19,17 @@ use Rattle.notice.specs.Decode.{readAt, readOf}
 use Rattle.notice.specs.Log.{Bytes, placeTo, withFound, noticesTo, noticesOf}
 use Rattle.notice.proofs.ReadBack.{read-alone}
 use Rattle.agent.specs.declared.Agent.{Agent}
-use Rattle.agent.specs.Turns.{freshAgent, noticed}
+use Rattle.agent.specs.Turns.{eventOf, freshAgent, noticeAnswer, noticed}
+use Rattle.story.specs.Story.{answer}
 use Rattle.story.specs.Runs.{lanesOf}
+use Rattle.story.proofs.Demands.{every-answer}
 use Rattle.agent.specs.Series.{agentAfter, hearing, heard, Hearing}
 use Rattle.agent.specs.Played.{agentTold, agentPlayed, heardOf, ReadAs, none-read, one-read}
 use Rattle.agent.proofs.Order.{follows}
+
+-- a pool within its limits has as many lanes as it says
+pub same-pool : (pool : ℕ) → within poolMin poolMax pool ≡ true → lanesOf pool ≡ pool
+same-pool pool fits = pick-true (within poolMin poolMax pool) pool 0 fits
 
 -- one read more of a log is one more notice told, or none
 pub told-more : (g : Agent) (ns : List Notice) (f : Found)
@@ -67,3 +79,14 @@ pub told-follows : (pool : ℕ) (bss : List (List ℕ)) (ns : List Notice) → R
     Hearing pool (heardOf (lanesOf pool) ns) (agentTold (freshAgent pool) ns)
 told-follows pool bss ns r =
     rw (told-series pool bss ns r, ← heard-alike (lanesOf pool) bss ns r) (follows pool bss)
+
+-- what it answers a notice is what the sequence of those that count says
+pub told-notice : (pool : ℕ) (ns : List Notice) → Hearing pool (heardOf (lanesOf pool) ns) (agentTold (freshAgent pool) ns) →
+    (n : Notice) → noticeAnswer (agentTold (freshAgent pool) ns) (reading.Whole n)
+    ≡ pick (eqb (n .sequence) (suc (length (heardOf (lanesOf pool) ns)))) (answer (lanesOf pool) (map eventOf (heardOf (lanesOf pool) ns)) (eventOf n)) outOfTurn
+unfolding noticeAnswer
+told-notice pool ns w n =
+    rw (
+      w .sequence,
+      every-answer pool (map eventOf (heardOf (lanesOf pool) ns)) (agentTold (freshAgent pool) ns .state) (w .run) (eventOf n),
+    )

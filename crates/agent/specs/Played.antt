@@ -7,7 +7,8 @@ use Rattle.notice.specs.declared.Reading.the-variants as reading
 use Rattle.notice.specs.Decode.{readOf}
 use Rattle.notice.specs.Log.{noticesOf}
 use Rattle.agent.specs.declared.Agent.{Agent}
-use Rattle.story.specs.Story.{Event}
+use Rattle.story.specs.Life.{Life}
+use Rattle.story.specs.Story.{Event, lifeOf}
 use Rattle.agent.specs.Turns.{eventOf, freshAgent, noticed}
 use Rattle.agent.specs.Series.{hearing}
 
@@ -28,6 +29,10 @@ heardOf lanes (n ∷ ns) = hearing lanes (heardOf lanes ns) (reading.Whole n)
 -- the accepted events of a log, as a fresh agent of a pool takes them
 abbrev pub eventsPlayed : ℕ → List ℕ → List Event
 eventsPlayed pool log = map eventOf (heardOf pool (noticesOf log))
+
+-- a title's life since its latest opening in the log, whether it is open, closing or gone at the log's end
+abbrev pub lifeIn : ℕ → List ℕ → ℕ → Life
+lifeIn pool log title = lifeOf (eventsPlayed pool log) title
 
 -- byte strings that read as these notices, one for one
 pub data ReadAs : List (List ℕ) → List Notice → Type 0 where

@@ -16,7 +16,6 @@ use Rattle.rules.proofs.Tests.{decide}
 use Rattle.notice.specs.declared.Notice.{Notice}
 use Rattle.notice.specs.declared.Kind.{Kind}
 use Rattle.notice.specs.declared.Kind.the-variants.{Open, Change, Close, Hold, Lift, Skip}
-use Rattle.notice.specs.declared.Reading.the-variants as reading
 use Rattle.scheme.specs.Scheme.{paddedKind, steadyKind}
 use Rattle.story.specs.declared.State.{State}
 use Rattle.story.specs.Kept.{titleAt}
@@ -30,16 +29,16 @@ use Rattle.story.proofs.Tells.{TellsTitle}
 use Rattle.story.specs.Runs.{lanesOf}
 use Rattle.story.proofs.Runs.{Told}
 use Rattle.story.proofs.Reached.{run-told}
-use Rattle.story.proofs.Demands.{every-answer}
-use Rattle.agent.specs.Turns.{actOf, eventOf, freshAgent, noticeAnswer}
+use Rattle.agent.specs.Turns.{actOf, eventOf, freshAgent}
 use Rattle.agent.specs.Series.{Hearing}
 use Rattle.agent.specs.Played.{agentTold, heardOf, ReadAs, none-read, one-read}
-use Rattle.agent.proofs.Played.{told-follows}
+use Rattle.agent.proofs.Played.{told-follows, told-notice}
 use Rattle.admissions.specs.declared.Tally.{Tally}
 use Rattle.admissions.specs.Waits.{Tallied, rowMax}
 use Rattle.admissions.specs.Stretches.{settled, allSettled}
 use Rattle.admissions.proofs.Told.{Counted, opened-counted, never-counted, told-playing, told-few, told-turns}
 use Rattle.admissions.proofs.Told.{told-stays}
+use Rattle.agent.specs.Steps.{keptTold}
 use Rattle.waiting.specs.Steps.{eventTally, heardTally, toldTally, Ready}
 
 -- ---- one event
@@ -90,21 +89,13 @@ module _ (pool i : ℕ) (id : i ≤ idMax) (xs : List ℕ) where
   abbrev lanes : ℕ
   lanes = lanesOf pool
 
-  -- what the agent answers a notice is what the sequence of those that count says
-  told-notice : (ns : List Notice) → Hearing pool (heardOf lanes ns) (agentTold (freshAgent pool) ns) → (n : Notice)
-      → noticeAnswer (agentTold (freshAgent pool) ns) (reading.Whole n)
-      ≡ pick (eqb (n .sequence) (suc (length (heardOf lanes ns)))) (answer lanes (map eventOf (heardOf lanes ns)) (eventOf n)) outOfTurn
-  unfolding noticeAnswer
-  told-notice ns w n =
-      rw (w .sequence, every-answer pool (map eventOf (heardOf lanes ns)) (agentTold (freshAgent pool) ns .state) (w .run) (eventOf n))
-
   -- one notice more
   module _ (ns : List Notice) (n : Notice) (w : Hearing pool (heardOf lanes ns) (agentTold (freshAgent pool) ns))
       (c : CountedIn (map eventOf (heardOf lanes ns)) i xs (toldTally pool i xs ns)) where
     one-more : CountedIn (map eventOf (heardOf lanes (n ∷ ns))) i xs (toldTally pool i xs (n ∷ ns))
-    unfolding heardOf toldTally heardTally
+    unfolding heardOf keptTold heardTally
     one-more =
-        rw (told-notice ns w n)
+        rw (told-notice pool ns w n)
         (go (eqb (n .sequence) (suc (length hs))) (answer lanes es (eventOf n))
         (any-counted lanes es s i xs y (told-of .tells .title i (omega arith)) (told-of .tells .newest i) c n))
       where
@@ -134,7 +125,7 @@ module _ (pool i : ℕ) (id : i ≤ idMax) (xs : List ℕ) where
 
   pub told-counted : (bss : List (List ℕ)) (ns : List Notice) → ReadAs bss ns →
       CountedIn (map eventOf (heardOf lanes ns)) i xs (toldTally pool i xs ns)
-  unfolding heardOf toldTally lifeOf latestOf
+  unfolding heardOf keptTold lifeOf latestOf
   told-counted [] [] none-read = never-counted (tickIn unopened 0) xs
   told-counted (bs ∷ bss) (n ∷ ns) (one-read is rest) =
       one-more ns n (told-follows pool bss ns rest) (told-counted bss ns rest)
@@ -153,7 +144,7 @@ module _ (pool i : ℕ) (id : i ≤ idMax) (xs : List ℕ) where
         record {
           id = id;
           playing = told-playing _ _ _ told-title;
-          early = λ n ok. ⊎-elim (λ x. in-turn n x (sym (told-notice ns w n) ∙ ok)) (λ x. absurd (refused n x (sym (told-notice ns w n) ∙ ok))) (decide (eqb (n .sequence) (suc (length (heardOf lanes ns)))));
+          early = λ n ok. ⊎-elim (λ x. in-turn n x (sym (told-notice pool ns w n) ∙ ok)) (λ x. absurd (refused n x (sym (told-notice pool ns w n) ∙ ok))) (decide (eqb (n .sequence) (suc (length (heardOf lanes ns)))));
           few = told-few _ _ _ told-title xs (toldTally pool i xs ns) (told-counted bss ns r) short;
         }
       where

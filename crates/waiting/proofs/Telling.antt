@@ -7,25 +7,24 @@ use Prim.Native.Nat.{ℕ}
 use borrow.Author.Tests.{eqb-true, eqb-false}
 use lib.Dec.{eqb}
 use lib.ListN.{length}
-use Rattle.rules.specs.Limits.{within, poolMin, poolMax}
 use Rattle.rules.specs.Refusals.{done}
-use Rattle.rules.proofs.Tests.{decide, pick-true}
+use Rattle.rules.proofs.Tests.{decide}
 use Rattle.notice.specs.Log.{Bytes, noticesOf}
 use Rattle.story.specs.Kept.{titleAt}
 use Rattle.story.specs.Story.{lifeOf}
-use Rattle.story.specs.Runs.{lanesOf}
+use Rattle.agent.specs.declared.PlayedLog.{PlayedLog}
 use Rattle.agent.specs.Turns.{eventOf}
-use Rattle.agent.specs.Played.{agentPlayed}
-use Rattle.agent.proofs.Played.{log-series}
+use Rattle.agent.specs.Played.{agentPlayed, heardOf, lifeIn}
+use Rattle.agent.specs.Steps.{Plays}
+use Rattle.agent.proofs.Played.{same-pool, log-series}
+use Rattle.admissions.specs.declared.Tally.{Tally}
 use Rattle.admissions.specs.declared.Waits.{Waits}
 use Rattle.admissions.specs.Waits.{Tallied}
-use Rattle.admissions.specs.Stretches.{allSettled}
+use Rattle.admissions.specs.Stretches.{fresh, allSettled}
 use Rattle.admissions.proofs.GetsIn.{one-tally}
-use Rattle.waiting.specs.declared.Played.{Played}
 use Rattle.waiting.specs.declared.Report.{Report}
-use Rattle.agent.specs.Played.{heardOf}
-use Rattle.waiting.specs.Report.{reportAnswer, lifeIn, refusedWith, Reports}
-use Rattle.waiting.specs.Steps.{toldTally, Ready, Plays}
+use Rattle.waiting.specs.Report.{reportAnswer, refusedWith, Reports}
+use Rattle.waiting.specs.Steps.{heardTally, toldTally, Ready}
 use Rattle.waiting.proofs.Answers.{Fits}
 use Rattle.waiting.proofs.Counting.{told-ready, told-tallied}
 
@@ -44,31 +43,28 @@ module _ (pool : ℕ) (log : List ℕ) (title : ℕ) (xs : List ℕ) where
         refuses = λ h. refl;
       })
 
-  module _ (p : Played) (all : Plays pool log title xs p) (fit : Fits pool title xs) (small : Bytes log) where
-    pub played-ready : Ready (p .agent) title xs (p .tally)
+  module _ (p : PlayedLog) (y : Tally) (all : Plays (heardTally title xs) pool log (fresh 0) p y) (fit : Fits pool title xs) (small : Bytes log) where
+    pub played-ready : Ready (p .agent) title xs y
     played-ready =
-        rw (all .agent-is, all .tally-is)
+        rw (all .agent-is, all .kept-is)
         (told-ready pool title (fit .id) xs _ (noticesOf log) (log-series log small (length log)) (fit .short))
 
     pub reports-waits : (w : Waits) → done ≡ reportAnswer pool log title xs →
-        w ≡ allSettled (titleAt (p .agent .state) title) xs (p .tally)
+        w ≡ allSettled (titleAt (p .agent .state) title) xs y
         → Reports pool log title xs (reportOf done (length xs) w)
     reports-waits w whole is =
         record {
           answers = whole;
           all-counted = λ h. refl;
-          tallied = λ h. rw (is, all .agent-is, all .tally-is) in-its-pool;
+          tallied = λ h. rw (is, all .agent-is, all .kept-is) in-its-pool;
           refuses = λ h. absurd (h refl);
         }
       where
-        same-pool : lanesOf pool ≡ pool
-        same-pool = pick-true (within poolMin poolMax pool) pool 0 (fit .pool-in)
-
         in-its-pool : Tallied (lifeIn pool log title) xs (length xs) (allSettled (titleAt (agentPlayed pool log .state) title) xs (toldTally pool title xs (noticesOf log)))
         in-its-pool =
             subst
             (λ (n : ℕ). Tallied (lifeOf (map eventOf (heardOf n (noticesOf log))) title) xs (length xs) (allSettled (titleAt (agentPlayed pool log .state) title) xs (toldTally pool title xs (noticesOf log))))
-            same-pool
+            (same-pool pool (fit .pool-in))
             (told-tallied pool title (fit .id) xs _ (noticesOf log) (log-series log small (length log)) (fit .low))
 
   -- ---- two outcomes that the report admits are equal

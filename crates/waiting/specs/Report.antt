@@ -9,11 +9,9 @@ use Rattle.rules.specs.Limits.{both, within, poolMin, poolMax, idMax, askedMax}
 use Rattle.rules.specs.Refusals.{Rule, refuse, firstHit, done, outsideLimits, wrongRows, malformed}
 use Rattle.rules.specs.Search.{every}
 use Rattle.notice.specs.Log.{isWholeLog}
-use Rattle.story.specs.Life.{Life}
-use Rattle.story.specs.Story.{lifeOf}
 use Rattle.admissions.specs.Waits.{nobody, Tallied, rowMax}
 use Rattle.waiting.specs.declared.Report.{Report}
-use Rattle.agent.specs.Played.{eventsPlayed}
+use Rattle.agent.specs.Played.{lifeIn}
 
 -- every arrival of the row, also of one that is too long
 unfoldable pub rowInLimits : List ℕ → Bool
@@ -32,10 +30,6 @@ reportRules pool log title xs =
 
 unfoldable pub reportAnswer : ℕ → List ℕ → ℕ → List ℕ → ℕ
 reportAnswer pool log title xs = firstHit (reportRules pool log title xs)
-
--- the title's life since its latest opening in the log, whether it is open, closing or gone at the log's end
-abbrev pub lifeIn : ℕ → List ℕ → ℕ → Life
-lifeIn pool log title = lifeOf (eventsPlayed pool log) title
 
 -- beside a refusal the other numbers are 0
 abbrev pub refusedWith : ℕ → Report

@@ -1,8 +1,7 @@
 -- How the code goes through a log, notice by notice. The report's contract cites nothing of this; proofs/ shows what it comes to.
 use Prim.Native.Nat.{ℕ, _≤_}
 use mathlib.Core.Path.{_≡_}
-use mathlib.Core.Bool.{true, false}
-use mathlib.Core.List.{List, [], _∷_}
+use mathlib.Core.List.{List, []}
 use lib.Dec.{eqb}
 use lib.ListN.{length}
 use Rattle.rules.specs.Limits.{both, idMax, eventTimeMax}
@@ -11,18 +10,14 @@ use Rattle.notice.specs.declared.Notice.{Notice}
 use Rattle.notice.specs.declared.Kind.{Kind}
 use Rattle.notice.specs.declared.Kind.the-variants.{Open, Change, Close, Hold, Lift, Skip}
 use Rattle.notice.specs.declared.Reading.the-variants as reading
-use Rattle.notice.specs.declared.Found.{Found}
-use Rattle.notice.specs.declared.Found.the-variants as found
-use Rattle.notice.specs.Log.{noticesOf, stopOf}
 use Rattle.story.specs.declared.Title.{Title}
 use Rattle.story.specs.Kept.{titleAt}
 use Rattle.agent.specs.declared.Agent.{Agent}
 use Rattle.agent.specs.Turns.{freshAgent, noticeAnswer, noticed}
-use Rattle.agent.specs.Played.{agentTold, agentPlayed}
+use Rattle.agent.specs.Steps.{keptTold}
 use Rattle.admissions.specs.declared.Tally.{Tally}
 use Rattle.admissions.specs.Stretches.{Few, Playing, fresh, settled}
 use Rattle.waiting.specs.declared.Heard.{Heard}
-use Rattle.waiting.specs.declared.Played.{Played}
 use Rattle.waiting.specs.Report.{reportRules}
 
 -- an accepted event of the title: only the latest opening counts, of either kind
@@ -35,15 +30,14 @@ eventTally t τ Lift xs y = settled t τ xs y
 eventTally t τ (Skip d n) xs y = fresh τ
 
 -- the tally of title i after a notice
-unfoldable pub heardTally : Agent → ℕ → List ℕ → Notice → Tally → Tally
-heardTally g i xs n y =
+unfoldable pub heardTally : ℕ → List ℕ → Agent → Notice → Tally → Tally
+heardTally i xs g n y =
     pick (both (eqb (noticeAnswer g (reading.Whole n)) 0) (eqb (n .title) i))
     (eventTally (titleAt (g .state) i) (n .time) (n .kind) xs y) y
 
 -- after notices, newest first
-unfoldable pub toldTally : ℕ → ℕ → List ℕ → List Notice → Tally
-toldTally pool i xs [] = fresh 0
-toldTally pool i xs (n ∷ ns) = heardTally (agentTold (freshAgent pool) ns) i xs n (toldTally pool i xs ns)
+abbrev pub toldTally : ℕ → ℕ → List ℕ → List Notice → Tally
+toldTally pool i xs ns = keptTold (heardTally i xs) (freshAgent pool) (fresh 0) ns
 
 -- what holds of an agent that was told notices, and of its tally
 pub record Ready (g : Agent) (i : ℕ) (xs : List ℕ) (y : Tally) : Type 0 where
@@ -54,21 +48,7 @@ pub record Ready (g : Agent) (i : ℕ) (xs : List ℕ) (y : Tally) : Type 0 wher
 
 pub record Hears (g : Agent) (i : ℕ) (xs : List ℕ) (n : Notice) (y : Tally) (r : Heard) : Type 0 where
   pub agent-is : r .agent ≡ noticed g (reading.Whole n)
-  pub tally-is : r .tally ≡ heardTally g i xs n y
-
--- one read more
-unfoldable pub stepped : Played → ℕ → List ℕ → Found → Played
-stepped p i xs (found.At n e) =
-    record
-    { agent = noticed (p .agent) (reading.Whole n); tally = heardTally (p .agent) i xs n (p .tally); place = e; more = true }
-stepped p i xs found.End = record { agent = p .agent; tally = p .tally; place = p .place; more = false }
-stepped p i xs found.Malformed = record { agent = p .agent; tally = p .tally; place = p .place; more = false }
-
--- a log played to where its reading stops
-pub record Plays (pool : ℕ) (log : List ℕ) (i : ℕ) (xs : List ℕ) (r : Played) : Type 0 where
-  pub agent-is : r .agent ≡ agentPlayed pool log
-  pub tally-is : r .tally ≡ toldTally pool i xs (noticesOf log)
-  pub place-is : r .place ≡ stopOf log
+  pub tally-is : r .tally ≡ heardTally i xs g n y
 
 -- the refusals that do not hang on the log
 abbrev pub rowRules : ℕ → ℕ → List ℕ → List Rule

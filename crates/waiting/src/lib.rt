@@ -7,6 +7,7 @@ use admissions::ended;
 use admissions::endless;
 use admissions::opened;
 use agent::Agent;
+use agent::PlayedLog;
 use agent::fresh_agent;
 use agent::heed;
 use notice::Found;
@@ -29,8 +30,9 @@ ghost use lib.ListN.{length};
 ghost use Rattle.rules.specs.Limits.{eventTimeMax, idMax};
 ghost use Rattle.notice.specs.Decode.{readAt};
 ghost use Rattle.admissions.specs.Waits.{rowMax};
-ghost use Rattle.admissions.specs.Stretches.{Playing, Few};
-ghost use Rattle.waiting.specs.Steps.{eventTally, Ready, Hears, stepped, Plays, rowAnswer};
+ghost use Rattle.admissions.specs.Stretches.{Playing, Few, fresh};
+ghost use Rattle.agent.specs.Steps.{Steps, Plays};
+ghost use Rattle.waiting.specs.Steps.{eventTally, heardTally, Ready, Hears, rowAnswer};
 ghost use Rattle.waiting.specs.Report.{rowInLimits, refusedWith, Reports};
 
 // The most arrivals of a row.
@@ -43,12 +45,10 @@ pub struct Report {
     pub waits: Waits,
 }
 
-// A log as far as it was played: the agent, the tally of the title, the place of the next notice, and whether one may follow.
-struct Played {
-    agent: Agent,
+// A log as far as it was played, and the tally of the title.
+struct Counted {
+    played: PlayedLog,
     tally: Tally,
-    place: usize,
-    more: bool,
 }
 
 // What a notice leaves.
@@ -110,60 +110,65 @@ fn hear(agent: Agent, tally: Tally, n: Notice, title: u64, arrivals: &[u64]) -> 
 }
 
 // One read more: past a notice, and no further at the log's end or where bytes are no notice.
-fn step(played: Played, log: &[u8], title: u64, arrivals: &[u64]) -> Played
-    requires { ⌜ Ready (played .agent) title (now arrivals) (played .tally) ⌝ }
-    ensures { λ r. ⌜ r ≡ stepped played title (now (arrivals .entry)) (readAt (now (log .entry)) (played .place)) ⌝ }
+fn step(counted: Counted, log: &[u8], title: u64, arrivals: &[u64]) -> Counted
+    requires { ⌜ Ready (counted .played .agent) title (now arrivals) (counted .tally) ⌝ }
+    ensures { λ r. ⌜ Steps (heardTally title (now (arrivals .entry))) (counted .played) (counted .tally)
+        (readAt (now (log .entry)) (counted .played .place)) (r .played) (r .tally) ⌝ }
 {
+    let mut played = counted.played;
+    let tally = counted.tally;
     let agent = played.agent;
-    let tally = played.tally;
     let place = played.place;
+    played.more = false;
     let found = next_in(log, place);
     match found {
         Found::At(n, end) => {
             let heard = hear(agent, tally, n, title, arrivals);
-            let next = heard.agent;
-            let counted = heard.tally;
-            Played {
-                agent: next,
-                tally: counted,
+            let followed = heard.agent;
+            let tallied = heard.tally;
+            let next = PlayedLog {
+                agent: followed,
                 place: end,
                 more: true,
+            };
+            Counted {
+                played: next,
+                tally: tallied,
             }
         }
-        Found::End => Played {
-            agent: agent,
+        Found::End => Counted {
+            played: played,
             tally: tally,
-            place: place,
-            more: false,
         },
-        Found::Malformed => Played {
-            agent: agent,
+        Found::Malformed => Counted {
+            played: played,
             tally: tally,
-            place: place,
-            more: false,
         },
     }
 }
 
 // A log, played into a fresh agent up to where its reading stops.
-fn play(pool: u64, log: &[u8], title: u64, arrivals: &[u64]) -> Played
+fn play(pool: u64, log: &[u8], title: u64, arrivals: &[u64]) -> Counted
     requires { ⌜ title ≤ idMax ⌝ }
     requires { ⌜ length (now arrivals) ≤ rowMax ⌝ }
-    ensures { λ r. ⌜ Plays pool (now (log .entry)) title (now (arrivals .entry)) r ⌝ }
+    ensures { λ r. ⌜ Plays (heardTally title (now (arrivals .entry))) pool (now (log .entry)) (fresh 0) (r .played) (r .tally) ⌝ }
 {
     let started = fresh_agent(pool);
     let agent = started.agent;
     let tally = opened(0);
-    let mut played = Played {
+    let played = PlayedLog {
         agent: agent,
-        tally: tally,
         place: 0,
         more: true,
     };
-    while played.more {
-        played = step(played, log, title, arrivals);
+    let mut counted = Counted {
+        played: played,
+        tally: tally,
+    };
+    while counted.played.more {
+        counted = step(counted, log, title, arrivals);
     }
-    played
+    counted
 }
 
 // Whether every arrival of a row is a moment that can be asked about.
@@ -223,12 +228,13 @@ pub fn report_of(pool: u64, log: &[u8], title: u64, arrivals: &[u64]) -> Report
     if answer != DONE {
         return refused(answer);
     }
-    let played = play(pool, log, title, arrivals);
+    let counted = play(pool, log, title, arrivals);
+    let played = counted.played;
     if played.place < log.len() {
         return refused(MALFORMED);
     }
     let agent = played.agent;
-    let tally = played.tally;
+    let tally = counted.tally;
     let s = agent.state;
     let t = s.titles[title as usize];
     let waits = endless(t, arrivals, tally);

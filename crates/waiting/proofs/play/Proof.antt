@@ -1,15 +1,19 @@
 -- `waiting::play` meets its contract and ends: each step is one read more, and one that goes on moves ahead.
 use native.Mathlib.Omega.{arith}
 use borrow.Author.Needs.{needs}
-use Rattle.waiting.proofs.Reading.{PlayedTo, not-begun, played-on, ready, all-played, left, falls}
+use Rattle.agent.proofs.Reading.{PlayedTo, not-begun, played-on, all-played, left, falls}
+use Rattle.admissions.specs.Stretches.{fresh}
+use Rattle.waiting.specs.Steps.{heardTally}
+use Rattle.waiting.proofs.Reading.{ready}
 use Rattle.waiting.proofs.play.Statement.{statement}
 use Rattle.waiting.proofs.play.Tie as tie
 
 abbrev Inv-loop : tie.InvT-loop
-Inv-loop pool log title arrivals played₀ played = PlayedTo pool log title arrivals played
+Inv-loop pool log title arrivals counted₀ counted =
+    PlayedTo (heardTally title arrivals) pool log (fresh 0) (counted .played) (counted .tally)
 
 abbrev μ-loop : tie.MeasureT-loop
-μ-loop pool log title arrivals played₀ played = left log played
+μ-loop pool log title arrivals counted₀ counted = left log (counted .played)
 
 fresh-agent-requires : tie.Need-fresh-agent-requires Inv-loop μ-loop
 fresh-agent-requires c κs = search needs
@@ -23,16 +27,16 @@ loop-holds c = not-begun _ _ _ _ _ _ (c .before .before .fresh-agent .ensures .1
 step-requires : tie.Need-step-requires Inv-loop μ-loop
 step-requires c κs =
     let known = c .before .before .before .before .before .before in
-    ready _ _ _ _ _ (c .before .loop .inv) (λ j. omega (arith, known .shared-slice-known .given j)) (known .before .pre .0) (known .before .pre .1)
+    ready _ _ _ _ _ _ (c .before .loop .inv) (λ j. omega (arith, known .shared-slice-known .given j)) (known .before .pre .0) (known .before .pre .1)
 
 loop-less : tie.Need-loop-less Inv-loop μ-loop
-loop-less c = falls _ _ _ _ _ (c .before .loop-test .taken) (c .step .ensures)
+loop-less c = falls _ _ _ (c .before .loop-test .taken) (c .step .ensures .played-is)
 
 loop-again : tie.Need-loop-again Inv-loop μ-loop
-loop-again c = played-on _ _ _ _ _ _ (c .step .ensures) (c .before .before .loop .inv)
+loop-again c = played-on _ _ _ _ _ _ _ _ (c .step .ensures) (c .before .before .loop .inv)
 
 returns : tie.Need-returns Inv-loop μ-loop
-returns c = all-played _ _ _ _ _ (c .before .loop .inv) (c .loop-test .left)
+returns c = all-played _ _ _ _ _ _ (c .before .loop .inv) (c .loop-test .left)
 
 pub play-spec : {M : Type 1} → statement M
 play-spec =

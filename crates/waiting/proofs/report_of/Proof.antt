@@ -29,37 +29,37 @@ refused-requires-2 c κs = search needs
 
 returns-2 : tie.Need-returns-2
 returns-2 c =
-    let played = c .before .before .before in
-    let none = sym (played .before .before .refusal .ensures) ∙ played .before .if1 .left in
-    reports-refusal _ _ _ _ _ _ (c .refused2 .ensures) (not-whole _ _ _ _ none _ (played .play .ensures .place-is) (c .before .if2 .taken)) (λ h. omega arith)
+    let counted = c .before .before .before .before in
+    let none = sym (counted .before .before .refusal .ensures) ∙ counted .before .if1 .left in
+    reports-refusal _ _ _ _ _ _ (c .refused2 .ensures) (not-whole _ _ _ _ none _ (counted .play .ensures .place-is) (c .before .if2 .taken)) (λ h. omega arith)
 
 mul-t : tie.Need-mul-t
 mul-t c =
-    let tested = c .before .before .before .before .before .before in
+    let tested = c .before .before .before .before .before .before .before in
     record { fits = omega (arith, passes _ _ _ (sym (tested .before .refusal .ensures) ∙ tested .if1 .left) .id) }
 
 element-copy-out-t : tie.Need-element-copy-out-t
 element-copy-out-t c =
-    let tested = c .before .before .before .before .before .before in
+    let tested = c .before .before .before .before .before .before .before in
     omega (arith, passes _ _ _ (sym (tested .before .refusal .ensures) ∙ tested .if1 .left) .id)
 
 endless-requires : tie.Need-endless-requires
 endless-requires c κs =
-    let played = c .before .before .before .before .before .before in
-    let tested = played .before in
+    let counted = c .before .before .before .before .before .before .before in
+    let tested = counted .before in
     let known = tested .before .before .before in
     let fit = passes _ _ _ (sym (tested .before .refusal .ensures) ∙ tested .if1 .left) in
-    let ready = played-ready _ _ _ _ _ (played .play .ensures) fit (λ j. omega (arith, known .shared-slice-known .given j)) in
+    let ready = played-ready _ _ _ _ _ _ (counted .play .ensures) fit (λ j. omega (arith, known .shared-slice-known .given j)) in
     (ready .playing, ready .few)
 
 returns-3 : tie.Need-returns-3
 returns-3 c =
-    let played = c .before .before .before .before .before .before .before in
-    let tested = played .before in
+    let counted = c .before .before .before .before .before .before .before .before in
+    let tested = counted .before in
     let known = tested .before .before .before in
     let none = sym (tested .before .refusal .ensures) ∙ tested .if1 .left in
-    let whole = is-whole _ _ _ _ none _ (played .play .ensures .place-is) (c .before .before .before .before .before .if2 .left) in
-    reports-waits _ _ _ _ _ (played .play .ensures) (passes _ _ _ none) (λ j. omega (arith, known .shared-slice-known .given j)) _ whole (c .endless .ensures)
+    let whole = is-whole _ _ _ _ none _ (counted .play .ensures .place-is) (c .before .before .before .before .before .if2 .left) in
+    reports-waits _ _ _ _ _ _ (counted .play .ensures) (passes _ _ _ none) (λ j. omega (arith, known .shared-slice-known .given j)) _ whole (c .endless .ensures)
 
 pub report-of-spec : {M : Type 1} → statement M
 report-of-spec =

@@ -1,6 +1,6 @@
 -- `waiting::step` meets its contract, by what the reader finds at the place.
 use mathlib.Core.Path.{refl, sym, _∙_}
-use Rattle.waiting.proofs.Reading.{steps-on, steps-nowhere}
+use Rattle.agent.proofs.Reading.{steps-on, steps-nowhere}
 use borrow.Author.Needs.{needs}
 use Rattle.waiting.proofs.step.Statement.{statement}
 use Rattle.waiting.proofs.step.Tie as tie
@@ -24,7 +24,8 @@ returns : tie.Need-returns
 returns c =
     let heard = c .before .before in
     let read = heard .before .before in
-    steps-on _ _ _ _ _ _ _ (sym (read .before .before .next-in .ensures .is) ∙ read .found .given .1) (heard .hear .ensures)
+    steps-on _ _ _ _ _ _ _ _ (sym (read .before .before .next-in .ensures .is) ∙ read .found .given .1) (heard .hear .ensures .agent-is)
+    (heard .hear .ensures .tally-is)
 
 returns-2 : tie.Need-returns-2
 returns-2 c = steps-nowhere _ _ _ _ _ (sym (c .before .before .next-in .ensures .is) ∙ c .enum-told .given .1) refl

@@ -1,0 +1,14 @@
+-- What the code's way through a log comes to; our own lane answers starve nobody.
+pub mod Ticks
+pub mod Hearing
+pub mod Marking
+pub mod Reading
+pub mod Answers
+pub mod Calls
+pub mod Unique
+pub mod OwnAnswers
+pub mod OwnCells
+pub mod OwnRecord
+pub mod Starves
+pub mod Accepted
+pub mod More

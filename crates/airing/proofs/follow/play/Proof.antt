@@ -1,0 +1,57 @@
+-- `airing::follow::play` meets its contract and ends: each step is one read more, and one that goes on moves ahead.
+use mathlib.Core.Path.{refl}
+use native.Mathlib.Omega.{arith}
+use borrow.Author.Needs.{needs}
+use Rattle.agent.proofs.Reading.{PlayedTo, not-begun, played-on, all-played, left, falls}
+use Rattle.airing.specs.Steps.{heardMarks}
+use Rattle.airing.proofs.Reading.{ready, kept-length}
+use Rattle.airing.proofs.follow.play.Statement.{statement}
+use Rattle.airing.proofs.follow.play.Tie as tie
+
+abbrev Inv-loop : tie.InvT-loop
+Inv-loop pool log title marks₀ played₀ marks played = PlayedTo (heardMarks title) pool log marks₀ played marks
+
+abbrev μ-loop : tie.MeasureT-loop
+μ-loop pool log title marks₀ played₀ marks played = left log played
+
+fresh-agent-requires : tie.Need-fresh-agent-requires Inv-loop μ-loop
+fresh-agent-requires c κs = search needs
+
+loop-holds : tie.Need-loop-holds Inv-loop μ-loop
+loop-holds c = not-begun _ _ _ _ _ _ (c .before .fresh-agent .ensures .1) refl
+
+step-requires : tie.Need-step-requires Inv-loop μ-loop
+step-requires c κs =
+    let at-loop = c .before .before in
+    let known = at-loop .before .before .before .before in
+    ready _ _ _ _ _ _ (at-loop .loop .inv) (λ j. omega (arith, known .shared-slice-known .given j)) (known .before .pre)
+
+loop-less : tie.Need-loop-less Inv-loop μ-loop
+loop-less c =
+    let at-step = c .before .before in
+    falls _ _ _ (at-step .before .before .loop-test .taken) (at-step .step .ensures .played-is)
+
+loop-again : tie.Need-loop-again Inv-loop μ-loop
+loop-again c =
+    let at-step = c .before .before in
+    played-on _ _ _ _ _ _ _ _ (at-step .step .ensures) (at-step .before .before .before .loop .inv)
+
+same-length : tie.Need-same-length Inv-loop μ-loop
+same-length c = kept-length _ _ _ _ _ _ (c .before .loop .inv)
+
+returns : tie.Need-returns Inv-loop μ-loop
+returns c = all-played _ _ _ _ _ _ (c .before .loop .inv) (c .loop-test .left)
+
+pub play-spec : {M : Type 1} → statement M
+play-spec =
+    tie.close
+    (tie.spec
+    Inv-loop
+    μ-loop
+    fresh-agent-requires
+    loop-holds
+    step-requires
+    loop-less
+    loop-again
+    same-length
+    returns)

@@ -1,0 +1,95 @@
+-- How the code goes through a log, notice by notice, and marks the ticks of a title's latest opening. The calls' contracts cite
+-- nothing of this; proofs/ shows what it comes to.
+use Prim.Native.Nat.{ℕ, zero, suc, _+_, _-_, _≤_, min}
+use mathlib.Core.Path.{_≡_}
+use mathlib.Core.Bool.{Bool, not}
+use mathlib.Core.List.{List, [], _∷_}
+use lib.Dec.{leb, ltb, eqb}
+use lib.ListN.{length, set}
+use Rattle.rules.specs.Limits.{both, idMax}
+use Rattle.rules.specs.Refusals.{pick, refuse, firstHit, done, outsideLimits, wrongRows, malformed, notThere}
+use Rattle.scheme.specs.Scheme.{paddedKind, starts}
+use Rattle.notice.specs.declared.Notice.{Notice}
+use Rattle.notice.specs.declared.Reading.the-variants as reading
+use Rattle.notice.specs.Log.{isWholeLog}
+use Rattle.plan.specs.Row.{written}
+use Rattle.story.specs.declared.Title.{Title}
+use Rattle.story.specs.Kept.{openMode, titleAt, schemeIn, tickAt}
+use Rattle.story.specs.Life.{Life}
+use Rattle.measures.specs.Film.{Film}
+use Rattle.admissions.specs.Stretches.{admitting}
+use Rattle.agent.specs.declared.Agent.{Agent}
+use Rattle.agent.specs.Turns.{freshAgent, noticeAnswer, noticed}
+use Rattle.agent.specs.Played.{lifeIn}
+use Rattle.agent.specs.Steps.{keptTold}
+use Rattle.airing.specs.declared.follow.Ending.{Ending}
+use Rattle.airing.specs.Air.{inLimits, hasRoom, isFilmTitle, markOf}
+
+-- the mark of tick u while a title stays as it stands
+unfoldable pub markIn : Title → ℕ → ℕ
+markIn t u = pick (both (admitting t) (starts (schemeIn t) (t .count) u)) 1 0
+
+-- a row with the n ticks from tick u on marked as the title stands
+unfoldable pub markedFrom : Title → ℕ → List ℕ → ℕ → List ℕ
+markedFrom t u row zero = row
+markedFrom t u row (suc n) = set (markedFrom t u row n) (u + n) (markIn t (u + n))
+
+-- with those from its latest event up to tick v, as far as the row goes
+unfoldable pub markedTo : Title → ℕ → List ℕ → List ℕ
+markedTo t v row = markedFrom t (tickAt t (t .last)) row (min v (length row) - tickAt t (t .last))
+
+-- a title whose ticks can be marked
+pub record Markable (t : Title) : Type 0 where
+  pub film : Film t
+  pub fit : t .count ≤ t .cap
+
+-- an accepted event of an open title settles its ticks up to the event; one of a title that is not open is an opening, with
+-- which all ticks begin anew
+unfoldable pub heardMarks : ℕ → Agent → Notice → List ℕ → List ℕ
+heardMarks i g n row =
+    pick (both (eqb (noticeAnswer g (reading.Whole n)) 0) (both (eqb (n .title) i) (eqb (titleAt (g .state) i .mode) openMode)))
+    (markedTo (titleAt (g .state) i) (tickAt (titleAt (g .state) i) (n .time)) row) row
+
+-- the row after notices, newest first
+abbrev pub toldMarks : ℕ → ℕ → List ℕ → List Notice → List ℕ
+toldMarks pool i row ns = keptTold (heardMarks i) (freshAgent pool) row ns
+
+-- what holds of an agent that was told notices
+pub record Ready (g : Agent) (i : ℕ) : Type 0 where
+  pub id : i ≤ idMax
+  pub markable : titleAt (g .state) i .mode ≡ openMode → Markable (titleAt (g .state) i)
+
+pub record Hears (g : Agent) (i : ℕ) (n : Notice) (row : List ℕ) (h : Agent) (marked : List ℕ) : Type 0 where
+  pub agent-is : h ≡ noticed g (reading.Whole n)
+  pub marks-are : marked ≡ heardMarks i g n row
+
+-- a stored title has the numbers of a life that is sent by the padded grid
+pub record Standing (L : Life) (t : Title) : Type 0 where
+  pub film : Film t
+  pub same-kind : L .kind ≡ paddedKind
+  pub same-length : L .length ≡ t .length
+  pub same-floor : L .floor ≡ t .floor
+  pub same-cap : L .cap ≡ t .cap
+
+-- what the log answers; where it answers done, all of the row is marked
+unfoldable pub logAnswer : ℕ → List ℕ → ℕ → ℕ
+logAnswer pool log title =
+    firstHit (refuse malformed (not (isWholeLog log)) ∷ refuse notThere (not (isFilmTitle (lifeIn pool log title))) ∷ [])
+
+-- a stored title was opened, and last as a film with floor and cap
+abbrev pub isFilmSlot : Title → Bool
+isFilmSlot t = both (ltb 0 (t .cap)) (eqb (t .kind) paddedKind)
+
+-- what the code answers of a title as it stands, where the reading of a log of some size stopped at a place
+unfoldable pub answerOf : ℕ → ℕ → Title → ℕ
+answerOf place size t = pick (leb size place) (pick (isFilmSlot t) done notThere) malformed
+
+pub record Follows (pool : ℕ) (log : List ℕ) (i : ℕ) (row : List ℕ) (r : Ending) (marked : List ℕ) : Type 0 where
+  pub answer-is : r .answer ≡ logAnswer pool log i
+  pub standing : r .answer ≡ done → Standing (lifeIn pool log i) (r .title)
+  pub marks-are : r .answer ≡ done → marked ≡ written (markOf (lifeIn pool log i)) row (length row)
+
+-- the refusals that do not hang on the log
+unfoldable pub firstAnswer : ℕ → ℕ → List ℕ → ℕ → ℕ
+firstAnswer pool title r room =
+    firstHit (refuse outsideLimits (not (inLimits pool title)) ∷ refuse wrongRows (not (hasRoom r room)) ∷ [])
