@@ -90,13 +90,15 @@ put-low p b h = go (ltb (p .at) (length (p .row))) refl
     go true e = omega (arith, ltb-true (p .at) (length (p .row)) e)
     go false e = h
 
+pub put-within : (p : Page) (b : ℕ) → p .at ≤ length (p .row) → put p b .at ≤ length (put p b .row)
+put-within p b h = rw (put-length p b) (put-low p b h)
+
 pub puts-low : (s : List ℕ) (p : Page) → p .at ≤ length (p .row) → puts p s .at ≤ length (p .row)
 unfolding puts
 puts-low [] p h = h
 puts-low (b ∷ s) p h =
     let size = put-length p b in
-    let low : put p b .at ≤ length (put p b .row) = omega (arith, put-low p b h) in
-    omega (arith, puts-low s (put p b) low)
+    omega (arith, puts-low s (put p b) (put-within p b h))
 
 -- what was put at the start of a row that has room for it is what stands there
 pub record Stands (s row : List ℕ) (size : ℕ) : Type 0 where

@@ -3,10 +3,8 @@ use mathlib.Core.Path.{_≡_, refl, sym, ap, _∙_}
 use mathlib.Core.Bool.{Bool, true, false}
 use mathlib.Core.Logic.{⊎-elim}
 use mathlib.Core.List.{List}
-use Prim.Native.Nat.{ℕ, zero, suc, _≤_, _<_}
+use Prim.Native.Nat.{ℕ, zero, suc, _≤_}
 use native.Mathlib.Omega.{arith}
-use borrow.Author.Tests.{ltb-true, ltb-false}
-use lib.Dec.{ltb}
 use lib.ListN.{length, getD}
 use Rattle.rules.specs.Refusals.{pick}
 use Rattle.rules.proofs.Tests.{decide, pick-true, pick-false}
@@ -14,7 +12,7 @@ use Rattle.text.specs.declared.numbers.Number.{Number}
 use Rattle.text.specs.Bytes.{digit}
 use Rattle.text.specs.Numbers.{grow}
 use Rattle.text.specs.Output.{Page, page, put}
-use Rattle.text.proofs.Pages.{put-in, put-out, put-length}
+use Rattle.text.proofs.Pages.{put-length, put-within}
 use Rattle.waits_io.specs.declared.arrivals.Scan.{Scan}
 use Rattle.waits_io.specs.Arrivals.{isGap, SoFar, soFar, ending, spelling, failing, taking, takenTo, allTaken}
 
@@ -74,16 +72,6 @@ taking-length s place b = go (s .scan .ok) (digit b) (isGap b)
 
 abbrev Within : SoFar → Type 0
 Within s = s .scan .count ≤ length (s .row)
-
-put-within : (p : Page) (v : ℕ) → p .at ≤ length (p .row) → put p v .at ≤ length (put p v .row)
-put-within p v h =
-    rw (put-length p v)
-    (⊎-elim
-    (λ t.
-    let room : p .at < length (p .row) = ltb-true (p .at) (length (p .row)) t in
-    omega (arith, ap (λ (q : Page). q .at) (put-in (p .row) (p .at) v room)))
-    (λ t. omega (arith, ap (λ (q : Page). q .at) (put-out (p .row) (p .at) v (ltb-false (p .at) (length (p .row)) t))))
-    (decide (ltb (p .at) (length (p .row)))))
 
 ending-within : (s : SoFar) → Within s → Within (ending s)
 unfolding ending

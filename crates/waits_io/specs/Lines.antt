@@ -4,14 +4,10 @@ use mathlib.Core.List.{List, _++_}
 use lib.Dec.{eqb}
 use Rattle.rules.specs.Refusals.{pick, done}
 use Rattle.text.specs.Texts.{text}
-use Rattle.text.specs.Digits.{decimal}
+use Rattle.files.specs.Lines.{lineOf}
 use Rattle.console_answers.specs.Words.{refusalText}
 use Rattle.admissions.specs.declared.Waits.{Waits}
 use Rattle.waiting.specs.declared.Report.{Report}
-
--- a name, a number in decimal, and what ends the line
-unfoldable pub lineOf : List ℕ → ℕ → List ℕ → List ℕ
-lineOf name n end = (name ++ decimal n) ++ end
 
 -- s over n to the nearest whole number, halves up; 0 over none
 unfoldable pub nearest : ℕ → ℕ → ℕ

@@ -2,32 +2,14 @@
 
 use admissions::Waits;
 use console_answers::words::put_refusal;
+use files::lines::difference;
+use files::lines::put_line;
 use rules::DONE;
-use text::digits::put_number;
 use text::output::put;
 use waiting::Report;
 ghost use mathlib.Core.Path.{_≡_};
-ghost use Prim.Native.Nat.{_-_};
 ghost use Rattle.text.specs.Output.{page, puts};
-ghost use Rattle.waits_io.specs.Lines.{lineOf, countLines, waitLines, nearest, meanLine, reportText};
-
-// A name, a number, and what ends the line.
-fn put_line(out: &mut [u8], at: usize, name: &[u8], n: u64, end: &[u8]) -> usize
-    ensures { λ r. ⌜ page (now (out .exit)) r ≡ puts (page (now (out .entry)) at) (lineOf (now (name .entry)) n (now (end .entry))) ⌝ }
-{
-    let a = put(out, at, name);
-    let b = put_number(out, a, n);
-    put(out, b, end)
-}
-
-fn difference(a: u64, b: u64) -> u64
-    ensures { λ r. ⌜ r ≡ a - b ⌝ }
-{
-    if a < b {
-        return 0;
-    }
-    a - b
-}
+ghost use Rattle.waits_io.specs.Lines.{countLines, waitLines, nearest, meanLine, reportText};
 
 // A sum over so many, to the nearest, halves up; 0 over none.
 fn mean(sum: u64, n: u64) -> u64

@@ -3,7 +3,8 @@ use mathlib.Core.List.{_++_}
 use Rattle.text.specs.Texts.{text}
 use Rattle.text.specs.Output.{page}
 use Rattle.text.proofs.Pages.{puts-then}
-use Rattle.waits_io.specs.Lines.{lineOf, countLines}
+use Rattle.files.specs.Lines.{lineOf}
+use Rattle.waits_io.specs.Lines.{countLines}
 use borrow.Author.Needs.{needs}
 use Rattle.waits_io.proofs.lines.put_counts.Statement.{statement}
 use Rattle.waits_io.proofs.lines.put_counts.Tie as tie

@@ -3,7 +3,8 @@ use mathlib.Core.List.{_++_}
 use Rattle.text.specs.Texts.{text}
 use Rattle.text.specs.Output.{page}
 use Rattle.text.proofs.Pages.{puts-then}
-use Rattle.waits_io.specs.Lines.{lineOf, meanLine, waitLines}
+use Rattle.files.specs.Lines.{lineOf}
+use Rattle.waits_io.specs.Lines.{meanLine, waitLines}
 use borrow.Author.Needs.{needs}
 use Rattle.waits_io.proofs.lines.put_waits.Statement.{statement}
 use Rattle.waits_io.proofs.lines.put_waits.Tie as tie

@@ -27,6 +27,12 @@ show-requires c κs = search needs
 returns : tie.Need-returns
 returns c = search needs
 
+slice-aggregate-complain-at : tie.Need-slice-aggregate-complain-at
+slice-aggregate-complain-at c = search needs
+
+slice-aggregate-complain-at-2 : tie.Need-slice-aggregate-complain-at-2
+slice-aggregate-complain-at-2 c = search needs
+
 complain-at-requires : tie.Need-complain-at-requires
 complain-at-requires c κs = search needs
 
@@ -44,5 +50,7 @@ tell-spec =
     report-of-requires
     show-requires
     returns
+    slice-aggregate-complain-at
+    slice-aggregate-complain-at-2
     complain-at-requires
     returns-2)

@@ -1,10 +1,10 @@
--- `waits_io::run::read_all` meets its contract and ends: what is read lies within the room, and each read that goes on adds a byte.
+-- `files::loading::read_all` meets its contract and ends: what is read lies within the room, and each read that goes on adds a byte.
 use mathlib.Core.Path.{_≡_}
 use Prim.Native.Nat.{_≤_, _-_}
 use borrow.Author.Needs.{needs}
 use lib.ListN.{length}
-use Rattle.waits_io.proofs.run.read_all.Statement.{statement}
-use Rattle.waits_io.proofs.run.read_all.Tie as tie
+use Rattle.files.proofs.loading.read_all.Statement.{statement}
+use Rattle.files.proofs.loading.read_all.Tie as tie
 
 abbrev Inv-loop : tie.InvT-loop
 Inv-loop fd room₀ filled₀ room filled = (filled ≤ length room) × (length room ≡ length room₀)

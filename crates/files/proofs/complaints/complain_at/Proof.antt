@@ -1,18 +1,16 @@
--- `waits_io::run::complain_at` is safe and ends: no more is written than the row has.
+-- `files::complaints::complain_at` is safe and ends: no more is written than the row has.
 use mathlib.Core.Path.{sym}
+use native.Mathlib.Omega.{arith}
 use lib.Seq.{length-take-le}
 use borrow.Author.Needs.{needs}
-use Rattle.waits_io.proofs.run.complain_at.Statement.{statement}
-use Rattle.waits_io.proofs.run.complain_at.Tie as tie
+use Rattle.files.proofs.complaints.complain_at.Statement.{statement}
+use Rattle.files.proofs.complaints.complain_at.Tie as tie
 
 buffer-requires : tie.Need-buffer-requires
 buffer-requires c κs = search needs
 
 slice-aggregate-put : tie.Need-slice-aggregate-put
 slice-aggregate-put c = search needs
-
-slice-aggregate-put-2 : tie.Need-slice-aggregate-put-2
-slice-aggregate-put-2 c = search needs
 
 put-requires : tie.Need-put-requires
 put-requires c κs = search needs
@@ -29,14 +27,11 @@ slice-aggregate-within-row c = search needs
 within-row-requires : tie.Need-within-row-requires
 within-row-requires c κs = search needs
 
-slice-aggregate-complain : tie.Need-slice-aggregate-complain
-slice-aggregate-complain c = search needs
-
 array-share-prefix-out : tie.Need-array-share-prefix-out
 array-share-prefix-out c = search needs
 
-slice-aggregate-complain-2 : tie.Need-slice-aggregate-complain-2
-slice-aggregate-complain-2 c = sym (length-take-le _ _ (c .before .before .within-row .ensures))
+slice-aggregate-complain : tie.Need-slice-aggregate-complain
+slice-aggregate-complain c = sym (length-take-le _ _ (omega (arith, c .before .within-row .ensures)))
 
 complain-requires : tie.Need-complain-requires
 complain-requires c κs = search needs
@@ -50,14 +45,12 @@ complain-at-spec =
     (tie.spec
     buffer-requires
     slice-aggregate-put
-    slice-aggregate-put-2
     put-requires
     slice-aggregate-put-number
     put-number-requires
     slice-aggregate-within-row
     within-row-requires
-    slice-aggregate-complain
     array-share-prefix-out
-    slice-aggregate-complain-2
+    slice-aggregate-complain
     complain-requires
     returns)

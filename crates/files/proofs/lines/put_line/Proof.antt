@@ -1,12 +1,12 @@
--- `waits_io::lines::put_line` meets its contract: its parts are written one behind the other.
+-- `files::lines::put_line` meets its contract: its parts are written one behind the other.
 use mathlib.Core.List.{_++_}
 use Rattle.text.specs.Digits.{decimal}
 use Rattle.text.specs.Output.{page}
 use Rattle.text.proofs.Pages.{puts-then}
-use Rattle.waits_io.specs.Lines.{lineOf}
+use Rattle.files.specs.Lines.{lineOf}
 use borrow.Author.Needs.{needs}
-use Rattle.waits_io.proofs.lines.put_line.Statement.{statement}
-use Rattle.waits_io.proofs.lines.put_line.Tie as tie
+use Rattle.files.proofs.lines.put_line.Statement.{statement}
+use Rattle.files.proofs.lines.put_line.Tie as tie
 
 put-requires : tie.Need-put-requires
 put-requires c κs = search needs

@@ -1,0 +1,2 @@
+-- What programs over files write.
+pub mod Lines

@@ -1,0 +1,22 @@
+// A line on standard error that begins with a question mark: what is wrong, and with what.
+
+use crate::pages::within_row;
+use libc::STDERR_FILENO;
+use text::digits::put_number;
+use text::output::put;
+
+pub fn complain(what: &[u8], wrong: &[u8]) {
+    io::write_all(STDERR_FILENO, b"? ");
+    io::write_all(STDERR_FILENO, what);
+    io::write_all(STDERR_FILENO, wrong);
+    io::write_all(STDERR_FILENO, b"\n");
+}
+
+// The same with the number of the place behind it.
+pub fn complain_at(what: &[u8], wrong: &[u8], place: usize) {
+    let mut out = io::buffer();
+    let a = put(&mut out, 0, wrong);
+    let size = put_number(&mut out, a, place as u64);
+    let n = within_row(size, &out);
+    complain(what, &out[..n]);
+}
