@@ -1,0 +1,6 @@
+-- What holds of the program's texts.
+pub mod Reading
+pub mod Example
+pub mod Told
+pub mod Printed
+pub mod Fits

@@ -1,0 +1,30 @@
+-- `air_io::lines::put_place` meets its contract: its parts are written one behind the other.
+use Rattle.text.specs.Digits.{decimal}
+use Rattle.text.specs.Output.{page}
+use Rattle.text.proofs.Pages.{puts-then}
+use Rattle.files.specs.Lines.{lineOf}
+use Rattle.air_io.specs.Lines.{placeText}
+use borrow.Author.Needs.{needs}
+use Rattle.air_io.proofs.lines.put_place.Statement.{statement}
+use Rattle.air_io.proofs.lines.put_place.Tie as tie
+
+put-line-requires : tie.Need-put-line-requires
+put-line-requires c κs = search needs
+
+put-number-requires : tie.Need-put-number-requires
+put-number-requires c κs = search needs
+
+same-length : tie.Need-same-length
+same-length c = search needs
+
+returns : tie.Need-returns
+unfolding placeText
+returns c =
+    let second = c .before .before in
+    let first = second .before .before .before .before in
+    let x = first .before .before .before .before .before .args in
+    puts-then (page (x .out .now) 0) (lineOf (x .wrong .now) (x .line) (x .between .now)) (decimal (x .words)) (first .put-line .ensures)
+    (second .put-number .ensures)
+
+pub put-place-spec : {M : Type 1} → statement M
+put-place-spec = tie.close (tie.spec put-line-requires put-number-requires same-length returns)

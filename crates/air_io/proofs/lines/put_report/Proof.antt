@@ -1,0 +1,68 @@
+-- `air_io::lines::put_report` meets its contract: the admissions' lines and three in all, or the refusal's one.
+use borrow.Author.Tests.{eq-eqb, ne-eqb}
+use Rattle.text.specs.Texts.{text}
+use Rattle.text.specs.Output.{page}
+use Rattle.console_answers.specs.Words.{refusalText}
+use Rattle.text.proofs.Pages.{puts-then}
+use Rattle.air_io.specs.Lines.{totalLines}
+use Rattle.air_io.specs.Steps.{markedLines, reportText}
+use lib.ListN.{length}
+use borrow.Author.Needs.{needs}
+use Rattle.air_io.proofs.lines.put_report.Statement.{statement}
+use Rattle.air_io.proofs.lines.put_report.Tie as tie
+
+put-admissions-requires : tie.Need-put-admissions-requires
+put-admissions-requires c κs = search needs
+
+put-totals-requires : tie.Need-put-totals-requires
+put-totals-requires c κs = search needs
+
+same-length : tie.Need-same-length
+same-length c = search needs
+
+returns : tie.Need-returns
+unfolding reportText
+returns c =
+    let second = c .before .before in
+    let first = second .before .before .before .before in
+    let at-if1 = first .before .before in
+    let x = at-if1 .before .before .before .before .args in
+    rw (eq-eqb _ _ (at-if1 .if1 .taken))
+    (puts-then (page (x .out .now) 0) (markedLines (x .marks .now) (x .row .now) (x .judgement .judged) (length (x .marks .now))) (totalLines (x .judgement))
+    (first .put-admissions .ensures) (second .put-totals .ensures))
+
+put-refusal-requires : tie.Need-put-refusal-requires
+put-refusal-requires c κs = search needs
+
+slice-aggregate-put : tie.Need-slice-aggregate-put
+slice-aggregate-put c = search needs
+
+put-requires : tie.Need-put-requires
+put-requires c κs = search needs
+
+same-length-2 : tie.Need-same-length-2
+same-length-2 c = search needs
+
+returns-2 : tie.Need-returns-2
+unfolding reportText text
+returns-2 c =
+    let second = c .before .before in
+    let first = second .before .before .before .before .before in
+    let at-if1 = first .before .before in
+    let x = at-if1 .before .before .before .before .args in
+    rw (ne-eqb _ _ (at-if1 .if1 .left))
+    (puts-then (page (x .out .now) 0) (refusalText (x .judgement .answer) 0) (text "\n") (first .put-refusal .ensures) (second .put .ensures))
+
+pub put-report-spec : {M : Type 1} → statement M
+put-report-spec =
+    tie.close
+    (tie.spec
+    put-admissions-requires
+    put-totals-requires
+    same-length
+    returns
+    put-refusal-requires
+    slice-aggregate-put
+    put-requires
+    same-length-2
+    returns-2)

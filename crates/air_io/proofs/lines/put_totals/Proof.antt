@@ -1,0 +1,76 @@
+-- `air_io::lines::put_totals` meets its contract: three lines, one behind the other.
+use mathlib.Core.List.{_++_}
+use Rattle.text.specs.Texts.{text}
+use Rattle.text.specs.Output.{page}
+use Rattle.text.proofs.Pages.{puts-then}
+use Rattle.files.specs.Lines.{lineOf}
+use Rattle.air_io.specs.Lines.{totalLines}
+use borrow.Author.Needs.{needs}
+use Rattle.air_io.proofs.lines.put_totals.Statement.{statement}
+use Rattle.air_io.proofs.lines.put_totals.Tie as tie
+
+difference-requires : tie.Need-difference-requires
+difference-requires c κs = search needs
+
+slice-aggregate-put-line : tie.Need-slice-aggregate-put-line
+slice-aggregate-put-line c = search needs
+
+slice-aggregate-put-line-2 : tie.Need-slice-aggregate-put-line-2
+slice-aggregate-put-line-2 c = search needs
+
+put-line-requires : tie.Need-put-line-requires
+put-line-requires c κs = search needs
+
+slice-aggregate-put-line-3 : tie.Need-slice-aggregate-put-line-3
+slice-aggregate-put-line-3 c = search needs
+
+slice-aggregate-put-line-4 : tie.Need-slice-aggregate-put-line-4
+slice-aggregate-put-line-4 c = search needs
+
+put-line-requires-2 : tie.Need-put-line-requires-2
+put-line-requires-2 c κs = search needs
+
+slice-aggregate-put-line-5 : tie.Need-slice-aggregate-put-line-5
+slice-aggregate-put-line-5 c = search needs
+
+slice-aggregate-put-line-6 : tie.Need-slice-aggregate-put-line-6
+slice-aggregate-put-line-6 c = search needs
+
+put-line-requires-3 : tie.Need-put-line-requires-3
+put-line-requires-3 c κs = search needs
+
+same-length : tie.Need-same-length
+same-length c = search needs
+
+returns : tie.Need-returns
+unfolding totalLines text
+returns c =
+    let third = c .before .before in
+    let second = third .before .before .before .before .before .before in
+    let first = second .before .before .before .before .before .before in
+    let away = first .before .before .before .before in
+    let x = away .before .before .args in
+    let room = page (x .out .now) (x .at) in
+    let one = lineOf (text "played through ") (x .judgement .played) (text "\n") in
+    let two = lineOf (text "starved ") (away .difference .result) (text "\n") in
+    rw (← away .difference .ensures)
+    (puts-then room (one ++ two) (lineOf (text "outlast the record ") (x .judgement .outlast) (text "\n"))
+    (puts-then room one two (first .put-line .ensures) (second .put-line2 .ensures))
+    (third .put-line3 .ensures))
+
+pub put-totals-spec : {M : Type 1} → statement M
+put-totals-spec =
+    tie.close
+    (tie.spec
+    difference-requires
+    slice-aggregate-put-line
+    slice-aggregate-put-line-2
+    put-line-requires
+    slice-aggregate-put-line-3
+    slice-aggregate-put-line-4
+    put-line-requires-2
+    slice-aggregate-put-line-5
+    slice-aggregate-put-line-6
+    put-line-requires-3
+    same-length
+    returns)

@@ -1,0 +1,14 @@
+-- `air_io::record::fail` meets its contract: the word is counted, and the fault marked.
+use Rattle.air_io.proofs.Reading.{fails}
+use borrow.Author.Needs.{needs}
+use Rattle.air_io.proofs.record.fail.Statement.{statement}
+use Rattle.air_io.proofs.record.fail.Tie as tie
+
+one-more-requires : tie.Need-one-more-requires
+one-more-requires c κs = search needs
+
+returns : tie.Need-returns
+returns c = fails _ _ (c .one-more .ensures)
+
+pub fail-spec : {M : Type 1} → statement M
+fail-spec = tie.close (tie.spec one-more-requires returns)

@@ -1,0 +1,67 @@
+-- `air_io::report::put_air` meets its contract: what the two calls leave, told by marks and results, is what a life says.
+use mathlib.Core.Path.{sym, ap, _∙_}
+use Rattle.text.specs.Output.{page, puts}
+use Rattle.air_io.proofs.Printed.{printed}
+use borrow.Author.Needs.{needs}
+use Rattle.air_io.proofs.report.put_air.Statement.{statement}
+use Rattle.air_io.proofs.report.put_air.Tie as tie
+
+blank-row-requires : tie.Need-blank-row-requires
+blank-row-requires c κs = search needs
+
+blank-marks-requires : tie.Need-blank-marks-requires
+blank-marks-requires c κs = search needs
+
+slice-aggregate-air : tie.Need-slice-aggregate-air
+slice-aggregate-air c = search needs
+
+air-requires : tie.Need-air-requires
+air-requires c κs = search needs
+
+slice-aggregate-admissions : tie.Need-slice-aggregate-admissions
+slice-aggregate-admissions c = search needs
+
+admissions-requires : tie.Need-admissions-requires
+admissions-requires c κs = search needs
+
+slice-aggregate-put-report : tie.Need-slice-aggregate-put-report
+slice-aggregate-put-report c = search needs
+
+slice-aggregate-put-report-2 : tie.Need-slice-aggregate-put-report-2
+slice-aggregate-put-report-2 c = search needs
+
+put-report-requires : tie.Need-put-report-requires
+put-report-requires c κs = search needs
+
+same-length : tie.Need-same-length
+same-length c = search needs
+
+returns : tie.Need-returns
+returns c =
+    let at-report = c .before .before in
+    let at-admissions = at-report .before .before .before .before .before in
+    let at-air = at-admissions .before .before .before in
+    let at-marks = at-air .before .before in
+    let at-row = at-marks .before in
+    let x = at-row .before .before .before .before .args in
+    at-report .put-report .ensures
+    ∙ ap (puts (page (x .out .now) 0))
+    (printed (x .pool) (x .log .now) (x .title) (x .«record» .now) (at-marks .blank-marks .result) (at-row .blank-row .result)
+    (sym (at-row .blank-row .ensures)) (sym (at-marks .blank-marks .ensures .1)) (at-air .air .result) _ _ (at-air .air .ensures .0)
+    (at-air .air .ensures .1) (at-admissions .admissions .ensures .1))
+
+pub put-air-spec : {M : Type 1} → statement M
+put-air-spec =
+    tie.close
+    (tie.spec
+    blank-row-requires
+    blank-marks-requires
+    slice-aggregate-air
+    air-requires
+    slice-aggregate-admissions
+    admissions-requires
+    slice-aggregate-put-report
+    slice-aggregate-put-report-2
+    put-report-requires
+    same-length
+    returns)
