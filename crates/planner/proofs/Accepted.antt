@@ -7,8 +7,8 @@ use native.Mathlib.Omega.{arith}
 use lib.Dec.{leb}
 use borrow.Author.Tests.{leb-true, le-leb, le-ltb, ne-eqb, not-true}
 use Rattle.rules.specs.Limits.{both, within, idMax, eventTimeMax, floorMin, countMin, countMax, titlesMax}
-use Rattle.rules.specs.Refusals.{firstHit, secondEvent, tooSoon, notAtSlot, noLanes}
-use Rattle.rules.proofs.Tests.{both-l, both-r, both-in, either-r}
+use Rattle.rules.specs.Refusals.{pick, firstHit, secondEvent, tooSoon, notAtSlot, noLanes}
+use Rattle.rules.proofs.Tests.{both-l, both-r, both-in, either-r, pick-false}
 use Rattle.rules.proofs.Refusals.{hitsOf, numbered, cleared}
 use Rattle.measures.proofs.Within.{title-ok, readable, order}
 use Rattle.story.specs.declared.Title.{Title}
@@ -30,16 +30,16 @@ pub record Ready (s : State) (i k : ℕ) : Type 0 where
   pub high : k ≤ titleAt s i .cap
   pub other : k ≡ titleAt s i .count → ⊥
 
--- over any tests: an answer 0 where none hits,
-all-clear : (t : Tests) → t .outside ≡ false → t .early ≡ false → t .there ≡ true → t .closing ≡ false → t .steady ≡ false →
-    t .below ≡ false → t .above ≡ false → t .same ≡ false → isPermittedBy t ≡ true → t .full ≡ false → firstHit (changeOrder t) ≡ 0
+-- over any tests: where no other hits the lanes decide,
+lanes-decide : (t : Tests) → t .outside ≡ false → t .early ≡ false → t .there ≡ true → t .closing ≡ false → t .steady ≡ false →
+    t .below ≡ false → t .above ≡ false → t .same ≡ false → isPermittedBy t ≡ true → firstHit (changeOrder t) ≡ pick (t .full) noLanes 0
 unfolding firstHit
-all-clear t a b c d n e f g p h =
+lanes-decide t a b c d n e f g p =
     let second = not-true (t .second) (both-l (not (t .second)) (both (not (t .soon)) (not (t .off))) p) in
     let rest = both-r (not (t .second)) (both (not (t .soon)) (not (t .off))) p in
     let soon = not-true (t .soon) (both-l (not (t .soon)) (not (t .off)) rest) in
     let off = not-true (t .off) (both-r (not (t .soon)) (not (t .off)) rest) in
-    rw (a, b, c, d, n, e, f, g, second, soon, off, h) refl
+    rw (a, b, c, d, n, e, f, g, second, soon, off) refl
 
 -- and what it says of the time and of the lanes
 not-in : (b : Bool) → b ≡ false → not b ≡ true
@@ -73,12 +73,12 @@ module _ (s : State) (i k : ℕ) (r : Ready s i k) where
       let capped = readable (titleAt s i) t present .cut .high in
       both-in (leb countMin k) (leb k countMax) (le-leb countMin k (omega (arith, r .low))) (le-leb k countMax (omega (arith, r .high)))
 
-  -- at a permitted time in the clock, with the lanes there, it is accepted
-  pub accepted-when : (τ : ℕ) → s .last ≤ τ → τ ≤ eventTimeMax → isPermitted s i k τ ≡ true →
-      testsIn s i τ (changes k) .full ≡ false → answered s (event i τ (changes k)) ≡ 0
+  -- at a permitted time in the clock it is accepted, or gets 9 where lanes are short,
+  pub by-lanes : (τ : ℕ) → s .last ≤ τ → τ ≤ eventTimeMax → isPermitted s i k τ ≡ true →
+      answered s (event i τ (changes k)) ≡ pick (testsIn s i τ (changes k) .full) noLanes 0
   unfolding callAnswer isPermitted
-  accepted-when τ late clock p f =
-      all-clear (testsIn s i τ (changes k))
+  by-lanes τ late clock p =
+      lanes-decide (testsIn s i τ (changes k))
       (rw (r .ok, le-leb i idMax (omega (arith, r .an-id)), le-leb τ eventTimeMax clock, counted) refl)
       (le-ltb τ (s .last) late)
       (there-open (titleAt s i) τ (r .is-open))
@@ -87,7 +87,12 @@ module _ (s : State) (i k : ℕ) (r : Ready s i k) where
       (le-ltb k (titleAt s i .floor) (r .low))
       (le-ltb (titleAt s i .cap) k (r .high))
       (ne-eqb k (titleAt s i .count) (r .other))
-      p f
+      p
+
+  -- so with the lanes there it is accepted
+  pub accepted-when : (τ : ℕ) → s .last ≤ τ → τ ≤ eventTimeMax → isPermitted s i k τ ≡ true →
+      testsIn s i τ (changes k) .full ≡ false → answered s (event i τ (changes k)) ≡ 0
+  accepted-when τ late clock p f = by-lanes τ late clock p ∙ pick-false (testsIn s i τ (changes k) .full) noLanes 0 f
 
 -- a change that is accepted is due then
 pub due-when : (s : State) (i k τ : ℕ) → answered s (event i τ (changes k)) ≡ 0 → isDue s i k τ ≡ true

@@ -7,7 +7,6 @@ pub mod Lists
 pub mod Unique
 pub mod Accepted
 pub mod Sometime
-pub mod Drops
 pub mod Underway
 pub mod Passed
 pub mod Fares

@@ -1,31 +1,31 @@
 -- Part of a list has come, nobody else acting: what holds then of the state and of the wishes that are left, and that the
 -- next event keeps it. Rests on reached states and on changes that are due.
 use mathlib.Core.Path.{_≡_, refl, sym, ap, _∙_}
-use mathlib.Core.Bool.{true, not}
+use mathlib.Core.Bool.{true, false, not}
 use mathlib.Core.Logic.{_⊎_, inl, inr, ⊎-elim}
 use mathlib.Core.List.{List, [], _∷_}
 use Prim.Native.Nat.{ℕ, _≤_, _<_}
 use native.Mathlib.Omega.{arith}
 use lib.Dec.{leb, eqb}
 use lib.Seq.{getD-set-same, getD-set-other}
-use borrow.Author.Tests.{leb-true, not-true, eqb-true, eqb-false}
+use borrow.Author.Tests.{leb-true, le-ltb, not-true, eqb-true, eqb-false}
 use Rattle.rules.specs.Limits.{eventTimeMax, titlesMax}
-use Rattle.rules.proofs.Tests.{decide, both-l, both-r, either-out}
+use Rattle.rules.specs.Refusals.{noLanes}
+use Rattle.rules.proofs.Tests.{decide, both-l, both-r, either-out, fails, pick-true}
 use Rattle.story.specs.declared.Title.{Title}
 use Rattle.story.specs.declared.State.{State}
 use Rattle.story.specs.Kept.{noTitle, titleAt, ruling, lanesHeld}
 use Rattle.story.specs.Next.{changedTitle, changeNext}
-use Rattle.story.specs.Story.{Event, event, changes, lastTime}
-use Rattle.story.specs.Calls.{testsIn}
+use Rattle.story.specs.Story.{Event, event, changes, lifeOf, lastTime, countIn, heldOver}
+use Rattle.story.specs.Calls.{testsIn, statusCount}
 use Rattle.story.specs.Runs.{answered, lanesOf, Reached}
-use Rattle.story.proofs.Pool.{upTo-all}
+use Rattle.story.proofs.Pool.{takes-none, upTo-all}
 use Rattle.story.proofs.Reached.{run-told, run-more}
-use Rattle.story.proofs.Demands.{sound, every-answer, all-held, the-pool}
+use Rattle.story.proofs.Demands.{sound, every-answer, every-count, all-held, the-pool, nine}
 use Rattle.wishes.specs.Wishes.{Wish}
 use Rattle.wishes.proofs.Wished.{Each, each-none, each-more, Without, Apart, apart-more, DropsFirst, raises-only, drop-next}
 use Rattle.moments.specs.Moments.{isPermitted, hasLanes, isDue}
-use Rattle.planner.proofs.Accepted.{Ready, accepted-when}
-use Rattle.planner.proofs.Drops.{drop-fits}
+use Rattle.planner.proofs.Accepted.{Ready, by-lanes, accepted-when}
 
 -- a wish that is left: a change that only its time and the lanes may refuse, to the count that its title is to have
 pub record Left (goal : ℕ → ℕ) (s : State) (w : Wish) : Type 0 where
@@ -76,6 +76,23 @@ module _ (pool : ℕ) (es : List Event) (s : State) (run : Reached pool es s) wh
       let after : lastTime es ≤ τ = omega (arith, told .last) in
       omega (arith, pool-is, all-held pool es s run τ after, rw (upTo-all τ es after) at (the-pool pool es s run τ))
 
+  -- a drop needs no lanes: one that got 9 would hold more than the pool, and it holds no lane more than is held before it
+  drop-fits : (i k τ : ℕ) → Ready s i k → s .last ≤ τ → τ ≤ eventTimeMax → isPermitted s i k τ ≡ true → k ≤ titleAt s i .count →
+      testsIn s i τ (changes k) .full ≡ false
+  unfolding ruling
+  drop-fits i k τ r late clock p down =
+      let e : Event = event i τ (changes k) in
+      let after : lastTime es ≤ τ = omega (arith, run-told pool es s run .tells .last) in
+      let count : statusCount s i ≡ countIn (lifeOf es i) τ = every-count pool es s run i τ (r .an-id) after in
+      let rules : ruling (titleAt s i) ≡ titleAt s i .count = rw (r .is-open) refl in
+      let no-more : heldOver (e ∷ es) τ ≤ heldOver es τ =
+      takes-none es i τ (changes k) (le-ltb (countIn (lifeOf es i) τ) k (omega arith)) in
+      fails (testsIn s i τ (changes k) .full)
+      (λ x.
+      let got : answered s e ≡ noLanes = by-lanes s i k r τ late clock p ∙ pick-true (testsIn s i τ (changes k) .full) noLanes 0 x in
+      let short : lanesOf pool < heldOver (e ∷ es) τ = nine pool es s run e (sym (every-answer pool es s run e) ∙ got) in
+      omega (arith, held-fits τ late, pool-is, all-held pool es s run τ after))
+
   -- a change that is due in the clock is accepted
   pub due-accepted : (i k τ : ℕ) → Ready s i k → s .last ≤ τ → τ ≤ eventTimeMax → isDue s i k τ ≡ true →
       answered s (event i τ (changes k)) ≡ 0
@@ -84,7 +101,7 @@ module _ (pool : ℕ) (es : List Event) (s : State) (run : Reached pool es s) wh
       let p = both-l (isPermitted s i k τ) (hasLanes s i k τ) due in
       let lanes = both-r (isPermitted s i k τ) (hasLanes s i k τ) due in
       accepted-when s i k r τ late clock p
-      (⊎-elim (λ x. drop-fits s i τ k (r .is-open) (leb-true k (titleAt s i .count) x) (held-fits τ late))
+      (⊎-elim (λ x. drop-fits i k τ r late clock p (leb-true k (titleAt s i .count) x))
       (λ x. not-true (testsIn s i τ (changes k) .full) x)
       (either-out (leb k (titleAt s i .count)) (not (testsIn s i τ (changes k) .full)) lanes))
 

@@ -1,35 +1,39 @@
 -- Demand 3 and what the state says of it: the page to read first. In each theorem `es` are the accepted ones, newest first,
 -- of some calls on a fresh pool, and `s` is the state that those calls leave (`Reached`).
--- Each cites its proof: Runs, Questions, World, Pool, Held and Reached, over every pool, sequence, id and moment.
+-- Each cites its proof: Runs, Questions, World, Pool, Held, Reached and OneMoment, over every pool, sequence, id and moment.
 -- Beside this page stands Sooner: no release moves later since padding is owed to nobody.
 use mathlib.Core.Path.{_≡_, refl, sym, ap, _∙_}
 use mathlib.Core.Bool.{true, false≢true}
-use mathlib.Core.Logic.{⊎-elim}
-use mathlib.Core.List.{List, _∷_, _++_}
+use mathlib.Core.Logic.{_⊎_, inl, inr, ⊎-elim}
+use mathlib.Core.List.{List, [], _∷_, _++_}
 use Prim.Native.Nat.{ℕ, suc, _+_, _≤_, _<_}
 use native.Mathlib.Omega.{arith}
-use lib.Dec.{lit<}
-use borrow.Author.Tests.{ltb-true}
+use lib.Dec.{lit<, eqb}
+use borrow.Author.Tests.{ltb-true, eq-eqb, ne-eqb}
 use Rattle.rules.specs.Limits.{titlesMax, idMax, laneMax, askedMax}
 use Rattle.rules.specs.Refusals.{pick, noLanes}
 use Rattle.rules.specs.Search.{howMany}
 use Rattle.scheme.specs.Scheme.{steadyKind, schemeOf}
 use Rattle.scheme.proofs.Padded.{nothing-lawful}
+use Rattle.rules.proofs.Tests.{pick-false}
 use Rattle.rules.proofs.Refusals.{hitsOf, distinct, isListed, first-hit}
 use Rattle.story.specs.declared.State.{State}
 use Rattle.story.specs.Life.{Life, isFilm, isActive, isOwed, reach, owedWithin, owes, cell, isHeld}
 use Rattle.story.specs.Kept.{stateOk, lanesHeld}
+use Rattle.story.specs.Next.{callNext}
 use Rattle.story.specs.Calls.{laneAnswer, laneShows, statusAnswer, statusCount, statusHeld, statusMark}
 use Rattle.story.specs.Story.{Act, opens, changes, closes, doors, Event, lifeOf, lastTime, upTo, countIn}
 use Rattle.story.specs.Story.{isMarkedIn, airAt, heldIn, unopened, tickLength}
 use Rattle.story.specs.Story.{heldOver, testsTo, orderOf, answerTo, answer, accepted, Accepted, more}
 use Rattle.story.specs.Story.{laneAnswerTo, statusAnswerTo, lifeAt, InTick, ReceivedBy, Received, Begins, Dropped, Quiet}
-use Rattle.story.specs.Runs.{answered, stateAfter, lanesOf, Reached}
+use Rattle.story.specs.Story.{takesLanes, taking, OneMoment, BothAccepted, WantsLanes}
+use Rattle.story.specs.Runs.{answered, called, stateAfter, lanesOf, Reached, BothCalled, CallWantsLanes}
 use Rattle.story.proofs.Ruled.{Ruled}
 use Rattle.story.proofs.Owed.{owed-reach, owes-all}
 use Rattle.story.proofs.Held.{held-exactly, held-throughout}
 use Rattle.story.proofs.Tells.{lanes-told}
-use Rattle.story.proofs.Runs.{lanes-limit, told-answer, sound-state}
+use Rattle.story.proofs.Runs.{lanes-limit, told-answer, told-call, sound-state}
+use Rattle.story.proofs.Passed.{in-order}
 use Rattle.story.proofs.Questions.{lane-answer-told, lane-late, lane-cell-told, status-answer-told}
 use Rattle.story.proofs.Questions.{status-count-told, status-held-told, status-mark-told}
 use Rattle.story.proofs.Lively.{lively}
@@ -38,6 +42,8 @@ use Rattle.story.proofs.SkipForward.{next-ahead}
 use Rattle.story.proofs.Pool.{never-exceeded, upTo-all}
 use Rattle.story.proofs.Reached.{upTo-accepted, run-accepted, run-told, run-state}
 use Rattle.story.proofs.Reached.{asked-done, asked-cell, lane-limit, as-it-stands, life-stays}
+use Rattle.story.proofs.OneMoment.{alike-answer, alike-lane, alike-status, alike-held, alike-accepted}
+use Rattle.story.proofs.OneMoment.{either-way, either-after, either-then, other-order, both-called, one-state}
 
 -- every run of calls reaches its accepted events and the state it leaves
 pub every-run : (pool : ℕ) (cs : List Event) → Reached pool (accepted (lanesOf pool) cs) (stateAfter pool cs)
@@ -162,6 +168,106 @@ module _ (pool : ℕ) (es : List Event) (s : State) (run : Reached pool es s) wh
   pub stays : (new : List Event) (t : State) → Reached pool (new ++ es) t → (i τ : ℕ) → Quiet i τ new →
       lifeAt (new ++ es) i τ ≡ lifeAt es i τ
   stays new t later i τ q = life-stays (lanesOf pool) new es (run-accepted pool (new ++ es) t later) i τ q
+
+  -- 7. Which orders matter (02, 14). Where of two events at one moment on titles of different ids e and then f are accepted, so
+  -- are f and then e, or that other order refuses only f, which takes lanes, and with 9; e takes none, and is accepted;
+  pub orders : (e f : Event) → OneMoment e f → BothAccepted (lanesOf pool) es e f →
+      BothAccepted (lanesOf pool) es f e ⊎ WantsLanes (lanesOf pool) es e f
+  orders e f at both = other-order (lanesOf pool) (lanes-limit pool) es in-sequence e f at both
+
+  next-answer : (e f : Event) → answered (called s e) f ≡ answer (lanesOf pool) (taking (lanesOf pool) es e) f
+  next-answer e f =
+      let told = told-call (lanesOf pool) (lanes-limit pool) es s (run-told pool es s run) e in
+      told-answer (lanesOf pool) (lanes-limit pool) (taking (lanesOf pool) es e) (called s e) told f
+
+  both-told : (e f : Event) → BothCalled s e f → BothAccepted (lanesOf pool) es e f
+  both-told e f both =
+      let done : answer (lanesOf pool) es e ≡ 0 = sym (every-answer e) ∙ both .first in
+      record { first = done; second = rw (eq-eqb (answer (lanesOf pool) es e) 0 done) at (sym (next-answer e f) ∙ both .second) }
+
+  -- (the sequence and the calls accept the same two)
+  pub both-answered : (e f : Event) → BothAccepted (lanesOf pool) es e f → BothCalled s e f
+  both-answered e f both =
+      let next : answered (called s e) f ≡ answer (lanesOf pool) (e ∷ es) f =
+      rw (eq-eqb (answer (lanesOf pool) es e) 0 (both .first)) at (next-answer e f) in
+      record { first = every-answer e ∙ both .first; second = next ∙ both .second }
+
+  counted : (before : List Event) (e : Event) → lastTime es ≤ e .time → answer (lanesOf pool) before e ≡ 0 →
+      statusCount s (e .title) ≡ countIn (lifeOf es (e .title)) (e .time)
+  counted before e late h =
+      let id = in-order (lanesOf pool) before (e .title) (e .time) (e .act) h .id in
+      every-count (e .title) (e .time) (omega arith) late
+
+  refused-stays : (e : Event) → answered s e ≡ noLanes → called s e ≡ s
+  refused-stays e h =
+      pick-false (eqb (answered s e) 0) (callNext s (e .title) (e .time) (e .act)) s
+      (ne-eqb (answered s e) 0 (λ x. absurd (omega (arith, h, x))))
+
+  -- and so by the calls.
+  pub orders-called : (e f : Event) → OneMoment e f → BothCalled s e f → BothCalled s f e ⊎ CallWantsLanes s e f
+  orders-called e f at both =
+      let told = both-told e f both in
+      let late : lastTime es ≤ e .time = in-order (lanesOf pool) es (e .title) (e .time) (e .act) (told .first) .late in
+      ⊎-elim (λ other. inl (both-answered f e other))
+      (λ w.
+      let nine : answered s f ≡ noLanes = every-answer f ∙ w .nine in
+      inr
+      (record {
+        nine = nine;
+        other = rw (refused-stays f nine) (both .first);
+        takes = ap (takesLanes (f .act)) (counted (e ∷ es) f (omega (arith, at .same-time)) (told .second)) ∙ w .takes;
+        takes-none = ap (takesLanes (e .act)) (counted es e late (told .first)) ∙ w .takes-none;
+      }))
+      (orders e f at told)
+
+  -- Where both are accepted in both orders the order is all one: the calls leave one state, and so do any that follow, so that
+  -- whatever is asked later is answered the same;
+  pub all-one : (e f : Event) → OneMoment e f → BothCalled s e f → BothCalled s f e →
+      called (called s e) f ≡ called (called s f) e
+  all-one e f at one other = both-called s e f one ∙ one-state s e f at ∙ sym (both-called s f e other)
+
+  pub all-one-later : (e f : Event) → OneMoment e f → BothCalled s e f → BothCalled s f e → (cs : List Event) →
+      stateAfter pool (cs ++ f ∷ e ∷ es) ≡ stateAfter pool (cs ++ e ∷ f ∷ es)
+  unfolding stateAfter
+  all-one-later e f at one other [] =
+      ap (λ u. called (called u e) f) (sym left-alone)
+      ∙ all-one e f at one other
+      ∙ ap (λ u. called (called u f) e) left-alone
+  all-one-later e f at one other (c ∷ cs) = ap (λ u. called u c) (all-one-later e f at one other cs)
+
+  -- (what events, lane questions, status and lanes held say is asked of the state alone)
+  pub later-asked : {A : Type 0} (ask : State → A) (e f : Event) → OneMoment e f → BothCalled s e f → BothCalled s f e →
+      (cs : List Event) → ask (stateAfter pool (cs ++ f ∷ e ∷ es)) ≡ ask (stateAfter pool (cs ++ e ∷ f ∷ es))
+  later-asked ask e f at one other cs = ap ask (all-one-later e f at one other cs)
+
+  -- and by the sequence what is accepted after one order is accepted after the other
+  pub later-accepted : (e f : Event) → OneMoment e f → BothAccepted (lanesOf pool) es f e → (new : List Event) →
+      Accepted (lanesOf pool) (new ++ f ∷ e ∷ es) → Accepted (lanesOf pool) (new ++ e ∷ f ∷ es)
+  later-accepted e f at other new =
+      alike-accepted (lanesOf pool) new (f ∷ e ∷ es) (e ∷ f ∷ es) (either-way e f es at)
+      (more (more in-sequence (other .first)) (other .second))
+
+-- 7., of any sequence: whatever follows the two events, in either order every event, lane question and status is answered the
+-- same, as many lanes are held, and each title's life is the same at every moment: its count, its lanes and what they show
+module _ (es : List Event) (e f : Event) (at : OneMoment e f) (new : List Event) where
+  pub later-answer : (lanes : ℕ) (d : Event) → answer lanes (new ++ f ∷ e ∷ es) d ≡ answer lanes (new ++ e ∷ f ∷ es) d
+  later-answer lanes = alike-answer lanes (new ++ f ∷ e ∷ es) (new ++ e ∷ f ∷ es) (either-after e f es at new)
+
+  pub later-lane : (i l τ : ℕ) → laneAnswerTo (new ++ f ∷ e ∷ es) i l τ ≡ laneAnswerTo (new ++ e ∷ f ∷ es) i l τ
+  later-lane = alike-lane (new ++ f ∷ e ∷ es) (new ++ e ∷ f ∷ es) (either-after e f es at new)
+
+  pub later-status : (τ : ℕ) (ids : List ℕ) (m h d : ℕ) →
+      statusAnswerTo (new ++ f ∷ e ∷ es) τ ids m h d ≡ statusAnswerTo (new ++ e ∷ f ∷ es) τ ids m h d
+  later-status = alike-status (new ++ f ∷ e ∷ es) (new ++ e ∷ f ∷ es) (either-after e f es at new)
+
+  pub later-held : (τ : ℕ) → heldOver (upTo τ (new ++ f ∷ e ∷ es)) τ ≡ heldOver (upTo τ (new ++ e ∷ f ∷ es)) τ
+  later-held τ = alike-held (upTo τ (new ++ f ∷ e ∷ es)) (upTo τ (new ++ e ∷ f ∷ es)) (either-then e f es at new τ) τ
+
+  pub later-life : (i τ : ℕ) → lifeAt (new ++ f ∷ e ∷ es) i τ ≡ lifeAt (new ++ e ∷ f ∷ es) i τ
+  later-life i τ = either-then e f es at new τ .life i
+
+  pub later-air : (i l τ : ℕ) → airAt (new ++ f ∷ e ∷ es) i l τ ≡ airAt (new ++ e ∷ f ∷ es) i l τ
+  later-air i l τ = ap (λ L. Rattle.story.specs.Story.airIn L l τ) (later-life i τ)
 
 -- 4., of any life: a lane that is dropped and not raised in the n ticks from then on is held in exactly as many of them as
 -- it owes cells;

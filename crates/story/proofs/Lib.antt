@@ -22,5 +22,7 @@ pub mod World
 pub mod SkipForward
 pub mod Sooner
 pub mod Retuned
+pub mod OneMoment
 pub mod Demands
 pub mod Example
+pub mod OneMomentExample

@@ -1,24 +1,24 @@
 -- The pool is never exceeded: at every moment, not only at events, the lanes held as counted from the sequence are at most
--- the pool. An opening or a change is accepted only so; a close, a hold and a lift hold no lane more; between events lanes are
--- only released.
+-- the pool. An opening or a change is accepted only so; an event that takes no lanes (a drop, a close, a hold, a lift) holds no
+-- lane more; between events lanes are only released.
 -- Rests on the laws of held lanes and on what accepted sequences keep true of a life.
 use mathlib.Core.Path.{_≡_, refl, sym, ap, _∙_}
-use mathlib.Core.Bool.{Bool, true, false}
+use mathlib.Core.Bool.{Bool, true, false, false≢true}
 use mathlib.Core.Logic.{⊎-elim}
 use mathlib.Core.List.{List, [], _∷_}
 use Prim.Native.Nat.{ℕ, _≤_, _<_}
 use native.Mathlib.Omega.{arith}
 use lib.Dec.{ltb, leb, eqb}
-use borrow.Author.Tests.{le-ltb, leb-true, le-leb}
+use borrow.Author.Tests.{le-ltb, ltb-false, leb-true, le-leb, eqb-true}
 use Rattle.rules.specs.Limits.{poolMax, titlesMax}
-use Rattle.rules.specs.Refusals.{pick}
 use Rattle.rules.specs.Search.{howMany, total}
 use Rattle.rules.proofs.Tests.{decide}
 use Rattle.rules.proofs.Search
 use Rattle.story.specs.Life.{Life, Course, onCourse, isActive, droppedAt, owes, isHeld}
 use Rattle.story.specs.Story.{Act, opens, changes, closes, doors, Event, event, unopened, tickLength, tickIn}
 use Rattle.story.specs.Story.{turn, ruledFrom, doorsFrom}
-use Rattle.story.specs.Story.{lifeAfter, lifeOf, latestOf, lastTime, upTo, isHeldIn, heldIn, heldOver, answerTo}
+use Rattle.story.specs.Story.{lifeAfter, lifeOf, latestOf, lastTime, upTo, countIn, isHeldIn, heldIn, heldOver}
+use Rattle.story.specs.Story.{takesLanes, answerTo}
 use Rattle.story.specs.Story.{Accepted, none, more}
 use Rattle.story.proofs.Ruled.{SameAt}
 use Rattle.story.proofs.Clock.{tick-mono}
@@ -61,21 +61,38 @@ over-falls lanes es high acc τ υ from le =
     (λ w. falls (lifeOf es i) (latestOf es i) τ υ w (omega (arith, newest lanes es high acc i)) le)
     (lively lanes es high acc i b))
 
--- a lane that a close leaves held was held before
-close-lane : (L : Life) (l n : ℕ) → isHeld (ruledFrom L n 0) l n ≡ true → isHeld L l n ≡ true
+-- a lane that is active neither before nor after a turn to k lanes is held as before: what it owes is settled
+idle-lane : (L : Life) (l n k : ℕ) → isActive L l n ≡ false → k ≤ l → isHeld (ruledFrom L n k) l n ≡ isHeld L l n
 unfolding isActive
-close-lane L l n held =
-    let r : Course = record { rule = turn (L .rule) n 0; shut = L .shut } in
+idle-lane L l n k off idle =
+    let r : Course = record { rule = turn (L .rule) n k; shut = L .shut } in
     let T : ℕ = droppedAt L l n in
-    let below : (a : ℕ) → a < n → SameAt L r a = λ a b. record { rule = turn-before (L .rule) n 0 a b; shut = refl } in
+    let below : (a : ℕ) → a < n → SameAt L r a = λ a b. record { rule = turn-before (L .rule) n k a b; shut = refl } in
     let d : droppedAt (onCourse L r) l n ≡ T = dropped-local L r l n below in
     let same : owes (onCourse L r) l T ≡ owes L l T =
     owes-local L r l T (λ a b. below a (omega (arith, dropped-le L l n))) in
     let quiet : isActive (onCourse L r) l n ≡ false =
-    ap (λ k. ltb l k) (turn-from (L .rule) n 0 n (omega arith)) ∙ le-ltb l 0 (omega arith) in
+    ap (λ c. ltb l c) (turn-from (L .rule) n k n (omega arith)) ∙ le-ltb l k idle in
+    held-sending (onCourse L r) l n quiet ∙ rw (d, same) (sym (held-sending L l n off))
+
+-- a lane that a turn to no more lanes leaves held was held before
+fewer-lane : (L : Life) (l n k : ℕ) → k ≤ L .rule n → isHeld (ruledFrom L n k) l n ≡ true → isHeld L l n ≡ true
+unfolding isActive
+fewer-lane L l n k fewer held =
     ⊎-elim (λ x. held-active L l n x)
-    (λ x. held-sending L l n x ∙ rw (d, same) at (sym (held-sending (onCourse L r) l n quiet) ∙ held))
-    (decide (isActive L l n))
+    (λ x. sym (idle-lane L l n k x (omega (arith, ltb-false l (L .rule n) x))) ∙ held)
+    (decide (ltb l (L .rule n)))
+
+-- and a turn to no fewer lanes leaves every lane held
+more-lane : (L : Life) (l n k : ℕ) → L .rule n ≤ k → isHeld L l n ≡ true → isHeld (ruledFrom L n k) l n ≡ true
+unfolding isActive
+more-lane L l n k larger held =
+    ⊎-elim
+    (λ x. held-active (ruledFrom L n k) l n (ap (λ c. ltb l c) (turn-from (L .rule) n k n (omega arith)) ∙ x))
+    (λ x.
+    let idle : k ≤ l = ltb-false l k x in
+    idle-lane L l n k (le-ltb l (L .rule n) (omega arith)) idle ∙ held)
+    (decide (ltb l k))
 
 -- a lane that a hold or a lift leaves held was held before: what a lane owes is settled when it is dropped
 doors-lane : (L : Life) (b : Bool) (l n : ℕ) → isHeld (doorsFrom L n b) l n ≡ true → isHeld L l n ≡ true
@@ -91,29 +108,49 @@ doors-lane L b l n held =
     (λ x. held-sending L l n x ∙ rw (d, same) at (sym (held-sending (onCourse L r) l n x) ∙ held))
     (decide (isActive L l n))
 
--- an event that leaves no lane held that was not held before holds no lane more
-lowers : (es : List Event) (i τ : ℕ) (a : Act) →
-    ((L : Life) → (lifeAfter L τ a .cap ≡ L .cap) × ((l : ℕ) → isHeldIn (lifeAfter L τ a) l τ ≡ true → isHeldIn L l τ ≡ true)) →
+-- so a title holds no lane more after a turn to no more lanes, nor after a hold or a lift,
+fewer-held : (L : Life) (τ k : ℕ) → k ≤ countIn L τ → heldIn (ruledFrom L (tickIn L τ) k) τ ≤ heldIn L τ
+unfolding heldIn tickIn
+fewer-held L τ k fewer =
+    Search.howMany-wider (λ l. isHeldIn (ruledFrom L (tickIn L τ) k) l τ) (λ l. isHeldIn L l τ) (L .cap)
+    (λ l b. fewer-lane L l (tickIn L τ) k fewer)
+
+doors-held : (L : Life) (τ : ℕ) (b : Bool) → heldIn (doorsFrom L (tickIn L τ) b) τ ≤ heldIn L τ
+unfolding heldIn tickIn
+doors-held L τ b =
+    Search.howMany-wider (λ l. isHeldIn (doorsFrom L (tickIn L τ) b) l τ) (λ l. isHeldIn L l τ) (L .cap)
+    (λ l c. doors-lane L b l (tickIn L τ))
+
+-- and no lane less after a turn to no fewer
+pub more-held : (L : Life) (τ k : ℕ) → countIn L τ ≤ k → heldIn L τ ≤ heldIn (ruledFrom L (tickIn L τ) k) τ
+unfolding heldIn tickIn
+more-held L τ k larger =
+    Search.howMany-wider (λ l. isHeldIn L l τ) (λ l. isHeldIn (ruledFrom L (tickIn L τ) k) l τ) (L .cap)
+    (λ l b. more-lane L l (tickIn L τ) k larger)
+
+-- an event moves the lanes of its own title alone
+lowers : (es : List Event) (i τ : ℕ) (a : Act) → heldIn (lifeAfter (lifeOf es i) τ a) τ ≤ heldIn (lifeOf es i) τ →
     heldOver (event i τ a ∷ es) τ ≤ heldOver es τ
-unfolding heldOver lifeOf heldIn
-lowers es i τ a f =
+unfolding heldOver lifeOf
+lowers es i τ a own =
     Search.total-le (λ j. heldIn (lifeOf (event i τ a ∷ es) j) τ) (λ j. heldIn (lifeOf es j) τ) titlesMax
-    (λ j b.
-    elim (eqb i j) as (λ x. heldIn (pick x (lifeAfter (lifeOf es j) τ a) (lifeOf es j)) τ ≤ heldIn (lifeOf es j) τ) [
-      | true ↦
-          rw (f (lifeOf es j) .0)
-          (Search.howMany-wider (λ l. isHeldIn (lifeAfter (lifeOf es j) τ a) l τ) (λ l. isHeldIn (lifeOf es j) l τ) (lifeOf es j .cap)
-          (λ l c held. f (lifeOf es j) .1 l held))
-      | false ↦ omega arith
-    ])
+    (λ j b. ⊎-elim (λ x. rw x (rw (eqb-true i j x) at own)) (λ x. rw x (omega arith)) (decide (eqb i j)))
 
-close-lowers : (es : List Event) (i τ : ℕ) → heldOver (event i τ closes ∷ es) τ ≤ heldOver es τ
-unfolding tickIn
-close-lowers es i τ = lowers es i τ closes (λ L. (refl, λ l held. close-lane L l (tickIn L τ) held))
+pub raises : (es : List Event) (i τ : ℕ) (a : Act) → heldIn (lifeOf es i) τ ≤ heldIn (lifeAfter (lifeOf es i) τ a) τ →
+    heldOver es τ ≤ heldOver (event i τ a ∷ es) τ
+unfolding heldOver lifeOf
+raises es i τ a own =
+    Search.total-le (λ j. heldIn (lifeOf es j) τ) (λ j. heldIn (lifeOf (event i τ a ∷ es) j) τ) titlesMax
+    (λ j b. ⊎-elim (λ x. rw x (rw (eqb-true i j x) at own)) (λ x. rw x (omega arith)) (decide (eqb i j)))
 
-doors-lowers : (es : List Event) (i τ : ℕ) (b : Bool) → heldOver (event i τ (doors b) ∷ es) τ ≤ heldOver es τ
-unfolding tickIn
-doors-lowers es i τ b = lowers es i τ (doors b) (λ L. (refl, λ l held. doors-lane L b l (tickIn L τ) held))
+-- an event that takes no lanes holds no lane more
+pub takes-none : (es : List Event) (i τ : ℕ) (a : Act) → takesLanes a (countIn (lifeOf es i) τ) ≡ false →
+    heldOver (event i τ a ∷ es) τ ≤ heldOver es τ
+takes-none es i τ (opens m D A K k) h = absurd (false≢true (sym h))
+takes-none es i τ (changes k) h =
+    lowers es i τ (changes k) (fewer-held (lifeOf es i) τ k (ltb-false (countIn (lifeOf es i) τ) k h))
+takes-none es i τ closes h = lowers es i τ closes (fewer-held (lifeOf es i) τ 0 (omega arith))
+takes-none es i τ (doors b) h = lowers es i τ (doors b) (doors-held (lifeOf es i) τ b)
 
 -- all events are up to the moment of the last one
 pub upTo-all : (τ : ℕ) (es : List Event) → lastTime es ≤ τ → upTo τ es ≡ es
@@ -126,8 +163,8 @@ at-event : (lanes : ℕ) (es : List Event) (i τ : ℕ) (a : Act) → answerTo l
     heldOver es τ ≤ lanes → heldOver (event i τ a ∷ es) τ ≤ lanes
 at-event lanes es i τ (opens m D A K k) h before = opening lanes es i τ m D A K k h .room
 at-event lanes es i τ (changes k) h before = changing lanes es i τ k h .1
-at-event lanes es i τ closes h before = omega (arith, close-lowers es i τ)
-at-event lanes es i τ (doors b) h before = omega (arith, doors-lowers es i τ b)
+at-event lanes es i τ closes h before = omega (arith, takes-none es i τ closes refl)
+at-event lanes es i τ (doors b) h before = omega (arith, takes-none es i τ (doors b) refl)
 
 -- demand 3: at every moment the lanes held, counted from the sequence, are at most the pool
 pub never-exceeded : (lanes : ℕ) (es : List Event) → lanes ≤ poolMax → Accepted lanes es → (τ : ℕ) →

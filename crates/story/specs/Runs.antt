@@ -2,14 +2,15 @@
 -- that calls give back": a refused call gives back the state as it came in).
 use Prim.Native.Nat.{ℕ}
 use mathlib.Core.Path.{_≡_}
+use mathlib.Core.Bool.{true, false}
 use mathlib.Core.List.{List, [], _∷_}
 use lib.Dec.{eqb}
 use Rattle.rules.specs.Limits.{within, poolMin, poolMax}
-use Rattle.rules.specs.Refusals.{pick}
+use Rattle.rules.specs.Refusals.{pick, noLanes}
 use Rattle.story.specs.declared.State.{State}
 use Rattle.story.specs.Next.{callNext}
-use Rattle.story.specs.Calls.{callAnswer, freshNext}
-use Rattle.story.specs.Story.{Event, accepted}
+use Rattle.story.specs.Calls.{callAnswer, freshNext, statusCount}
+use Rattle.story.specs.Story.{Event, accepted, takesLanes}
 
 abbrev pub answered : State → Event → ℕ
 answered s e = callAnswer s (e .title) (e .time) (e .act)
@@ -32,3 +33,15 @@ pub record Reached (pool : ℕ) (es : List Event) (s : State) : Type 0 where
   pub calls : List Event
   pub events : es ≡ accepted (lanesOf pool) calls
   pub state : s ≡ stateAfter pool calls
+
+-- 02, 14: a call of e and then one of f are accepted in a state
+pub record BothCalled (s : State) (e f : Event) : Type 0 where
+  pub first : answered s e ≡ 0
+  pub second : answered (called s e) f ≡ 0
+
+-- a call of f gets 9, one of e is accepted behind it, and of the two events f alone takes lanes
+pub record CallWantsLanes (s : State) (e f : Event) : Type 0 where
+  pub nine : answered s f ≡ noLanes
+  pub other : answered (called s f) e ≡ 0
+  pub takes : takesLanes (f .act) (statusCount s (f .title)) ≡ true
+  pub takes-none : takesLanes (e .act) (statusCount s (e .title)) ≡ false
