@@ -24,9 +24,10 @@ use Rattle.story.specs.Story.{Act, opens, changes, closes, doors, Event, event,
 use Rattle.story.specs.Story.{more, withinLimits, openLimits, skipLimits, kindLimits, actLimits}
 use Rattle.story.specs.Runs.{stateAfter, lanesOf}
 use Rattle.story.proofs.Passed.{in-limits}
-use Rattle.story.proofs.Reached.{accepted-is}
+use Rattle.story.proofs.Reached.{accepted-is, accepted-all}
 use Rattle.agent.specs.Turns.{actOf, eventOf}
 use Rattle.agent.specs.Series.{agentAfter, hearing, heard, eventsHeard, kindFor, noticeFor, sent}
+use Rattle.agent.proofs.Order.{follows}
 use Rattle.agent.proofs.Alike.{alike}
 
 -- the numbers of an opening within their limits fit the fields of its kind of notice
@@ -157,3 +158,14 @@ module _ (pool : ℕ) (cs : List Event) (few : length (accepted (lanesOf pool) c
   -- and its state is the head-end's: every lane question, status and lanes held are alike
   pub follows-head-end : stateAfter pool cs ≡ agentAfter pool (sent (accepted (lanesOf pool) cs)) .state
   follows-head-end = alike pool cs (sent (accepted (lanesOf pool) cs)) (sym all-heard)
+
+-- so an agent that is handed the notices of accepted events has their number for its sequence, and the state that they leave
+pub as-sent : (pool : ℕ) (es : List Event) → Accepted (lanesOf pool) es → length es < 2 ^ 32 →
+    agentAfter pool (sent es) ≡ record { sequence = length es; state = stateAfter pool es }
+as-sent pool es acc few =
+    let all : accepted (lanesOf pool) es ≡ es = accepted-all (lanesOf pool) es acc in
+    let count : agentAfter pool (sent es) .sequence ≡ length es =
+    follows pool (sent es) .sequence ∙ ap length (hears-all (lanesOf pool) es acc few) ∙ length-numbered es in
+    let state : agentAfter pool (sent es) .state ≡ stateAfter pool es =
+    sym (rw all at (follows-head-end pool es (rw all few))) in
+    λ i. record { sequence = count i; state = state i }

@@ -6,6 +6,7 @@ pub mod Boxes
 pub mod Overtaken
 pub mod Alike
 pub mod HeadEnd
+pub mod OneMoment
 pub mod Played
 pub mod Reading
 pub mod Unique
