@@ -13,7 +13,7 @@ mod verdict;
 
 // Shares a pool of lanes among the titles whose rates, lengths, floors and caps stand in four rows: the counts go into
 // the first places of `counts`, later places stay. The answer is 0, or the first that hits of 10 (rows of different
-// length, no room for the counts, more than sixteen titles), 1 (a number outside its limits, the pool's included), 6 (a
+// length, no room for the counts, more than sixteen titles), 1 (a number outside its limits, the pool's included), 15 (a
 // floor above its cap) and 9 (the floors exceed the pool); a refusal writes nothing. No titles is done, with nothing
 // written, where the pool is within its limits.
 pub fn share(
