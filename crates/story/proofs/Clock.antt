@@ -5,7 +5,10 @@ use mathlib.Core.Logic.{⊎-elim}
 use Prim.Native.Nat.{ℕ, suc, _+_, _-_, _*_, _/_, _%_, _≤_, _<_}
 use native.Mathlib.Omega.{arith}
 use native.Mathlib.Nat.{le-antisymm, div-lt-iff-lt-mul, div-add-mod', div-mul-le-self, le-div-iff-mul-le}
-use native.Mathlib.Nat.{mul-div-cancel, mul-le-mul-right}
+use native.Mathlib.Nat.{mul-div-cancel, mul-le-mul-right, mod-lt}
+use lib.Dec.{ltb}
+use borrow.Author.Tests.{ltb-true, ltb-false, lt-ltb}
+use Rattle.rules.proofs.Tests.{decide, same}
 
 module _ (B p : ℕ) (pos : 0 < p) where
   pub tick-mono : (x y : ℕ) → x ≤ y → (x - B) / p ≤ (y - B) / p
@@ -30,6 +33,24 @@ module _ (B p : ℕ) (pos : 0 < p) where
   in-tick x n from until =
       le-antisymm (omega (arith, div-lt-iff-lt-mul {x = x - B} {y = suc n} pos .1 (omega arith))) (begins x n from)
 
+  -- and a moment is before the end of its tick
+  pub ended : (x : ℕ) → x < B + suc ((x - B) / p) * p
+  ended x = omega (arith, div-add-mod' (x - B) p, mod-lt (x - B) pos)
+
+  -- a moment of tick T + j is before the start of tick T + o where j is less than o, and only there
+  pub before-tick : (x T j o : ℕ) → B + (T + j) * p ≤ x → x < B + suc (T + j) * p → ltb x (B + (T + o) * p) ≡ ltb j o
+  before-tick x T j o from until =
+      same (ltb x (B + (T + o) * p)) (ltb j o)
+      (λ h.
+      ⊎-elim (λ y. y)
+      (λ y.
+      let m : o * p ≤ j * p = mul-le-mul-right p (ltb-false j o y) in
+      absurd (omega (arith, ltb-true x (B + (T + o) * p) h)))
+      (decide (ltb j o)))
+      (λ h.
+      let m : suc j * p ≤ o * p = mul-le-mul-right p (ltb-true j o h) in
+      lt-ltb x (B + (T + o) * p) (omega arith))
+
   -- a moment that is the start of a tick is the start of its own tick
   pub on-its-tick : (x : ℕ) → B ≤ x → (x - B) % p ≡ 0 → x ≡ B + (x - B) / p * p
   on-its-tick x le z = omega (arith, div-add-mod' (x - B) p)
@@ -39,8 +60,8 @@ module _ (B p : ℕ) (pos : 0 < p) where
   later-tick x y lo lt z =
       let ex : (x - B) / p * p ≤ x - B = div-mul-le-self (x - B) p in
       let ey : y ≡ B + (y - B) / p * p = on-its-tick y (omega arith) z in
-      ⊎-elim (λ t. borrow.Author.Tests.ltb-true ((x - B) / p) ((y - B) / p) t)
+      ⊎-elim (λ t. ltb-true ((x - B) / p) ((y - B) / p) t)
       (λ t.
-      let m : (y - B) / p * p ≤ (x - B) / p * p = mul-le-mul-right p (borrow.Author.Tests.ltb-false ((x - B) / p) ((y - B) / p) t) in
+      let m : (y - B) / p * p ≤ (x - B) / p * p = mul-le-mul-right p (ltb-false ((x - B) / p) ((y - B) / p) t) in
       absurd (omega arith))
-      (Rattle.rules.proofs.Tests.decide (lib.Dec.ltb ((x - B) / p) ((y - B) / p)))
+      (decide (ltb ((x - B) / p) ((y - B) / p)))

@@ -1,6 +1,6 @@
 -- Demand 3 and what the state says of it: the page to read first. In each theorem `es` are the accepted ones, newest first,
 -- of some calls on a fresh pool, and `s` is the state that those calls leave (`Reached`).
--- Each cites its proof: Runs, Questions, World, Pool, Held, Reached and OneMoment, over every pool, sequence, id and moment.
+-- Each cites its proof: Runs, Questions, World, Pool, Held, Released, Reached and OneMoment, over every pool, sequence, id and moment.
 -- Beside this page stands Sooner: no release moves later since padding is owed to nobody.
 use mathlib.Core.Path.{_≡_, refl, sym, ap, _∙_}
 use mathlib.Core.Bool.{true, false≢true}
@@ -8,7 +8,7 @@ use mathlib.Core.Logic.{_⊎_, inl, inr, ⊎-elim}
 use mathlib.Core.List.{List, [], _∷_, _++_}
 use Prim.Native.Nat.{ℕ, suc, _+_, _≤_, _<_}
 use native.Mathlib.Omega.{arith}
-use lib.Dec.{lit<, eqb}
+use lib.Dec.{lit<, ltb, eqb}
 use borrow.Author.Tests.{ltb-true, eq-eqb, ne-eqb}
 use Rattle.rules.specs.Limits.{titlesMax, idMax, laneMax, askedMax}
 use Rattle.rules.specs.Refusals.{pick, noLanes}
@@ -23,14 +23,14 @@ use Rattle.story.specs.Kept.{stateOk, lanesHeld}
 use Rattle.story.specs.Next.{callNext}
 use Rattle.story.specs.Calls.{laneAnswer, laneShows, statusAnswer, statusCount, statusHeld, statusMark}
 use Rattle.story.specs.Story.{Act, opens, changes, closes, doors, Event, lifeOf, lastTime, upTo, countIn}
-use Rattle.story.specs.Story.{isMarkedIn, airAt, heldIn, unopened, tickLength}
+use Rattle.story.specs.Story.{isMarkedIn, isActiveIn, isHeldIn, airAt, heldIn, unopened, tickLength, momentOf}
 use Rattle.story.specs.Story.{heldOver, testsTo, orderOf, answerTo, answer, accepted, Accepted, more}
 use Rattle.story.specs.Story.{laneAnswerTo, statusAnswerTo, lifeAt, InTick, ReceivedBy, Received, Begins, Dropped, Quiet}
-use Rattle.story.specs.Story.{takesLanes, taking, OneMoment, BothAccepted, WantsLanes}
+use Rattle.story.specs.Story.{DropsAt, releaseOf, takesLanes, taking, OneMoment, BothAccepted, WantsLanes}
 use Rattle.story.specs.Runs.{answered, called, stateAfter, lanesOf, Reached, BothCalled, CallWantsLanes}
 use Rattle.story.proofs.Ruled.{Ruled}
 use Rattle.story.proofs.Owed.{owed-reach, owes-all}
-use Rattle.story.proofs.Held.{held-exactly, held-throughout}
+use Rattle.story.proofs.Held
 use Rattle.story.proofs.Tells.{lanes-told}
 use Rattle.story.proofs.Runs.{lanes-limit, told-answer, told-call, sound-state}
 use Rattle.story.proofs.Passed.{in-order}
@@ -38,6 +38,7 @@ use Rattle.story.proofs.Questions.{lane-answer-told, lane-late, lane-ce
 use Rattle.story.proofs.Questions.{status-count-told, status-held-told, status-mark-told}
 use Rattle.story.proofs.Lively.{lively}
 use Rattle.story.proofs.World.{no-box-runs-dry}
+use Rattle.story.proofs.Released.{until-released, as-many-ticks, raised-held}
 use Rattle.story.proofs.SkipForward.{next-ahead}
 use Rattle.story.proofs.Pool.{never-exceeded, upTo-all}
 use Rattle.story.proofs.Reached.{upTo-accepted, run-accepted, run-told, run-state}
@@ -153,6 +154,24 @@ module _ (pool : ℕ) (es : List Event) (s : State) (run : Reached pool es s) wh
   pub owed-in-all : (i l T n : ℕ) → i < titlesMax → reach (lifeOf es i .cap) ≤ n →
       owedWithin (lifeOf es i) l T n ≡ owes (lifeOf es i) l T
   owed-in-all i l T n id far = owes-all (lifeOf es i) l T (ruled i id) n far
+
+  -- a lane that is dropped, and not raised meanwhile, is held up to its release and no longer, at every moment as the events up
+  -- to that moment say: what it owes is settled by the events up to its drop, and the id does not open again before the release;
+  pub held-until : (i l s τ ω : ℕ) → i < titlesMax → DropsAt es i l s τ ω → (υ : ℕ) → τ ≤ υ → υ < ω →
+      isHeldIn (lifeAt es i υ) l υ ≡ ltb υ (releaseOf (lifeAt es i τ) l (suc s))
+  held-until i l s τ ω id d = until-released (lanesOf pool) es (lanes-limit pool) in-sequence i l s τ ω id d
+
+  -- so in the n ticks from the drop on, at whatever moment of each tick one looks, it is held in exactly as many as it owes cells;
+  pub held-exactly : (i l s τ n : ℕ) → i < titlesMax → DropsAt es i l s τ (momentOf (lifeAt es i τ) (suc s + n)) →
+      owes (lifeAt es i τ) l (suc s) ≤ n →
+      (look : ℕ → ℕ) → ((j : ℕ) → j < n → InTick (lifeAt es i τ) (suc s + j) (look j)) →
+      howMany (λ j. isHeldIn (lifeAt es i (look j)) l (look j)) n ≡ owes (lifeAt es i τ) l (suc s)
+  held-exactly = as-many-ticks (lanesOf pool) es (lanes-limit pool) in-sequence
+
+  -- one that is raised by its release is held throughout
+  pub held-throughout : (i l s τ ω : ℕ) → i < titlesMax → DropsAt es i l s τ ω → isActiveIn (lifeAt es i ω) l ω ≡ true →
+      ω ≤ releaseOf (lifeAt es i τ) l (suc s) → (υ : ℕ) → τ ≤ υ → υ ≤ ω → isHeldIn (lifeAt es i υ) l υ ≡ true
+  held-throughout i l s τ ω id d = raised-held (lanesOf pool) es (lanes-limit pool) in-sequence i l s τ ω id d
 
   -- 5. Refusal 9 is exact: an event that gets it would hold more than the pool at its time, and one that is accepted
   -- holds no more
@@ -273,9 +292,9 @@ module _ (es : List Event) (e f : Event) (at : OneMoment e f) (new : List Event)
 -- it owes cells;
 pub exactly : (L : Life) (l s n : ℕ) → Dropped L l s n → owes L l (suc s) ≤ n →
     howMany (λ j. isHeld L l (suc s + j)) n ≡ owes L l (suc s)
-exactly L l s n d = held-exactly L l s n (d .active-before) (d .not-raised)
+exactly L l s n d = Held.held-exactly L l s n (d .active-before) (d .not-raised)
 
 -- one that is raised again while it still sends is held throughout
 pub throughout : (L : Life) (l s n j : ℕ) → Dropped L l s n → isActive L l (suc s + n) ≡ true →
     n ≤ owes L l (suc s) → j ≤ n → isHeld L l (suc s + j) ≡ true
-throughout L l s n j d = held-throughout L l s n j (d .active-before) (d .not-raised)
+throughout L l s n j d = Held.held-throughout L l s n j (d .active-before) (d .not-raised)

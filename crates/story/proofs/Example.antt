@@ -4,9 +4,9 @@
 -- that is gone at its own closing moment, an opening that passes since padding is owed to nobody, boxes of an earlier,
 -- larger count that are all that a lane owes to, behind doors that are held; and a card that has time to retune.
 use mathlib.Core.Path.{_≡_, refl, subst, _∙_}
-use mathlib.Core.Bool.{true, not}
+use mathlib.Core.Bool.{true, false, not}
 use mathlib.Core.List.{List, [], _∷_}
-use Prim.Native.Nat.{ℕ, _+_, _≤_}
+use Prim.Native.Nat.{ℕ, _+_, _-_, _≤_, _<_}
 use native.Mathlib.Omega.{arith}
 use borrow.Author.Tests.{not-true}
 use Rattle.rules.specs.Refusals.{firstHit, done, notThere, secondEvent, notAtSlot, noLanes, tooSoon, doorsUnchanged, isSteady}
@@ -20,12 +20,14 @@ use Rattle.story.specs.Life.{Life, isAdmission, isActive, droppedAt, isA
 use Rattle.story.specs.Life.{isNth, nthOwed, Air, nothing, cell, sends, onAir, isHeld}
 use Rattle.story.specs.Story.{opens, skips, changes, closes, holds, lifts, Event, event, settling, tickIn, lifeOf}
 use Rattle.story.specs.Story.{latestOf, tunedOf, upTo, heldIn, heldOver, answerTo, answer, accepted, Accepted}
-use Rattle.story.specs.Story.{lifeAt, airAt, Begins, Dropped, Quiet, nothing-new, elsewhere, none-tunes, goes-by}
-use Rattle.story.proofs.Reached.{accepted-is}
+use Rattle.story.specs.Story.{lifeAt, isActiveIn, isHeldIn, airAt, InTick, Begins, Dropped, DropsAt, releaseOf}
+use Rattle.story.specs.Story.{Quiet, nothing-new, elsewhere, none-tunes, goes-by}
+use Rattle.story.specs.Runs.{stateAfter, Reached}
+use Rattle.story.proofs.Reached.{accepted-is, reached}
 use Rattle.story.proofs.Retuned.{far-apart}
 use Rattle.story.proofs.Sooner.{formerlyOwed, formerlyOwes, formerlyHeld, formerlyHeldIn, formerlyHeldOver}
 use Rattle.story.proofs.Sooner.{formerAnswerTo, formerAnswer}
-use Rattle.story.proofs.Demands.{exactly, throughout}
+use Rattle.story.proofs.Demands.{exactly, throughout, held-exactly, held-throughout}
 
 -- newest first; the change to 2 at 2 comes half a floor slot after the opening
 abbrev calls : List Event
@@ -105,6 +107,42 @@ owes-one = refl
 held-once : howMany (λ j. isHeld first-life 3 (8 + j)) 4 ≡ 1
 held-once = exactly first-life 3 7 4 dropped (omega (arith, owes-one)) ∙ owes-one
 
+-- a lane that is active at none of the n moments from τ on, each tested
+idle-from : (es : List Event) (i l τ n : ℕ) →
+    every (λ j. not (isActiveIn (lifeAt es i (τ + j)) l (τ + j))) n ≡ true → (υ : ℕ) → τ ≤ υ → υ < τ + n →
+    isActiveIn (lifeAt es i υ) l υ ≡ false
+idle-from es i l τ n all υ lo hi =
+    let e : τ + (υ - τ) ≡ υ = omega arith in
+    rw e at
+    (not-true (isActiveIn (lifeAt es i (τ + (υ - τ))) l (τ + (υ - τ)))
+    (every-out (λ j. not (isActiveIn (lifeAt es i (τ + j)) l (τ + j))) n (υ - τ) all (omega arith)))
+
+-- so too as the events up to each moment say, from its drop on up to 20: the close at 12 and the id's new opening at 16 among them
+drops : DropsAt taken 0 3 7 8 20
+unfolding owes every upTo lifeOf heldOver heldIn tickIn total howMany isHeld onAir isActive droppedAt after sends nthOwed isNth owedWithin isOwed isAwaited isAdmission reach some first takes takesFrom schemeOf laneCell addedChannel isAdded isInG channelCell segment shift floorRem cellOf slot starts tickFor tickOf filmIn roundedUp
+drops =
+    record {
+      at-start = refl;
+      active-before = refl;
+      not-raised = idle-from taken 0 3 8 12 refl;
+    }
+
+owes-one-then : owes (lifeAt taken 0 8) 3 8 ≡ 1
+unfolding owes every upTo lifeOf heldOver heldIn tickIn total howMany isHeld onAir isActive droppedAt after sends nthOwed isNth owedWithin isOwed isAwaited isAdmission reach some first takes takesFrom schemeOf laneCell addedChannel isAdded isInG channelCell segment shift floorRem cellOf slot starts tickFor tickOf filmIn roundedUp
+owes-one-then = refl
+
+taken-reached : Reached 4 taken (stateAfter 4 taken)
+taken-reached = reached 4 taken (subst (Accepted 4) all-but-one (accepted-is 4 calls))
+
+held-once-then : howMany (λ j. isHeldIn (lifeAt taken 0 (8 + j)) 3 (8 + j)) 12 ≡ 1
+unfolding lifeOf upTo tickFor tickOf roundedUp
+held-once-then =
+    held-exactly 4 taken (stateAfter 4 taken) taken-reached 0 3 7 8 12 (omega arith) drops (omega (arith, owes-one-then)) (λ j. 8 + j) in-each
+    ∙ owes-one-then
+  where
+    in-each : (j : ℕ) → j < 12 → InTick (lifeAt taken 0 8) (8 + j) (8 + j)
+    in-each j b = record { from = omega arith; until = omega arith }
+
 -- opened with 5 lanes, dropped to 4 at 2 and raised again at 4, while lane 4 still owes a cell: held throughout
 abbrev raised : List Event
 raised = event 0 4 (changes 5) ∷ event 0 2 (changes 4) ∷ event 0 0 (opens paddedKind 30 4 5 5) ∷ []
@@ -135,6 +173,26 @@ owes-three = refl
 
 held-on : (j : ℕ) → j ≤ 2 → isHeld raised-life 4 (2 + j) ≡ true
 held-on j = throughout raised-life 4 1 2 j dropped-then-raised again (omega (arith, owes-three))
+
+-- and so as the events up to each moment say
+drops-then-raised : DropsAt raised 0 4 1 2 4
+unfolding owes every upTo lifeOf heldOver heldIn tickIn total howMany isHeld onAir isActive droppedAt after sends nthOwed isNth owedWithin isOwed isAwaited isAdmission reach some first takes takesFrom schemeOf laneCell addedChannel isAdded isInG channelCell segment shift floorRem cellOf slot starts tickFor tickOf filmIn roundedUp
+drops-then-raised =
+    record {
+      at-start = refl;
+      active-before = refl;
+      not-raised = idle-from raised 0 4 2 2 refl;
+    }
+
+raised-then : (isActiveIn (lifeAt raised 0 4) 4 4 ≡ true) × (releaseOf (lifeAt raised 0 2) 4 2 ≡ 5)
+unfolding owes every upTo lifeOf heldOver heldIn tickIn total howMany isHeld onAir isActive droppedAt after sends nthOwed isNth owedWithin isOwed isAwaited isAdmission reach some first takes takesFrom schemeOf laneCell addedChannel isAdded isInG channelCell segment shift floorRem cellOf slot starts tickFor tickOf filmIn roundedUp
+raised-then = (refl, refl)
+
+held-on-then : (υ : ℕ) → 2 ≤ υ → υ ≤ 4 → isHeldIn (lifeAt raised 0 υ) 4 υ ≡ true
+held-on-then =
+    held-throughout 5 raised (stateAfter 5 raised)
+    (reached 5 raised (subst (Accepted 5) raised-accepted (accepted-is 5 raised))) 0 4 1 2 4 (omega arith) drops-then-raised
+    (raised-then .0) (omega (arith, raised-then .1))
 
 -- until the close at 12 the events at 4 and 8 leave what the opening alone says of the ticks before 4
 quiet : Quiet 0 3 (event 0 8 (changes 3) ∷ event 0 4 (changes 4) ∷ [])

@@ -26,7 +26,7 @@ count-all m zero l = refl
 count-all m (suc k) l = rw (lt-ltb k m (omega arith), count-all m k (omega arith)) (omega arith)
 
 -- how many numbers below n are below m
-count-below : (m n : ℕ) → m ≤ n → howMany (λ i. ltb i m) n ≡ m
+pub count-below : (m n : ℕ) → m ≤ n → howMany (λ i. ltb i m) n ≡ m
 count-below m n h =
     let e : n ≡ m + (n - m) = omega arith in
     rw e (Search.howMany-flat (λ i. ltb i m) m (n - m) (λ i lo. le-ltb i m lo) ∙ count-all m m (omega arith))

@@ -19,6 +19,7 @@ pub mod Lively
 pub mod Pool
 pub mod Reached
 pub mod World
+pub mod Released
 pub mod SkipForward
 pub mod Sooner
 pub mod Retuned

@@ -29,13 +29,13 @@ use Rattle.story.proofs.Tells.{TellsTitle, absent, present, owes-none, 
 use Rattle.story.proofs.Tells.{open-some, closed-none}
 use Rattle.story.proofs.Runs.{Told, sound-state}
 
--- a lane that no count has is never held
-pub no-lane : (L : Life) (l n : ℕ) → ((u : ℕ) → L .rule u ≤ l) → isHeld L l n ≡ false
+-- a lane that no count up to a tick has is not held then
+pub no-lane : (L : Life) (l n : ℕ) → ((u : ℕ) → u ≤ n → L .rule u ≤ l) → isHeld L l n ≡ false
 unfolding droppedAt isActive owes after
 no-lane L l n off =
-    let quiet : (u : ℕ) → isActive L l u ≡ false = λ u. le-ltb l (L .rule u) (off u) in
-    let d : droppedAt L l n ≡ 0 = Search.after-flat (isActive L l) 0 n (omega arith) (λ u lo hi. quiet u) in
-    held-sending L l n (quiet n) ∙ rw (d, owes-none L l (reach (L .cap))) (le-ltb (n - 0) 0 (omega arith))
+    let quiet : (u : ℕ) → u ≤ n → isActive L l u ≡ false = λ u b. le-ltb l (L .rule u) (off u b) in
+    let d : droppedAt L l n ≡ 0 = Search.after-flat (isActive L l) 0 n (omega arith) (λ u lo hi. quiet u (omega arith)) in
+    held-sending L l n (quiet n (omega arith)) ∙ rw (d, owes-none L l (reach (L .cap))) (le-ltb (n - 0) 0 (omega arith))
 
 -- the latest event of a title
 pub last-told : (L : Life) (m : ℕ) (t : Title) → TellsTitle L m t → t .last ≡ m
@@ -47,14 +47,14 @@ pub lane-held-told : (L : Life) (m : ℕ) (t : Title) (l τ : ℕ) → TellsTitl
     laneHeld t l τ ≡ isHeldIn L l τ
 unfolding tickIn tickAt
 lane-held-told L m t l τ (absent e f g) le =
-    rw g (sym (rw e (no-lane unopened l (tickIn unopened τ) (λ u. omega arith))))
+    rw g (sym (rw e (no-lane unopened l (tickIn unopened τ) (λ u b. omega arith))))
 lane-held-told L m t l τ (present r e f p) le =
     rw (mode-some t r p, e)
     (⊎-elim
     (λ x. rw x (sym (held-kept t r p l (tickAt t τ) (ltb-true l (t .cap) x) (later t r p τ (omega arith)))))
     (λ x.
     rw x
-    (sym (no-lane (lifeIn t r) l (tickAt t τ) (λ u. omega (arith, ltb-false l (t .cap) x, p .ruled .high u)))))
+    (sym (no-lane (lifeIn t r) l (tickAt t τ) (λ u b. omega (arith, ltb-false l (t .cap) x, p .ruled .high u)))))
     (decide (ltb l (t .cap))))
 
 -- what it shows
@@ -62,7 +62,7 @@ pub lane-shows-told : (L : Life) (m : ℕ) (t : Title) (l τ : ℕ) → TellsTit
     airIn L l τ ≡ cell (shows t l (tickAt t τ))
 unfolding tickIn tickAt
 lane-shows-told L m t l τ (absent e f g) le h =
-    absurd (false≢true (sym (no-lane unopened l (tickIn unopened τ) (λ u. omega arith)) ∙ rw e at h))
+    absurd (false≢true (sym (no-lane unopened l (tickIn unopened τ) (λ u b. omega arith)) ∙ rw e at h))
 lane-shows-told L m t l τ (present r e f p) le h =
     let held : isHeld (lifeIn t r) l (tickAt t τ) ≡ true = rw e at h in
     rw e
@@ -70,7 +70,7 @@ lane-shows-told L m t l τ (present r e f p) le h =
     (⊎-elim (λ x. ltb-true l (t .cap) x)
     (λ x.
     let free : isHeld (lifeIn t r) l (tickAt t τ) ≡ false =
-    no-lane (lifeIn t r) l (tickAt t τ) (λ u. omega (arith, ltb-false l (t .cap) x, p .ruled .high u)) in
+    no-lane (lifeIn t r) l (tickAt t τ) (λ u b. omega (arith, ltb-false l (t .cap) x, p .ruled .high u)) in
     absurd (false≢true (sym free ∙ held)))
     (decide (ltb l (t .cap))))
     (later t r p τ (omega arith)) held)

@@ -165,7 +165,7 @@ data Watched (es : List Event) (i : ℕ) (L : Life) (a : ℕ) : Type 0 where
       (f : ReceivedBy es i L a c n) × (momentOf L (suc (f .tick)) ≤ lastTime es)) → Watched es i L a
 
 -- events after a moment don't count at it
-upTo-skip : (τ : ℕ) (e : Event) (es : List Event) → τ < e .time → upTo τ (e ∷ es) ≡ upTo τ es
+pub upTo-skip : (τ : ℕ) (e : Event) (es : List Event) → τ < e .time → upTo τ (e ∷ es) ≡ upTo τ es
 unfolding upTo
 upTo-skip τ e es lt = rw (lt-leb (e .time) τ lt) refl
 

@@ -11,7 +11,7 @@ use Rattle.rules.specs.Limits.{lengthMax, eventTimeMax, askedMax, laneMax, titl
 use Rattle.rules.specs.Refusals.{pick, Rule, firstHit, noLanes}
 use Rattle.rules.specs.Search.{every, howMany, total}
 use Rattle.scheme.specs.Scheme.{paddedKind, steadyKind, tickFor, starts}
-use Rattle.story.specs.Life.{Life, onCourse, scheme, floorSlot, isAdmission, isActive, Air, cell, onAir, isHeld}
+use Rattle.story.specs.Life.{Life, onCourse, scheme, floorSlot, isAdmission, isActive, owes, Air, cell, onAir, isHeld}
 use Rattle.story.specs.Orders.{Tests, openOrder, changeOrder, closeOrder, doorsOrder}
 use Rattle.story.specs.Orders.{laneOrder, statusOrder}
 
@@ -128,6 +128,10 @@ isMarkedIn L τ = both (ltb 0 (countIn L τ)) (isShutIn L τ)
 -- what is on air on lane l of a title at a moment
 abbrev pub airIn : Life → ℕ → ℕ → Air
 airIn L l τ = onAir L l (tickIn L τ)
+
+-- lane l of a title is active at a moment
+abbrev pub isActiveIn : Life → ℕ → ℕ → Bool
+isActiveIn L l τ = isActive L l (tickIn L τ)
 
 -- lane l of a title is held at a moment
 abbrev pub isHeldIn : Life → ℕ → ℕ → Bool
@@ -321,6 +325,17 @@ pub record Begins (es : List Event) (i τ a : ℕ) : Type 0 where
 pub record Dropped (L : Life) (l s n : ℕ) : Type 0 where
   pub active-before : isActive L l s ≡ true
   pub not-raised : (j : ℕ) → j < n → isActive L l (suc s + j) ≡ false
+
+-- lane l of an id is dropped at the moment τ, the start of tick s + 1, and not raised before the moment ω: each time as the
+-- events up to that very moment say
+pub record DropsAt (es : List Event) (i l s τ ω : ℕ) : Type 0 where
+  pub at-start : τ ≡ momentOf (lifeAt es i τ) (suc s)
+  pub active-before : isActive (lifeAt es i τ) l s ≡ true
+  pub not-raised : (υ : ℕ) → τ ≤ υ → υ < ω → isActiveIn (lifeAt es i υ) l υ ≡ false
+
+-- the moment at which a lane that is dropped at tick T has sent all that it owes
+abbrev pub releaseOf : Life → ℕ → ℕ → ℕ
+releaseOf L l T = momentOf L (T + owes L l T)
 
 -- none of these events opens or changes title i
 pub data Untuned (i : ℕ) : List Event → Type 0 where
