@@ -1,39 +1,38 @@
 -- Demand 3 and what the state says of it: the page to read first. In each theorem `es` are the accepted ones, newest first,
 -- of some calls on a fresh pool, and `s` is the state that those calls leave (`Reached`).
--- Each cites its proof: Runs, Questions, World, Pool, Held, Released, Reached and OneMoment, over every pool, sequence, id and moment.
+-- Each cites its proof: Runs, Questions, World, Pool, Held, Released, Reached, OneMoment and OrdersCalled, over every pool,
+-- sequence, id and moment.
 -- Beside this page stands Sooner: no release moves later since padding is owed to nobody.
 use mathlib.Core.Path.{_≡_, refl, sym, ap, _∙_}
 use mathlib.Core.Bool.{true, false≢true}
-use mathlib.Core.Logic.{_⊎_, inl, inr, ⊎-elim}
+use mathlib.Core.Logic.{_⊎_, ⊎-elim}
 use mathlib.Core.List.{List, [], _∷_, _++_}
 use Prim.Native.Nat.{ℕ, suc, _+_, _≤_, _<_}
 use native.Mathlib.Omega.{arith}
-use lib.Dec.{lit<, ltb, eqb}
-use borrow.Author.Tests.{ltb-true, eq-eqb, ne-eqb}
+use lib.Dec.{lit<, ltb}
+use borrow.Author.Tests.{ltb-true}
 use Rattle.rules.specs.Limits.{titlesMax, idMax, laneMax, askedMax}
 use Rattle.rules.specs.Refusals.{pick, noLanes}
 use Rattle.rules.specs.Search.{howMany}
 use Rattle.scheme.specs.Scheme.{steadyKind, schemeOf}
 use Rattle.scheme.proofs.Padded.{nothing-lawful}
-use Rattle.rules.proofs.Tests.{pick-false}
 use Rattle.rules.proofs.Refusals.{hitsOf, distinct, isListed, first-hit}
 use Rattle.story.specs.declared.State.{State}
 use Rattle.story.specs.Life.{Life, isFilm, isActive, isOwed, reach, owedWithin, owes, cell, isHeld}
 use Rattle.story.specs.Kept.{stateOk, lanesHeld}
-use Rattle.story.specs.Next.{callNext}
 use Rattle.story.specs.Calls.{laneAnswer, laneShows, statusAnswer, statusCount, statusHeld, statusMark}
 use Rattle.story.specs.Story.{Act, opens, changes, closes, doors, Event, lifeOf, lastTime, upTo, countIn}
 use Rattle.story.specs.Story.{isMarkedIn, isActiveIn, isHeldIn, airAt, heldIn, unopened, tickLength, momentOf}
 use Rattle.story.specs.Story.{heldOver, testsTo, orderOf, answerTo, answer, accepted, Accepted, more}
 use Rattle.story.specs.Story.{laneAnswerTo, statusAnswerTo, lifeAt, InTick, ReceivedBy, Received, Begins, Dropped, Quiet}
-use Rattle.story.specs.Story.{DropsAt, releaseOf, takesLanes, taking, OneMoment, BothAccepted, WantsLanes}
+use Rattle.story.specs.Story.{DropsAt, releaseOf, OneMoment, BothAccepted, WantsLanes, NineAfter}
 use Rattle.story.specs.Runs.{answered, called, stateAfter, lanesOf, Reached, BothCalled, CallWantsLanes}
+use Rattle.story.specs.Runs.{CallNineAfter}
 use Rattle.story.proofs.Ruled.{Ruled}
 use Rattle.story.proofs.Owed.{owed-reach, owes-all}
 use Rattle.story.proofs.Held
 use Rattle.story.proofs.Tells.{lanes-told}
-use Rattle.story.proofs.Runs.{lanes-limit, told-answer, told-call, sound-state}
-use Rattle.story.proofs.Passed.{in-order}
+use Rattle.story.proofs.Runs.{lanes-limit, told-answer, sound-state}
 use Rattle.story.proofs.Questions.{lane-answer-told, lane-late, lane-cell-told, status-answer-told}
 use Rattle.story.proofs.Questions.{status-count-told, status-held-told, status-mark-told}
 use Rattle.story.proofs.Lively.{lively}
@@ -44,7 +43,9 @@ use Rattle.story.proofs.Pool.{never-exceeded, upTo-all}
 use Rattle.story.proofs.Reached.{upTo-accepted, run-accepted, run-told, run-state}
 use Rattle.story.proofs.Reached.{asked-done, asked-cell, lane-limit, as-it-stands, life-stays}
 use Rattle.story.proofs.OneMoment.{alike-answer, alike-lane, alike-status, alike-held, alike-accepted}
-use Rattle.story.proofs.OneMoment.{either-way, either-after, either-then, other-order, both-called, one-state}
+use Rattle.story.proofs.OneMoment.{either-way, either-after, either-then, other-order, room-for-one-of-two}
+use Rattle.story.proofs.OneMoment.{both-called, one-state}
+use Rattle.story.proofs.OrdersCalled.{both-as-called, other-order-called, room-for-one-of-calls}
 
 -- every run of calls reaches its accepted events and the state it leaves
 pub every-run : (pool : ℕ) (cs : List Event) → Reached pool (accepted (lanesOf pool) cs) (stateAfter pool cs)
@@ -168,7 +169,7 @@ module _ (pool : ℕ) (es : List Event) (s : State) (run : Reached pool es s) wh
       howMany (λ j. isHeldIn (lifeAt es i (look j)) l (look j)) n ≡ owes (lifeAt es i τ) l (suc s)
   held-exactly = as-many-ticks (lanesOf pool) es (lanes-limit pool) in-sequence
 
-  -- one that is raised by its release is held throughout
+  -- one that is raised before its release, or just then, is held throughout
   pub held-throughout : (i l s τ ω : ℕ) → i < titlesMax → DropsAt es i l s τ ω → isActiveIn (lifeAt es i ω) l ω ≡ true →
       ω ≤ releaseOf (lifeAt es i τ) l (suc s) → (υ : ℕ) → τ ≤ υ → υ ≤ ω → isHeldIn (lifeAt es i υ) l υ ≡ true
   held-throughout i l s τ ω id d = raised-held (lanesOf pool) es (lanes-limit pool) in-sequence i l s τ ω id d
@@ -194,50 +195,21 @@ module _ (pool : ℕ) (es : List Event) (s : State) (run : Reached pool es s) wh
       BothAccepted (lanesOf pool) es f e ⊎ WantsLanes (lanesOf pool) es e f
   orders e f at both = other-order (lanesOf pool) (lanes-limit pool) es in-sequence e f at both
 
-  next-answer : (e f : Event) → answered (called s e) f ≡ answer (lanesOf pool) (taking (lanesOf pool) es e) f
-  next-answer e f =
-      let told = told-call (lanesOf pool) (lanes-limit pool) es s (run-told pool es s run) e in
-      told-answer (lanesOf pool) (lanes-limit pool) (taking (lanesOf pool) es e) (called s e) told f
+  -- where either is accepted alone, and not both, either order answers 0 and then 9, and both take lanes;
+  pub room-for-one : (e f : Event) → OneMoment e f → answer (lanesOf pool) es e ≡ 0 → answer (lanesOf pool) es f ≡ 0 →
+      (BothAccepted (lanesOf pool) es e f → ⊥) → NineAfter (lanesOf pool) es e f × NineAfter (lanesOf pool) es f e
+  room-for-one = room-for-one-of-two (lanesOf pool) (lanes-limit pool) es in-sequence
 
-  both-told : (e f : Event) → BothCalled s e f → BothAccepted (lanesOf pool) es e f
-  both-told e f both =
-      let done : answer (lanesOf pool) es e ≡ 0 = sym (every-answer e) ∙ both .first in
-      record { first = done; second = rw (eq-eqb (answer (lanesOf pool) es e) 0 done) at (sym (next-answer e f) ∙ both .second) }
-
-  -- (the sequence and the calls accept the same two)
+  -- and so by the calls (the sequence and the calls accept the same two).
   pub both-answered : (e f : Event) → BothAccepted (lanesOf pool) es e f → BothCalled s e f
-  both-answered e f both =
-      let next : answered (called s e) f ≡ answer (lanesOf pool) (e ∷ es) f =
-      rw (eq-eqb (answer (lanesOf pool) es e) 0 (both .first)) at (next-answer e f) in
-      record { first = every-answer e ∙ both .first; second = next ∙ both .second }
+  both-answered = both-as-called pool es s run
 
-  counted : (before : List Event) (e : Event) → lastTime es ≤ e .time → answer (lanesOf pool) before e ≡ 0 →
-      statusCount s (e .title) ≡ countIn (lifeOf es (e .title)) (e .time)
-  counted before e late h =
-      let id = in-order (lanesOf pool) before (e .title) (e .time) (e .act) h .id in
-      every-count (e .title) (e .time) (omega arith) late
-
-  refused-stays : (e : Event) → answered s e ≡ noLanes → called s e ≡ s
-  refused-stays e h =
-      pick-false (eqb (answered s e) 0) (callNext s (e .title) (e .time) (e .act)) s
-      (ne-eqb (answered s e) 0 (λ x. absurd (omega (arith, h, x))))
-
-  -- and so by the calls.
   pub orders-called : (e f : Event) → OneMoment e f → BothCalled s e f → BothCalled s f e ⊎ CallWantsLanes s e f
-  orders-called e f at both =
-      let told = both-told e f both in
-      let late : lastTime es ≤ e .time = in-order (lanesOf pool) es (e .title) (e .time) (e .act) (told .first) .late in
-      ⊎-elim (λ other. inl (both-answered f e other))
-      (λ w.
-      let nine : answered s f ≡ noLanes = every-answer f ∙ w .nine in
-      inr
-      (record {
-        nine = nine;
-        other = rw (refused-stays f nine) (both .first);
-        takes = ap (takesLanes (f .act)) (counted (e ∷ es) f (omega (arith, at .same-time)) (told .second)) ∙ w .takes;
-        takes-none = ap (takesLanes (e .act)) (counted es e late (told .first)) ∙ w .takes-none;
-      }))
-      (orders e f at told)
+  orders-called = other-order-called pool es s run
+
+  pub room-for-one-called : (e f : Event) → OneMoment e f → answered s e ≡ 0 → answered s f ≡ 0 →
+      (BothCalled s e f → ⊥) → CallNineAfter s e f × CallNineAfter s f e
+  room-for-one-called = room-for-one-of-calls pool es s run
 
   -- Where both are accepted in both orders the order is all one: the calls leave one state, and so do any that follow, so that
   -- whatever is asked later is answered the same;

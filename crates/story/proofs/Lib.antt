@@ -24,6 +24,7 @@ pub mod SkipForward
 pub mod Sooner
 pub mod Retuned
 pub mod OneMoment
+pub mod OrdersCalled
 pub mod Demands
 pub mod Example
 pub mod OneMomentExample

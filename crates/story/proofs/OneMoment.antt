@@ -26,7 +26,7 @@ use Rattle.story.specs.Next.{openedTitle, changedTitle, closedTitle, doo
 use Rattle.story.specs.Story.{Act, opens, changes, closes, doors, Event, event, lifeAfter, lifeOf, latestOf, tunedOf}
 use Rattle.story.specs.Story.{lastTime, upTo, countIn, heldIn, heldOver, overfull, testsTo, orderOf, answerTo, answer}
 use Rattle.story.specs.Story.{takesLanes, Accepted, more, laneAnswerTo, statusAnswerTo}
-use Rattle.story.specs.Story.{OneMoment, BothAccepted, WantsLanes}
+use Rattle.story.specs.Story.{OneMoment, BothAccepted, WantsLanes, NineAfter}
 use Rattle.story.specs.Runs.{answered, called, BothCalled}
 use Rattle.story.proofs.Passed.{opening, in-order}
 use Rattle.story.proofs.Pool.{more-held, raises, takes-none, upTo-all, never-exceeded}
@@ -252,6 +252,37 @@ module _ (lanes : ℕ) (high : lanes ≤ poolMax) (es : List Event) (acc : Accep
       ⊎-elim (λ x. inl (record { first = x; second = second-fits }))
       (λ x. inr (record { nine = x .0; other = both .first; takes = wants (x .1); takes-none = frees (x .1) }))
       first-asked
+
+-- either is accepted alone, and not f after e: f gets 9, and takes lanes
+module _ (lanes : ℕ) (high : lanes ≤ poolMax) (es : List Event) (acc : Accepted lanes es) (e f : Event) (at : OneMoment e f)
+    (one : answer lanes es e ≡ 0) (other : answer lanes es f ≡ 0) (not-both : BothAccepted lanes es e f → ⊥) where
+  one-fits : heldOver (e ∷ es) (f .time) ≤ lanes
+  one-fits =
+      rw (upTo-all (f .time) (e ∷ es) (omega (arith, at .same-time))) at
+      (never-exceeded lanes (e ∷ es) high (more acc one) (f .time))
+
+  nine-after : NineAfter lanes es e f
+  nine-after =
+      let same = other-life e es (f .title) (at .other-title) in
+      ⊎-elim (λ x. absurd (not-both (record { first = one; second = x })))
+      (λ x.
+      let count : takesLanes (f .act) (countIn (lifeOf (e ∷ es) (f .title)) (f .time)) ≡ true =
+      ⊎-elim (λ y. y) (λ y. absurd (omega (arith, takes-none (e ∷ es) (f .title) (f .time) (f .act) y, one-fits, x .1)))
+      (decide (takesLanes (f .act) (countIn (lifeOf (e ∷ es) (f .title)) (f .time)))) in
+      record { first = one; nine = x .0; takes = rw same at count })
+      (fits-or-nine lanes (e ∷ es) es f same (other-latest e es (f .title) (at .other-title))
+      (other-tuned e es (f .title) (at .other-title)) (omega (arith, at .same-time)) other)
+
+-- so it is in either order: else the two would fit
+pub room-for-one-of-two : (lanes : ℕ) → lanes ≤ poolMax → (es : List Event) → Accepted lanes es → (e f : Event) →
+    OneMoment e f → answer lanes es e ≡ 0 → answer lanes es f ≡ 0 → (BothAccepted lanes es e f → ⊥) →
+    NineAfter lanes es e f × NineAfter lanes es f e
+room-for-one-of-two lanes high es acc e f at one other not-both =
+    let round : OneMoment f e = record { same-time = sym (at .same-time); other-title = λ x. at .other-title (sym x) } in (
+      nine-after lanes high es acc e f at one other not-both,
+      nine-after lanes high es acc f e round other one
+          (λ both. ⊎-elim not-both (λ w. absurd (omega (arith, w .nine, one))) (other-order lanes high es acc f e round both)),
+    )
 
 -- what an event makes of its title
 nextTitle : Title → ℕ → Act → Title

@@ -1,5 +1,6 @@
--- Two pairs of events at one moment, computed from the definitions (02, 14). A raise and an opening with room for both: the order
--- is all one. A drop and an opening that needs its lane: the opening gets 9 if it comes first, and the drop is accepted after it.
+-- Pairs of events at one moment, computed from the definitions (02, 14). A raise and an opening with room for both: the order is all
+-- one. The same two with room for either: whoever comes second gets 9. A drop and an opening that needs its lane: the opening gets 9
+-- if it comes first, and the drop is accepted after it.
 use mathlib.Core.Path.{_≡_, refl, sym}
 use mathlib.Core.Logic.{_⊎_}
 use mathlib.Core.List.{List, [], _∷_, _++_}
@@ -14,9 +15,10 @@ use Rattle.story.specs.Life.{isAdmission, isActive, droppedAt, isAwaited
 use Rattle.story.specs.Life.{isNth, nthOwed, sends, onAir, isHeld}
 use Rattle.story.specs.Story.{opens, changes, holds, Event, event, tickIn, lifeOf, latestOf, tunedOf}
 use Rattle.story.specs.Story.{heldIn, heldOver, answerTo, answer, accepted, OneMoment, BothAccepted, WantsLanes}
+use Rattle.story.specs.Story.{NineAfter}
 use Rattle.story.specs.declared.State.{State}
 use Rattle.story.specs.Runs.{stateAfter, Reached}
-use Rattle.story.proofs.Demands.{orders, both-answered, all-one-later}
+use Rattle.story.proofs.Demands.{orders, room-for-one, both-answered, all-one-later}
 
 -- a film of 2 lanes in a pool of 5; at 8 it gains a lane, and another film opens with 2
 abbrev quiet-evening : List Event
@@ -55,6 +57,19 @@ third-refused = refl
 as-well : answer 5 (raise ∷ joins ∷ quiet-evening) (event 2 9 (opens paddedKind 12 2 4 2)) ≡ noLanes
 unfolding answerTo firstHit lifeOf latestOf tunedOf heldOver heldIn tickIn total howMany isHeld onAir isActive droppedAt after sends nthOwed isNth owedWithin isOwed isAwaited isAdmission reach some first takes takesFrom schemeOf laneCell addedChannel isAdded isInG channelCell segment shift floorRem cellOf slot starts tickFor tickOf filmIn roundedUp
 as-well = refl
+
+-- in a pool of 4 either of the two fits, and not both: a film of 2 lanes, at 8 a third, or two more
+quiet-in-four : accepted 4 quiet-evening ≡ quiet-evening
+unfolding accepted answerTo firstHit lifeOf latestOf tunedOf heldOver heldIn tickIn total howMany isHeld onAir isActive droppedAt after sends nthOwed isNth owedWithin isOwed isAwaited isAdmission reach some first takes takesFrom schemeOf laneCell addedChannel isAdded isInG channelCell segment shift floorRem cellOf slot starts tickFor tickOf filmIn roundedUp
+quiet-in-four = refl
+
+either-alone : (answer 4 quiet-evening raise ≡ 0) × (answer 4 quiet-evening joins ≡ 0)
+unfolding answerTo firstHit lifeOf latestOf tunedOf heldOver heldIn tickIn total howMany isHeld onAir isActive droppedAt after sends nthOwed isNth owedWithin isOwed isAwaited isAdmission reach some first takes takesFrom schemeOf laneCell addedChannel isAdded isInG channelCell segment shift floorRem cellOf slot starts tickFor tickOf filmIn roundedUp
+either-alone = (refl, refl)
+
+second-nine : answer 4 (raise ∷ quiet-evening) joins ≡ noLanes
+unfolding answerTo firstHit lifeOf latestOf tunedOf heldOver heldIn tickIn total howMany isHeld onAir isActive droppedAt after sends nthOwed isNth owedWithin isOwed isAwaited isAdmission reach some first takes takesFrom schemeOf laneCell addedChannel isAdded isInG channelCell segment shift floorRem cellOf slot starts tickFor tickOf filmIn roundedUp
+second-nine = refl
 
 -- a film of 3 lanes in a pool of 4, whose doors were held at 2: at 16 its only box is done, and lane 2, dropped then, owes
 -- nothing; another film opens with 2 lanes
@@ -101,3 +116,12 @@ full-run = record { calls = full-evening; events = sym full-accepted; state = re
 
 other-order-here : BothAccepted 4 full-evening needs drop ⊎ WantsLanes 4 full-evening drop needs
 other-order-here = orders 4 full-evening (stateAfter 4 full-evening) full-run drop needs drop-and-needs drop-first
+
+-- and of the pair for which there is room for one, in either order the second gets 9
+four-run : Reached 4 quiet-evening (stateAfter 4 quiet-evening)
+four-run = record { calls = quiet-evening; events = sym quiet-in-four; state = refl }
+
+either-nine-here : NineAfter 4 quiet-evening raise joins × NineAfter 4 quiet-evening joins raise
+either-nine-here =
+    room-for-one 4 quiet-evening (stateAfter 4 quiet-evening) four-run raise joins raise-and-joins (either-alone .0) (either-alone .1)
+    (λ both. absurd (omega (arith, both .second, second-nine)))

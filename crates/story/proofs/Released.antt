@@ -15,14 +15,14 @@ use Rattle.rules.specs.Limits.{poolMax, titlesMax}
 use Rattle.rules.specs.Search.{howMany}
 use Rattle.rules.proofs.Tests.{decide, either-false-l, either-false-r}
 use Rattle.rules.proofs.Search
-use Rattle.story.specs.Life.{Life, Course, onCourse, isActive, owes, isHeld}
+use Rattle.story.specs.Life.{Life, isActive, owes, isHeld}
 use Rattle.story.specs.Story.{Act, opens, changes, closes, doors, Event, event, tickLength, tickIn, momentOf}
 use Rattle.story.specs.Story.{lifeAfter, lifeOf, latestOf, lastTime, upTo, isActiveIn, isHeldIn, heldIn, isThereIn}
 use Rattle.story.specs.Story.{answerTo, answer, Accepted, none, more, lifeAt, InTick, releaseOf, DropsAt}
 use Rattle.story.proofs.Ruled.{SameAt}
 use Rattle.story.proofs.Clock.{in-tick, begun, begins, ended, before-tick}
 use Rattle.story.proofs.Held.{count-below, held-active, held-after, owes-local}
-use Rattle.story.proofs.Passed.{opening, in-order}
+use Rattle.story.proofs.Passed.{opening}
 use Rattle.story.proofs.Lively.{Lively, lively, newest}
 use Rattle.story.proofs.Questions.{no-lane}
 use Rattle.story.proofs.Reached.{upTo-accepted, upTo-late}

@@ -45,3 +45,9 @@ pub record CallWantsLanes (s : State) (e f : Event) : Type 0 where
   pub other : answered (called s f) e ≡ 0
   pub takes : takesLanes (f .act) (statusCount s (f .title)) ≡ true
   pub takes-none : takesLanes (e .act) (statusCount s (e .title)) ≡ false
+
+-- a call of e is accepted, and one of f, which takes lanes, gets 9 behind it
+pub record CallNineAfter (s : State) (e f : Event) : Type 0 where
+  pub first : answered s e ≡ 0
+  pub nine : answered (called s e) f ≡ noLanes
+  pub takes : takesLanes (f .act) (statusCount s (f .title)) ≡ true

@@ -370,3 +370,9 @@ pub record WantsLanes (pool : ℕ) (es : List Event) (e f : Event) : Type 0 wher
   pub other : answer pool es e ≡ 0
   pub takes : takesLanes (f .act) (countIn (lifeOf es (f .title)) (f .time)) ≡ true
   pub takes-none : takesLanes (e .act) (countIn (lifeOf es (e .title)) (e .time)) ≡ false
+
+-- e is accepted after es, and f, which takes lanes, gets 9 after it
+pub record NineAfter (pool : ℕ) (es : List Event) (e f : Event) : Type 0 where
+  pub first : answer pool es e ≡ 0
+  pub nine : answer pool (e ∷ es) f ≡ noLanes
+  pub takes : takesLanes (f .act) (countIn (lifeOf es (f .title)) (f .time)) ≡ true
