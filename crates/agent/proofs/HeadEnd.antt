@@ -1,9 +1,9 @@
 -- A head-end that sends a notice of each event that it accepts, numbered from 1 on, and an agent that is handed them in order:
--- the agent hears exactly those events, so the two answer alike. Rests on the codec's round trip, on what accepted events
--- have passed, and on `alike`.
+-- the agent hears exactly those events, so the two answer alike; and so it is with the log that the head-end keeps, played into a
+-- fresh agent. Rests on the codec's round trip, on what accepted events have passed, and on `alike`.
 use mathlib.Core.Path.{_≡_, refl, sym, ap, _∙_}
 use mathlib.Core.Bool.{Bool, true, false}
-use mathlib.Core.List.{List, [], _∷_, map}
+use mathlib.Core.List.{List, [], _∷_, _++_, map, reverse, reverse-cons, reverse-reverse}
 use Prim.Native.Nat.{ℕ, zero, suc, _^_, _≤_, _<_}
 use native.Mathlib.Omega.{arith}
 use lib.Dec.{leb, eqb}
@@ -16,9 +16,10 @@ use Rattle.rules.proofs.Tests.{both-l, both-r, both-in, pick-true}
 use Rattle.notice.specs.declared.Notice.{Notice}
 use Rattle.notice.specs.declared.Kind.the-variants.{Open, Skip}
 use Rattle.notice.specs.declared.Reading.the-variants as reading
-use Rattle.notice.specs.Log.{Typed, KindTyped}
+use Rattle.notice.specs.Log.{Typed, KindTyped, FitsFields, AllFit, noticesOf, isWholeLog}
 use Rattle.notice.proofs.RoundTrip.{written-reads}
 use Rattle.notice.proofs.Typed.{typed-fits}
+use Rattle.notice.proofs.Through.{log-read}
 use Rattle.scheme.specs.Scheme.{paddedKind, steadyKind}
 use Rattle.story.specs.Story.{Act, opens, changes, closes, doors, Event, event, answer, accepted, Accepted, none}
 use Rattle.story.specs.Story.{more, withinLimits, openLimits, skipLimits, kindLimits, actLimits}
@@ -26,9 +27,11 @@ use Rattle.story.specs.Runs.{stateAfter, lanesOf}
 use Rattle.story.proofs.Passed.{in-limits}
 use Rattle.story.proofs.Reached.{accepted-is, accepted-all}
 use Rattle.agent.specs.Turns.{actOf, eventOf}
-use Rattle.agent.specs.Series.{agentAfter, hearing, heard, eventsHeard, kindFor, noticeFor, sent}
+use Rattle.agent.specs.Series.{agentAfter, hearing, heard, eventsHeard, kindFor, noticeFor, numbered, sent, logKept}
+use Rattle.agent.specs.Played.{heardOf, ReadAs, none-read, one-read}
 use Rattle.agent.proofs.Order.{follows}
 use Rattle.agent.proofs.Alike.{alike}
+use Rattle.agent.proofs.Played.{heard-alike}
 
 -- the numbers of an opening within their limits fit the fields of its kind of notice
 opening-typed : (D A K k : ℕ) (t : Bool) → pick t (skipLimits D A K k) (openLimits D A K k) ≡ true →
@@ -104,16 +107,12 @@ same-act closes b h = refl
 same-act (doors true) b h = refl
 same-act (doors false) b h = refl
 
-same-event : (lanes : ℕ) (es : List Event) (q : ℕ) (e : Event) → answer lanes es e ≡ 0 → eventOf (noticeFor q e) ≡ e
+pub same-event : (lanes : ℕ) (es : List Event) (q : ℕ) (e : Event) → answer lanes es e ≡ 0 → eventOf (noticeFor q e) ≡ e
 same-event lanes es q e h =
     ap (event (e .title) (e .time))
     (same-act (e .act) (withinLimits e) (in-limits lanes es (e .title) (e .time) (e .act) h))
 
 -- the notices of accepted events, as many as there are sequences, are all heard
-numbered : List Event → List Notice
-numbered [] = []
-numbered (e ∷ es) = noticeFor (suc (length es)) e ∷ numbered es
-
 events-numbered : (lanes : ℕ) (es : List Event) → Accepted lanes es → map eventOf (numbered es) ≡ es
 unfolding numbered
 events-numbered lanes es none = refl
@@ -139,14 +138,28 @@ hears-next lanes ns es e acc is h =
     (both-in (eqb (suc (length es)) (suc (length (numbered es)))) (eqb (answer lanes (map eventOf (numbered es)) (eventOf n)) 0)
     (eq-eqb (suc (length es)) (suc (length (numbered es))) turn) (eq-eqb (answer lanes (map eventOf (numbered es)) (eventOf n)) 0 done)))
 
+-- told one after the other,
+told-all : (lanes : ℕ) (es : List Event) → Accepted lanes es → heardOf lanes (numbered es) ≡ numbered es
+unfolding heardOf numbered
+told-all lanes es none = refl
+told-all lanes es (more {e = e} {es = es′} acc h) =
+    hears-next lanes (heardOf lanes (numbered es′)) es′ e acc (told-all lanes es′ acc) h
+
+-- each fits its fields,
+pub fits : (lanes : ℕ) (es : List Event) (e : Event) (q : ℕ) → q < 2 ^ 32 → answer lanes es e ≡ 0 → FitsFields (noticeFor q e)
+fits lanes es e q small h = typed-fits (noticeFor q e) (typed lanes es e q small h)
+
+-- so the byte strings that are sent read as those notices,
+reads-sent : (lanes : ℕ) (es : List Event) → Accepted lanes es → length es < 2 ^ 32 → ReadAs (sent es) (numbered es)
+unfolding numbered
+reads-sent lanes es none small = none-read
+reads-sent lanes es (more {e = e} {es = es′} acc h) small =
+    one-read (written-reads (noticeFor (suc (length es′)) e) (fits lanes es′ e (suc (length es′)) small h))
+    (reads-sent lanes es′ acc (omega arith))
+
 hears-all : (lanes : ℕ) (es : List Event) → Accepted lanes es → length es < 2 ^ 32 → heard lanes (sent es) ≡ numbered es
-unfolding heard sent numbered
-hears-all lanes es none small = refl
-hears-all lanes es (more {e = e} {es = es′} acc h) small =
-    let n : Notice = noticeFor (suc (length es′)) e in
-    ap (hearing lanes (heard lanes (sent es′)))
-    (written-reads n (typed-fits n (typed lanes es′ e (suc (length es′)) small h)))
-    ∙ hears-next lanes (heard lanes (sent es′)) es′ e acc (hears-all lanes es′ acc (omega arith)) h
+hears-all lanes es acc small =
+    heard-alike lanes (sent es) (numbered es) (reads-sent lanes es acc small) ∙ told-all lanes es acc
 
 module _ (pool : ℕ) (cs : List Event) (few : length (accepted (lanesOf pool) cs) < 2 ^ 32) where
   -- the agent hears exactly the accepted events
@@ -169,3 +182,31 @@ as-sent pool es acc few =
     let state : agentAfter pool (sent es) .state ≡ stateAfter pool es =
     sym (rw all at (follows-head-end pool es (rw all few))) in
     λ i. record { sequence = count i; state = state i }
+
+-- ---- the log that a head-end keeps
+
+fits-last : (ns : List Notice) (n : Notice) → AllFit ns → FitsFields n → AllFit (ns ++ n ∷ [])
+fits-last [] n fit f = AllFit.more f AllFit.none
+fits-last (m ∷ ns) n (AllFit.more g fit) f = AllFit.more g (fits-last ns n fit f)
+
+kept-fits : (lanes : ℕ) (es : List Event) → Accepted lanes es → length es < 2 ^ 32 → AllFit (reverse (numbered es))
+unfolding numbered
+kept-fits lanes es none small = AllFit.none
+kept-fits lanes es (more {e = e} {es = es′} acc h) small =
+    rw (reverse-cons (noticeFor (suc (length es′)) e) (numbered es′))
+    (fits-last (reverse (numbered es′)) (noticeFor (suc (length es′)) e) (kept-fits lanes es′ acc (omega arith))
+    (fits lanes es′ e (suc (length es′)) small h))
+
+-- it is whole, its notices are those of the events, and told one after the other they give the events again
+pub kept-whole : (lanes : ℕ) (es : List Event) → Accepted lanes es → length es < 2 ^ 32 → isWholeLog (logKept es) ≡ true
+kept-whole lanes es acc few = log-read (reverse (numbered es)) (kept-fits lanes es acc few) .1
+
+pub kept-notices : (lanes : ℕ) (es : List Event) → Accepted lanes es → length es < 2 ^ 32 →
+    noticesOf (logKept es) ≡ numbered es
+kept-notices lanes es acc few =
+    log-read (reverse (numbered es)) (kept-fits lanes es acc few) .0 ∙ reverse-reverse (numbered es)
+
+pub kept-events : (lanes : ℕ) (es : List Event) → Accepted lanes es → length es < 2 ^ 32 →
+    map eventOf (heardOf lanes (noticesOf (logKept es))) ≡ es
+kept-events lanes es acc few =
+    ap (map eventOf) (ap (heardOf lanes) (kept-notices lanes es acc few) ∙ told-all lanes es acc) ∙ events-numbered lanes es acc

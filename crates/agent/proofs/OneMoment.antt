@@ -4,16 +4,22 @@
 use mathlib.Core.Path.{_≡_, refl, sym, ap, _∙_}
 use mathlib.Core.List.{List, [], _∷_, _++_}
 use Prim.Native.Nat.{ℕ, suc, _^_, _<_}
+use native.Mathlib.Omega.{arith}
 use lib.ListN.{length}
+use Rattle.rules.specs.Refusals.{noLanes}
+use Rattle.notice.specs.declared.Reading.the-variants as reading
 use Rattle.notice.specs.Encode.{bytesOf}
 use Rattle.notice.specs.Decode.{readOf}
-use Rattle.story.specs.Story.{Event, Accepted, more, OneMoment, BothAccepted}
-use Rattle.story.specs.Runs.{stateAfter, lanesOf, Reached}
+use Rattle.story.specs.Story.{Event, answer, Accepted, more, OneMoment, BothAccepted, WantsLanes}
+use Rattle.story.specs.Runs.{answered, stateAfter, lanesOf, Reached}
 use Rattle.story.proofs.Reached.{reached}
-use Rattle.story.proofs.Demands.{both-answered, all-one-later}
-use Rattle.agent.specs.Turns.{noticed}
-use Rattle.agent.specs.Series.{agentAfter, noticeFor, sent}
-use Rattle.agent.proofs.HeadEnd.{as-sent}
+use Rattle.story.proofs.Demands.{every-answer, both-answered, all-one-later}
+use Rattle.agent.specs.Turns.{eventOf, noticed, Stops}
+use Rattle.agent.specs.Series.{agentAfter, eventsHeard, noticeFor, numbered, sent}
+use Rattle.notice.proofs.RoundTrip.{written-reads}
+use Rattle.agent.proofs.Turns.{goes-no-further}
+use Rattle.agent.proofs.Order.{follows}
+use Rattle.agent.proofs.HeadEnd.{fits, same-event, as-sent}
 
 module _ (pool : ℕ) (es : List Event) (acc : Accepted (lanesOf pool) es) (e f : Event) (at : OneMoment e f)
     (one : BothAccepted (lanesOf pool) es e f) (other : BothAccepted (lanesOf pool) es f e)
@@ -35,7 +41,7 @@ module _ (pool : ℕ) (es : List Event) (acc : Accepted (lanesOf pool) es) (e f 
   -- with more events behind the two, all of them numbered on
   pub logs-alike : (new : List Event) →
       agentAfter pool (sent (new ++ f ∷ e ∷ es)) ≡ agentAfter pool (sent (new ++ e ∷ f ∷ es))
-  unfolding sent agentAfter
+  unfolding numbered agentAfter
   logs-alike [] = orders-alike
   logs-alike (d ∷ new) =
       ap (λ n. noticed (agentAfter pool (sent (new ++ f ∷ e ∷ es))) (readOf (bytesOf (noticeFor (suc n) d)))) (as-many new)
@@ -51,3 +57,32 @@ module _ (pool : ℕ) (es : List Event) (acc : Accepted (lanesOf pool) es) (e f 
   unfolding agentAfter
   orders-stay-alike [] = orders-alike
   orders-stay-alike (bs ∷ bss) = ap (λ g. noticed g (readOf bs)) (orders-stay-alike bss)
+
+-- ---- the order that is refused, as two numbered notices
+
+-- of any agent that was handed a series: it has heard es, and waits for the next sequence
+module _ (pool : ℕ) (bss : List (List ℕ)) where
+  -- the notice of an event within its limits, numbered next, is answered as the event is after those heard
+  next-says : (before : List Event) (e : Event) → answer (lanesOf pool) before e ≡ 0 → (q : ℕ) →
+      answered (agentAfter pool bss .state) (eventOf (noticeFor q e)) ≡ answer (lanesOf pool) (eventsHeard pool bss) e
+  next-says before e h q =
+      ap (answered (agentAfter pool bss .state)) (same-event (lanesOf pool) before q e h)
+      ∙ every-answer pool (eventsHeard pool bss) (agentAfter pool bss .state) (follows pool bss .run) e
+
+  -- its bytes read as that notice
+  reads-next : (before : List Event) (e : Event) → answer (lanesOf pool) before e ≡ 0 → (q : ℕ) → q < 2 ^ 32 →
+      readOf (bytesOf (noticeFor q e)) ≡ reading.Whole (noticeFor q e)
+  reads-next before e h q small = written-reads (noticeFor q e) (fits (lanesOf pool) before e q small h)
+
+  -- where e and then f would be accepted, and the other order wants lanes for f: handed f and then e, numbered on, the agent answers
+  -- 9 and then 12, and stays as it was
+  pub refused-order : (e f : Event) → BothAccepted (lanesOf pool) (eventsHeard pool bss) e f →
+      WantsLanes (lanesOf pool) (eventsHeard pool bss) e f → suc (suc (agentAfter pool bss .sequence)) < 2 ^ 32 →
+      Stops (agentAfter pool bss) (readOf (bytesOf (noticeFor (suc (agentAfter pool bss .sequence)) f)))
+      (readOf (bytesOf (noticeFor (suc (suc (agentAfter pool bss .sequence))) e))) noLanes
+  refused-order e f both w few =
+      let q : ℕ = agentAfter pool bss .sequence in
+      let es : List Event = eventsHeard pool bss in
+      rw (reads-next (e ∷ es) f (both .second) (suc q) (omega arith), reads-next es e (both .first) (suc (suc q)) few)
+      (goes-no-further (agentAfter pool bss) (noticeFor (suc q) f) (noticeFor (suc (suc q)) e) noLanes refl refl
+      (next-says (e ∷ es) f (both .second) (suc q) ∙ w .nine) (λ z. omega (arith, z)))

@@ -68,7 +68,7 @@ pub played : (pool : ℕ) (log : List ℕ) → Bytes log
 played pool log small = told-series pool _ _ (log-series log small _)
 
 -- notices and the bytes that read as them are heard alike
-heard-alike : (lanes : ℕ) (bss : List (List ℕ)) (ns : List Notice) → ReadAs bss ns → heard lanes bss ≡ heardOf lanes ns
+pub heard-alike : (lanes : ℕ) (bss : List (List ℕ)) (ns : List Notice) → ReadAs bss ns → heard lanes bss ≡ heardOf lanes ns
 unfolding heard heardOf
 heard-alike lanes [] [] none-read = refl
 heard-alike lanes (bs ∷ bss) (n ∷ ns) (one-read is rest) =

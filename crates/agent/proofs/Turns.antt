@@ -3,6 +3,7 @@
 use mathlib.Core.Path.{_≡_, refl, sym, ap, _∙_}
 use Prim.Native.Nat.{ℕ, suc, _+_}
 use native.Mathlib.Numerals.{add-one}
+use native.Mathlib.Omega.{arith}
 use lib.Dec.{eqb}
 use borrow.Author.Tests.{eq-eqb, ne-eqb}
 use Rattle.rules.specs.Refusals.{pick, malformed, outOfTurn}
@@ -15,7 +16,7 @@ use Rattle.story.specs.Calls.{callAnswer}
 use Rattle.story.specs.Next.{callNext}
 use Rattle.story.specs.Runs.{answered, called}
 use Rattle.agent.specs.declared.Agent.{Agent}
-use Rattle.agent.specs.Turns.{actOf, eventOf, noticeAnswer, noticed}
+use Rattle.agent.specs.Turns.{actOf, eventOf, noticeAnswer, noticed, Stops}
 
 abbrev pub agentOf : ℕ → State → Agent
 agentOf n s = record { sequence = n; state = s }
@@ -35,7 +36,7 @@ abbrev pub Turn : Agent → Notice → ℕ → Agent → Type 0
 Turn g n a h = (a ≡ noticeAnswer g (reading.Whole n)) × (h ≡ noticed g (reading.Whole n))
 
 -- in turn: the answer is the event's
-in-turn : (g : Agent) (n : Notice) → n .sequence ≡ g .sequence + 1 →
+pub in-turn : (g : Agent) (n : Notice) → n .sequence ≡ g .sequence + 1 →
     noticeAnswer g (reading.Whole n) ≡ answered (g .state) (eventOf n)
 unfolding noticeAnswer
 in-turn g n e = ap (λ b. pick b (answered (g .state) (eventOf n)) outOfTurn) (eq-eqb (n .sequence) (suc (g .sequence)) (e ∙ add-one (g .sequence)))
@@ -69,7 +70,7 @@ out-of-turn g n h = ap (λ b. pick b (answered (g .state) (eventOf n)) outOfTurn
 pub turn-other : (g : Agent) (n : Notice) → (n .sequence ≡ g .sequence + 1 → ⊥) → Turn g n outOfTurn g
 turn-other g n h =
     let e : noticeAnswer g (reading.Whole n) ≡ outOfTurn = out-of-turn g n (λ q. h (q ∙ sym (add-one (g .sequence)))) in
-    (sym e, stays g (reading.Whole n) (λ z. let o : outOfTurn ≡ 0 = sym e ∙ z in omega native.Mathlib.Omega.arith))
+    (sym e, stays g (reading.Whole n) (λ z. let o : outOfTurn ≡ 0 = sym e ∙ z in omega arith))
 
 pub malformed-stays : (g : Agent) → (malformed ≡ noticeAnswer g reading.Malformed) × (g ≡ noticed g reading.Malformed)
 unfolding noticeAnswer
@@ -83,3 +84,16 @@ reads-as g r q a h e w = rw e w
 -- a reading that is refused changes nothing
 pub refused-stays : (g : Agent) (r : Reading) → (noticeAnswer g r ≡ 0 → ⊥) → noticed g r ≡ g
 refused-stays g r h = sym (stays g r h)
+
+-- whatever notice is refused in its turn, the one numbered after it gets 12: the agent goes no further
+pub goes-no-further : (g : Agent) (m n : Notice) (a : ℕ) → m .sequence ≡ suc (g .sequence) → n .sequence ≡ suc (m .sequence) →
+    answered (g .state) (eventOf m) ≡ a → (a ≡ 0 → ⊥) → Stops g (reading.Whole m) (reading.Whole n) a
+goes-no-further g m n a next after says not-done =
+    let refused : noticeAnswer g (reading.Whole m) ≡ a = in-turn g m (next ∙ sym (add-one (g .sequence))) ∙ says in
+    let stays : noticed g (reading.Whole m) ≡ g = refused-stays g (reading.Whole m) (λ z. not-done (sym refused ∙ z)) in
+    let twelve : noticeAnswer g (reading.Whole n) ≡ outOfTurn = out-of-turn g n (λ e. omega (arith, e, next, after)) in
+    record {
+      refused = refused;
+      then-twelve = rw stays twelve;
+      stays = rw stays (refused-stays g (reading.Whole n) (λ z. omega (arith, twelve, z)));
+    }

@@ -3,7 +3,7 @@
 use Prim.Native.Nat.{ℕ, suc}
 use mathlib.Core.Path.{_≡_}
 use mathlib.Core.Bool.{true, false}
-use mathlib.Core.List.{List, [], _∷_, map}
+use mathlib.Core.List.{List, [], _∷_, _++_, map, reverse}
 use lib.Dec.{eqb}
 use lib.ListN.{length}
 use Rattle.rules.specs.Limits.{both}
@@ -15,8 +15,9 @@ use Rattle.notice.specs.declared.Reading.{Reading}
 use Rattle.notice.specs.declared.Reading.the-variants as reading
 use Rattle.notice.specs.Encode.{bytesOf}
 use Rattle.notice.specs.Decode.{readOf}
+use Rattle.notice.specs.Log.{logOf}
 use Rattle.scheme.specs.Scheme.{steadyKind}
-use Rattle.story.specs.Story.{Act, opens, changes, closes, doors, Event, answer}
+use Rattle.story.specs.Story.{Act, opens, changes, closes, doors, Event, upTo, answer}
 use Rattle.story.specs.Runs.{lanesOf, Reached}
 use Rattle.agent.specs.declared.Agent.{Agent}
 use Rattle.agent.specs.Turns.{eventOf, freshAgent, noticed}
@@ -48,10 +49,18 @@ kindFor (doors false) = Lift
 abbrev pub noticeFor : ℕ → Event → Notice
 noticeFor q e = record { sequence = q; title = e .title; time = e .time; kind = kindFor (e .act) }
 
--- the byte strings that it sends of its accepted events, newest first, numbered from 1 on
-unfoldable pub sent : List Event → List (List ℕ)
-sent [] = []
-sent (e ∷ es) = bytesOf (noticeFor (suc (length es)) e) ∷ sent es
+-- the notices of its accepted events, newest first, numbered from 1 on,
+unfoldable pub numbered : List Event → List Notice
+numbered [] = []
+numbered (e ∷ es) = noticeFor (suc (length es)) e ∷ numbered es
+
+-- the byte strings that it sends of them,
+abbrev pub sent : List Event → List (List ℕ)
+sent es = map bytesOf (numbered es)
+
+-- and the log that it keeps, oldest first
+abbrev pub logKept : List Event → List ℕ
+logKept es = logOf (reverse (numbered es))
 
 -- sequences 1, 2, 3, .. with none left out
 pub data InTurn : List Notice → Type 0 where
@@ -61,6 +70,13 @@ pub data InTurn : List Notice → Type 0 where
 -- the events of the notices heard of a series, newest first
 abbrev pub eventsHeard : ℕ → List (List ℕ) → List Event
 eventsHeard pool bss = map eventOf (heard (lanesOf pool) bss)
+
+-- the earlier part of a series, after which just the events up to a moment had been heard, and the part that came later
+pub record HeardBy (pool : ℕ) (bss : List (List ℕ)) (τ : ℕ) : Type 0 where
+  pub later : List (List ℕ)
+  pub earlier : List (List ℕ)
+  pub parts : bss ≡ later ++ earlier
+  pub events : eventsHeard pool earlier ≡ upTo τ (eventsHeard pool bss)
 
 -- what an agent that heard ns is: its sequence is their number, their events are reached with its state, and each came in turn
 pub record Hearing (pool : ℕ) (ns : List Notice) (g : Agent) : Type 0 where

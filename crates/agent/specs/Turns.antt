@@ -1,5 +1,6 @@
 -- The agent's call (01, "Notices" and "Numbers that calls give back"): 11, 12, then the event's own refusals.
 use Prim.Native.Nat.{ℕ, suc}
+use mathlib.Core.Path.{_≡_}
 use lib.Dec.{eqb}
 use Rattle.rules.specs.Refusals.{pick, malformed, outOfTurn}
 use Rattle.notice.specs.declared.Notice.{Notice}
@@ -45,3 +46,9 @@ noticeNext g reading.Malformed = g
 -- the agent after a notice: as it came in where the notice is refused
 abbrev pub noticed : Agent → Reading → Agent
 noticed g r = pick (eqb (noticeAnswer g r) 0) (noticeNext g r) g
+
+-- an agent answers a reading with a refusal and the next with 12, and stays as it was
+pub record Stops (g : Agent) (r q : Reading) (a : ℕ) : Type 0 where
+  pub refused : noticeAnswer g r ≡ a
+  pub then-twelve : noticeAnswer (noticed g r) q ≡ outOfTurn
+  pub stays : noticed (noticed g r) q ≡ g
