@@ -3,13 +3,10 @@
 -- Rests on what a log gives at a place being that notice's bytes.
 use Prim.Native.Nat.{ℕ, zero, suc}
 use mathlib.Core.Path.{_≡_, refl, sym, ap, _∙_}
-use mathlib.Core.Bool.{true}
 use mathlib.Core.List.{List, [], _∷_, map}
 use lib.Dec.{eqb}
 use lib.ListN.{length}
-use Rattle.rules.specs.Limits.{within, poolMin, poolMax}
 use Rattle.rules.specs.Refusals.{pick, outOfTurn}
-use Rattle.rules.proofs.Tests.{pick-true}
 use Rattle.notice.specs.declared.Notice.{Notice}
 use Rattle.notice.specs.declared.Reading.the-variants as reading
 use Rattle.notice.specs.declared.Found.{Found}
@@ -21,15 +18,11 @@ use Rattle.notice.proofs.ReadBack.{read-alone}
 use Rattle.agent.specs.declared.Agent.{Agent}
 use Rattle.agent.specs.Turns.{eventOf, freshAgent, noticeAnswer, noticed}
 use Rattle.story.specs.Story.{answer}
-use Rattle.story.specs.Runs.{lanesOf}
+use Rattle.story.specs.Runs.{lanesOf, Reached}
 use Rattle.story.proofs.Demands.{every-answer}
-use Rattle.agent.specs.Series.{agentAfter, hearing, heard, Hearing}
-use Rattle.agent.specs.Played.{agentTold, agentPlayed, heardOf, ReadAs, none-read, one-read}
+use Rattle.agent.specs.Series.{agentAfter, hearing, heard, eventsHeard, Hearing}
+use Rattle.agent.specs.Played.{agentTold, agentPlayed, heardOf, eventsPlayed, ReadAs, none-read, one-read}
 use Rattle.agent.proofs.Order.{follows}
-
--- a pool within its limits has as many lanes as it says
-pub same-pool : (pool : ℕ) → within poolMin poolMax pool ≡ true → lanesOf pool ≡ pool
-same-pool pool fits = pick-true (within poolMin poolMax pool) pool 0 fits
 
 -- one read more of a log is one more notice told, or none
 pub told-more : (g : Agent) (ns : List Notice) (f : Found)
@@ -79,6 +72,15 @@ pub told-follows : (pool : ℕ) (bss : List (List ℕ)) (ns : List Notice) → R
     Hearing pool (heardOf (lanesOf pool) ns) (agentTold (freshAgent pool) ns)
 told-follows pool bss ns r =
     rw (told-series pool bss ns r, ← heard-alike (lanesOf pool) bss ns r) (follows pool bss)
+
+-- the events of a log are those heard of the series of its notices
+pub played-heard : (pool : ℕ) (log : List ℕ) → Bytes log
+    → eventsPlayed pool log ≡ eventsHeard pool (map bytesOf (noticesOf log))
+played-heard pool log small = ap (map eventOf) (sym (heard-alike (lanesOf pool) _ _ (log-series log small (length log))))
+
+-- and they are reached, with the state that a fresh agent has after the log
+pub log-reached : (pool : ℕ) (log : List ℕ) → Bytes log → Reached pool (eventsPlayed pool log) (agentPlayed pool log .state)
+log-reached pool log small = told-follows pool _ (noticesOf log) (log-series log small (length log)) .run
 
 -- what it answers a notice is what the sequence of those that count says
 pub told-notice : (pool : ℕ) (ns : List Notice) → Hearing pool (heardOf (lanesOf pool) ns) (agentTold (freshAgent pool) ns) →

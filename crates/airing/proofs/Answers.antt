@@ -1,8 +1,8 @@
 -- The refusals as the code meets its cases, and what a log that is played to its end comes to. Rests on the laws of listed
 -- refusals and on `told-all`: once no event follows, all marks are those of the title's life.
-use mathlib.Core.Path.{_≡_, refl, sym, ap, subst, _∙_}
+use mathlib.Core.Path.{_≡_, refl, sym, ap, _∙_}
 use mathlib.Core.Bool.{Bool, true, false, not}
-use mathlib.Core.List.{List, map}
+use mathlib.Core.List.{List}
 use Prim.Native.Nat.{ℕ, _≤_}
 use native.Mathlib.Omega.{arith}
 use borrow.Author.Tests.{leb-true}
@@ -10,18 +10,15 @@ use lib.Dec.{leb}
 use lib.ListN.{length}
 use Rattle.rules.specs.Limits.{within, poolMin, poolMax, idMax}
 use Rattle.rules.specs.Refusals.{pick, firstHit, done, notThere, malformed}
-use Rattle.rules.proofs.Tests.{both-l, both-r}
+use Rattle.rules.proofs.Tests.{both-r}
 use Rattle.notice.specs.Log.{Bytes, noticesOf, isWholeLog}
 use Rattle.plan.specs.Row.{written}
 use Rattle.story.specs.declared.Title.{Title}
 use Rattle.story.specs.Kept.{titleAt}
-use Rattle.story.specs.Story.{lifeOf}
-use Rattle.story.specs.Runs.{lanesOf}
 use Rattle.agent.specs.declared.PlayedLog.{PlayedLog}
-use Rattle.agent.specs.Turns.{eventOf}
-use Rattle.agent.specs.Played.{agentPlayed, heardOf, lifeIn}
+use Rattle.agent.specs.Played.{agentPlayed, lifeIn}
 use Rattle.agent.specs.Steps.{Plays}
-use Rattle.agent.proofs.Played.{same-pool, log-series}
+use Rattle.agent.proofs.Played.{log-series}
 use Rattle.airing.specs.declared.follow.Ending.{Ending}
 use Rattle.airing.specs.Air.{inLimits, isFilmTitle, markOf}
 use Rattle.airing.specs.Steps.{markedTo, Markable, heardMarks, toldMarks, Standing, logAnswer, isFilmSlot, answerOf, Follows}
@@ -36,9 +33,6 @@ module _ (pool i : ℕ) (fits : inLimits pool i ≡ true) where
   pub id-low : i ≤ idMax
   id-low = leb-true i idMax (both-r (within poolMin poolMax pool) (leb i idMax) fits)
 
-  its-pool : lanesOf pool ≡ pool
-  its-pool = same-pool pool (both-l (within poolMin poolMax pool) (leb i idMax) fits)
-
   -- ---- a log that was played to where its reading stops
 
   module _ (log row : List ℕ) (p : PlayedLog) (m : List ℕ) (all : Plays (heardMarks i) pool log row p m) (small : Bytes log) (t : Title)
@@ -50,9 +44,7 @@ module _ (pool i : ℕ) (fits : inLimits pool i ≡ true) where
     here = at ∙ ap (λ (g : Rattle.agent.specs.declared.Agent.Agent). titleAt (g .state) i) (all .agent-is)
 
     film : isFilmTitle (lifeIn pool log i) ≡ isFilmSlot stands
-    film =
-        subst (λ (n : ℕ). isFilmTitle (lifeOf (map eventOf (heardOf n (noticesOf log))) i) ≡ isFilmSlot stands) its-pool
-        (told-film pool i id-low row _ (noticesOf log) (log-series log small (length log)))
+    film = told-film pool i id-low row _ (noticesOf log) (log-series log small (length log))
 
     answers : a ≡ logAnswer pool log i
     unfolding answerOf logAnswer firstHit
@@ -88,13 +80,7 @@ module _ (pool i : ℕ) (fits : inLimits pool i ≡ true) where
       where
         stood : Standing (lifeIn pool log i) t
         stood =
-            rw here
-            (subst (λ (n : ℕ). Standing (lifeOf (map eventOf (heardOf n (noticesOf log))) i) stands) its-pool
-            (told-standing pool i id-low row _ (noticesOf log) (log-series log small (length log)) (slot-film ok)))
+            rw here (told-standing pool i id-low row _ (noticesOf log) (log-series log small (length log)) (slot-film ok))
 
         whole : markedTo stands (length row) (toldMarks pool i row (noticesOf log)) ≡ written (markOf (lifeIn pool log i)) row (length row)
-        whole =
-            subst
-            (λ (n : ℕ). markedTo stands (length row) (toldMarks pool i row (noticesOf log)) ≡ written (markOf (lifeOf (map eventOf (heardOf n (noticesOf log))) i)) row (length row))
-            its-pool
-            (told-all pool i id-low row _ (noticesOf log) (log-series log small (length log)) (slot-film ok))
+        whole = told-all pool i id-low row _ (noticesOf log) (log-series log small (length log)) (slot-film ok)

@@ -1,9 +1,9 @@
 -- A record of our own lane answers, each asked after its moment's events, starves none: for every log the call takes it, and every
 -- admission that it judges played through.
 -- Rests on demand 3 by the calls (OwnAnswers), and on every answer being a cell of the title or none (OwnCells).
-use mathlib.Core.Path.{_≡_, refl, subst}
+use mathlib.Core.Path.{_≡_, refl}
 use mathlib.Core.Bool.{Bool, true}
-use mathlib.Core.List.{List, map}
+use mathlib.Core.List.{List}
 use Prim.Native.Nat.{ℕ, _+_, _%_, _≤_, _<_}
 use native.Mathlib.Omega.{arith}
 use lib.Dec.{leb, ltb, eqb}
@@ -15,13 +15,12 @@ use Rattle.rules.proofs.Tests.{both-l, both-r, both-in, same}
 use Rattle.rules.proofs.Search.{every-in, howMany-ext}
 use Rattle.grid.specs.Ticks.{cells}
 use Rattle.scheme.specs.Scheme.{paddedKind}
-use Rattle.notice.specs.Log.{Bytes, noticesOf, isWholeLog}
+use Rattle.notice.specs.Log.{Bytes, isWholeLog}
 use Rattle.story.specs.Life.{Life, isAdmission}
 use Rattle.story.specs.Story.{Event}
 use Rattle.story.specs.Runs.{Reached}
-use Rattle.agent.specs.Turns.{eventOf}
-use Rattle.agent.specs.Played.{agentPlayed, heardOf, eventsPlayed, lifeIn}
-use Rattle.agent.proofs.Played.{same-pool, log-series, told-follows}
+use Rattle.agent.specs.Played.{agentPlayed, eventsPlayed, lifeIn}
+use Rattle.agent.proofs.Played.{log-reached}
 use Rattle.judging.specs.Record.{nothingSeen, ticksMax, ticksIn}
 use Rattle.judging.specs.Judged.{resultOf, isWhole, isJudged, isPlayed, judgedIn, playedIn}
 use Rattle.judging.proofs.Plays.{plays-through, played-in, played-out}
@@ -31,18 +30,10 @@ use Rattle.airing.proofs.OwnAnswers.{Numbers, numbers, own-in-time}
 use Rattle.airing.proofs.OwnCells.{isNumber, own-number}
 use Rattle.airing.proofs.OwnRecord.{own-whole, own-ticks, own-record}
 
--- the events of a log, and the state that a fresh agent has after it, are reached
-pub log-reached : (pool : ℕ) (log : List ℕ) → Bytes log → within poolMin poolMax pool ≡ true →
-    Reached pool (eventsPlayed pool log) (agentPlayed pool log .state)
-log-reached pool log small in-limits =
-    subst (λ (n : ℕ). Reached pool (map eventOf (heardOf n (noticesOf log))) (agentPlayed pool log .state))
-    (same-pool pool in-limits)
-    (told-follows pool _ (noticesOf log) (log-series log small (length log)) .run)
-
 module _ (pool : ℕ) (log : List ℕ) (title : ℕ) (small : Bytes log) (limits : inLimits pool title ≡ true) where
   -- the log's events, and the title's life by them
   reach-log : Reached pool (eventsPlayed pool log) (agentPlayed pool log .state)
-  reach-log = log-reached pool log small (both-l (within poolMin poolMax pool) (leb title idMax) limits)
+  reach-log = log-reached pool log small
 
   low-id : title < titlesMax
   low-id = omega (arith, leb-true title idMax (both-r (within poolMin poolMax pool) (leb title idMax) limits))

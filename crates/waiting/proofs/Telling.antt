@@ -1,8 +1,8 @@
 -- The report says what the events say: what the log comes to where it is played to its end is the tally of the title's life, and a
 -- refusal has no other number. So two outcomes of the call are equal. Rests on `told-tallied`.
-use mathlib.Core.Path.{_≡_, refl, sym, ap, subst, _∙_}
+use mathlib.Core.Path.{_≡_, refl, sym, ap, _∙_}
 use mathlib.Core.Logic.{⊎-elim}
-use mathlib.Core.List.{List, map}
+use mathlib.Core.List.{List}
 use Prim.Native.Nat.{ℕ}
 use borrow.Author.Tests.{eqb-true, eqb-false}
 use lib.Dec.{eqb}
@@ -11,12 +11,10 @@ use Rattle.rules.specs.Refusals.{done}
 use Rattle.rules.proofs.Tests.{decide}
 use Rattle.notice.specs.Log.{Bytes, noticesOf}
 use Rattle.story.specs.Kept.{titleAt}
-use Rattle.story.specs.Story.{lifeOf}
 use Rattle.agent.specs.declared.PlayedLog.{PlayedLog}
-use Rattle.agent.specs.Turns.{eventOf}
-use Rattle.agent.specs.Played.{agentPlayed, heardOf, lifeIn}
+use Rattle.agent.specs.Played.{agentPlayed, lifeIn}
 use Rattle.agent.specs.Steps.{Plays}
-use Rattle.agent.proofs.Played.{same-pool, log-series}
+use Rattle.agent.proofs.Played.{log-series}
 use Rattle.admissions.specs.declared.Tally.{Tally}
 use Rattle.admissions.specs.declared.Waits.{Waits}
 use Rattle.admissions.specs.Waits.{Tallied}
@@ -56,16 +54,13 @@ module _ (pool : ℕ) (log : List ℕ) (title : ℕ) (xs : List ℕ) where
         record {
           answers = whole;
           all-counted = λ h. refl;
-          tallied = λ h. rw (is, all .agent-is, all .kept-is) in-its-pool;
+          tallied = λ h. rw (is, all .agent-is, all .kept-is) by-the-log;
           refuses = λ h. absurd (h refl);
         }
       where
-        in-its-pool : Tallied (lifeIn pool log title) xs (length xs) (allSettled (titleAt (agentPlayed pool log .state) title) xs (toldTally pool title xs (noticesOf log)))
-        in-its-pool =
-            subst
-            (λ (n : ℕ). Tallied (lifeOf (map eventOf (heardOf n (noticesOf log))) title) xs (length xs) (allSettled (titleAt (agentPlayed pool log .state) title) xs (toldTally pool title xs (noticesOf log))))
-            (same-pool pool (fit .pool-in))
-            (told-tallied pool title (fit .id) xs _ (noticesOf log) (log-series log small (length log)) (fit .low))
+        by-the-log : Tallied (lifeIn pool log title) xs (length xs) (allSettled (titleAt (agentPlayed pool log .state) title) xs (toldTally pool title xs (noticesOf log)))
+        by-the-log =
+            told-tallied pool title (fit .id) xs _ (noticesOf log) (log-series log small (length log)) (fit .low)
 
   -- ---- two outcomes that the report admits are equal
 
