@@ -28,7 +28,7 @@ use Rattle.story.proofs.Passed.{in-limits}
 use Rattle.story.proofs.Reached.{accepted-is, accepted-all}
 use Rattle.agent.specs.Turns.{actOf, eventOf}
 use Rattle.agent.specs.Series.{agentAfter, hearing, heard, eventsHeard, kindFor, noticeFor, numbered, sent, logKept}
-use Rattle.agent.specs.Played.{heardOf, ReadAs, none-read, one-read}
+use Rattle.agent.specs.Played.{heardOf, eventsPlayed, ReadAs, none-read, one-read}
 use Rattle.agent.proofs.Order.{follows}
 use Rattle.agent.proofs.Alike.{alike}
 use Rattle.agent.proofs.Played.{heard-alike}
@@ -197,7 +197,7 @@ kept-fits lanes es (more {e = e} {es = es′} acc h) small =
     (fits-last (reverse (numbered es′)) (noticeFor (suc (length es′)) e) (kept-fits lanes es′ acc (omega arith))
     (fits lanes es′ e (suc (length es′)) small h))
 
--- it is whole, its notices are those of the events, and told one after the other they give the events again
+-- it is whole, its notices are those of the events, and played into a fresh agent of the pool it gives the events again
 pub kept-whole : (lanes : ℕ) (es : List Event) → Accepted lanes es → length es < 2 ^ 32 → isWholeLog (logKept es) ≡ true
 kept-whole lanes es acc few = log-read (reverse (numbered es)) (kept-fits lanes es acc few) .1
 
@@ -206,7 +206,8 @@ pub kept-notices : (lanes : ℕ) (es : List Event) → Accepted lanes es → len
 kept-notices lanes es acc few =
     log-read (reverse (numbered es)) (kept-fits lanes es acc few) .0 ∙ reverse-reverse (numbered es)
 
-pub kept-events : (lanes : ℕ) (es : List Event) → Accepted lanes es → length es < 2 ^ 32 →
-    map eventOf (heardOf lanes (noticesOf (logKept es))) ≡ es
-kept-events lanes es acc few =
-    ap (map eventOf) (ap (heardOf lanes) (kept-notices lanes es acc few) ∙ told-all lanes es acc) ∙ events-numbered lanes es acc
+pub kept-events : (pool : ℕ) (es : List Event) → Accepted (lanesOf pool) es → length es < 2 ^ 32 →
+    eventsPlayed pool (logKept es) ≡ es
+kept-events pool es acc few =
+    ap (map eventOf) (ap (heardOf (lanesOf pool)) (kept-notices (lanesOf pool) es acc few) ∙ told-all (lanesOf pool) es acc)
+    ∙ events-numbered (lanesOf pool) es acc

@@ -10,16 +10,24 @@ use Rattle.rules.specs.Refusals.{noLanes}
 use Rattle.notice.specs.declared.Reading.the-variants as reading
 use Rattle.notice.specs.Encode.{bytesOf}
 use Rattle.notice.specs.Decode.{readOf}
-use Rattle.story.specs.Story.{Event, answer, Accepted, more, OneMoment, BothAccepted, WantsLanes}
+use Rattle.notice.specs.Log.{isWholeLog}
+use Rattle.story.specs.Story.{Event, lifeOf, answer, Accepted, more, OneMoment, BothAccepted, WantsLanes}
 use Rattle.story.specs.Runs.{answered, stateAfter, lanesOf, Reached}
 use Rattle.story.proofs.Reached.{reached}
+use Rattle.story.proofs.OneMoment.{either-after}
 use Rattle.story.proofs.Demands.{every-answer, both-answered, all-one-later}
 use Rattle.agent.specs.Turns.{eventOf, noticed, Stops}
-use Rattle.agent.specs.Series.{agentAfter, eventsHeard, noticeFor, numbered, sent}
+use Rattle.agent.specs.Series.{agentAfter, eventsHeard, noticeFor, numbered, sent, logKept}
+use Rattle.agent.specs.Played.{lifeIn}
 use Rattle.notice.proofs.RoundTrip.{written-reads}
 use Rattle.agent.proofs.Turns.{goes-no-further}
 use Rattle.agent.proofs.Order.{follows}
-use Rattle.agent.proofs.HeadEnd.{fits, same-event, as-sent}
+use Rattle.agent.proofs.HeadEnd.{fits, same-event, as-sent, kept-whole, kept-events}
+
+-- either order has as many events
+as-many : (new es : List Event) (e f : Event) → length (new ++ f ∷ e ∷ es) ≡ length (new ++ e ∷ f ∷ es)
+as-many [] es e f = refl
+as-many (d ∷ new) es e f = ap suc (as-many new es e f)
 
 module _ (pool : ℕ) (es : List Event) (acc : Accepted (lanesOf pool) es) (e f : Event) (at : OneMoment e f)
     (one : BothAccepted (lanesOf pool) es e f) (other : BothAccepted (lanesOf pool) es f e)
@@ -44,12 +52,8 @@ module _ (pool : ℕ) (es : List Event) (acc : Accepted (lanesOf pool) es) (e f 
   unfolding numbered agentAfter
   logs-alike [] = orders-alike
   logs-alike (d ∷ new) =
-      ap (λ n. noticed (agentAfter pool (sent (new ++ f ∷ e ∷ es))) (readOf (bytesOf (noticeFor (suc n) d)))) (as-many new)
+      ap (λ n. noticed (agentAfter pool (sent (new ++ f ∷ e ∷ es))) (readOf (bytesOf (noticeFor (suc n) d)))) (as-many new es e f)
       ∙ ap (λ g. noticed g (readOf (bytesOf (noticeFor (suc (length (new ++ e ∷ f ∷ es))) d)))) (logs-alike new)
-    where
-      as-many : (new : List Event) → length (new ++ f ∷ e ∷ es) ≡ length (new ++ e ∷ f ∷ es)
-      as-many [] = refl
-      as-many (d ∷ new) = ap suc (as-many new)
 
   -- and whatever byte strings come after
   pub orders-stay-alike : (bss : List (List ℕ)) →
@@ -57,6 +61,25 @@ module _ (pool : ℕ) (es : List Event) (acc : Accepted (lanesOf pool) es) (e f 
   unfolding agentAfter
   orders-stay-alike [] = orders-alike
   orders-stay-alike (bs ∷ bss) = ap (λ g. noticed g (readOf bs)) (orders-stay-alike bss)
+
+-- ---- the logs that a head-end keeps of two sequences that differ in the order alone
+
+module _ (pool : ℕ) (es new : List Event) (e f : Event) (at : OneMoment e f)
+    (one : Accepted (lanesOf pool) (new ++ f ∷ e ∷ es)) (other : Accepted (lanesOf pool) (new ++ e ∷ f ∷ es))
+    (few : length (new ++ f ∷ e ∷ es) < 2 ^ 32) where
+  few-too : length (new ++ e ∷ f ∷ es) < 2 ^ 32
+  few-too = rw (as-many new es e f) at few
+
+  -- both are whole, and have the same life of every title: what is told of it by the log is the same
+  pub kept-both-whole : isWholeLog (logKept (new ++ f ∷ e ∷ es)) ≡ isWholeLog (logKept (new ++ e ∷ f ∷ es))
+  kept-both-whole =
+      kept-whole (lanesOf pool) (new ++ f ∷ e ∷ es) one few ∙ sym (kept-whole (lanesOf pool) (new ++ e ∷ f ∷ es) other few-too)
+
+  pub kept-lives : (i : ℕ) → lifeIn pool (logKept (new ++ f ∷ e ∷ es)) i ≡ lifeIn pool (logKept (new ++ e ∷ f ∷ es)) i
+  kept-lives i =
+      ap (λ fs. lifeOf fs i) (kept-events pool (new ++ f ∷ e ∷ es) one few)
+      ∙ either-after e f es at new .life i
+      ∙ sym (ap (λ fs. lifeOf fs i) (kept-events pool (new ++ e ∷ f ∷ es) other few-too))
 
 -- ---- the order that is refused, as two numbered notices
 

@@ -1,4 +1,4 @@
--- What the code's way through a log comes to; our own lane answers starve nobody.
+-- What the code's way through a log comes to; our own lane answers starve nobody; two logs that differ in an order alone.
 pub mod Ticks
 pub mod Hearing
 pub mod Marking
@@ -12,3 +12,4 @@ pub mod OwnRecord
 pub mod Starves
 pub mod Accepted
 pub mod More
+pub mod OneMoment
