@@ -7,6 +7,7 @@ pub mod Overtaken
 pub mod Alike
 pub mod HeadEnd
 pub mod OneMoment
+pub mod OneMomentExample
 pub mod Played
 pub mod Reading
 pub mod Unique

@@ -21,13 +21,13 @@ use Rattle.story.specs.Runs.{stateAfter, Reached}
 use Rattle.story.proofs.Demands.{orders, room-for-one, both-answered, all-one-later}
 
 -- a film of 2 lanes in a pool of 5; at 8 it gains a lane, and another film opens with 2
-abbrev quiet-evening : List Event
+abbrev pub quiet-evening : List Event
 quiet-evening = event 0 0 (opens paddedKind 12 2 4 2) ∷ []
 
-abbrev raise : Event
+abbrev pub raise : Event
 raise = event 0 8 (changes 3)
 
-abbrev joins : Event
+abbrev pub joins : Event
 joins = event 1 8 (opens paddedKind 12 2 4 2)
 
 quiet-accepted : accepted 5 quiet-evening ≡ quiet-evening
@@ -59,11 +59,11 @@ unfolding answerTo firstHit lifeOf latestOf tunedOf heldOver heldIn tickIn total
 as-well = refl
 
 -- in a pool of 4 either of the two fits, and not both: a film of 2 lanes, at 8 a third, or two more
-quiet-in-four : accepted 4 quiet-evening ≡ quiet-evening
+pub quiet-in-four : accepted 4 quiet-evening ≡ quiet-evening
 unfolding accepted answerTo firstHit lifeOf latestOf tunedOf heldOver heldIn tickIn total howMany isHeld onAir isActive droppedAt after sends nthOwed isNth owedWithin isOwed isAwaited isAdmission reach some first takes takesFrom schemeOf laneCell addedChannel isAdded isInG channelCell segment shift floorRem cellOf slot starts tickFor tickOf filmIn roundedUp
 quiet-in-four = refl
 
-either-alone : (answer 4 quiet-evening raise ≡ 0) × (answer 4 quiet-evening joins ≡ 0)
+pub either-alone : (answer 4 quiet-evening raise ≡ 0) × (answer 4 quiet-evening joins ≡ 0)
 unfolding answerTo firstHit lifeOf latestOf tunedOf heldOver heldIn tickIn total howMany isHeld onAir isActive droppedAt after sends nthOwed isNth owedWithin isOwed isAwaited isAdmission reach some first takes takesFrom schemeOf laneCell addedChannel isAdded isInG channelCell segment shift floorRem cellOf slot starts tickFor tickOf filmIn roundedUp
 either-alone = (refl, refl)
 
@@ -73,28 +73,28 @@ second-nine = refl
 
 -- a film of 3 lanes in a pool of 4, whose doors were held at 2: at 16 its only box is done, and lane 2, dropped then, owes
 -- nothing; another film opens with 2 lanes
-abbrev full-evening : List Event
+abbrev pub full-evening : List Event
 full-evening = event 0 2 holds ∷ event 0 0 (opens paddedKind 12 2 4 3) ∷ []
 
-abbrev drop : Event
+abbrev pub drop : Event
 drop = event 0 16 (changes 2)
 
-abbrev needs : Event
+abbrev pub needs : Event
 needs = event 1 16 (opens paddedKind 12 2 4 2)
 
-full-accepted : accepted 4 full-evening ≡ full-evening
+pub full-accepted : accepted 4 full-evening ≡ full-evening
 unfolding accepted answerTo firstHit lifeOf latestOf tunedOf heldOver heldIn tickIn total howMany isHeld onAir isActive droppedAt after sends nthOwed isNth owedWithin isOwed isAwaited isAdmission reach some first takes takesFrom schemeOf laneCell addedChannel isAdded isInG channelCell segment shift floorRem cellOf slot starts tickFor tickOf filmIn roundedUp
 full-accepted = refl
 
 drop-and-needs : OneMoment drop needs
 drop-and-needs = record { same-time = refl; other-title = λ e. omega arith }
 
-drop-first : BothAccepted 4 full-evening drop needs
+pub drop-first : BothAccepted 4 full-evening drop needs
 unfolding answerTo firstHit lifeOf latestOf tunedOf heldOver heldIn tickIn total howMany isHeld onAir isActive droppedAt after sends nthOwed isNth owedWithin isOwed isAwaited isAdmission reach some first takes takesFrom schemeOf laneCell addedChannel isAdded isInG channelCell segment shift floorRem cellOf slot starts tickFor tickOf filmIn roundedUp
 drop-first = record { first = refl; second = refl }
 
 -- the other way round the opening, which takes lanes, gets 9, and the drop, which takes none, is accepted after it
-needs-first : WantsLanes 4 full-evening drop needs
+pub needs-first : WantsLanes 4 full-evening drop needs
 unfolding answerTo firstHit lifeOf latestOf tunedOf heldOver heldIn tickIn total howMany isHeld onAir isActive droppedAt after sends nthOwed isNth owedWithin isOwed isAwaited isAdmission reach some first takes takesFrom schemeOf laneCell addedChannel isAdded isInG channelCell segment shift floorRem cellOf slot starts tickFor tickOf filmIn roundedUp
 needs-first = record { nine = refl; other = refl; takes = refl; takes-none = refl }
 
@@ -121,7 +121,7 @@ other-order-here = orders 4 full-evening (stateAfter 4 full-evening) full-run dr
 four-run : Reached 4 quiet-evening (stateAfter 4 quiet-evening)
 four-run = record { calls = quiet-evening; events = sym quiet-in-four; state = refl }
 
-either-nine-here : NineAfter 4 quiet-evening raise joins × NineAfter 4 quiet-evening joins raise
+pub either-nine-here : NineAfter 4 quiet-evening raise joins × NineAfter 4 quiet-evening joins raise
 either-nine-here =
     room-for-one 4 quiet-evening (stateAfter 4 quiet-evening) four-run raise joins raise-and-joins (either-alone .0) (either-alone .1)
     (λ both. absurd (omega (arith, both .second, second-nine)))
