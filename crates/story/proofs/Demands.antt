@@ -4,7 +4,7 @@
 -- sequence, id and moment.
 -- Beside this page stands Sooner: no release moves later since padding is owed to nobody.
 use mathlib.Core.Path.{_≡_, refl, sym, ap, _∙_}
-use mathlib.Core.Bool.{true, false≢true}
+use mathlib.Core.Bool.{true, false, false≢true}
 use mathlib.Core.Logic.{_⊎_, ⊎-elim}
 use mathlib.Core.List.{List, [], _∷_, _++_}
 use Prim.Native.Nat.{ℕ, suc, _+_, _≤_, _<_}
@@ -37,7 +37,7 @@ use Rattle.story.proofs.Questions.{lane-answer-told, lane-late, lane-ce
 use Rattle.story.proofs.Questions.{status-count-told, status-held-told, status-mark-told}
 use Rattle.story.proofs.Lively.{lively}
 use Rattle.story.proofs.World.{no-box-runs-dry}
-use Rattle.story.proofs.Released.{until-released, as-many-ticks, raised-held}
+use Rattle.story.proofs.Released.{until-released, as-many-ticks, raised-held, event-drops}
 use Rattle.story.proofs.SkipForward.{next-ahead}
 use Rattle.story.proofs.Pool.{never-exceeded, upTo-all}
 use Rattle.story.proofs.Reached.{upTo-accepted, run-accepted, run-told, run-state}
@@ -155,6 +155,12 @@ module _ (pool : ℕ) (es : List Event) (s : State) (run : Reached pool es s) wh
   pub owed-in-all : (i l T n : ℕ) → i < titlesMax → reach (lifeOf es i .cap) ≤ n →
       owedWithin (lifeOf es i) l T n ≡ owes (lifeOf es i) l T
   owed-in-all i l T n id far = owes-all (lifeOf es i) l T (ruled i id) n far
+
+  -- an accepted event that takes a lane away drops it, and that at the start of a tick (`DropsAt`);
+  pub every-drop : (e : Event) → answer (lanesOf pool) es e ≡ 0 → (l : ℕ) →
+      isActiveIn (lifeOf es (e .title)) l (e .time) ≡ true → isActiveIn (lifeOf (e ∷ es) (e .title)) l (e .time) ≡ false →
+      (s : ℕ) × DropsAt (e ∷ es) (e .title) l s (e .time) (suc (e .time))
+  every-drop e = event-drops (lanesOf pool) es (lanes-limit pool) in-sequence (e .title) (e .time) (e .act)
 
   -- a lane that is dropped, and not raised meanwhile, is held up to its release and no longer, at every moment as the events up
   -- to that moment say: what it owes is settled by the events up to its drop, and the id does not open again before the release;

@@ -10,23 +10,24 @@ use Prim.Native.Nat.{ℕ, suc, _+_, _-_, _*_, _≤_, _<_}
 use native.Mathlib.Omega.{arith}
 use native.Mathlib.Nat.{mul-le-mul-right}
 use lib.Dec.{ltb, leb, eqb}
-use borrow.Author.Tests.{ltb-true, ltb-false, lt-ltb, le-ltb, leb-true, leb-false, lt-leb, eqb-true}
+use borrow.Author.Tests.{ltb-true, ltb-false, lt-ltb, le-ltb, leb-true, leb-false, lt-leb, eqb-true, eq-eqb}
 use Rattle.rules.specs.Limits.{poolMax, titlesMax}
 use Rattle.rules.specs.Search.{howMany}
 use Rattle.rules.proofs.Tests.{decide, either-false-l, either-false-r}
 use Rattle.rules.proofs.Search
-use Rattle.story.specs.Life.{Life, isActive, owes, isHeld}
+use Rattle.story.specs.Life.{Life, Course, onCourse, isActive, owes, isHeld}
 use Rattle.story.specs.Story.{Act, opens, changes, closes, doors, Event, event, tickLength, tickIn, momentOf}
-use Rattle.story.specs.Story.{lifeAfter, lifeOf, latestOf, lastTime, upTo, isActiveIn, isHeldIn, heldIn, isThereIn}
+use Rattle.story.specs.Story.{lifeAfter, lifeOf, latestOf, lastTime, upTo, countIn, isActiveIn, isHeldIn, heldIn, isThereIn}
 use Rattle.story.specs.Story.{answerTo, answer, Accepted, none, more, lifeAt, InTick, releaseOf, DropsAt}
 use Rattle.story.proofs.Ruled.{SameAt}
-use Rattle.story.proofs.Clock.{in-tick, begun, begins, ended, before-tick}
+use Rattle.story.proofs.Clock.{in-tick, begun, begins, ended, before-tick, on-its-tick, later-tick}
 use Rattle.story.proofs.Held.{count-below, held-active, held-after, owes-local}
-use Rattle.story.proofs.Passed.{opening}
+use Rattle.story.proofs.Passed.{Turned, opening, changing, closing, doored}
 use Rattle.story.proofs.Lively.{Lively, lively, newest}
 use Rattle.story.proofs.Questions.{no-lane}
+use Rattle.story.proofs.Pool.{upTo-all}
 use Rattle.story.proofs.Reached.{upTo-accepted, upTo-late}
-use Rattle.story.proofs.World.{Stood, stood, upTo-skip}
+use Rattle.story.proofs.World.{Stood, stood, turned-lively, courseAfter, same-before, upTo-skip}
 
 -- ---- what stood at a moment
 
@@ -44,6 +45,11 @@ opened-by : (lanes : ℕ) (es : List Event) → lanes ≤ poolMax → Accepted l
     lifeOf es i .opened ≤ lastTime es
 opened-by lanes es high acc i id =
     ⊎-elim (λ e. rw e (omega arith)) (λ w. omega (arith, w .since, newest lanes es high acc i)) (lively lanes es high acc i id)
+
+-- the life of an event's own id
+own-life : (es : List Event) (i τ : ℕ) (a : Act) → lifeOf (event i τ a ∷ es) i ≡ lifeAfter (lifeOf es i) τ a
+unfolding lifeOf
+own-life es i τ a = rw (eq-eqb i i refl) refl
 
 -- what the life says of a lane at a tick is what stood at the moment at which the tick begins
 active-then : (lanes : ℕ) (es : List Event) → lanes ≤ poolMax → Accepted lanes es → (i l t : ℕ) →
@@ -296,3 +302,53 @@ as-many-ticks lanes es high acc i l s τ n id d enough seen within =
     let far : suc (suc s + j) * tickLength L ≤ (suc s + n) * tickLength L = mul-le-mul-right (tickLength L) (omega arith) in
     in-its-ticks lanes es high acc i l s τ (momentOf L (suc s + n)) id d (alive .tick-some) j (seen j) (within j b) (omega (arith, within j b .until)))
     ∙ count-below (owes L l (suc s)) n enough
+
+-- ---- every drop is one of these
+
+-- an event other than an opening comes a tick after the latest one at least: a lane that it takes away was active in the tick before
+turned-drops : (lanes : ℕ) (es : List Event) → lanes ≤ poolMax → Accepted lanes es → (i τ : ℕ) → Turned es i τ → (a : Act) →
+    ((X : Life) → lifeAfter X τ a ≡ onCourse X (courseAfter X (tickIn X τ) a)) → (l : ℕ) →
+    isActiveIn (lifeOf es i) l τ ≡ true → isActiveIn (lifeOf (event i τ a ∷ es) i) l τ ≡ false →
+    (s : ℕ) × DropsAt (event i τ a ∷ es) i l s τ (suc τ)
+unfolding tickIn isActive
+turned-drops lanes es high acc i τ w a turns l on off =
+    let X : Life = lifeOf es i in
+    let p : ℕ = tickLength X in
+    let n : ℕ = tickIn X τ in
+    let alive = turned-lively lanes es high acc i τ w in
+    let by : latestOf es i ≤ τ = omega (arith, newest lanes es high acc i, w .timely .late) in
+    let before : latestOf es i < τ =
+    ⊎-elim (λ x. x) (λ x. absurd (w .fresh (sym x))) (Search.below-suc (latestOf es i) τ (omega arith)) in
+    let later : tickIn X (latestOf es i) < n = later-tick (X .opened) p (alive .tick-some) (latestOf es i) τ (alive .since) before (w .on-tick) in
+    let s : ℕ = n - 1 in
+    let e : suc s ≡ n = omega arith in
+    let r : Course = courseAfter X n a in
+    let now : lifeAt (event i τ a ∷ es) i τ ≡ onCourse X r =
+    ap (λ fs. lifeOf fs i) (upTo-all τ (event i τ a ∷ es) (omega arith)) ∙ own-life es i τ a ∙ turns X in
+    let rules : r .rule s ≡ X .rule n = same-before X n a s (omega arith) .rule ∙ alive .steady s n (omega arith) (omega arith) in
+    let start : τ ≡ X .opened + n * p = on-its-tick (X .opened) p (alive .tick-some) τ (omega (arith, alive .since)) (w .on-tick) in (
+      s,
+      record {
+        at-start = rw (now, e) start;
+        active-before = rw now (ap (λ k. ltb l k) rules ∙ on);
+        not-raised = λ υ lo hi.
+            let q : υ ≡ τ = omega arith in
+            rw (q, upTo-all τ (event i τ a ∷ es) (omega arith)) off;
+      },
+    )
+
+pub event-drops : (lanes : ℕ) (es : List Event) → lanes ≤ poolMax → Accepted lanes es → (i τ : ℕ) (a : Act) →
+    answerTo lanes es (event i τ a) (lifeOf es i) a ≡ 0 → (l : ℕ) → isActiveIn (lifeOf es i) l τ ≡ true →
+    isActiveIn (lifeOf (event i τ a ∷ es) i) l τ ≡ false → (s : ℕ) × DropsAt (event i τ a ∷ es) i l s τ (suc τ)
+unfolding isActive
+event-drops lanes es high acc i τ (opens m D A K k) h l on off =
+    let X : Life = lifeOf es i in
+    let none-rules : countIn X τ ≤ 0 =
+    ltb-false 0 (countIn X τ) (either-false-l (ltb 0 (countIn X τ)) (ltb 0 (heldIn X τ)) (opening lanes es i τ m D A K k h .away)) in
+    absurd (omega (arith, ltb-true l (countIn X τ) on))
+event-drops lanes es high acc i τ (changes k) h l on off =
+    turned-drops lanes es high acc i τ (changing lanes es i τ k h .0) (changes k) (λ X. refl) l on off
+event-drops lanes es high acc i τ closes h l on off =
+    turned-drops lanes es high acc i τ (closing lanes es i τ h) closes (λ X. refl) l on off
+event-drops lanes es high acc i τ (doors b) h l on off =
+    turned-drops lanes es high acc i τ (doored lanes es i τ b h) (doors b) (λ X. refl) l on off

@@ -49,7 +49,7 @@ earlier-tick L τ υ u pos since on lt le =
     (decide (ltb u ((υ - L .opened) / p)))
 
 -- a title that an accepted event other than an opening names is lively
-turned-lively : (lanes : ℕ) (es : List Event) → lanes ≤ poolMax → Accepted lanes es → (i τ : ℕ) → Turned es i τ →
+pub turned-lively : (lanes : ℕ) (es : List Event) → lanes ≤ poolMax → Accepted lanes es → (i τ : ℕ) → Turned es i τ →
     Lively (lifeOf es i) (latestOf es i)
 turned-lively lanes es high acc i τ w =
     ⊎-elim
