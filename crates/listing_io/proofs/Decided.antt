@@ -5,9 +5,8 @@ use mathlib.Core.List.{[]}
 use Prim.Native.Nat.{ℕ, _+_}
 use Rattle.notice.specs.declared.Found.{Found}
 use Rattle.notice.specs.declared.Found.the-variants as found
-use Rattle.notice.specs.Decode.{placeAfter}
+use Rattle.notice.specs.Decode.{placeAfter, further}
 use Rattle.notice.specs.Log.{isNotice, withFound}
-use Rattle.notice.proofs.Alike.{further}
 use Rattle.agent.specs.declared.Agent.{Agent}
 use Rattle.listing_io.specs.Steps.{lineAfter}
 

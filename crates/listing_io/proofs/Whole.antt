@@ -11,12 +11,11 @@ use Rattle.rules.proofs.Tests.{fails}
 use Rattle.notice.specs.declared.Notice.{Notice}
 use Rattle.notice.specs.declared.Found.{Found}
 use Rattle.notice.specs.declared.Found.the-variants as found
-use Rattle.notice.specs.Decode.{readAt, placeAfter}
+use Rattle.notice.specs.Decode.{readAt, placeAfter, further}
 use Rattle.notice.specs.Encode.{bytesOf}
 use Rattle.notice.specs.Log.{Bytes, placeTo, isNotice, withFound, noticesTo, noticesOf, stopOf, isWholeLog}
 use Rattle.notice.specs.Window.{isDecided, Seen}
 use Rattle.notice.proofs.Each.{false-true}
-use Rattle.notice.proofs.Alike.{further}
 use Rattle.notice.proofs.Seen.{seen-reads}
 use Rattle.notice.proofs.Through.{Stopped, stopped-on, all-read, last-read}
 use Rattle.agent.specs.declared.Agent.{Agent}

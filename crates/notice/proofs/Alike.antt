@@ -15,13 +15,12 @@ use Rattle.rules.specs.Limits.{both}
 use Rattle.rules.specs.Refusals.{pick}
 use Rattle.notice.specs.declared.Notice.{Notice}
 use Rattle.notice.specs.declared.Reading.the-variants as reading
-use Rattle.notice.specs.declared.Found.{Found}
 use Rattle.notice.specs.declared.Found.the-variants as found
 use Rattle.notice.specs.Fields.{sizeOf, isCarried, isKnown, startOf, lengthOf, rows}
 use Rattle.notice.specs.Numbers.{numberAt}
 use Rattle.notice.specs.Encode.{kindOf, valuesIn}
 use Rattle.notice.specs.Decode.{headStands, rowStands, standsTo, valueAt, noticeIn, kindAt, isWhole}
-use Rattle.notice.specs.Decode.{readAt, readOf}
+use Rattle.notice.specs.Decode.{readAt, further, readOf}
 use Rattle.rules.proofs.Tests.{both-l}
 use Rattle.notice.proofs.Table.{value-inside}
 use Rattle.notice.proofs.Made.{Shows, notice-back, kind-same, values-same}
@@ -107,12 +106,6 @@ module _ (bs cs : List ℕ) (p q : ℕ) (a : Alike bs p cs q) where
   same-notice w =
       let known = both-l _ _ w in
       notice-alike bs cs p q (kindAt bs p) known (sym (a .kind)) (a .bytes known) ∙ ap (noticeIn cs q) (a .kind)
-
--- what is found, d bytes further on
-abbrev pub further : ℕ → Found → Found
-further d (found.At n e) = found.At n (d + e)
-further d found.End = found.End
-further d found.Malformed = found.Malformed
 
 pub found-alike : (bs cs : List ℕ) (p d : ℕ) → Alike bs p cs (d + p) → leb (length bs) p ≡ leb (length cs) (d + p)
     → readAt cs (d + p) ≡ further d (readAt bs p)

@@ -3,7 +3,7 @@
 -- Rests on bytes that agree reading alike.
 use mathlib.Core.Path.{_≡_, sym, ap, _∙_}
 use mathlib.Core.List.{List, _++_}
-use Prim.Native.Nat.{ℕ, _+_, _≤_, _<_}
+use Prim.Native.Nat.{ℕ, _+_, _-_, _≤_, _<_, _^_}
 use native.Mathlib.Nat.{add-assoc, add-zero, zero-add}
 use native.Mathlib.Omega.{arith}
 use borrow.Author.Tests.{le-leb, lt-leb}
@@ -11,14 +11,15 @@ use lib.Dec.{leb}
 use lib.ListN.{length, getD, take, drop, length-append, length-drop, take-append-drop, List·getD-append}
 use lib.Seq.{getD-append-add, length-take-le}
 use Rattle.notice.specs.declared.Notice.{Notice}
+use Rattle.notice.specs.declared.Found.{Found}
 use Rattle.notice.specs.declared.Found.the-variants as found
 use Rattle.notice.specs.Fields.{table, spanOf, startOf, lengthOf, longestNotice}
-use Rattle.notice.specs.Decode.{kindAt, readAt}
+use Rattle.notice.specs.Decode.{kindAt, readAt, placeAfter, further}
 use Rattle.notice.proofs.Each.{by-order}
 use Rattle.notice.proofs.Table.{longest-kind}
 use Rattle.notice.proofs.Cases.{at-end}
 use Rattle.notice.proofs.There.{there, inside}
-use Rattle.notice.proofs.Alike.{further, found-alike}
+use Rattle.notice.proofs.Alike.{found-alike}
 
 same-order : (a b c d : ℕ) → (a ≤ b → c ≤ d) → (b < a → d < c) → leb a b ≡ leb c d
 same-order a b c d f g =
@@ -76,6 +77,25 @@ of-its-part bs p =
     (λ le.
     let none : length (drop p bs) ≤ 0 = rw length-drop (omega arith) in
     sym (at-end bs p le) ∙ ap (further p) (at-end (drop p bs) 0 none))
+
+-- the same of an answer that a part gave, with the place counted in the log
+pub from-part : (bs part : List ℕ) (p : ℕ) (first r : Found) → part ≡ drop p bs → first ≡ readAt part 0
+    → r ≡ further p first → r ≡ readAt bs p
+from-part bs part p first r is-part is on =
+    on ∙ ap (further p) (is ∙ ap (λ (cs : List ℕ). readAt cs 0) is-part) ∙ sym (of-its-part bs p)
+
+-- and the place so counted is a number of the machine, as the log's size is
+pub part-fits : (bs part : List ℕ) (p : ℕ) (first : Found) → part ≡ drop p bs → first ≡ readAt part 0 → p < 2 ^ 64
+    → length bs < 2 ^ 64 → p + placeAfter first 0 < 2 ^ 64
+part-fits bs part p first is-part is fits size = go first is
+  where
+    go : (f : Found) → f ≡ readAt part 0 → p + placeAfter f 0 < 2 ^ 64
+    go (found.At n e) is =
+        let i = inside part 0 n e (sym is) in
+        let left : length part ≡ length bs - p = ap length is-part ∙ length-drop p bs in
+        omega (arith, i .ahead, i .within, left, size)
+    go found.End is = rw (add-zero p) fits
+    go found.Malformed is = rw (add-zero p) fits
 
 -- a whole notice stays what it is, whatever bytes follow
 pub whole-stays : (bs after : List ℕ) (p : ℕ) (n : Notice) (e : ℕ) → readAt bs p ≡ found.At n e

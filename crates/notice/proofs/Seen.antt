@@ -10,10 +10,9 @@ use borrow.Author.Tests.{le-leb, lt-leb, leb-true, leb-false}
 use lib.Dec.{leb}
 use lib.ListN.{length}
 use Rattle.notice.specs.Fields.{table, startOf, spanOf, longestNotice}
-use Rattle.notice.specs.Decode.{readAt}
+use Rattle.notice.specs.Decode.{readAt, further}
 use Rattle.notice.specs.Window.{isDecided, Seen}
 use Rattle.notice.proofs.Each.{by-order, false-true}
-use Rattle.notice.proofs.Alike.{further}
 use Rattle.notice.proofs.Part.{amid, at-last}
 
 -- ---- the test of what is left is the test of where a longest notice would end

@@ -80,6 +80,12 @@ placeAfter (found.At n e) p = e
 placeAfter found.End p = p
 placeAfter found.Malformed p = p
 
+-- what a part of a log has, with the place after it counted in the log: the part begins d bytes further on
+abbrev pub further : ℕ → Found → Found
+further d (found.At n e) = found.At n (d + e)
+further d found.End = found.End
+further d found.Malformed = found.Malformed
+
 -- one notice and nothing after it
 abbrev pub isAlone : List ℕ → Bool
 isAlone bs = both (isWhole bs 0) (eqb (lengthOf (kindAt bs 0)) (length bs))

@@ -13,9 +13,10 @@ use fields::ROWS;
 use fields::carried;
 use fields::start;
 ghost use mathlib.Core.Path.{_≡_};
-ghost use lib.ListN.{length};
+ghost use Prim.Native.Nat.{_+_, _<_, _^_};
+ghost use lib.ListN.{length, drop};
 ghost use Rattle.notice.specs.Encode.{kindOf, bytesOf, Writes};
-ghost use Rattle.notice.specs.Decode.{Reads, Finds, Steps, placeAfter};
+ghost use Rattle.notice.specs.Decode.{Reads, Finds, Steps, placeAfter, further};
 
 mod decode;
 mod encode;
@@ -179,13 +180,38 @@ fn place_after(found: Found, place: usize) -> usize
     }
 }
 
-// The next answer of a log, which moves past a notice.
+// The part of a log from a place on: no byte where the place is the end or past it.
+fn part_from(bytes: &[u8], place: usize) -> &[u8]
+    ensures { λ r. ⌜ now r ≡ drop place (now (bytes .entry)) ⌝ }
+{
+    let size = bytes.len();
+    if size < place {
+        return &bytes[size..];
+    }
+    &bytes[place..]
+}
+
+// What a part of a log has at its start, with the place after it counted in the log: the part begins at a place of it.
+fn counted_on(found: Found, place: usize) -> Found
+    requires { ⌜ place + placeAfter found 0 < 2 ^ 64 ⌝ }
+    ensures { λ r. ⌜ r ≡ further place found ⌝ }
+{
+    match found {
+        Found::At(n, end) => Found::At(n, place + end),
+        Found::End => Found::End,
+        Found::Malformed => Found::Malformed,
+    }
+}
+
+// The next answer of a log, which moves past a notice: the part from its place on is read at its start.
 pub fn next<'s, 'a>(log: &'s mut Log<'a>) -> Found
     ensures { λ r. ⌜ Steps (now (now (log .entry) .bytes)) (now (log .entry) .place) r (now (log .exit) .place)
         × (now (log .exit) .bytes ≡ now (log .entry) .bytes) ⌝ }
 {
     let place = log.place;
-    let found = read_at(log.bytes, place);
+    let part = part_from(log.bytes, place);
+    let first = read_at(part, 0);
+    let found = counted_on(first, place);
     let after = place_after(found, place);
     log.place = after;
     found

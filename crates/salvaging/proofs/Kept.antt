@@ -12,12 +12,12 @@ use lib.ListN.{length, take, drop, length-append}
 use lib.Seq.{slice}
 use Rattle.notice.specs.declared.Notice.{Notice}
 use Rattle.notice.specs.declared.Found.the-variants as found
-use Rattle.notice.specs.Decode.{readAt}
+use Rattle.notice.specs.Decode.{readAt, further}
 use Rattle.notice.specs.Encode.{bytesOf}
 use Rattle.notice.specs.Log.{Bytes, logOf, Gives, ends, next}
 use Rattle.notice.proofs.Cases.{at-end}
 use Rattle.notice.proofs.There.{inside, ended}
-use Rattle.notice.proofs.Alike.{further, by-itself}
+use Rattle.notice.proofs.Alike.{by-itself}
 use Rattle.notice.proofs.Part.{at-last, whole-stays}
 use Rattle.notice.proofs.RoundTrip.{log-append}
 use Rattle.notice.proofs.ReadBack.{read-stands, read-writes-at, alone-at}

@@ -17,11 +17,10 @@ use Rattle.text.proofs.Pages.{puts-then, puts-length, puts-low}
 use Rattle.notice.specs.declared.Found.{Found}
 use Rattle.notice.specs.declared.Found.the-variants as found
 use Rattle.notice.specs.Fields.{table, startOf, spanOf, longestNotice}
-use Rattle.notice.specs.Decode.{readAt}
+use Rattle.notice.specs.Decode.{readAt, further}
 use Rattle.notice.specs.Window.{isDecided, Seen}
 use Rattle.notice.proofs.Each.{false-true}
 use Rattle.notice.proofs.There.{inside}
-use Rattle.notice.proofs.Alike.{further}
 use Rattle.notice.proofs.Seen.{seen-reads, few-left, at-end-decided}
 use Rattle.salvaging.specs.declared.scan.Move.{Move}
 use Rattle.salvaging.specs.declared.scan.Move.the-variants.{Take, Skip, Stop}

@@ -13,11 +13,10 @@ use lib.ListN.{length, drop, length-append, drop-of-length-le}
 use lib.Seq.{slice}
 use Rattle.notice.specs.declared.Notice.{Notice}
 use Rattle.notice.specs.declared.Found.the-variants as found
-use Rattle.notice.specs.Decode.{readAt}
+use Rattle.notice.specs.Decode.{readAt, further}
 use Rattle.notice.specs.Log.{logOf, Gives, ends, next, AllFit}
 use Rattle.notice.proofs.Each.{by-order}
 use Rattle.notice.proofs.There.{inside, ended}
-use Rattle.notice.proofs.Alike.{further}
 use Rattle.notice.proofs.Part.{at-last}
 use Rattle.notice.proofs.RoundTrip.{log-gives}
 use Rattle.salvaging.specs.declared.scan.Move.{Move}

@@ -1,0 +1,54 @@
+-- `notice::part_from` meets its contract: a part up to the end is all from its start on, and past the end there is nothing.
+use borrow.Author.Needs.{needs}
+use Prim.Native.Nat.{_-_}
+use native.Mathlib.Omega.{arith}
+use lib.ListN.{length, drop, length-drop, drop-of-length-le}
+use lib.Seq.{take-all, take-nil}
+use denote.Ref.{now}
+use Rattle.notice.proofs.part_from.Statement.{statement}
+use Rattle.notice.proofs.part_from.Tie as tie
+
+sub-result : tie.Need-sub-result
+sub-result c = search needs
+
+part-result-start : tie.Need-part-result-start
+part-result-start c = search needs
+
+part-result-end : tie.Need-part-result-end
+part-result-end c = search needs
+
+returns : tie.Need-returns
+returns c =
+    let a = c .before .before .args in
+    let bs = now (a .bytes) in
+    let none = drop-of-length-le bs {i = length bs} (omega arith) in
+    let past = drop-of-length-le bs {i = a .place} (omega arith) in
+    rw (none, past) (take-nil (length bs - length bs))
+
+sub-result-2 : tie.Need-sub-result-2
+sub-result-2 c = search needs
+
+part-result-start-2 : tie.Need-part-result-start-2
+part-result-start-2 c = search needs
+
+part-result-end-2 : tie.Need-part-result-end-2
+part-result-end-2 c = search needs
+
+returns-2 : tie.Need-returns-2
+returns-2 c =
+    let a = c .before .before .args in
+    let bs = now (a .bytes) in
+    take-all (length bs - a .place) (drop (a .place) bs) (rw (length-drop (a .place) bs) (omega arith))
+
+pub part-from-spec : {M : Type 1} → statement M
+part-from-spec =
+    tie.close
+    (tie.spec
+    sub-result
+    part-result-start
+    part-result-end
+    returns
+    sub-result-2
+    part-result-start-2
+    part-result-end-2
+    returns-2)
