@@ -21,7 +21,7 @@ use Rattle.notice.proofs.Cases.{at-end}
 use Rattle.notice.proofs.There.{there, inside}
 use Rattle.notice.proofs.Alike.{found-alike}
 
-same-order : (a b c d : ℕ) → (a ≤ b → c ≤ d) → (b < a → d < c) → leb a b ≡ leb c d
+pub same-order : (a b c d : ℕ) → (a ≤ b → c ≤ d) → (b < a → d < c) → leb a b ≡ leb c d
 same-order a b c d f g =
     by-order b a (λ lt. lt-leb a b lt ∙ sym (lt-leb c d (g lt))) (λ le. le-leb a b le ∙ sym (le-leb c d (f le)))
 

@@ -6,33 +6,23 @@ use mathlib.Core.Bool.{Bool, true, false}
 use mathlib.Core.List.{List, [], _++_, append-nil}
 use Prim.Native.Nat.{ℕ, _+_, _-_, _≤_, _<_}
 use native.Mathlib.Omega.{arith}
-use borrow.Author.Tests.{le-leb, lt-leb, leb-true, leb-false}
+use borrow.Author.Tests.{lt-leb, leb-true, leb-false}
 use lib.Dec.{leb}
 use lib.ListN.{length}
-use Rattle.notice.specs.Fields.{table, startOf, spanOf, longestNotice}
+use Rattle.notice.specs.Fields.{longestNotice}
 use Rattle.notice.specs.Decode.{readAt, further}
 use Rattle.notice.specs.Window.{isDecided, Seen}
-use Rattle.notice.proofs.Each.{by-order, false-true}
-use Rattle.notice.proofs.Part.{amid, at-last}
+use Rattle.notice.proofs.Each.{false-true}
+use Rattle.notice.proofs.Part.{amid, at-last, same-order}
 
 -- ---- the test of what is left is the test of where a longest notice would end
 
 pub short-left : (size p : ℕ) → size < p → false ≡ leb (p + longestNotice) size
-unfolding table startOf spanOf
-short-left size p h =
-    let past : size < p + 45 = omega arith in
-    sym (lt-leb (p + 45) size past)
+short-left size p h = sym (lt-leb (p + longestNotice) size (omega arith))
 
-pub enough-left : (size p : ℕ) → p ≤ size → leb 45 (size - p) ≡ leb (p + longestNotice) size
-unfolding table startOf spanOf
+pub enough-left : (size p : ℕ) → p ≤ size → leb longestNotice (size - p) ≡ leb (p + longestNotice) size
 enough-left size p h =
-    by-order (size - p) 45
-    (λ lt.
-    let past : size < p + 45 = omega arith in
-    lt-leb 45 (size - p) lt ∙ sym (lt-leb (p + 45) size past))
-    (λ le.
-    let there : p + 45 ≤ size = omega arith in
-    le-leb 45 (size - p) le ∙ sym (le-leb (p + 45) size there))
+    same-order longestNotice (size - p) (p + longestNotice) size (λ le. omega arith) (λ lt. omega arith)
 
 -- what is not decided is shorter than the longest notice
 pub few-left : (over : Bool) (size p : ℕ) → isDecided size p over ≡ false → size < p + longestNotice

@@ -80,6 +80,17 @@ const FIELDS: [Field; ROWS] = [
     },
 ];
 
+// The bytes of a notice that has every field of the table, as an open has.
+pub const ALL_FIELDS: usize = ROWS * HEAD
+    + FIELDS[KIND].size
+    + FIELDS[SEQUENCE].size
+    + FIELDS[TITLE].size
+    + FIELDS[TIME].size
+    + FIELDS[LENGTH].size
+    + FIELDS[FLOOR].size
+    + FIELDS[CAP].size
+    + FIELDS[COUNT].size;
+
 pub fn entry(row: usize) -> Field
     requires { ⌜ row < rows ⌝ }
     ensures { λ r. ⌜ r ≡ fieldOf row ⌝ }

@@ -7,6 +7,7 @@ use decode::notice_in;
 use decode::rows_stand;
 use encode::put_rows;
 use encode::values;
+use fields::ALL_FIELDS;
 use fields::HEAD;
 use fields::KIND;
 use fields::ROWS;
@@ -66,7 +67,7 @@ pub const LIFT: u8 = 5;
 pub const SKIP: u8 = 6;
 
 // The bytes of the longest notice, an open.
-pub const LONGEST: usize = 45;
+pub const LONGEST: usize = ALL_FIELDS;
 
 pub fn kind_number(kind: Kind) -> u8
     ensures { λ r. ⌜ r ≡ kindOf kind ⌝ }

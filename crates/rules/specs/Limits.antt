@@ -1,5 +1,5 @@
 -- The limits of each number (01, "What the product holds"). A later request moves a limit here and nowhere else.
-use Prim.Native.Nat.{ℕ, _+_, _^_}
+use Prim.Native.Nat.{ℕ, _+_, _-_, _^_}
 use mathlib.Core.Bool.{Bool, true, false}
 use lib.Dec.{leb}
 
@@ -52,7 +52,7 @@ askedMax = 2 ^ 41
 
 -- a lane for each of the largest count, from 0 on
 abbrev pub laneMax : ℕ
-laneMax = 11
+laneMax = countMax - 1
 
 -- a row with a place for each count from 0 to the largest, and one with a place for each lane
 abbrev pub countPlaces : ℕ

@@ -36,7 +36,8 @@ pub const EVENT_TIME_MAX: u64 = 1_099_511_627_776;
 
 pub const ASKED_MAX: u64 = 2_199_023_255_552;
 
-pub const LANE_MAX: u64 = 11;
+// A lane for each of the largest count, from 0 on.
+pub const LANE_MAX: u64 = COUNT_MAX - 1;
 // A row with a place for each count from 0 to the largest, and one with a place for each lane.
 pub const COUNT_PLACES: usize = COUNT_MAX as usize + 1;
 

@@ -1,4 +1,5 @@
 -- `notice::window::decided` meets its contract, by its tests.
+use Rattle.notice.specs.Fields.{table, startOf, spanOf}
 use Rattle.notice.specs.Window.{isDecided}
 use Rattle.notice.proofs.Seen.{short-left, enough-left}
 use Rattle.notice.proofs.window.decided.Statement.{statement}
@@ -12,8 +13,9 @@ returns-2 : tie.Need-returns-2
 unfolding isDecided
 returns-2 c = rw (c .before .if1 .left) (short-left _ _ (c .if2 .taken))
 
+-- the code's number of bytes of the longest notice is the table's
 returns-3 : tie.Need-returns-3
-unfolding isDecided
+unfolding isDecided table startOf spanOf
 returns-3 c = rw (c .before .if1 .left) (enough-left _ _ (c .if2 .left))
 
 pub decided-spec : {M : Type 1} → statement M
