@@ -16,7 +16,7 @@ use Rattle.story.specs.declared.State.{State}
 use Rattle.story.specs.Kept.{titleAt, settledAt}
 use Rattle.story.specs.Calls.{atSlotStart}
 use Rattle.measures.specs.Film.{Film}
-use Rattle.moments.specs.Moments.{isPermitted, hasLanes, isDue}
+use Rattle.moments.specs.Moments.{isPermitted, hasLanes, isDue, FirstDue}
 use Rattle.moments.specs.Steps.{slotMs, Found, permits}
 use Rattle.moments.proofs.Permitted.{start-here, start-next, permitted-first, permitted-second}
 use Rattle.moments.proofs.Due.{lanes-stay, permitted-by}
@@ -45,12 +45,6 @@ module _ (t : Title) (c : ℕ) (film : Film t) where
       (λ z.
       (a .0, permitted-first t c τ x from settled (λ υ lo hi. omega arith) (omega arith) (a .1) (eqb-false (a .0) (t .last) z)))
       (decide (eqb (a .0) (t .last)))
-
--- r is the first time from τ on at which the change of title i to count k is due, over all times
-pub record FirstDue (s : State) (i k τ r : ℕ) : Type 0 where
-  pub after : τ ≤ r
-  pub due : isDue s i k r ≡ true
-  pub no-earlier : (υ : ℕ) → τ ≤ υ → υ < r → isDue s i k υ ≡ false
 
 -- from any time on a change is due at a first time, once it finds its lanes at some time
 pub due-comes : (s : State) (i k : ℕ) → Film (titleAt s i) → (τ σ : ℕ) → hasLanes s i k σ ≡ true →

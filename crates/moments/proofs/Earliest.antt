@@ -1,14 +1,14 @@
 -- What the earliest time that passes a test is, and that what is so is it. Rests on the laws of searches.
 use mathlib.Core.Path.{_≡_, sym, _∙_}
-use mathlib.Core.Bool.{Bool, true, false, false≢true}
+use mathlib.Core.Bool.{Bool, true, false, not, false≢true}
 use mathlib.Core.Logic.{⊎-elim}
 use Prim.Native.Nat.{ℕ, suc, _+_, _-_, _≤_, _<_}
 use native.Mathlib.Omega.{arith}
 use native.Mathlib.Nat.{le-antisymm}
 use lib.Dec.{ltb}
-use borrow.Author.Tests.{ltb-true, ltb-false}
+use borrow.Author.Tests.{ltb-true, ltb-false, not-true}
 use Rattle.rules.specs.Limits.{eventTimeMax}
-use Rattle.rules.specs.Search.{first}
+use Rattle.rules.specs.Search.{first, every}
 use Rattle.rules.proofs.Tests.{decide}
 use Rattle.rules.proofs.Search
 use Rattle.moments.specs.Moments.{earliest}
@@ -50,3 +50,17 @@ pub found : (p : ℕ → Bool) (τ r : ℕ) → Hits p τ r → r ≡ earliest p
 found p τ r h =
     let e : Hits p τ (earliest p τ) = earliest-hits p τ (omega (arith, h .after, h .high)) in
     le-antisymm (no-later p τ r (earliest p τ) h e) (no-later p τ (earliest p τ) r e h)
+
+-- so it is with a time at which the test holds, where it holds at none of the n before
+pub found-after : (p : ℕ → Bool) (τ n : ℕ) → τ + n ≤ eventTimeMax → every (λ o. not (p (τ + o))) n ≡ true → p (τ + n) ≡ true
+    → τ + n ≡ earliest p τ
+found-after p τ n early none hit =
+    found p τ (τ + n)
+    (record {
+      after = omega arith;
+      high = omega arith;
+      hit = λ _. hit;
+      none = λ υ from until _.
+          let e : τ + (υ - τ) ≡ υ = omega arith in
+          rw e at (not-true (p (τ + (υ - τ))) (Search.every-out (λ o. not (p (τ + o))) n (υ - τ) none (omega arith)));
+    })

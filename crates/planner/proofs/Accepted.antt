@@ -19,16 +19,7 @@ use Rattle.story.specs.Story.{event, changes}
 use Rattle.story.specs.Calls.{testsIn, callAnswer}
 use Rattle.story.specs.Runs.{answered}
 use Rattle.moments.specs.Moments.{isPermittedBy, isPermitted, hasLanes, isDue}
-
--- a change that only its time and the lanes may refuse
-pub record Ready (s : State) (i k : ℕ) : Type 0 where
-  pub ok : stateOk s ≡ true
-  pub an-id : i < titlesMax
-  pub is-open : titleAt s i .mode ≡ openMode
-  pub padded : isSteadyTitle (titleAt s i) ≡ false
-  pub low : titleAt s i .floor ≤ k
-  pub high : k ≤ titleAt s i .cap
-  pub other : k ≡ titleAt s i .count → ⊥
+use Rattle.planner.specs.Carried.{Ready}
 
 -- over any tests: where no other hits the lanes decide,
 lanes-decide : (t : Tests) → t .outside ≡ false → t .early ≡ false → t .there ≡ true → t .closing ≡ false → t .steady ≡ false →

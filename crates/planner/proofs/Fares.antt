@@ -18,9 +18,8 @@ use Rattle.story.specs.Story.{Event}
 use Rattle.story.specs.Runs.{answered, called, lanesOf, Reached}
 use Rattle.wishes.specs.Wishes.{Wish}
 use Rattle.wishes.proofs.Wished.{Each, each-none, each-more, Raises, DropsFirst, raises-only, drop-next}
-use Rattle.moments.specs.Moments.{isDue}
+use Rattle.moments.specs.Moments.{isDue, FirstDue}
 use Rattle.moments.proofs.Earliest.{Hits, earliest-hits}
-use Rattle.moments.proofs.Coming.{FirstDue}
 use Rattle.planner.specs.Moves.{asEvent, momentFor, moveAt, movedAt, listed, allMoved, fallsPast}
 use Rattle.planner.specs.Carried.{Comes, Carried, all-came, next-comes, Falls, Past, this-falls, later-falls}
 use Rattle.planner.proofs.Accepted.{due-when}

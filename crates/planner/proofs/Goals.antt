@@ -20,10 +20,7 @@ use Rattle.story.specs.Kept.{ruling, keptHeld, titleHeld, lanesHeld}
 use Rattle.measures.proofs.Within.{title-ok, count-fit}
 use Rattle.measures.proofs.Active.{active-held}
 use Rattle.wishes.specs.Wishes.{isSharer, takesPart, keptApart, sharedPool, shareOf}
-
--- what a title is to have: its share where it takes part, else what it has
-abbrev pub goalOf : State → List ℕ → ℕ → ℕ
-goalOf s rates i = pick (takesPart s i) (shareOf s rates i) (ruling (titleAt s i))
+use Rattle.planner.specs.Carried.{goalOf}
 
 pub goal-share : (s : State) (rates : List ℕ) (i : ℕ) → titleAt s i .mode ≡ openMode → isSteadyTitle (titleAt s i) ≡ false →
     goalOf s rates i ≡ shareOf s rates i

@@ -12,3 +12,4 @@ pub mod Passed
 pub mod Fares
 pub mod Goals
 pub mod Promise
+pub mod Example

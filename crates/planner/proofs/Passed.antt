@@ -17,17 +17,7 @@ use Rattle.story.specs.declared.State.{State}
 use Rattle.story.specs.Kept.{stateOk}
 use Rattle.wishes.specs.Wishes.{ratesOk, floorsOf, sharedPool, wishes}
 use Rattle.planner.specs.Moves.{fallsPast}
-use Rattle.planner.specs.Outcome.{moves, plannerAnswer}
-
--- none of 1 2 9 10 hits, with room for so many events
-pub record Standing (s : State) (τ : ℕ) (rates : List ℕ) (room : ℕ) : Type 0 where
-  pub ok : stateOk s ≡ true
-  pub clock : τ ≤ eventTimeMax
-  pub rated : ratesOk rates ≡ true
-  pub late : s .last ≤ τ
-  pub floors : floorsOf s ≤ sharedPool s
-  pub sixteen : length rates ≡ titlesMax
-  pub places : length (wishes s rates) ≤ room
+use Rattle.planner.specs.Outcome.{moves, plannerAnswer, Standing}
 
 module _ (s : State) (τ : ℕ) (rates : List ℕ) (room : ℕ) where
   -- the first four refusals

@@ -21,11 +21,11 @@ use Rattle.story.proofs.Demands.{sound}
 use Rattle.wishes.specs.Wishes.{Wish, takesPart, shareOf, wishes}
 use Rattle.wishes.proofs.Wished.{Each, each-none, each-more, Without, Wished, all-wished, apart, drops-first, at-share, shares-fit}
 use Rattle.planner.specs.Moves.{allMoved, fallsPast}
-use Rattle.planner.specs.Outcome.{moves, plannerAnswer}
-use Rattle.planner.specs.Carried.{Carried, Past}
-use Rattle.planner.proofs.Passed.{Standing, left-answer, standing-done, standing-past, in-clock, past-clock}
+use Rattle.planner.specs.Outcome.{moves, plannerAnswer, Standing}
+use Rattle.planner.specs.Carried.{Carried, Past, goalOf}
+use Rattle.planner.proofs.Passed.{left-answer, standing-done, standing-past, in-clock, past-clock}
 use Rattle.planner.proofs.Underway.{Left, Underway, pool-is, held-fits}
-use Rattle.planner.proofs.Goals.{goalOf, goal-share, part-rules, goals-fit}
+use Rattle.planner.proofs.Goals.{goal-share, part-rules, goals-fit}
 use Rattle.planner.proofs.Fares.{Fared, Fails, fares}
 
 -- ---- before the first event of the list

@@ -25,15 +25,10 @@ use Rattle.story.specs.Calls.{testsIn}
 use Rattle.story.proofs.Clock.{begins}
 use Rattle.measures.proofs.Within.{title-ok, numbers, readable, in-row}
 use Rattle.owed.proofs.Fixed.{stored}
-use Rattle.moments.specs.Moments.{hasLanes}
+use Rattle.moments.specs.Moments.{hasLanes, FirstDue}
 use Rattle.moments.proofs.Falling.{raised}
-use Rattle.moments.proofs.Coming.{FirstDue, due-comes}
-use Rattle.planner.proofs.Accepted.{Ready}
-
--- a moment by which every list has gone, in every state within its limits: no title is opened later than the last time
--- that may be asked, no lane owes for longer than twice as many ticks, and no tick is longer than the longest film
-abbrev pub allGone : ℕ
-allGone = askedMax + (askedMax + askedMax) * lengthMax
+use Rattle.moments.proofs.Coming.{due-comes}
+use Rattle.planner.specs.Carried.{Ready, allGone}
 
 -- only the active lanes are held from then on
 gone : (t : Title) → titleOk t ≡ true → (t .mode ≡ absentMode → ⊥) → (l υ : ℕ) → l < lanePlaces → allGone ≤ υ →

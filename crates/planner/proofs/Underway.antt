@@ -25,7 +25,8 @@ use Rattle.story.proofs.Demands.{sound, every-answer, every-count, all-held, th
 use Rattle.wishes.specs.Wishes.{Wish}
 use Rattle.wishes.proofs.Wished.{Each, each-none, each-more, Without, Apart, apart-more, DropsFirst, raises-only, drop-next}
 use Rattle.moments.specs.Moments.{isPermitted, hasLanes, isDue}
-use Rattle.planner.proofs.Accepted.{Ready, by-lanes, accepted-when}
+use Rattle.planner.specs.Carried.{Ready}
+use Rattle.planner.proofs.Accepted.{by-lanes, accepted-when}
 
 -- a wish that is left: a change that only its time and the lanes may refuse, to the count that its title is to have
 pub record Left (goal : ℕ → ℕ) (s : State) (w : Wish) : Type 0 where

@@ -1,16 +1,37 @@
 -- What is promised of a list where nobody else acts (02, 11): each event is accepted at its time by the scheduler's own call
 -- and could not have come earlier; or some event falls after the clock's last time.
-use Prim.Native.Nat.{ℕ, _≤_, _<_}
+use Prim.Native.Nat.{ℕ, _+_, _*_, _≤_, _<_}
 use mathlib.Core.Path.{_≡_}
 use mathlib.Core.Bool.{true, false}
 use mathlib.Core.List.{List, [], _∷_}
-use Rattle.rules.specs.Limits.{eventTimeMax}
+use Rattle.rules.specs.Limits.{lengthMax, eventTimeMax, askedMax, titlesMax}
+use Rattle.rules.specs.Refusals.{pick}
 use Rattle.story.specs.declared.State.{State}
+use Rattle.story.specs.Kept.{openMode, isSteadyTitle, titleAt, stateOk, ruling}
 use Rattle.story.specs.Story.{event, changes}
 use Rattle.story.specs.Runs.{answered, called}
-use Rattle.wishes.specs.Wishes.{Wish}
+use Rattle.wishes.specs.Wishes.{Wish, takesPart, shareOf}
 use Rattle.moments.specs.Moments.{isDue}
 use Rattle.planner.specs.Moves.{Move, asEvent}
+
+-- what a title is to have: its share where it takes part, else what it has
+abbrev pub goalOf : State → List ℕ → ℕ → ℕ
+goalOf s rates i = pick (takesPart s i) (shareOf s rates i) (ruling (titleAt s i))
+
+-- a change that only its time and the lanes may refuse
+pub record Ready (s : State) (i k : ℕ) : Type 0 where
+  pub ok : stateOk s ≡ true
+  pub an-id : i < titlesMax
+  pub is-open : titleAt s i .mode ≡ openMode
+  pub padded : isSteadyTitle (titleAt s i) ≡ false
+  pub low : titleAt s i .floor ≤ k
+  pub high : k ≤ titleAt s i .cap
+  pub other : k ≡ titleAt s i .count → ⊥
+
+-- a moment by which every list has gone, in every state within its limits: no title is opened later than the last time
+-- that may be asked, no lane owes for longer than twice as many ticks, and no tick is longer than the longest film
+abbrev pub allGone : ℕ
+allGone = askedMax + (askedMax + askedMax) * lengthMax
 
 -- m comes in the state s: from τ on and within the clock, accepted at its time, and refused at every earlier time from τ on
 pub record Comes (s : State) (τ : ℕ) (m : Move) : Type 0 where

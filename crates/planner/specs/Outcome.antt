@@ -1,7 +1,7 @@
 -- What the planner answers, and what it leaves in the lent rows (02, 11).
-use Prim.Native.Nat.{ℕ, min}
+use Prim.Native.Nat.{ℕ, _≤_, min}
 use mathlib.Core.Path.{_≡_}
-use mathlib.Core.Bool.{not}
+use mathlib.Core.Bool.{true, not}
 use mathlib.Core.List.{List, [], _∷_, _++_, map}
 use lib.Dec.{leb, ltb, eqb}
 use lib.ListN.{length, drop}
@@ -26,6 +26,16 @@ plannerAnswer s τ rates room =
     ∷ refuse wrongRows (not (both (eqb (length rates) titlesMax) (leb (length (wishes s rates)) room)))
     ∷ refuse pastClock (fallsPast (moves s τ rates))
     ∷ [])
+
+-- none of 1 2 9 10 is answered, with room for so many events
+pub record Standing (s : State) (τ : ℕ) (rates : List ℕ) (room : ℕ) : Type 0 where
+  pub ok : stateOk s ≡ true
+  pub clock : τ ≤ eventTimeMax
+  pub rated : ratesOk rates ≡ true
+  pub late : s .last ≤ τ
+  pub floors : floorsOf s ≤ sharedPool s
+  pub sixteen : length rates ≡ titlesMax
+  pub places : length (wishes s rates) ≤ room
 
 -- what is listed: nothing beside a refusal
 unfoldable pub given : State → ℕ → List ℕ → ℕ → List Move

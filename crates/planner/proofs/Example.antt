@@ -1,0 +1,137 @@
+-- An evening that meets the hypotheses of the planner's promise, computed from the definitions: two films share a pool of five lanes, three
+-- of them with the one that fewer watch. The list drops its third lane, and raises the other film once that lane has sent what it
+-- owes; both events come, and the counts are the sharing's.
+-- Rests on the promise (`carried`, `brought`), and on what the earliest time is.
+use mathlib.Core.Path.{_≡_, refl, sym, ap, subst, _∙_}
+use mathlib.Core.Bool.{true}
+use mathlib.Core.List.{List, [], _∷_, flatMap}
+use Prim.Native.Nat.{ℕ, _≤_}
+use native.Mathlib.Omega.{arith}
+use lib.ListN.{length}
+use Rattle.rules.specs.Refusals.{firstHit, done}
+use Rattle.rules.specs.Search.{some, every, first, howMany, after, total}
+use Rattle.grid.specs.Ticks.{tickOf, roundedUp, slot, cellOf}
+use Rattle.grid.specs.Channels.{floorRem, shift, segment, channelCell}
+use Rattle.grid.specs.Lanes.{isInG, isAdded, addedChannel, laneCell}
+use Rattle.scheme.specs.Scheme.{paddedKind, schemeOf, starts, takes, takesFrom, tickFor, filmIn}
+use Rattle.sharing.specs.Titles.{rowTotal}
+use Rattle.sharing.specs.Term.{term}
+use Rattle.sharing.specs.Choice.{sumOf, lessOr, atLeast, prefers, from, ways, better, bestOf, shared}
+use Rattle.story.specs.declared.State.{State}
+use Rattle.story.specs.Kept.{numbersOk, orderOk, titleOk, stateOk, tickAt, atTickStart, settledAt, ruling, wantsFrom, wants}
+use Rattle.story.specs.Kept.{keptAwaited, keptOwed, keptWithin, keptHeld, titleHeld, lanesHeld, isThere}
+use Rattle.story.specs.Next.{dropLanes, changedTitle, changeNext}
+use Rattle.story.specs.Story.{opens, Event, event}
+use Rattle.story.specs.Life.{reach}
+use Rattle.story.specs.Calls.{callAnswer, statusCount}
+use Rattle.story.specs.Runs.{stateAfter}
+use Rattle.story.proofs.Demands.{every-run}
+use Rattle.wishes.specs.Wishes.{Wish, ratesOk, sharedPool, idsWhere, sharers, rated, floorsOf, shareOf, wishes}
+use Rattle.moments.specs.Moments.{isPermitted, hasLanes, isDue, earliest}
+use Rattle.moments.proofs.Earliest.{found-after}
+use Rattle.planner.specs.Moves.{Move, momentFor, listed, allMoved, fallsPast}
+use Rattle.planner.specs.Outcome.{moves, plannerAnswer, Standing}
+use Rattle.planner.specs.Carried.{Carried, goalOf}
+use Rattle.planner.proofs.Passed.{left-answer}
+use Rattle.planner.proofs.Promise.{carried, brought}
+
+-- two films of 6 ms with floor 2 and cap 3, so a tick is 1 ms
+abbrev calls : List Event
+calls = event 1 0 (opens paddedKind 6 2 3 2) ∷ event 0 0 (opens paddedKind 6 2 3 3) ∷ []
+
+abbrev evening : State
+evening = stateAfter 5 calls
+
+-- nine watch the second for each that watches the first
+abbrev rates : List ℕ
+rates = 1 ∷ 9 ∷ 1 ∷ 1 ∷ 1 ∷ 1 ∷ 1 ∷ 1 ∷ 1 ∷ 1 ∷ 1 ∷ 1 ∷ 1 ∷ 1 ∷ 1 ∷ 1 ∷ []
+
+abbrev wish : ℕ → ℕ → Wish
+wish i k = record { title = i; count = k }
+
+abbrev move : ℕ → ℕ → ℕ → Move
+move i τ k = record { title = i; time = τ; count = k }
+
+-- a lane of the first is wished away, and one for the second
+asked-for : wishes evening rates ≡ wish 0 2 ∷ wish 1 3 ∷ []
+unfolding stateAfter callAnswer firstHit wishes idsWhere shareOf shared bestOf better ways from prefers atLeast lessOr sumOf term rowTotal flatMap rated sharers sharedPool howMany total tickOf roundedUp slot ruling isThere stateOk titleOk numbersOk orderOk every lanesHeld titleHeld keptHeld tickAt tickFor
+asked-for = refl
+
+-- ---- when each may come
+
+-- from 1 on the drop is permitted at 2, a floor slot after the opening
+drop-at : 2 ≡ earliest (isDue evening 0 2) 1
+unfolding stateAfter callAnswer firstHit isDue isPermitted hasLanes howMany total tickOf roundedUp slot starts schemeOf ruling isThere stateOk titleOk numbersOk orderOk every lanesHeld titleHeld keptHeld tickAt tickFor atTickStart settledAt changedTitle dropLanes keptWithin keptOwed keptAwaited wants wantsFrom takes takesFrom filmIn laneCell addedChannel isAdded isInG channelCell segment shift floorRem cellOf reach some first after
+drop-at = found-after (isDue evening 0 2) 1 1 (omega arith) refl refl
+
+abbrev dropped : State
+dropped = changeNext evening 0 2 2
+
+-- the lane sends the one cell with film that it owes, so the raise waits for 4
+raise-at : 4 ≡ earliest (isDue dropped 1 3) 2
+unfolding stateAfter callAnswer firstHit isDue isPermitted hasLanes howMany total tickOf roundedUp slot starts schemeOf ruling isThere stateOk titleOk numbersOk orderOk every lanesHeld titleHeld keptHeld tickAt tickFor atTickStart settledAt changedTitle dropLanes keptWithin keptOwed keptAwaited wants wantsFrom takes takesFrom filmIn laneCell addedChannel isAdded isInG channelCell segment shift floorRem cellOf reach some first after
+raise-at = found-after (isDue dropped 1 3) 2 2 (omega arith) refl refl
+
+-- two wishes listed, once their moments are known
+two-listed : (s : State) (τ a b : ℕ) (v w : Wish) → a ≡ momentFor s τ v
+    → b ≡ momentFor (changeNext s (v .title) a (v .count)) a w
+    → listed s τ (v ∷ w ∷ []) ≡ move (v .title) a (v .count) ∷ move (w .title) b (w .count) ∷ []
+unfolding listed
+two-listed s τ a b v w e f = rw (← e, ← f) refl
+
+pub drop-then-raise : moves evening 1 rates ≡ move 0 2 2 ∷ move 1 4 3 ∷ []
+drop-then-raise = ap (listed evening 1) asked-for ∙ two-listed evening 1 2 4 (wish 0 2) (wish 1 3) drop-at raise-at
+
+-- ---- the answer, and what is promised of it
+
+all-ok : stateOk evening ≡ true
+unfolding stateAfter callAnswer firstHit howMany total tickOf roundedUp slot ruling isThere stateOk titleOk numbersOk orderOk every lanesHeld titleHeld keptHeld tickAt tickFor
+all-ok = refl
+
+rates-ok : ratesOk rates ≡ true
+unfolding ratesOk every
+rates-ok = refl
+
+opened-at : evening .last ≡ 0
+unfolding stateAfter callAnswer firstHit howMany total tickOf roundedUp slot ruling isThere stateOk titleOk numbersOk orderOk every lanesHeld titleHeld keptHeld tickAt tickFor
+opened-at = refl
+
+floors-are : floorsOf evening ≡ 4
+unfolding floorsOf rowTotal sharers idsWhere stateAfter callAnswer firstHit howMany total tickOf roundedUp slot ruling isThere stateOk titleOk numbersOk orderOk every lanesHeld titleHeld keptHeld tickAt tickFor
+floors-are = refl
+
+pool-is : sharedPool evening ≡ 5
+unfolding sharedPool stateAfter callAnswer firstHit howMany total tickOf roundedUp slot ruling isThere stateOk titleOk numbersOk orderOk every lanesHeld titleHeld keptHeld tickAt tickFor
+pool-is = refl
+
+standing : Standing evening 1 rates 2
+standing =
+    record {
+      ok = all-ok;
+      clock = omega arith;
+      rated = rates-ok;
+      late = omega (arith, opened-at);
+      floors = omega (arith, floors-are, pool-is);
+      sixteen = refl;
+      places = rw asked-for (omega arith);
+    }
+
+pub listed-in-all : plannerAnswer evening 1 rates 2 ≡ done
+unfolding fallsPast
+listed-in-all = left-answer evening 1 rates 2 standing ∙ rw drop-then-raise refl
+
+pub both-come : Carried evening 1 (move 0 2 2 ∷ move 1 4 3 ∷ []) (allMoved evening 1 (wishes evening rates))
+both-come =
+    subst (λ (ms : List Move). Carried evening 1 ms (allMoved evening 1 (wishes evening rates))) drop-then-raise
+    (carried 5 _ evening (every-run 5 calls) rates 1 2 listed-in-all)
+
+shares-are : (goalOf evening rates 0 ≡ 2) × (goalOf evening rates 1 ≡ 3)
+unfolding stateAfter callAnswer firstHit shareOf shared bestOf better ways from prefers atLeast lessOr sumOf term rowTotal flatMap rated sharers idsWhere sharedPool howMany total tickOf roundedUp slot ruling isThere stateOk titleOk numbersOk orderOk every lanesHeld titleHeld keptHeld tickAt tickFor
+shares-are = (refl, refl)
+
+pub as-shared : (statusCount (allMoved evening 1 (wishes evening rates)) 0 ≡ 2)
+    × (statusCount (allMoved evening 1 (wishes evening rates)) 1 ≡ 3)
+as-shared = (
+  brought 5 _ evening (every-run 5 calls) rates 1 2 listed-in-all 0 (omega arith) ∙ shares-are .0,
+  brought 5 _ evening (every-run 5 calls) rates 1 2 listed-in-all 1 (omega arith) ∙ shares-are .1,
+)
