@@ -2,7 +2,7 @@
 -- equations to definitions.
 use Prim.Native.Nat.{ℕ}
 use mathlib.Core.Path.{_≡_, sym, ap₂, _∙_}
-use Rattle.rules.proofs.OneOutcome.{OneOutcome}
+use Rattle.rules.specs.OneOutcome.{OneOutcome}
 use Rattle.story.specs.declared.State.{State}
 use Rattle.agent.specs.declared.Agent.{Agent}
 use Rattle.agent.specs.declared.Followed.{Followed}

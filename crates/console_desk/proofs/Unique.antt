@@ -2,7 +2,7 @@
 use Prim.Native.Nat.{ℕ}
 use mathlib.Core.Path.{_≡_, sym, ap, _∙_}
 use denote.Ref.{now}
-use Rattle.rules.proofs.OneOutcome.{OneEnd}
+use Rattle.rules.specs.OneOutcome.{OneEnd}
 use mathlib.Core.List.{List}
 use Rattle.agent.specs.declared.Agent.{Agent}
 use Rattle.text.specs.Output.{Page, page}

@@ -1,6 +1,6 @@
 -- Two outcomes that the contract of `lines::parse` admits are equal. Rests on its being an equation to a definition.
 use mathlib.Core.Path.{sym, _∙_}
-use Rattle.rules.proofs.OneOutcome.{OneOutcome}
+use Rattle.rules.specs.OneOutcome.{OneOutcome}
 use Rattle.console_lines.proofs.lines.parse.Kinds as parse-kinds
 use Rattle.console_lines.proofs.lines.parse.Reads as parse-call
 

@@ -2,7 +2,7 @@
 -- The contracts are cited as the checker has them: `Learnt` is all that a caller learns of a call.
 use mathlib.Core.Path.{_≡_, sym, _∙_}
 use denote.Ref.{now}
-use Rattle.rules.proofs.OneOutcome.{OneEnd}
+use Rattle.rules.specs.OneOutcome.{OneEnd}
 use Rattle.text.proofs.Unique.{page-one-outcome}
 use Rattle.listing_io.proofs.steps.list_at.Kinds as list-at-kinds
 use Rattle.listing_io.proofs.steps.list_at.Reads as list-at

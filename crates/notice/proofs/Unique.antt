@@ -12,7 +12,7 @@ use prog.Routine.{Routine}
 use prog.Wp.{Heap}
 use ghost.Atoms.{Atoms}
 use denote.Ref.{RefT, now}
-use Rattle.rules.proofs.OneOutcome.{OneEnd, OneOutcome}
+use Rattle.rules.specs.OneOutcome.{OneEnd, OneOutcome}
 use Rattle.notice.specs.declared.Found.{Found}
 use Rattle.notice.specs.declared.Log.{Log}
 use Rattle.notice.specs.Decode.{placeAfter, Steps}

@@ -1,7 +1,7 @@
 -- The plan call's contract settles answer and row: two outcomes that it admits are equal. Rests on its record of equations.
 use mathlib.Core.Path.{_≡_, sym, _∙_}
 use denote.Ref.{now}
-use Rattle.rules.proofs.OneOutcome.{OneEnd}
+use Rattle.rules.specs.OneOutcome.{OneEnd}
 use Rattle.plan.proofs.plan.Kinds as plan-kinds
 use Rattle.plan.proofs.plan.Reads as plan-call
 

@@ -6,21 +6,14 @@ use mathlib.Core.Bool.{not}
 use mathlib.Core.List.{List, [], _∷_}
 use Prim.Native.Nat.{ℕ}
 use lib.Dec.{ltb, eqb}
-use Rattle.rules.specs.Limits.{either, within}
+use Rattle.rules.specs.Limits.{either}
 use Rattle.rules.specs.Refusals.{Rule, refuse, firstHit, done, outsideLimits, notAtSlot, wrongRows}
 use Rattle.rules.proofs.Refusals.{hit-same}
-use Rattle.rules.proofs.Former.{formerly, formerly-done, renumbered, former-hit, joined, outside}
+use Rattle.rules.specs.Former.{formerly}
+use Rattle.rules.proofs.Former.{formerly-done, renumbered, former-hit, joined, outside}
 use Rattle.grid.specs.Ticks.{cells, isSlotStart}
-use Rattle.grid.specs.Plan.{planLimits, planRules, planAnswer}
-
--- the order as it stood, 1 6 8 10
-abbrev pub formerRules : ℕ → ℕ → ℕ → ℕ → ℕ → List Rule
-formerRules A K k a n =
-    refuse outsideLimits (not (planLimits A K k a))
-    ∷ refuse 6 (either (ltb K A) (not (within A K k)))
-    ∷ refuse notAtSlot (not (isSlotStart K k a))
-    ∷ refuse wrongRows (ltb n (cells K))
-    ∷ []
+use Rattle.grid.specs.Plan.{planRules, planAnswer}
+use Rattle.plan.specs.Former.{formerRules}
 
 module _ (A K k a n : ℕ) where
   -- no other place of the order moved

@@ -7,7 +7,7 @@ use contract.Lifetimes.{Lfts}
 use borrow.Fn.Kinds.{Dens, resT, endedOf}
 use denote.Ref.{now}
 use denote.Triple.Clauses.{AtExit}
-use Rattle.rules.proofs.OneOutcome.{OneEnd, OneOutcome}
+use Rattle.rules.specs.OneOutcome.{OneEnd, OneOutcome}
 use Rattle.story.specs.Kept.{titleAt}
 use Rattle.plan.proofs.plan.Reads as computed-plan
 use Rattle.scheduler.proofs.lane.Reads as computed-lane

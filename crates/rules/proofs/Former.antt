@@ -10,12 +10,9 @@ use native.Mathlib.Omega.{arith}
 use lib.Dec.{leb, ltb, eqb}
 use borrow.Author.Tests.{leb-true, leb-false, le-ltb, lt-ltb, ne-eqb}
 use Rattle.rules.specs.Limits.{both, either, within}
-use Rattle.rules.specs.Refusals.{pick, Rule, refuse, firstHit, done, unchanged, belowFloor, floorAboveCap}
+use Rattle.rules.specs.Refusals.{pick, Rule, refuse, firstHit, done, belowFloor, floorAboveCap}
+pub use Rattle.rules.specs.Former.{formerly}
 use Rattle.rules.proofs.Tests.{decide, both-l}
-
--- what a number was
-abbrev pub formerly : ℕ → ℕ
-formerly n = pick (within belowFloor floorAboveCap n) unchanged n
 
 -- the same calls are done
 pub formerly-done : (n : ℕ) → eqb (formerly n) done ≡ eqb n done

@@ -2,5 +2,4 @@
 pub mod Search
 pub mod Tests
 pub mod Refusals
-pub mod OneOutcome
 pub mod Former

@@ -11,25 +11,8 @@ use lib.Dec.{ltb, eqb}
 use borrow.Author.Tests.{ltb-true, eq-eqb, ne-eqb, eqb-true, eqb-false, not-true}
 use Rattle.rules.specs.Limits.{both}
 use Rattle.rules.specs.Refusals.{pick, Rule, refuse, firstHit, before, behind}
+unfoldable pub use Rattle.rules.specs.Refusals.{hitsOf, numbered, isListed, distinct}
 use Rattle.rules.proofs.Tests.{decide, both-l, both-r}
-
--- whether the rule of number n hits, false where the list has none
-unfoldable pub hitsOf : ℕ → List Rule → Bool
-hitsOf n [] = false
-hitsOf n (r ∷ rs) = pick (eqb (r .number) n) (r .hits) (hitsOf n rs)
-
--- no rule answers done, and no number stands twice: what the checker computes of each list
-unfoldable pub numbered : List Rule → Bool
-numbered [] = true
-numbered (r ∷ rs) = both (ltb 0 (r .number)) (numbered rs)
-
-unfoldable pub isListed : ℕ → List Rule → Bool
-isListed n [] = false
-isListed n (r ∷ rs) = pick (eqb (r .number) n) true (isListed n rs)
-
-unfoldable pub distinct : List Rule → Bool
-distinct [] = true
-distinct (r ∷ rs) = both (not (isListed (r .number) rs)) (distinct rs)
 
 -- what stands at the head of a list that is numbered
 positive : (r : Rule) (rs : List Rule) → numbered (r ∷ rs) ≡ true → 0 < r .number

@@ -2,7 +2,7 @@
 -- has them: `Learnt` is all that a caller learns of a call.
 use mathlib.Core.Path.{_≡_, sym, _∙_}
 use denote.Ref.{now}
-use Rattle.rules.proofs.OneOutcome.{OneEnd, OneOutcome}
+use Rattle.rules.specs.OneOutcome.{OneEnd, OneOutcome}
 use Rattle.salvaging.proofs.scan.look.Kinds as look-kinds
 use Rattle.salvaging.proofs.scan.look.Reads as look
 use Rattle.salvaging.proofs.steps.measure.Kinds as measure-kinds

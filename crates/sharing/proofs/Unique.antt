@@ -1,7 +1,7 @@
 -- The sharing call's contract settles answer and row: two outcomes that it admits are equal. Rests on its record of equations.
 use mathlib.Core.Path.{_≡_, sym, _∙_}
 use denote.Ref.{now}
-use Rattle.rules.proofs.OneOutcome.{OneEnd}
+use Rattle.rules.specs.OneOutcome.{OneEnd}
 use Rattle.sharing.proofs.share.Kinds as share-kinds
 use Rattle.sharing.proofs.share.Reads as share-call
 

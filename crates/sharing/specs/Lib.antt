@@ -3,4 +3,5 @@ pub mod Titles
 pub mod Term
 pub mod Choice
 pub mod Verdict
+pub mod Former
 pub mod Giving

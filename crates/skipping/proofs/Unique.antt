@@ -1,7 +1,7 @@
 -- The call's contract settles answer and row: two outcomes that it admits are equal. Rests on its record of equations.
 use mathlib.Core.Path.{_≡_, sym, _∙_}
 use denote.Ref.{now}
-use Rattle.rules.proofs.OneOutcome.{OneEnd, OneOutcome}
+use Rattle.rules.specs.OneOutcome.{OneEnd, OneOutcome}
 use Rattle.skipping.proofs.answer.Kinds as answer-kinds
 use Rattle.skipping.proofs.answer.Reads as answer
 use Rattle.skipping.proofs.skip_plan.Kinds as skip-plan-kinds

@@ -1,5 +1,5 @@
 -- The report's contract settles what it gives back: two outcomes that it admits are equal. Rests on `told-once`.
-use Rattle.rules.proofs.OneOutcome.{OneOutcome}
+use Rattle.rules.specs.OneOutcome.{OneOutcome}
 use Rattle.waiting.proofs.report_of.Kinds as report-kinds
 use Rattle.waiting.proofs.report_of.Reads as report-call
 use Rattle.waiting.proofs.Telling.{told-once}
