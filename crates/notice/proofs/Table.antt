@@ -14,7 +14,7 @@ use Rattle.rules.specs.Limits.{both}
 use Rattle.rules.specs.Refusals.{pick}
 use Rattle.rules.proofs.Tests.{both-l, both-r}
 use Rattle.notice.specs.declared.fields.Field.{Field}
-use Rattle.notice.specs.Fields.{table, rows, row, fieldOf, isCarried, isKnown, spanOf, startOf, lengthOf}
+use Rattle.notice.specs.Fields.{lastKind, table, rows, row, fieldOf, isCarried, isKnown, spanOf, startOf, lengthOf}
 use Rattle.notice.specs.Fields.{openKind, changeKind, closeKind, holdKind, liftKind, skipKind, longestNotice}
 use Rattle.notice.proofs.Each.{by-order, each, false-true}
 
@@ -61,10 +61,6 @@ beyond i m k below far =
 -- the table has no bit for a kind from 8 on
 pub no-bit : (k i : ℕ) → i < rows → 8 ≤ k → isCarried k i ≡ false
 no-bit k i h far = beyond i 8 k (sound i h .bits) far
-
--- the kinds are numbered from open on; this is the last
-abbrev pub lastKind : ℕ
-lastKind = skipKind
 
 -- no other number is a kind's
 pub no-kind-of : (k : ℕ) → (openKind ≤ k → k ≤ lastKind → ⊥) → isKnown k ≡ false

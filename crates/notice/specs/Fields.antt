@@ -27,6 +27,10 @@ liftKind = 5
 abbrev pub skipKind : ℕ
 skipKind = 6
 
+-- they are numbered from open on; this is the last
+abbrev pub lastKind : ℕ
+lastKind = skipKind
+
 -- one row: the tag, the bytes of its value, and the sum of 2 ^ k over the kinds k that carry it
 abbrev pub row : ℕ → ℕ → ℕ → Field
 row t s ks = record { tag = t; size = s; kinds = ks }

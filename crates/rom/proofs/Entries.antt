@@ -7,7 +7,6 @@ use Prim.Native.Nat.{ℕ, zero, suc, _+_, _*_, _/_, _%_, _^_, _<_}
 use native.Mathlib.Nat.{le-of-suc-le-suc, not-suc-le-zero, add-suc, suc-add, add-zero, zero-add, mod-lt}
 use native.Mathlib.Omega.{arith}
 use lib.Arith.{digits-div, digits-mod}
-use lib.Dec.{eqb}
 use lib.ListN.{length, getD}
 use borrow.Author.Tests.{eqb-true}
 use Rattle.rules.specs.Limits.{both}
@@ -16,14 +15,9 @@ use Rattle.grid.specs.Bounds.{IsCell}
 use Rattle.grid.specs.Lanes.{laneCell}
 use Rattle.grid.proofs.Channels.{cell-within}
 use Rattle.grid.proofs.Lanes.{cell-of-lane, lane-looked-up}
-use Rattle.rom.specs.Table.{romFloor, romCap, romPeriod, romEntries, romEntry}
+use Rattle.rom.specs.Table.{romFloor, romCap, romPeriod, romEntries, romEntry, passes, isEntry}
 
 -- ---- a test over a table
-
--- the test passes at every entry of a list and its place, counted from i
-unfoldable pub passes : (ℕ → ℕ → Bool) → ℕ → List ℕ → Bool
-passes f i [] = true
-passes f i (x ∷ xs) = both (f i x) (passes f (suc i) xs)
 
 passes-from : (f : ℕ → ℕ → Bool) (xs : List ℕ) (i : ℕ) → passes f i xs ≡ true → (k : ℕ) → k < length xs
     → f (i + k) (getD xs k 0) ≡ true
@@ -39,10 +33,6 @@ pub passes-at : (f : ℕ → ℕ → Bool) (xs : List ℕ) → passes f 0 xs ≡
 passes-at f xs e k h = rw (zero-add k) at (passes-from f xs 0 e k h)
 
 -- ---- the table of the grid
-
--- number x may stand at place i
-unfoldable pub isEntry : ℕ → ℕ → Bool
-isEntry i x = eqb x (romEntry i)
 
 -- a lane carries one of the 2^K cells
 pub lane-within : (l t : ℕ) → l < romCap → laneCell romFloor romCap l t < 2 ^ romCap

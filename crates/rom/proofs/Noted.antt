@@ -25,7 +25,8 @@ use Rattle.plan.proofs.Row.{written-first}
 use Rattle.rom.specs.Table.{romFloor, romCap, romPeriod}
 use Rattle.rom.specs.Plans.{noted, notedLanes, notedTicks}
 use Rattle.rom.proofs.Entries.{lane-within}
-use Rattle.rom.proofs.Showing.{isShown, shownAfter, seen, seen-plan}
+use Rattle.rom.specs.Showing.{isShown, shownAfter, seen}
+use Rattle.rom.proofs.Showing.{seen-plan}
 
 -- ---- lengths, and one step more
 

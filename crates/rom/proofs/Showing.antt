@@ -21,18 +21,7 @@ use Rattle.grid.specs.Plan.{planAt, never}
 use Rattle.grid.proofs.Ticks.{slot-pos, all-cells}
 use Rattle.grid.proofs.Lanes.{cell-of-lane, lane-of-cell}
 use Rattle.grid.proofs.Plan.{Taken, taken-out, window-end, carries-only, carrier-one, once, plan-in, plan-never}
-
--- one of lanes 0 to l - 1 shows cell c at tick t
-unfoldable pub isShown : ℕ → ℕ → ℕ → ℕ → ℕ → Bool
-isShown A K l t c = some (λ i. eqb (laneCell A K i t) c) l
-
--- how many ticks after a that is first so, of n ticks; n where it is at none
-unfoldable pub shownAfter : ℕ → ℕ → ℕ → ℕ → ℕ → ℕ → ℕ
-shownAfter A K k a n c = first (λ o. isShown A K k (a + o) c) n
-
--- the number of its place after n ticks
-unfoldable pub seen : ℕ → ℕ → ℕ → ℕ → ℕ → ℕ → ℕ
-seen A K k a n c = pick (ltb (shownAfter A K k a n c) n) (shownAfter A K k a n c) never
+use Rattle.rom.specs.Showing.{isShown, shownAfter, seen}
 
 module _ (A K k : ℕ) (low : A ≤ k) (high : k ≤ K) where
   shown-in : (t c : ℕ) → InG A K k t c → isShown A K k t c ≡ true

@@ -2,3 +2,4 @@
 pub mod Table
 pub mod Plans
 pub mod Lanes
+pub mod Showing

@@ -22,7 +22,7 @@ use Rattle.notice.proofs.RoundTrip.{log-gives}
 use Rattle.salvaging.specs.declared.scan.Move.{Move}
 use Rattle.salvaging.specs.declared.scan.Move.the-variants.{Take, Skip, Stop}
 use Rattle.salvaging.specs.Scan.{isLater, Scan, lastOf, after, moveIn, scanTo, scanOf}
-use Rattle.salvaging.specs.Claims.{Below, Rising, Clear, ComeOut}
+use Rattle.salvaging.specs.Claims.{Below, Rising, Clear, ComeOut, Whole}
 use Rattle.salvaging.proofs.Moves.{in-turn}
 use Rattle.salvaging.proofs.Parts.{part-rest}
 use Rattle.salvaging.proofs.Through as through
@@ -98,11 +98,6 @@ module _ (bs : List ℕ) where
 -- ---- a log whose sequences rise
 
 -- it comes out whole
-pub record Whole (bs : List ℕ) (ns : List Notice) : Type 0 where
-  pub taken-is : scanOf bs .taken ≡ reverse ns
-  pub kept-is : scanOf bs .kept ≡ bs
-  pub skipped-is : scanOf bs .skipped ≡ []
-
 pub whole : (bs : List ℕ) (ns : List Notice) → Gives bs 0 ns → Rising ns → Whole bs ns
 unfolding scanTo
 whole bs ns gives rising =

@@ -2,7 +2,7 @@
 use Prim.Native.Nat.{ℕ, zero, suc, _+_, _≤_, _<_}
 use mathlib.Core.Path.{_≡_}
 use mathlib.Core.Bool.{Bool, false}
-use mathlib.Core.List.{List, [], _∷_, _++_, reverseAux}
+use mathlib.Core.List.{List, [], _∷_, _++_, reverse, reverseAux}
 use lib.Dec.{leb, ltb}
 use lib.ListN.{getD, drop}
 use Rattle.rules.specs.Limits.{both, either}
@@ -40,6 +40,12 @@ Below s (n ∷ ns) = (s < n .sequence) × Below s ns
 abbrev pub Rising : List Notice → Type 0
 Rising [] = Unit {0}
 Rising (n ∷ ns) = Below (n .sequence) ns × Rising ns
+
+-- a log of these notices comes out whole: all of them are taken, every byte is kept, and none is skipped
+pub record Whole (bs : List ℕ) (ns : List Notice) : Type 0 where
+  pub taken-is : scanOf bs .taken ≡ reverse ns
+  pub kept-is : scanOf bs .kept ≡ bs
+  pub skipped-is : scanOf bs .skipped ≡ []
 
 -- nothing that is taken from before place m runs over it, or has a sequence as large as one of these notices'
 abbrev pub Clear : List ℕ → ℕ → List Notice → Type 0

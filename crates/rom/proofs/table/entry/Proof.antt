@@ -8,8 +8,8 @@ use Rattle.rules.specs.Search.{some, first}
 use Rattle.grid.specs.Ticks.{slot, cellOf}
 use Rattle.grid.specs.Channels.{floorRem, shift, segment, channelCell}
 use Rattle.grid.specs.Lanes.{isInG, isAdded, addedChannel, laneCell}
-use Rattle.rom.specs.Table.{romEntry}
-use Rattle.rom.proofs.Entries.{passes, isEntry, entry-at}
+use Rattle.rom.specs.Table.{romEntry, passes, isEntry}
+use Rattle.rom.proofs.Entries.{entry-at}
 use Rattle.rom.proofs.table.entry.Statement.{statement}
 use Rattle.rom.proofs.table.entry.Tie as tie
 use Rattle.rom.proofs.table.entry.Reads as reads
