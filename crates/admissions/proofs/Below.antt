@@ -21,6 +21,7 @@ use Rattle.admissions.specs.declared.Waits.{Waits}
 use Rattle.admissions.specs.declared.Stretch.{Stretch}
 use Rattle.admissions.specs.Waits.{letsIn, Next, TurnedAway, nobody, waited, Tallied, none, gets-in, turned-away}
 use Rattle.admissions.specs.Stretches.{nextIn, gather, gathered}
+use Rattle.admissions.specs.Even.{Settled}
 use Rattle.admissions.proofs.GetsIn.{too-early, let-in}
 use Rattle.admissions.proofs.Slots.{comes-before, comes-after, comes-between}
 
@@ -100,12 +101,6 @@ module _ (L : Life) (n x : ℕ) (w : Waits) where
       absurd (false≢true (sym (f (first (letsIn L x) n) lt) ∙ Search.first-hit (letsIn L x) n lt)))
       (λ t. rw t)
       (decide (ltb (first (letsIn L x) n) n))
-
--- the admissions below n settle just the arrivals from the opening up to, not including, `from`
-pub record Settled (L : Life) (n from : ℕ) : Type 0 where
-  pub low : L .opened ≤ from
-  pub before : (x : ℕ) → L .opened ≤ x → x < from → (a : ℕ) × (a < n) × Next L x a
-  pub after : (x : ℕ) → from ≤ x → (a : ℕ) → a < n → letsIn L x a ≡ false
 
 -- the ticks from n up to, not including, m have no admission
 abbrev pub NoneIn : Life → ℕ → ℕ → Type 0

@@ -20,8 +20,9 @@ use Rattle.story.proofs.Stored.{slot-start-zero}
 use Rattle.admissions.specs.declared.Stretch.{Stretch}
 use Rattle.admissions.specs.Waits.{letsIn, Next}
 use Rattle.admissions.specs.Stretches.{nextIn}
+use Rattle.admissions.specs.Even.{Settled, Admits, Even, Reached}
 use Rattle.admissions.proofs.GetsIn.{LetIn, let-in}
-use Rattle.admissions.proofs.Below.{Settled, NoneIn, Lets}
+use Rattle.admissions.proofs.Below.{NoneIn, Lets}
 
 -- no fewer slots reach d
 rounded-least : (d g m : ℕ) → 0 < g → d ≤ m * g → roundedUp d g ≤ m
@@ -37,29 +38,6 @@ whole-slots S k a h = omega (arith, slot-start-zero S k a h, div-add-mod' a (S .
 -- q slots of w ticks, of p ms each
 slots-ms : (q w p g : ℕ) → g ≡ w * p → q * w * p ≡ q * g
 slots-ms q w p g h = mul-assoc q w p ∙ ap (λ z. q * z) (sym h)
-
--- count k admits boxes at tick b: it rules, and the doors are not held
-pub record Admits (L : Life) (k b : ℕ) : Type 0 where
-  pub rule : L .rule b ≡ k
-  pub unheld : L .shut b ≡ false
-
--- the stretch s is that of count k, from tick n on
-pub record Even (L : Life) (s : Stretch) (n k : ℕ) : Type 0 where
-  pub tick-some : 0 < tickLength L
-  pub slot-some : 0 < scheme L .slotOf k
-  pub count-some : 0 < k
-  pub from-opening : s .opened ≡ L .opened
-  pub slot-is : s .slot ≡ scheme L .slotOf k * tickLength L
-  pub start-is : s .start ≡ momentOf L n
-
--- the tick at which the stretch, were it endless, lets x in
-pub record Reached (L : Life) (s : Stretch) (n k x : ℕ) : Type 0 where
-  pub tick : ℕ
-  pub moment : momentOf L tick ≡ nextIn s x
-  pub at-slot : starts (scheme L) k tick ≡ true
-  pub since : n ≤ tick
-  pub in-time : x ≤ momentOf L tick
-  pub least : (b : ℕ) → n ≤ b → starts (scheme L) k b ≡ true → x ≤ momentOf L b → tick ≤ b
 
 module _ (L : Life) (s : Stretch) (n k : ℕ) (e : Even L s n k) where
   -- a later tick begins at a later moment

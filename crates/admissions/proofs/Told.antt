@@ -31,9 +31,10 @@ use Rattle.admissions.specs.Waits.{letsIn, TurnedAway, nobody, waited, r
 use Rattle.admissions.specs.Stretches.{Few, Playing, nextIn, gathered, stretchOf, fresh, endedIn, settled}
 use Rattle.admissions.specs.Stretches.{allSettled, admitting}
 use Rattle.admissions.proofs.Slots.{not-endless, admitting-open}
-use Rattle.admissions.proofs.Below.{plus, gathered-plus, dueBelow, oneBelow, talliedBelow, one-out, Settled}
+use Rattle.admissions.specs.Even.{Settled, Admits, Even}
+use Rattle.admissions.proofs.Below.{plus, gathered-plus, dueBelow, oneBelow, talliedBelow, one-out}
 use Rattle.admissions.proofs.Below.{NoneIn, still-settled, tally-adds, tally-stays, tally-goes-on, tally-ends}
-use Rattle.admissions.proofs.Even.{Admits, Even, reached, reached-next, none-within, lets-within, none-later}
+use Rattle.admissions.proofs.Even.{reached, reached-next, none-within, lets-within, none-later}
 use Rattle.admissions.proofs.Even.{settled-within}
 
 -- the tally counts the arrivals of a row that the admissions of a life below tick n let in

@@ -13,3 +13,4 @@ pub mod Starves
 pub mod Accepted
 pub mod More
 pub mod OneMoment
+pub mod Example

@@ -16,12 +16,8 @@ use Rattle.rules.proofs.Search.{first-hit, first-before, first-least}
 use Rattle.grid.specs.Ticks.{cells}
 use Rattle.story.specs.Life.{Life, isFilm}
 use Rattle.judging.specs.Record.{nothingSeen, lowest, isInTime}
-use Rattle.judging.specs.Judged.{isMissed, resultOf, isJudged, isPlayed}
+use Rattle.judging.specs.Judged.{isMissed, resultOf, isJudged, isPlayed, HasAll}
 use Rattle.judging.proofs.Walked.{lowest-none}
-
--- every cell of film is shown in time to a box that begins at tick a
-abbrev pub HasAll : Life → List ℕ → ℕ → Type 0
-HasAll L r a = (c : ℕ) → c < cells (L .cap) → isFilm L c ≡ true → isInTime r a c ≡ true
 
 module _ (L : Life) (r : List ℕ) (a : ℕ) where
   none-missed : HasAll L r a → (c : ℕ) → c < cells (L .cap) → isMissed L r a c ≡ true → ⊥

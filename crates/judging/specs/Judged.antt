@@ -17,6 +17,10 @@ use Rattle.judging.specs.Record.{nothingSeen, lowest, ticksIn, isShown, 
 unfoldable pub isMissed : Life → List ℕ → ℕ → ℕ → Bool
 isMissed L r a c = both (isFilm L c) (not (isInTime r a c))
 
+-- every cell of film is shown in time to a box that begins at tick a
+abbrev pub HasAll : Life → List ℕ → ℕ → Type 0
+HasAll L r a = (c : ℕ) → c < cells (L .cap) → isFilm L c ≡ true → isInTime r a c ≡ true
+
 -- what an admission gets: the lowest cell that was missed, or that none was
 unfoldable pub resultOf : Life → List ℕ → ℕ → ℕ
 resultOf L r a = lowest (isMissed L r a) (cells (L .cap))
