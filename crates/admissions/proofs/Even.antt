@@ -5,7 +5,7 @@ use mathlib.Core.Bool.{Bool, true, false, not, false≢true}
 use mathlib.Core.Logic.{⊎-elim}
 use Prim.Native.Nat.{ℕ, suc, _+_, _-_, _*_, _/_, _%_, _≤_, _<_, max}
 use native.Mathlib.Nat.{mul-assoc, mul-mod-left, mul-le-mul, mul-le-mul-right, le-of-mul-le-mul-right}
-use native.Mathlib.Nat.{lt-of-mul-lt-mul-right, add-mod-right, mul-lt-mul-of-pos-right, div-lt-iff-lt-mul, div-add-mod'}
+use native.Mathlib.Nat.{lt-of-mul-lt-mul-right, add-mod-right, mul-lt-mul-of-pos-right, div-lt-iff-lt-mul}
 use native.Mathlib.Omega.{arith}
 use borrow.Author.Tests.{ltb-true, ltb-false, lt-ltb, le-leb, eq-eqb, eqb-true}
 use lib.Dec.{leb, ltb}
@@ -13,10 +13,10 @@ use Rattle.rules.specs.Limits.{both}
 use Rattle.rules.proofs.Tests.{decide, both-r, both-in, fails}
 use Rattle.grid.specs.Ticks.{roundedUp}
 use Rattle.grid.proofs.Ticks.{rounded-enough}
-use Rattle.scheme.specs.Scheme.{Scheme, starts}
+use Rattle.scheme.specs.Scheme.{starts}
+use Rattle.scheme.proofs.Takes.{whole-slots}
 use Rattle.story.specs.Life.{Life, scheme, isAdmission}
 use Rattle.story.specs.Story.{tickLength, momentOf}
-use Rattle.story.proofs.Stored.{slot-start-zero}
 use Rattle.admissions.specs.declared.Stretch.{Stretch}
 use Rattle.admissions.specs.Waits.{letsIn, Next}
 use Rattle.admissions.specs.Stretches.{nextIn}
@@ -30,10 +30,6 @@ unfolding roundedUp
 rounded-least d g m pos h =
     let less : (d + (g - 1)) / g < suc m = div-lt-iff-lt-mul {k = g} {x = d + (g - 1)} {y = suc m} pos .1 (omega arith) in
     omega arith
-
--- a slot start is a whole number of slots
-whole-slots : (S : Scheme) (k a : ℕ) → starts S k a ≡ true → a / S .slotOf k * S .slotOf k ≡ a
-whole-slots S k a h = omega (arith, slot-start-zero S k a h, div-add-mod' a (S .slotOf k))
 
 -- q slots of w ticks, of p ms each
 slots-ms : (q w p g : ℕ) → g ≡ w * p → q * w * p ≡ q * g

@@ -6,7 +6,7 @@ use lib.ListN.{getD}
 use Rattle.rules.specs.Refusals.{pick}
 use Rattle.text.specs.Texts.{text}
 use Rattle.text.specs.Digits.{decimal}
-use Rattle.grid.specs.Plan.{never}
+use Rattle.plan.specs.Plan.{never}
 
 unfoldable pub entry : ℕ → List ℕ
 entry n = text " " ++ decimal n

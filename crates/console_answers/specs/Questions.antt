@@ -6,7 +6,7 @@ use lib.ListN.{length, getD, take, drop, set, replicate}
 use Rattle.story.specs.declared.State.{State}
 use Rattle.story.specs.Calls.{laneAnswer, laneShows, statusAnswer, statusCount, statusHeld, statusMark}
 use Rattle.grid.specs.Ticks.{cells}
-use Rattle.grid.specs.Plan.{planAnswer}
+use Rattle.plan.specs.Plan.{planAnswer}
 use Rattle.plan.specs.Row as plan
 use Rattle.skipping.specs.Plan.{blocks, skipAnswer}
 use Rattle.skipping.specs.Row.{skipRow}

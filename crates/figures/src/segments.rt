@@ -7,7 +7,7 @@ ghost use Rattle.rules.specs.Limits.{countMax};
 ghost use Rattle.grid.specs.Channels.{channelCell};
 ghost use Rattle.grid.specs.Bounds.{CountCap, Counted, tickMax};
 ghost use Rattle.rules.specs.Refusals.{pick};
-ghost use Rattle.grid.specs.Plan.{planAt};
+ghost use Rattle.plan.specs.Plan.{planAt};
 ghost use Rattle.figures.specs.Segments.{segmentOf, foundIn, needsNoBuffer};
 
 // The segment of count `count` that holds a cell.

@@ -4,7 +4,7 @@ use crate::segments::wide;
 ghost use Prim.Native.Nat.{_<_, _≤_};
 ghost use Rattle.rules.specs.Limits.{askedMax};
 ghost use Rattle.grid.specs.Bounds.{FloorCap};
-ghost use Rattle.skipping.specs.Plan.{takenAfter};
+ghost use Rattle.skipping.specs.Plan.{skipAt};
 ghost use Rattle.figures.specs.Rows.{Holds};
 ghost use Rattle.figures.specs.Steady.{blockOn};
 
@@ -29,7 +29,7 @@ pub fn on_lane(count: u64, lane: u64) -> [u64; SLOTS]
 // The slots after its start, from 0, in which a box of a title with 4 lanes takes blocks 1 to 8.
 pub fn taken_from(start: u64) -> [u64; 8]
     requires { ⌜ start ≤ askedMax ⌝ }
-    ensures { λ r. ⌜ Holds (takenAfter 4 start) 8 r ⌝ }
+    ensures { λ r. ⌜ Holds (skipAt 4 start) 8 r ⌝ }
 {
     let mut plan = [0u16; 8];
     skipping::skip_plan(4, start, &mut plan);

@@ -160,19 +160,18 @@ unfolding lifted
 lifted-add A k j o = omega arith
 
 -- the grid's period: 2^(K-1) ticks, for every count
-pub channel-period : (A K k d t n : ℕ) → k ≤ K → d < k →
-    channelCell A K k d (t + 2 ^ (K - 1) * n) ≡ channelCell A K k d t
-channel-period A K k d t n high l =
+pub channel-period : (A K k d t : ℕ) → k ≤ K → d < k → channelCell A K k d (t + 2 ^ (K - 1)) ≡ channelCell A K k d t
+channel-period A K k d t high l =
     let w : ℕ = slot K k in
     let h : w * 2 ^ (k - 1) ≡ 2 ^ (K - 1) = half-cells K k (omega arith) high in
-    let e : t + 2 ^ (K - 1) * n ≡ t + w * (2 ^ (k - 1) * n) = ap (λ m. t + m * n) (sym h) ∙ omega arith in
-    let q : (t + 2 ^ (K - 1) * n) / w ≡ t / w + 2 ^ (k - 1) * n = ap (λ m. m / w) e ∙ add-mul-div-left t (2 ^ (k - 1) * n) (slot-pos K k) in
-    let r : (t + 2 ^ (K - 1) * n) % w ≡ t % w = ap (λ m. m % w) e ∙ add-mul-mod-self-left t w (2 ^ (k - 1) * n) in
+    let e : t + 2 ^ (K - 1) ≡ t + w * 2 ^ (k - 1) = ap (λ m. t + m) (sym h) in
+    let q : (t + 2 ^ (K - 1)) / w ≡ t / w + 2 ^ (k - 1) = ap (λ m. m / w) e ∙ add-mul-div-left t (2 ^ (k - 1)) (slot-pos K k) in
+    let r : (t + 2 ^ (K - 1)) % w ≡ t % w = ap (λ m. m % w) e ∙ add-mul-mod-self-left t w (2 ^ (k - 1)) in
     let p : 2 ^ (k - 1) ≡ 2 ^ d * 2 ^ (k - 1 - d) = pow-part d (k - 1) (omega arith) in
-    let x : lifted A k (t / w + 2 ^ (k - 1) * n) % 2 ^ d ≡ lifted A k (t / w) % 2 ^ d =
-    ap (λ m. m % 2 ^ d) (lifted-add A k (t / w) (2 ^ (k - 1) * n) ∙ ap (λ m. lifted A k (t / w) + m * n) p ∙ omega arith)
-    ∙ add-mul-mod-self-left (lifted A k (t / w)) (2 ^ d) (2 ^ (k - 1 - d) * n) in
-    cell-lifted A K k d (t + 2 ^ (K - 1) * n) (omega arith) ∙ rw (q, r, x) (sym (cell-lifted A K k d t (omega arith)))
+    let x : lifted A k (t / w + 2 ^ (k - 1)) % 2 ^ d ≡ lifted A k (t / w) % 2 ^ d =
+    ap (λ m. m % 2 ^ d) (lifted-add A k (t / w) (2 ^ (k - 1)) ∙ ap (λ m. lifted A k (t / w) + m) p)
+    ∙ add-mul-mod-self-left (lifted A k (t / w)) (2 ^ d) (2 ^ (k - 1 - d)) in
+    cell-lifted A K k d (t + 2 ^ (K - 1)) (omega arith) ∙ rw (q, r, x) (sym (cell-lifted A K k d t (omega arith)))
 
 -- every channel carries one of the 2^K cells
 pub cell-within : (A K k d t : ℕ) → k ≤ K → d < k → channelCell A K k d t < 2 ^ K

@@ -3,9 +3,9 @@
 use mathlib.Core.Path.{_≡_, refl, sym, ap, _∙_}
 use mathlib.Core.Bool.{Bool, true, false, not, false≢true}
 use mathlib.Core.Logic.{_⊎_, inl, inr, ⊎-elim}
-use Prim.Native.Nat.{ℕ, zero, suc, _+_, _-_, _*_, _/_, _%_, _^_, _≤_, _<_}
+use Prim.Native.Nat.{ℕ, zero, suc, _+_, _-_, _%_, _^_, _≤_, _<_}
 use native.Mathlib.Omega.{arith}
-use native.Mathlib.Nat.{add-zero, add-suc, mod-add-div, le-antisymm}
+use native.Mathlib.Nat.{add-zero, add-suc, le-antisymm}
 use lib.Dec.{ltb, eqb}
 use borrow.Author.Tests.{ltb-true, ltb-false, eqb-true, eqb-false, lt-ltb, le-ltb, eq-eqb, ne-eqb, not-true, not-false}
 use Rattle.rules.specs.Refusals.{pick}
@@ -220,30 +220,25 @@ lanes-apart A K l m t floor a b e =
 -- ---- the period
 
 -- lanes repeat with the grid's period
-module _ (A K t n : ℕ) (floor : A ≤ K) where
-  same-in : (k c : ℕ) → k ≤ K → isInG A K k (t + 2 ^ (K - 1) * n) c ≡ isInG A K k t c
+module _ (A K t : ℕ) (floor : A ≤ K) where
+  same-in : (k c : ℕ) → k ≤ K → isInG A K k (t + 2 ^ (K - 1)) c ≡ isInG A K k t c
   unfolding isInG
   same-in k c l =
-      some-ext (λ d. eqb (channelCell A K k d (t + 2 ^ (K - 1) * n)) c) (λ d. eqb (channelCell A K k d t) c) k
-      (λ d b. ap (λ x. eqb x c) (channel-period A K k d t n l b))
+      some-ext (λ d. eqb (channelCell A K k d (t + 2 ^ (K - 1))) c) (λ d. eqb (channelCell A K k d t) c) k
+      (λ d b. ap (λ x. eqb x c) (channel-period A K k d t l b))
 
-  same-added : (l : ℕ) → l < K → addedChannel A K l (t + 2 ^ (K - 1) * n) ≡ addedChannel A K l t
+  same-added : (l : ℕ) → l < K → addedChannel A K l (t + 2 ^ (K - 1)) ≡ addedChannel A K l t
   unfolding addedChannel isAdded
   same-added l b =
-      first-ext (isAdded A K l (t + 2 ^ (K - 1) * n)) (isAdded A K l t) (suc l)
-      (λ d i. ap not (ap (isInG A K l (t + 2 ^ (K - 1) * n)) (channel-period A K (suc l) d t n b i) ∙ same-in l (channelCell A K (suc l) d t) (omega arith)))
+      first-ext (isAdded A K l (t + 2 ^ (K - 1))) (isAdded A K l t) (suc l)
+      (λ d i. ap not (ap (isInG A K l (t + 2 ^ (K - 1))) (channel-period A K (suc l) d t b i) ∙ same-in l (channelCell A K (suc l) d t) (omega arith)))
 
-  pub lane-period : (l : ℕ) → l < K → laneCell A K l (t + 2 ^ (K - 1) * n) ≡ laneCell A K l t
+  pub lane-period : (l : ℕ) → l < K → laneCell A K l (t + 2 ^ (K - 1)) ≡ laneCell A K l t
   unfolding laneCell
   lane-period l b =
-      ⊎-elim (λ h. rw h (channel-period A K A l t n floor (ltb-true l A h)))
+      ⊎-elim (λ h. rw h (channel-period A K A l t floor (ltb-true l A h)))
       (λ h. rw h
       (let f : A ≤ l = ltb-false l A h in
       let s : addedChannel A K l t ≤ l = rw (added-spare A K l t f b) (spare-le A K l t) in
-      ap (λ d. channelCell A K (suc l) d (t + 2 ^ (K - 1) * n)) (same-added l b) ∙ channel-period A K (suc l) (addedChannel A K l t) t n b (omega arith)))
+      ap (λ d. channelCell A K (suc l) d (t + 2 ^ (K - 1))) (same-added l b) ∙ channel-period A K (suc l) (addedChannel A K l t) t b (omega arith)))
       (decide (ltb l A))
-
--- so a lane's cell may be looked up by the tick's remainder
-pub lane-looked-up : (A K l t : ℕ) → A ≤ K → l < K → laneCell A K l t ≡ laneCell A K l (t % 2 ^ (K - 1))
-lane-looked-up A K l t floor b =
-    ap (laneCell A K l) (sym (mod-add-div t (2 ^ (K - 1)))) ∙ lane-period A K (t % 2 ^ (K - 1)) (t / 2 ^ (K - 1)) floor l b

@@ -4,6 +4,6 @@ pub mod Ticks
 pub mod Channels
 pub mod Lanes
 pub mod Zeros
-pub mod Plan
+pub mod Carriers
 pub mod Signed
 pub mod Bounds

@@ -4,7 +4,7 @@ use mathlib.Core.Path.{_≡_, refl, sym, ap, _∙_}
 use mathlib.Core.Logic.{⊎-elim}
 use Prim.Native.Nat.{ℕ, zero, suc, _+_, _-_, _*_, _/_, _%_, _^_, _≤_, _<_}
 use native.Mathlib.Omega.{arith}
-use native.Mathlib.Nat.{add-mul-mod-self-left, mod-eq-of-lt, div-add-mod, le-antisymm}
+use native.Mathlib.Nat.{add-mul-mod-self-left, mod-eq-of-lt, mod-lt, div-add-mod, le-antisymm}
 use lib.Arith.{digits-div}
 use lib.Count.{leadingZeros, leading-top}
 use lib.Dec.{ltb}
@@ -24,6 +24,26 @@ mod-same m x y a b e =
 
 pub div-unique : (m q r y : ℕ) → r < m → y ≡ q * m + r → y / m ≡ q
 div-unique m q r y l e = ap (λ n. n / m) e ∙ digits-div q l
+
+-- how many steps there are from x on until the remainder by P is that of n
+abbrev pub until : ℕ → ℕ → ℕ → ℕ
+until P x n = (n + (P - x % P)) % P
+
+pub turn-to : (P x n : ℕ) → 0 < P → P ≤ n → n < 2 * P → (x + until P x n) % P ≡ n - P
+turn-to P x n p l h =
+    let y : ℕ = n + (P - x % P) in
+    let r : x % P < P = mod-lt x p in
+    let d : P * (x / P) + x % P ≡ x = div-add-mod x P in
+    let e : P * (y / P) + y % P ≡ y = div-add-mod y P in
+    mod-unique P (n - P) (x + y % P) (y / P) (x / P + 2) (omega arith) (omega arith)
+
+-- and they are the only ones below P
+pub turn-only : (P x n o : ℕ) → 0 < P → P ≤ n → n < 2 * P → o < P → (x + o) % P ≡ n - P → until P x n ≡ o
+turn-only P x n o p l h b e =
+    let r : x % P < P = mod-lt x p in
+    let d : P * (x / P) + x % P ≡ x = div-add-mod x P in
+    let f : P * ((x + o) / P) + (x + o) % P ≡ x + o = div-add-mod (x + o) P in
+    mod-unique P o (n + (P - x % P)) ((x + o) / P) (x / P + 2) b (omega arith)
 
 -- a power taken apart at a smaller one
 pub pow-part : (i k : ℕ) → i ≤ k → 2 ^ k ≡ 2 ^ i * 2 ^ (k - i)

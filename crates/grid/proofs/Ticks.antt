@@ -1,14 +1,12 @@
--- Laws of slots and of the tick's length: how the slots of two counts lie to each other, and where slots start.
+-- Laws of slots and of the tick's length: how the slots of two counts lie to each other, and how many there are.
 -- Rest on the laws of powers and remainders.
 use mathlib.Core.Path.{_≡_, refl, sym, ap, _∙_}
-use mathlib.Core.Bool.{true}
 use Prim.Native.Nat.{ℕ, zero, suc, _+_, _-_, _*_, _/_, _%_, _^_, _≤_, _<_}
 use native.Mathlib.Omega.{arith}
-use native.Mathlib.Nat.{mod-lt, div-add-mod', le-div-iff-mul-le, div-le-of-le-mul, mul-le-mul}
+use native.Mathlib.Nat.{mod-lt, div-add-mod', le-div-iff-mul-le, div-le-of-le-mul, mul-le-mul, mul-le-mul-right}
 use lib.Pow.{pow-pos, pow-add, pow-lt, pow-mono}
-use borrow.Author.Tests.{eqb-true}
 use Rattle.rules.specs.Limits.{countMax, lengthMax}
-use Rattle.grid.specs.Ticks.{slot, isSlotStart, roundedUp, tickOf}
+use Rattle.grid.specs.Ticks.{slot, roundedUp, tickOf}
 use Rattle.grid.specs.Bounds.{Exactly}
 
 pub slot-pos : (K k : ℕ) → 0 < slot K k
@@ -33,13 +31,13 @@ all-cells K k l =
     let e : K ≡ (K - k) + k = omega arith in
     sym (ap (λ n. 2 ^ n) e ∙ pow-add 2 (K - k) k)
 
--- a slot start is a whole number of slots
-pub slot-start : (K k a : ℕ) → isSlotStart K k a ≡ true → a / slot K k * slot K k ≡ a
-unfolding isSlotStart
-slot-start K k a h =
-    let e : a % slot K k ≡ 0 = eqb-true (a % slot K k) 0 h in
-    let d : a / slot K k * slot K k + a % slot K k ≡ a = div-add-mod' a (slot K k) in
-    omega arith
+-- a tick within a channel's window is one of fewer ticks than there are cells
+pub window-lt : (K k d o r : ℕ) → k ≤ K → d < k → o < 2 ^ d → r < slot K k → o * slot K k + r < 2 ^ K
+window-lt K k d o r high l b c =
+    let w : ℕ = slot K k in
+    let m : suc o * w ≤ 2 ^ d * w = mul-le-mul-right w b in
+    let n : 2 ^ d * w ≤ 2 ^ k * w = mul-le-mul-right w (pow-mono (omega arith)) in
+    omega (arith, all-cells K k high)
 
 -- a tick that is rounded up is long enough
 pub rounded-enough : (n m : ℕ) → 0 < m → n ≤ roundedUp n m * m

@@ -1,7 +1,5 @@
 -- Cells, ticks and slots (01, "Cells, ticks, slots"; source 000, section III-A).
-use Prim.Native.Nat.{ℕ, _+_, _-_, _*_, _/_, _%_, _^_}
-use mathlib.Core.Bool.{Bool}
-use lib.Dec.{ltb, eqb}
+use Prim.Native.Nat.{ℕ, _+_, _-_, _*_, _/_, _^_}
 
 -- how many cells a film with cap K is cut into
 abbrev pub cells : ℕ → ℕ
@@ -15,17 +13,9 @@ roundedUp n m = (n + (m - 1)) / m
 unfoldable pub tickOf : ℕ → ℕ → ℕ → ℕ
 tickOf D A K = roundedUp D (2 ^ K - 2 ^ (K - A))
 
--- cell c holds film, and is no padding
-unfoldable pub holdsFilm : ℕ → ℕ → ℕ → ℕ → Bool
-holdsFilm D A K c = ltb (c * tickOf D A K) D
-
 -- w, the ticks in a slot of count k
 unfoldable pub slot : ℕ → ℕ → ℕ
 slot K k = 2 ^ (K - k)
-
--- tick t is a slot start of count k
-unfoldable pub isSlotStart : ℕ → ℕ → ℕ → Bool
-isSlotStart K k t = eqb (t % slot K k) 0
 
 -- the r-th cell, from 0, of segment n = 1, 2, .. of count k
 unfoldable pub cellOf : ℕ → ℕ → ℕ → ℕ → ℕ

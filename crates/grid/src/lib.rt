@@ -6,7 +6,7 @@ ghost use mathlib.Core.Path.{_≡_};
 ghost use lib.IntN.{pos, _-ℤ_};
 ghost use lib.Count.{trailingZeros};
 ghost use Rattle.rules.specs.Limits.{countMax};
-ghost use Rattle.grid.specs.Ticks.{slot as slotOf, isSlotStart, tickOf, holdsFilm};
+ghost use Rattle.grid.specs.Ticks.{slot as slotOf, tickOf};
 ghost use Rattle.grid.specs.Channels.{floorRem, shift as shiftOf, channelCell};
 ghost use Rattle.grid.specs.Lanes.{isInG, addedChannel, laneCell};
 ghost use Rattle.grid.specs.Bounds.{
@@ -38,14 +38,6 @@ pub fn slot(cap: u64, count: u64) -> u64
     pow2(cap - count)
 }
 
-// Whether `tick` is a slot start of count `count`.
-pub fn is_slot_start(cap: u64, count: u64, tick: u64) -> bool
-    requires { ⌜ CountCap count cap ⌝ }
-    ensures { λ r. ⌜ r ≡ isSlotStart cap count tick ⌝ }
-{
-    tick % slot(cap, count) == 0
-}
-
 // The tick, in ms, of a film of `length` ms.
 pub fn tick(length: u64, floor: u64, cap: u64) -> u64
     requires { ⌜ Length length ⌝ }
@@ -54,16 +46,6 @@ pub fn tick(length: u64, floor: u64, cap: u64) -> u64
 {
     let held = pow2(cap) - pow2(cap - floor);
     (length + (held - 1)) / held
-}
-
-// Whether cell `cell` of a film of `length` ms holds film, and is no padding.
-pub fn holds_film(length: u64, floor: u64, cap: u64, cell: u64) -> bool
-    requires { ⌜ Length length ⌝ }
-    requires { ⌜ FloorCap floor cap ⌝ }
-    requires { ⌜ cell < 2 ^ cap ⌝ }
-    ensures { λ r. ⌜ r ≡ holdsFilm length floor cap cell ⌝ }
-{
-    cell * tick(length, floor, cap) < length
 }
 
 // By how many slots slot j lies after slot s: below zero where it lies before.

@@ -4,9 +4,9 @@ use mathlib.Core.Path.{_≡_, refl, sym, ap, _∙_}
 use mathlib.Core.Bool.{Bool, true, false, not}
 use mathlib.Core.List.{List}
 use mathlib.Core.Logic.{⊎-elim}
-use Prim.Native.Nat.{ℕ, zero, suc, _+_, _*_, _^_, _≤_, _<_}
+use Prim.Native.Nat.{ℕ, zero, suc, _+_, _^_, _≤_, _<_}
 use native.Mathlib.Omega.{arith}
-use lib.Dec.{leb, ltb, eqb}
+use lib.Dec.{leb, eqb}
 use lib.ListN.{getD, set}
 use borrow.Author.Tests.{leb-true}
 use Rattle.rules.specs.Limits.{both}
@@ -38,8 +38,7 @@ module _ (t : Title) (r marks : List ℕ) (L : Life) (M : MarkedBy t marks (tick
     unfolding isWhole
     whole-is a = ap (λ k. leb (a + k) (ticksIn r)) (cut ∙ sym (ap (λ k. 2 ^ k) (M .same-cap)))
 
-    film-is : (c : ℕ) → ltb (c * τ) (t .length) ≡ isFilm L c
-    unfolding filmIn
+    film-is : (c : ℕ) → filmIn (t .length) τ c ≡ isFilm L c
     film-is c = rw (timed, M .same-kind, M .same-length, M .same-floor, M .same-cap) refl
 
     unseen-missed : (a c : ℕ) → isUnseen (t .length) τ r a c ≡ isMissed L r a c

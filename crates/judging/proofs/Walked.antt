@@ -4,7 +4,7 @@ use mathlib.Core.Path.{_≡_, refl, sym, ap, _∙_}
 use mathlib.Core.Bool.{Bool, true, false, not, false≢true}
 use mathlib.Core.List.{List, [], _∷_}
 use mathlib.Core.Logic.{_⊎_, inl, inr, ⊎-elim}
-use Prim.Native.Nat.{ℕ, zero, suc, _+_, _-_, _*_, _≤_, _<_}
+use Prim.Native.Nat.{ℕ, zero, suc, _+_, _-_, _≤_, _<_}
 use native.Mathlib.Omega.{arith}
 use native.Mathlib.Numerals.{add-one}
 use native.Mathlib.Nat.{le-antisymm}
@@ -15,6 +15,7 @@ use borrow.Author.Tests.{ltb-true, ltb-false, lt-ltb, eqb-true, eqb-false}
 use Rattle.rules.specs.Limits.{both, either, lanePlaces, planPlaces}
 use Rattle.rules.specs.Refusals.{pick}
 use Rattle.rules.specs.Search.{some, first}
+use Rattle.scheme.specs.Scheme.{filmIn}
 use Rattle.rules.proofs.Tests.{decide, fails, pick-true, pick-false}
 use Rattle.rules.proofs.Search.{some-in, some-none, first-hit, first-least, first-ext}
 use Rattle.judging.specs.Record.{nothingSeen, lowest, ticksIn, seen, isShown, isInTime}
@@ -120,7 +121,7 @@ module _ (r : List ℕ) (a : ℕ) (next : List ℕ) where
 
     pub late-unseen : (D τ : ℕ) → isLate D τ next a c ≡ isUnseen D τ r a c
     unfolding isLate isUnseen
-    late-unseen D τ = ap (both (ltb (c * τ) D)) late-unseen-at
+    late-unseen D τ = ap (both (filmIn D τ c)) late-unseen-at
 
 -- ---- the lowest
 

@@ -1,6 +1,6 @@
 -- How the code judges: backwards over the ticks, with for each cell the next tick at which some lane shows it, then forwards
 -- over the marks. The contract of `judge` cites nothing of this; proofs/ shows that it comes to what a life says.
-use Prim.Native.Nat.{ℕ, zero, suc, _+_, _*_, _≤_, _<_}
+use Prim.Native.Nat.{ℕ, zero, suc, _+_, _≤_, _<_}
 use mathlib.Core.Path.{_≡_}
 use mathlib.Core.Bool.{Bool, true, false, not}
 use mathlib.Core.List.{List}
@@ -8,6 +8,7 @@ use lib.Dec.{leb, ltb, eqb}
 use lib.ListN.{getD, length, set}
 use Rattle.rules.specs.Limits.{both, planPlaces}
 use Rattle.rules.specs.Refusals.{pick}
+use Rattle.scheme.specs.Scheme.{filmIn}
 use Rattle.judging.specs.declared.Counts.{Counts}
 use Rattle.judging.specs.Record.{nothingSeen, lowest, ticksMax, ticksIn, seen, isShown, isInTime}
 
@@ -25,11 +26,11 @@ pub record Nexts (r : List ℕ) (a : ℕ) (next : List ℕ) : Type 0 where
 
 -- of a film of D ms with ticks of τ ms, cell c holds film and is next shown after its turn, for a box that begins at tick a
 unfoldable pub isLate : ℕ → ℕ → List ℕ → ℕ → ℕ → Bool
-isLate D τ next a c = both (ltb (c * τ) D) (ltb (a + c) (getD next c 0))
+isLate D τ next a c = both (filmIn D τ c) (ltb (a + c) (getD next c 0))
 
 -- the same by the record
 unfoldable pub isUnseen : ℕ → ℕ → List ℕ → ℕ → ℕ → Bool
-isUnseen D τ r a c = both (ltb (c * τ) D) (not (isInTime r a c))
+isUnseen D τ r a c = both (filmIn D τ c) (not (isInTime r a c))
 
 -- for each tick from tick a on from which as many ticks as there are cells lie in the record, the lowest cell that is unseen
 pub record Results (r : List ℕ) (cells D τ a : ℕ) (found : List ℕ) : Type 0 where

@@ -2,29 +2,20 @@
 -- alone, for one period. Rests on the law that no two lanes have a cell in common.
 use mathlib.Core.Path.{_≡_, refl, sym, _∙_}
 use mathlib.Core.Bool.{Bool, true, false}
-use mathlib.Core.Logic.{⊎-elim}
 use Prim.Native.Nat.{ℕ, suc, _+_, _≤_, _<_}
 use native.Mathlib.Omega.{arith}
 use native.Mathlib.Nat.{le-antisymm}
 use lib.Dec.{leb, ltb, eqb}
 use lib.ListN.{getD}
-use borrow.Author.Tests.{leb-true, le-leb, lt-ltb, ltb-true, ltb-false, eqb-true, eq-eqb}
+use borrow.Author.Tests.{leb-true, le-leb, lt-ltb, eqb-true, eq-eqb}
 use Rattle.rules.specs.Limits.{both}
-use Rattle.rules.proofs.Tests.{decide, both-l, both-r}
-use Rattle.grid.proofs.Plan.{some-one}
+use Rattle.rules.proofs.Tests.{both-l, both-r}
+use Rattle.grid.proofs.Carriers.{some-one}
 use Rattle.scheme.specs.Scheme.{steadyKind, steadyCell, period}
-use Rattle.scheme.proofs.Steady.{apart}
+use Rattle.scheme.proofs.SteadyLanes.{one-lane}
 use Rattle.scheme.proofs.Which.{steady-scheme}
 use Rattle.story.specs.declared.Title.{Title}
 use Rattle.story.specs.Kept.{schemeIn, wantsFrom, wants, keptAwaited}
-
--- a cell goes out on one lane
-one-lane : (d l u : ℕ) → steadyCell d u ≡ steadyCell l u → d ≡ l
-one-lane d l u e =
-    ⊎-elim (λ b. absurd (apart d l u (ltb-true d l b) e))
-    (λ b. ⊎-elim (λ c. absurd (apart l d u (ltb-true l d c) (sym e)))
-    (λ c. le-antisymm (ltb-false l d c) (ltb-false d l b)) (decide (ltb l d)))
-    (decide (ltb d l))
 
 both-true : (b : Bool) → both b true ≡ b
 both-true true = refl
@@ -34,31 +25,31 @@ module _ (t : Title) (is : t .kind ≡ steadyKind) (l x u : ℕ) (own : x ≡ sc
   own-cell : x ≡ steadyCell l u
   own-cell = rw (steady-scheme (t .kind) (t .floor) (t .cap) is) at own
 
-  wants-on : (c d : ℕ) → wantsFrom t x u c d ≡ both (ltb (u + 1) (getD (t .ends) c 0 + period d)) (eqb (steadyCell d u) x)
+  wants-on : (c d : ℕ) → wantsFrom (schemeIn t) (getD (t .ends) c 0) x u c d ≡ both (ltb (u + 1) (getD (t .ends) c 0 + period d)) (eqb (steadyCell d u) x)
   unfolding wantsFrom
   wants-on c d = rw (steady-scheme (t .kind) (t .floor) (t .cap) is) refl
 
-  wants-own : (c : ℕ) → l < c → wants t x u c ≡ both (ltb 0 (getD (t .ends) c 0)) (ltb (u + 1) (getD (t .ends) c 0 + period l))
+  wants-own : (c : ℕ) → l < c → wants (schemeIn t) (getD (t .ends) c 0) x u c ≡ both (ltb 0 (getD (t .ends) c 0)) (ltb (u + 1) (getD (t .ends) c 0 + period l))
   unfolding wants
   wants-own c has =
       let late : Bool = ltb (u + 1) (getD (t .ends) c 0 + period l) in
-      rw (some-one (wantsFrom t x u c) c l only, wants-on c l, lt-ltb l c has, eq-eqb (steadyCell l u) x (sym own-cell), both-true late) refl
+      rw (some-one (wantsFrom (schemeIn t) (getD (t .ends) c 0) x u c) c l only, wants-on c l, lt-ltb l c has, eq-eqb (steadyCell l u) x (sym own-cell), both-true late) refl
     where
-      only : (e : ℕ) → e < c → wantsFrom t x u c e ≡ true → e ≡ l
+      only : (e : ℕ) → e < c → wantsFrom (schemeIn t) (getD (t .ends) c 0) x u c e ≡ true → e ≡ l
       only e b h =
           let on : steadyCell e u ≡ x =
           eqb-true (steadyCell e u) x (both-r (ltb (u + 1) (getD (t .ends) c 0 + period e)) (eqb (steadyCell e u) x) (sym (wants-on c e) ∙ h)) in
-          one-lane e l u (on ∙ own-cell)
+          one-lane e l u u (on ∙ own-cell)
 
   pub awaited-own : t .floor ≡ t .cap → l < t .cap →
       keptAwaited t l x u ≡ both (ltb 0 (getD (t .ends) (t .cap) 0)) (ltb (u + 1) (getD (t .ends) (t .cap) 0 + period l))
   unfolding keptAwaited
   awaited-own flat has =
-      some-one (λ c. both (ltb l c) (both (leb (t .floor) c) (wants t x u c))) (suc (t .cap)) (t .cap) only
+      some-one (λ c. both (ltb l c) (both (leb (t .floor) c) (wants (schemeIn t) (getD (t .ends) c 0) x u c))) (suc (t .cap)) (t .cap) only
       ∙ rw (lt-ltb (t .cap) (suc (t .cap)) (omega arith), lt-ltb l (t .cap) has, le-leb (t .floor) (t .cap) (omega arith)) (wants-own (t .cap) has)
     where
-      only : (e : ℕ) → e < suc (t .cap) → both (ltb l e) (both (leb (t .floor) e) (wants t x u e)) ≡ true → e ≡ t .cap
+      only : (e : ℕ) → e < suc (t .cap) → both (ltb l e) (both (leb (t .floor) e) (wants (schemeIn t) (getD (t .ends) e 0) x u e)) ≡ true → e ≡ t .cap
       only e b h =
           let low : t .floor ≤ e =
-          leb-true (t .floor) e (both-l (leb (t .floor) e) (wants t x u e) (both-r (ltb l e) (both (leb (t .floor) e) (wants t x u e)) h)) in
+          leb-true (t .floor) e (both-l (leb (t .floor) e) (wants (schemeIn t) (getD (t .ends) e 0) x u e) (both-r (ltb l e) (both (leb (t .floor) e) (wants (schemeIn t) (getD (t .ends) e 0) x u e)) h)) in
           le-antisymm (omega arith) (omega arith)

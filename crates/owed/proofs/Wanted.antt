@@ -1,6 +1,6 @@
 -- Under a count a cell goes out on one channel only, so that the latest boxes of the count want it from there or not at
 -- all: where it goes out, just while they take that channel. A lane's own cell goes out under every count that has the
--- lane. Rests on the grid's laws of lanes and of the plan.
+-- lane. Rests on the grid's laws of lanes and of the one channel of a cell.
 use mathlib.Core.Path.{_≡_, refl, sym, ap, _∙_}
 use mathlib.Core.Bool.{Bool, true, false}
 use Prim.Native.Nat.{ℕ, _+_, _*_, _^_, _≤_, _<_}
@@ -16,24 +16,23 @@ use Rattle.grid.specs.Channels.{channelCell}
 use Rattle.grid.specs.Lanes.{isInG, laneCell}
 use Rattle.grid.specs.Bounds.{Carrier}
 use Rattle.grid.proofs.Lanes.{isInG-in, cell-of-lane}
-use Rattle.grid.proofs.Plan.{carries-only, carrier-one, some-one, in-carried}
-use Rattle.scheme.specs.Scheme.{Scheme, steadyKind}
+use Rattle.grid.proofs.Carriers.{carries-only, carrier-one, some-one, in-carried}
+use Rattle.scheme.specs.Scheme.{Scheme, padded, steadyKind}
 use Rattle.scheme.proofs.Which.{padded-scheme}
 use Rattle.story.specs.declared.Title.{Title}
-use Rattle.story.specs.Kept.{wantsFrom, wants}
-use Rattle.owed.specs.Owing.{takesFrom, takes}
+use Rattle.story.specs.Kept.{schemeIn, wantsFrom, wants}
 
 both-true : (b : Bool) → both b true ≡ b
 both-true true = refl
 both-true false = refl
 
 module _ (A K c end x u : ℕ) where
-  takes-carried : (d : ℕ) → Carrier K c x d
-      → some (takesFrom A K c end x u) c ≡ both (ltb d c) (takesFrom A K c end x u d)
-  unfolding takesFrom
-  takes-carried d h = some-one (takesFrom A K c end x u) c d only
+  wants-carried : (d : ℕ) → Carrier K c x d
+      → some (wantsFrom (padded A K) end x u c) c ≡ both (ltb d c) (wantsFrom (padded A K) end x u c d)
+  unfolding wantsFrom
+  wants-carried d h = some-one (wantsFrom (padded A K) end x u c) c d only
     where
-      only : (e : ℕ) → e < c → takesFrom A K c end x u e ≡ true → e ≡ d
+      only : (e : ℕ) → e < c → wantsFrom (padded A K) end x u c e ≡ true → e ≡ d
       only e l b =
           let w : ℕ = slot K c in
           let on : channelCell A K c e u ≡ x =
@@ -49,23 +48,19 @@ module _ (A K c end x u : ℕ) where
     pub channel-low : d < c
     channel-low = ltb-true d c (both-l (ltb d c) (eqb (channelCell A K c d u) x) carried)
 
-    pub takes-window : 0 < end → takes A K c end x u ≡ ltb (u + slot K c) (end + slot K c * 2 ^ d)
-    unfolding takes takesFrom
-    takes-window ruled =
+    pub wants-window : 0 < end → wants (padded A K) end x u c ≡ ltb (u + slot K c) (end + slot K c * 2 ^ d)
+    unfolding wants wantsFrom
+    wants-window ruled =
         rw (lt-ltb 0 end ruled)
-        (takes-carried d h
+        (wants-carried d h
         ∙ rw (both-l (ltb d c) (eqb (channelCell A K c d u) x) carried, both-r (ltb d c) (eqb (channelCell A K c d u) x) carried)
         (both-true (ltb (u + slot K c) (end + slot K c * 2 ^ d))))
 
 -- of a count of a title on the padded grid
-pub takes-wants : (t : Title) (x u c : ℕ) → (t .kind ≡ steadyKind → ⊥)
-    → takes (t .floor) (t .cap) c (getD (t .ends) c 0) x u ≡ wants t x u c
-unfolding wants wantsFrom takes takesFrom
-takes-wants t x u c off =
-    ap
-    (λ (S : Scheme). both (ltb 0 (getD (t .ends) c 0))
-    (some (λ d. both (ltb (u + S .slotOf c) (getD (t .ends) c 0 + S .span c d)) (eqb (S .onChannel c d u) x)) c))
-    (sym (padded-scheme (t .kind) (t .floor) (t .cap) off))
+pub padded-wants : (t : Title) (x u c : ℕ) → (t .kind ≡ steadyKind → ⊥)
+    → wants (padded (t .floor) (t .cap)) (getD (t .ends) c 0) x u c ≡ wants (schemeIn t) (getD (t .ends) c 0) x u c
+padded-wants t x u c off =
+    ap (λ (S : Scheme). wants S (getD (t .ends) c 0) x u c) (sym (padded-scheme (t .kind) (t .floor) (t .cap) off))
 
 -- and of the counts that have lane l, which all have its cell
 pub own-cell : (A K l k u x : ℕ) → k ≤ K → l < k → x ≡ laneCell A K l u → A ≤ k → isInG A K k u x ≡ true

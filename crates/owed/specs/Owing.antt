@@ -1,12 +1,8 @@
 -- The numbers of a title by which its owed ticks are read, within their limits (01, "What the product holds").
-use Rattle.rules.specs.Limits.{both, countPlaces, lanePlaces}
-use Rattle.rules.specs.Search.{some}
-use Prim.Native.Nat.{ℕ, _+_, _*_, _^_, _≤_}
+use Rattle.rules.specs.Limits.{countPlaces, lanePlaces}
+use Prim.Native.Nat.{_≤_}
 use mathlib.Core.Path.{_≡_}
-use mathlib.Core.Bool.{Bool, true}
-use lib.Dec.{ltb, eqb}
-use Rattle.grid.specs.Ticks.{slot}
-use Rattle.grid.specs.Channels.{channelCell}
+use mathlib.Core.Bool.{true}
 use Rattle.story.specs.declared.Title.{Title}
 use Rattle.story.specs.Kept.{rowOk}
 use Rattle.measures.specs.Film.{Film}
@@ -24,10 +20,3 @@ pub record Sending (t : Title) : Type 0 where
 pub record Changeable (t : Title) : Type 0 where
   pub owing : Owing t
   pub ruled : t .count ≤ t .cap
-
--- what story specs/Kept says of a count of a title (`wantsFrom`, `wants`), of that count's numbers alone
-unfoldable pub takesFrom : ℕ → ℕ → ℕ → ℕ → ℕ → ℕ → ℕ → Bool
-takesFrom A K c end x u d = both (ltb (u + slot K c) (end + slot K c * 2 ^ d)) (eqb (channelCell A K c d u) x)
-
-unfoldable pub takes : ℕ → ℕ → ℕ → ℕ → ℕ → ℕ → Bool
-takes A K c end x u = both (ltb 0 end) (some (takesFrom A K c end x u) c)

@@ -17,9 +17,9 @@ ghost use lib.Dec.{leb, ltb};
 ghost use Rattle.rules.specs.Limits.{both, askedMax, countMax};
 ghost use Rattle.grid.specs.Lanes.{isInG, laneCell};
 ghost use Rattle.grid.specs.Bounds.{Exactly, CountCap, IsCell, tickMax};
-ghost use Rattle.scheme.specs.Scheme.{steadyKind, period as periodOf};
-ghost use Rattle.story.specs.Kept.{schemeIn, keptAwaited, keptOwed, keptWithin};
-ghost use Rattle.owed.specs.Owing.{Owing, takes};
+ghost use Rattle.scheme.specs.Scheme.{padded, steadyKind, period as periodOf};
+ghost use Rattle.story.specs.Kept.{schemeIn, wants, keptAwaited, keptOwed, keptWithin};
+ghost use Rattle.owed.specs.Owing.{Owing};
 
 // A cell that goes out at a tick is owed to the latest boxes of a count, whose slot ended at tick `end`, while they
 // take the channel that carries it. A count below the floor has no boxes, and neither has one that never ruled.
@@ -27,7 +27,7 @@ fn owed_to(floor: u64, cap: u64, count: u64, end: u64, cell: u64, tick: u64) -> 
     requires { ⌜ CountCap count cap ⌝ }
     requires { ⌜ (end ≤ askedMax) × ((cell < 2 ^ cap) × (tick ≤ tickMax)) ⌝ }
     requires { ⌜ (floor ≤ count → isInG floor cap count tick cell ≡ true) ⌝ }
-    ensures { λ r. ⌜ r ≡ both (leb floor count) (takes floor cap count end cell tick) ⌝ }
+    ensures { λ r. ⌜ r ≡ both (leb floor count) (wants (padded floor cap) end cell tick count) ⌝ }
 {
     if count < floor {
         return false;

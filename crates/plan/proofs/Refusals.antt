@@ -11,9 +11,9 @@ use Rattle.rules.specs.Refusals.{firstHit, done, outsideLimits, floorAboveCap, 
 use Rattle.rules.specs.Refusals.{notAtSlot, wrongRows}
 use Rattle.rules.proofs.Tests.{both-l, both-r}
 use Rattle.rules.proofs.Refusals.{hitsOf, numbered, cleared}
-use Rattle.grid.specs.Ticks.{isSlotStart}
 use Rattle.grid.specs.Bounds.{Counted}
-use Rattle.grid.specs.Plan.{planLimits, planRules, planAnswer}
+use Rattle.scheme.specs.Scheme.{padded, starts}
+use Rattle.plan.specs.Plan.{planLimits, planRules, planAnswer}
 
 module _ (A K k a n : ℕ) where
   pub refused-limits : planLimits A K k a ≡ false → planAnswer A K k a n ≡ outsideLimits
@@ -40,11 +40,11 @@ module _ (A K k a n : ℕ) where
       fit : A ≤ K
       fit = le-trans (c .floor) (c .fit)
 
-      pub refused-slot : isSlotStart K k a ≡ false → planAnswer A K k a n ≡ notAtSlot
+      pub refused-slot : starts (padded A K) k a ≡ false → planAnswer A K k a n ≡ notAtSlot
       unfolding planAnswer firstHit
       refused-slot s = rw (h, le-ltb K A fit, le-ltb k A (c .floor), le-ltb K k (c .fit), s) refl
 
-      module _ (s : isSlotStart K k a ≡ true) where
+      module _ (s : starts (padded A K) k a ≡ true) where
         pub refused-rows : n < 2 ^ K → planAnswer A K k a n ≡ wrongRows
         unfolding planAnswer firstHit
         refused-rows r =
@@ -76,7 +76,7 @@ module _ (A K k a n : ℕ) where
 -- a call that is not refused
 pub record Accepted (A K k a n : ℕ) : Type 0 where
   pub count : Counted A K k
-  pub start : isSlotStart K k a ≡ true
+  pub start : starts (padded A K) k a ≡ true
   pub arrival : a ≤ askedMax
   pub room : 2 ^ K ≤ n
 
@@ -88,7 +88,7 @@ accepted-only A K k a n e =
     let h : planLimits A K k a ≡ true = not-false (planLimits A K k a) (clear outsideLimits) in
     record {
       count = counted A K k a n h (ltb-false k A (clear belowFloor)) (ltb-false K k (clear aboveCap));
-      start = not-false (isSlotStart K k a) (clear notAtSlot);
+      start = not-false (starts (padded A K) k a) (clear notAtSlot);
       arrival = arrival-high A K k a n h;
       room = ltb-false n (2 ^ K) (clear wrongRows);
     }

@@ -1,6 +1,6 @@
 -- Laws of the lent row: the plan stands in its first 2^K places and what stood there in the later ones, its length stays,
 -- and a refusal leaves it as it was; so two outcomes of a call that its contract admits are equal.
--- Rest on the laws of stores into a list and of the grid's plan.
+-- Rest on the laws of stores into a list and of the plan's numbers.
 use mathlib.Core.Path.{_≡_, refl, sym, ap, _∙_}
 use mathlib.Core.Bool.{true, false}
 use mathlib.Core.List.{List}
@@ -15,10 +15,11 @@ use borrow.Author.Tests.{eq-eqb, ne-eqb}
 use Rattle.rules.specs.Refusals.{pick, done}
 use Rattle.rules.proofs.Search.{below-suc}
 use Rattle.grid.specs.Ticks.{cells, slot}
-use Rattle.grid.specs.Plan.{planAt, planAnswer, inPlan, never}
-use Rattle.grid.proofs.Plan.{plan-in, plan-only, plan-never}
+use Rattle.scheme.specs.Scheme.{padded, takes}
+use Rattle.plan.specs.Plan.{planAt, planAnswer, never}
 use Rattle.plan.specs.Row.{written, planRow, Planned}
 use Rattle.plan.proofs.Refusals.{accepted-only}
+use Rattle.plan.proofs.Places.{plan-in, plan-only, plan-never}
 
 module _ (f : ℕ → ℕ) (row : List ℕ) where
   -- one place more
@@ -73,13 +74,13 @@ module _ (A K k a : ℕ) (row : List ℕ) where
 
     -- every cell but the last w is taken at the number in its place, no later than its turn
     pub row-taken : (c : ℕ) → c < cells K - slot K k →
-        (inPlan A K k a c (a + getD (planRow A K k a row) c 0) ≡ true) × (getD (planRow A K k a row) c 0 ≤ c)
+        (takes (padded A K) k a c (a + getD (planRow A K k a row) c 0) ≡ true) × (getD (planRow A K k a row) c 0 ≤ c)
     row-taken c l =
         let t = accepted-only A K k a (length row) accepted in
-        rw (row-first c (omega arith)) (plan-in A K k a c (t .count .fit) (t .start) (t .count .floor) l)
+        rw (row-first c (omega arith)) (plan-in A K k a c (t .count .fit) (t .start) l)
 
     -- and at no other tick
-    pub row-only : (c t : ℕ) → c < cells K → inPlan A K k a c t ≡ true → getD (planRow A K k a row) c 0 ≡ t - a
+    pub row-only : (c t : ℕ) → c < cells K → takes (padded A K) k a c t ≡ true → getD (planRow A K k a row) c 0 ≡ t - a
     row-only c t l h =
         let u = accepted-only A K k a (length row) accepted in
         row-first c l ∙ plan-only A K k a c (u .count .fit) (u .start) t h

@@ -11,8 +11,9 @@ use Rattle.rules.specs.Refusals.{Rule, refuse, firstHit, done, outsideLimits, n
 use Rattle.rules.proofs.Refusals.{hit-same}
 use Rattle.rules.specs.Former.{formerly}
 use Rattle.rules.proofs.Former.{formerly-done, renumbered, former-hit, joined, outside}
-use Rattle.grid.specs.Ticks.{cells, isSlotStart}
-use Rattle.grid.specs.Plan.{planRules, planAnswer}
+use Rattle.grid.specs.Ticks.{cells}
+use Rattle.scheme.specs.Scheme.{padded, starts}
+use Rattle.plan.specs.Plan.{planRules, planAnswer}
 use Rattle.plan.specs.Former.{formerRules}
 
 module _ (A K k a n : ℕ) where
@@ -20,7 +21,7 @@ module _ (A K k a n : ℕ) where
   pub same-place : formerly (planAnswer A K k a n) ≡ firstHit (formerRules A K k a n)
   unfolding planAnswer renumbered
   same-place =
-      let rest : List Rule = refuse notAtSlot (not (isSlotStart K k a)) ∷ refuse wrongRows (ltb n (cells K)) ∷ [] in
+      let rest : List Rule = refuse notAtSlot (not (starts (padded A K) k a)) ∷ refuse wrongRows (ltb n (cells K)) ∷ [] in
       rw (outside A K k)
       (former-hit (planRules A K k a n)
       ∙ hit-same outsideLimits _ _ _ _ refl

@@ -5,14 +5,15 @@ use Prim.Native.Nat.{ℕ}
 use lib.Dec.{ltb}
 use Rattle.rules.specs.Limits.{either, within}
 use Rattle.rules.specs.Refusals.{Rule, refuse, outsideLimits, notAtSlot, wrongRows}
-use Rattle.grid.specs.Ticks.{cells, isSlotStart}
-use Rattle.grid.specs.Plan.{planLimits}
+use Rattle.grid.specs.Ticks.{cells}
+use Rattle.scheme.specs.Scheme.{padded, starts}
+use Rattle.plan.specs.Plan.{planLimits}
 
 -- 1 6 8 10
 abbrev pub formerRules : ℕ → ℕ → ℕ → ℕ → ℕ → List Rule
 formerRules A K k a n =
     refuse outsideLimits (not (planLimits A K k a))
     ∷ refuse 6 (either (ltb K A) (not (within A K k)))
-    ∷ refuse notAtSlot (not (isSlotStart K k a))
+    ∷ refuse notAtSlot (not (starts (padded A K) k a))
     ∷ refuse wrongRows (ltb n (cells K))
     ∷ []

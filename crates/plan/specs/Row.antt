@@ -6,7 +6,7 @@ use lib.Dec.{eqb}
 use lib.ListN.{length, set}
 use Rattle.rules.specs.Refusals.{pick, done}
 use Rattle.grid.specs.Ticks.{cells}
-use Rattle.grid.specs.Plan.{planAt, planAnswer}
+use Rattle.plan.specs.Plan.{planAt, planAnswer}
 
 -- the row with f's values in its first n places, and what stood there in the later ones
 unfoldable pub written : (ℕ → ℕ) → List ℕ → ℕ → List ℕ

@@ -5,11 +5,10 @@ ghost use mathlib.Core.Path.{_≡_};
 ghost use mathlib.Core.Bool.{true};
 ghost use lib.ListN.{length};
 ghost use Rattle.rules.specs.Limits.{askedMax};
-ghost use Rattle.grid.specs.Ticks.{isSlotStart};
 ghost use Rattle.grid.specs.Bounds.{Counted};
-ghost use Rattle.grid.specs.Plan.{planAt, planLimits, planAnswer};
+ghost use Rattle.scheme.specs.Scheme.{padded, starts as startsAt};
+ghost use Rattle.plan.specs.Plan.{planAt, planLimits, planAnswer};
 ghost use Rattle.plan.specs.Row.{written, Planned};
-use grid::is_slot_start;
 use grid::place;
 use grid::pow2;
 use grid::slot;
@@ -26,6 +25,8 @@ use rules::NOT_AT_SLOT;
 use rules::OUTSIDE_LIMITS;
 use rules::WRONG_ROWS;
 use rules::within;
+use scheme::PADDED;
+use scheme::starts;
 
 // The place of a cell that is never taken.
 pub const NEVER: u16 = 65_535;
@@ -58,7 +59,7 @@ pub fn answer(floor: u64, cap: u64, count: u64, arrival: u64, places: usize) -> 
         if cap < count {
             return ABOVE_CAP;
         }
-        if is_slot_start(cap, count, arrival) {
+        if starts(PADDED, floor, cap, count, arrival) {
             if (places as u64) < pow2(cap) {
                 return WRONG_ROWS;
             }
@@ -72,7 +73,7 @@ pub fn answer(floor: u64, cap: u64, count: u64, arrival: u64, places: usize) -> 
 // What the plan gives for cell `cell`: the slots until the channel that carries it has its segment, and the ticks within.
 fn plan_at(floor: u64, cap: u64, count: u64, arrival: u64, cell: u64) -> u16
     requires { ⌜ Counted floor cap count ⌝ }
-    requires { ⌜ isSlotStart cap count arrival ≡ true ⌝ }
+    requires { ⌜ startsAt (padded floor cap) count arrival ≡ true ⌝ }
     requires { ⌜ (arrival ≤ askedMax) × (cell < 2 ^ cap) ⌝ }
     ensures { λ r. ⌜ r ≡ planAt floor cap count arrival cell ⌝ }
 {
@@ -91,7 +92,7 @@ fn plan_at(floor: u64, cap: u64, count: u64, arrival: u64, cell: u64) -> u16
 // Writes the plan into the first 2^cap places of the row.
 fn fill(floor: u64, cap: u64, count: u64, arrival: u64, row: &mut [u16])
     requires { ⌜ Counted floor cap count ⌝ }
-    requires { ⌜ isSlotStart cap count arrival ≡ true ⌝ }
+    requires { ⌜ startsAt (padded floor cap) count arrival ≡ true ⌝ }
     requires { ⌜ (arrival ≤ askedMax) × (2 ^ cap ≤ length (now row)) ⌝ }
     ensures { λ _. ⌜ now (row .exit) ≡ written (planAt floor cap count arrival) (now (row .entry)) (2 ^ cap) ⌝ }
 {

@@ -13,12 +13,12 @@ use Rattle.rules.specs.Refusals.{pick, firstHit, outsideLimits}
 use Rattle.rules.proofs.Tests.{decide, either-false-l, either-false-r}
 use Rattle.grid.specs.Lanes.{laneCell}
 use Rattle.grid.specs.Bounds.{IsCell}
-use Rattle.scheme.specs.Scheme.{steadyKind, filmIn}
+use Rattle.scheme.specs.Scheme.{steadyKind, tickFor, filmIn}
 use Rattle.scheme.proofs.Which.{padded-scheme}
 use Rattle.story.specs.declared.Title.{Title}
 use Rattle.story.specs.declared.State.{State}
 use Rattle.story.specs.Life.{reach}
-use Rattle.story.specs.Kept.{absentMode, titleAt, isSteadyTitle, schemeIn, tickAt, ruling, keptAwaited, keptOwed, sendingTick, shows}
+use Rattle.story.specs.Kept.{absentMode, titleAt, isSteadyTitle, schemeIn, titleTick, tickAt, ruling, keptAwaited, keptOwed, sendingTick, shows}
 use Rattle.story.specs.Calls.{laneAnswer, laneShows}
 use Rattle.owed.proofs.Shown.{shows-active, shows-sending}
 use Rattle.verdicts.proofs.Event.{lane-id, lane-slot}
@@ -114,16 +114,16 @@ module _ (t : Title) (o : Own t) (l u x : ℕ) where
   pub own-lane : IsCell romCap (laneCell romFloor romCap l u) x → IsCell (t .cap) (schemeIn t .onLane l u) x
   own-lane h = rw (padded-scheme (t .kind) (t .floor) (t .cap) (o .kind), o .floor, o .cap) h
 
-  own-film : (b : Bool) → filmIn (t .kind) (t .length) romFloor romCap x ≡ b → filmIn (t .kind) (t .length) (t .floor) (t .cap) x ≡ b
+  own-film : (b : Bool) → filmIn (t .length) (tickFor (t .kind) (t .length) romFloor romCap) x ≡ b → filmIn (t .length) (titleTick t) x ≡ b
   own-film b h = rw (o .floor, o .cap) h
 
   module _ (cell : IsCell romCap (laneCell romFloor romCap l u) x) where
-    pub own-owed : (r : Bool) → filmIn (t .kind) (t .length) romFloor romCap x ≡ true → r ≡ keptAwaited t l x u
+    pub own-owed : (r : Bool) → filmIn (t .length) (tickFor (t .kind) (t .length) romFloor romCap) x ≡ true → r ≡ keptAwaited t l x u
         → r ≡ keptOwed t l u
     unfolding keptOwed
     own-owed r h w = rw (← own-lane cell .is, own-film true h) w
 
-    pub own-padding : filmIn (t .kind) (t .length) romFloor romCap x ≡ false → false ≡ keptOwed t l u
+    pub own-padding : filmIn (t .length) (tickFor (t .kind) (t .length) romFloor romCap) x ≡ false → false ≡ keptOwed t l u
     unfolding keptOwed
     own-padding h = rw (← own-lane cell .is, own-film false h) refl
 

@@ -1,5 +1,5 @@
 -- A test over a whole table holds at each of its entries; and a lane's entry for a tick is its cell at every tick that
--- lies whole periods away. Rests on the grid's period.
+-- lies whole periods away. Rests on the period of a lawful scheme's lanes.
 use mathlib.Core.Path.{_≡_, sym, ap₂, _∙_}
 use mathlib.Core.Bool.{Bool, true}
 use mathlib.Core.List.{List, [], _∷_}
@@ -14,7 +14,9 @@ use Rattle.rules.proofs.Tests.{both-l, both-r}
 use Rattle.grid.specs.Bounds.{IsCell}
 use Rattle.grid.specs.Lanes.{laneCell}
 use Rattle.grid.proofs.Channels.{cell-within}
-use Rattle.grid.proofs.Lanes.{cell-of-lane, lane-looked-up}
+use Rattle.grid.proofs.Lanes.{cell-of-lane}
+use Rattle.scheme.proofs.Padded.{padded-lawful}
+use Rattle.scheme.proofs.Lawful.{lane-looked-up}
 use Rattle.rom.specs.Table.{romFloor, romCap, romPeriod, romEntries, romEntry, passes, isEntry}
 
 -- ---- a test over a table
@@ -53,4 +55,4 @@ unfolding romEntry
 looked-up l t b =
     let r : t % romPeriod < romPeriod = mod-lt t (omega arith) in
     ap₂ (laneCell romFloor romCap) (digits-div l r) (digits-mod l r)
-    ∙ sym (lane-looked-up romFloor romCap l t (omega arith) b)
+    ∙ sym (lane-looked-up (padded-lawful 0 romFloor romCap (omega arith) (omega arith)) l t b)

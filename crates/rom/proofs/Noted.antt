@@ -16,10 +16,10 @@ use Rattle.rules.specs.Refusals.{pick}
 use Rattle.rules.specs.Search.{some, first, keepFirst}
 use Rattle.rules.proofs.Tests.{decide}
 use Rattle.rules.proofs.Search.{below-suc}
-use Rattle.grid.specs.Ticks.{isSlotStart}
 use Rattle.grid.specs.Lanes.{laneCell}
 use Rattle.grid.specs.Bounds.{Counted}
-use Rattle.grid.specs.Plan.{planAt, never}
+use Rattle.scheme.specs.Scheme.{padded, starts}
+use Rattle.plan.specs.Plan.{planAt, never}
 use Rattle.plan.specs.Row.{written}
 use Rattle.plan.proofs.Row.{written-first}
 use Rattle.rom.specs.Table.{romFloor, romCap, romPeriod}
@@ -207,7 +207,7 @@ module _ (k a : ℕ) where
         ∙ written-ext (partly n k) (seen romFloor romCap k a (suc n)) row (2 ^ romCap) (λ c _. partly-all n c)
 
     -- one period leaves the plan
-    pub ticks-plan : Counted romFloor romCap k → isSlotStart romCap k a ≡ true →
+    pub ticks-plan : Counted romFloor romCap k → starts (padded romFloor romCap) k a ≡ true →
         notedTicks (written (λ c. never) row (2 ^ romCap)) k a romPeriod
         ≡ written (planAt romFloor romCap k a) row (2 ^ romCap)
     ticks-plan h start =

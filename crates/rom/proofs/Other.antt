@@ -8,7 +8,7 @@ use borrow.Author.Tests.{eq-eqb, ne-eqb, eqb-true, not-false}
 use Rattle.rules.specs.Limits.{both}
 use Rattle.rules.specs.Refusals.{firstHit, outsideLimits}
 use Rattle.rules.proofs.Tests.{both-l, both-r}
-use Rattle.grid.specs.Plan.{planAnswer}
+use Rattle.plan.specs.Plan.{planAnswer}
 use Rattle.rom.specs.Table.{romFloor, romCap, isOther}
 use Rattle.rom.specs.Plans.{romPlanAnswer}
 

@@ -9,7 +9,7 @@ use native.Mathlib.Omega.{arith}
 use lib.ListN.{length}
 use Rattle.rules.specs.Refusals.{done}
 use Rattle.rules.proofs.Tests.{decide}
-use Rattle.grid.specs.Plan.{planAt, planAnswer}
+use Rattle.plan.specs.Plan.{planAt, planAnswer}
 use Rattle.plan.specs.Row.{written, Planned}
 use Rattle.plan.proofs.Refusals.{Accepted, accepted-only}
 use Rattle.plan.proofs.Row.{row-done, row-refused}

@@ -1,26 +1,28 @@
 -- A cell's plan tick is its first showing, from the start on, on lanes 0 to k - 1; a cell that no box takes is never
--- shown. Once over floor, cap and count. Rests on the grid's laws of lanes and of the plan.
+-- shown. Once over floor, cap and count. Rests on the grid's laws of lanes, and on when a box takes each cell.
 use mathlib.Core.Path.{_≡_, sym, _∙_}
 use mathlib.Core.Bool.{Bool, true}
 use mathlib.Core.Logic.{⊎-elim}
-use Prim.Native.Nat.{ℕ, suc, _+_, _-_, _*_, _/_, _%_, _^_, _≤_, _<_}
+use Prim.Native.Nat.{ℕ, _+_, _-_, _^_, _≤_, _<_}
 use native.Mathlib.Omega.{arith}
-use native.Mathlib.Nat.{mod-lt, div-add-mod', mul-le-mul-right}
 use lib.Dec.{ltb, eqb}
-use lib.Pow.{pow-mono}
 use borrow.Author.Tests.{ltb-true, ltb-false, lt-ltb, eqb-true, eq-eqb}
 use Rattle.rules.specs.Refusals.{pick}
 use Rattle.rules.specs.Search.{some, first}
 use Rattle.rules.proofs.Tests.{decide, fails}
 use Rattle.rules.proofs.Search.{some-in, some-out, first-hit, first-least}
-use Rattle.grid.specs.Ticks.{slot, isSlotStart}
+use Rattle.grid.specs.Ticks.{slot}
 use Rattle.grid.specs.Channels.{InG}
 use Rattle.grid.specs.Lanes.{laneCell}
 use Rattle.grid.specs.Bounds.{Carrier}
-use Rattle.grid.specs.Plan.{planAt, never}
-use Rattle.grid.proofs.Ticks.{slot-pos, all-cells}
+use Rattle.plan.specs.Plan.{planAt, never}
 use Rattle.grid.proofs.Lanes.{cell-of-lane, lane-of-cell}
-use Rattle.grid.proofs.Plan.{Taken, taken-out, window-end, carries-only, carrier-one, once, plan-in, plan-never}
+use Rattle.grid.proofs.Carriers.{carries-only, carrier-one, carried-cell}
+use Rattle.scheme.specs.Scheme.{padded, starts}
+use Rattle.scheme.proofs.Takes.{Taken, taken-out, window-end}
+use Rattle.scheme.proofs.Padded.{spans-fit}
+use Rattle.scheme.proofs.Waits.{once}
+use Rattle.plan.proofs.Places.{plan-in, plan-never}
 use Rattle.rom.specs.Showing.{isShown, shownAfter, seen}
 
 module _ (A K k : ℕ) (low : A ≤ k) (high : k ≤ K) where
@@ -43,25 +45,19 @@ module _ (A K k : ℕ) (low : A ≤ k) (high : k ≤ K) where
 
   -- and none of the last w
   shown-cell : (t c : ℕ) → InG A K k t c → c < 2 ^ K - slot K k
-  shown-cell t c m =
-      let w : ℕ = slot K k in
-      let u : c / w + 1 < 2 ^ suc (m .0) = on-carrier t c m .high in
-      let n : 2 ^ suc (m .0) ≤ 2 ^ k = pow-mono (m .1) in
-      let r : c % w < w = mod-lt c (slot-pos K k) in
-      let p : suc (c / w + 1) * w ≤ 2 ^ k * w = mul-le-mul-right w (omega arith) in
-      omega (arith, div-add-mod' c w, all-cells K k high)
+  shown-cell t c m = carried-cell K k c (m .0) high (m .1) (on-carrier t c m)
 
-  module _ (a c : ℕ) (floor : 0 < A) (start : isSlotStart K k a ≡ true) where
+  module _ (a c : ℕ) (floor : 0 < A) (start : starts (padded A K) k a ≡ true) where
     abbrev shownAt : ℕ → Bool
     shownAt o = isShown A K k (a + o) c
 
     -- before a cell is taken, no lane shows it
-    taken-first : (o f d : ℕ) → Taken A K k a c (a + o) d → f ≤ o → shownAt f ≡ true → f ≡ o
+    taken-first : (o f d : ℕ) → Taken (padded A K) k a c (a + o) d → f ≤ o → shownAt f ≡ true → f ≡ o
     taken-first o f d h l s =
         let m = shown-out (a + f) c s in
         let chan : d < k = h .channel in
         let same : m .0 ≡ d = carrier-one K k c (m .0) d (on-carrier (a + f) c m) (on-carrier (a + o) c (d, chan, h .carries)) in
-        let early : Taken A K k a c (a + f) d =
+        let early : Taken (padded A K) k a c (a + f) d =
         record { channel = chan; from = omega arith; before = omega (arith, h .before); carries = rw same at (m .2) } in
         omega (arith, once A K k a c (a + f) d (a + o) d start early h .0)
 
@@ -70,9 +66,9 @@ module _ (A K k : ℕ) (low : A ≤ k) (high : k ≤ K) where
     taken-seen l =
         let n : ℕ = 2 ^ (K - 1) in
         let o : ℕ = planAt A K k a c in
-        let p = plan-in A K k a c high start low l .0 in
-        let r = taken-out A K k a c (a + o) p in
-        let b : o < n = omega (arith, window-end A K k a c (a + o) high (omega arith) p) in
+        let p = plan-in A K k a c high start l .0 in
+        let r = taken-out (padded A K) k a c (a + o) p in
+        let b : o < n = omega (arith, window-end (padded A K) K k a c (a + o) (λ d. spans-fit K k d high) p) in
         let s : shownAt o ≡ true = shown-in (a + o) c (r .0, r .1 .channel, r .1 .carries) in
         let f : first shownAt n ≤ o = first-least shownAt n o s in
         let i : first shownAt n < n = omega arith in

@@ -8,7 +8,7 @@ use lib.Dec.{eqb}
 use lib.ListN.{getD, length, set}
 use Rattle.rules.specs.Refusals.{pick, Rule, refuse, firstHit, outsideLimits}
 use Rattle.grid.specs.Lanes.{laneCell}
-use Rattle.grid.specs.Plan.{planRules, never}
+use Rattle.plan.specs.Plan.{planRules, never}
 use Rattle.plan.specs.Row.{planRow}
 use Rattle.rom.specs.Table.{romFloor, romCap, isOther}
 

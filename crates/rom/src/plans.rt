@@ -13,9 +13,9 @@ ghost use mathlib.Core.Path.{_≡_};
 ghost use mathlib.Core.Bool.{true};
 ghost use lib.ListN.{length};
 ghost use Rattle.rules.specs.Limits.{askedMax};
-ghost use Rattle.grid.specs.Ticks.{isSlotStart};
 ghost use Rattle.grid.specs.Bounds.{Counted};
-ghost use Rattle.grid.specs.Plan.{planAt, never};
+ghost use Rattle.scheme.specs.Scheme.{padded, starts};
+ghost use Rattle.plan.specs.Plan.{planAt, never};
 ghost use Rattle.plan.specs.Row.{written};
 ghost use Rattle.rom.specs.Table.{romFloor, romCap, romPeriod};
 ghost use Rattle.rom.specs.Plans.{
@@ -81,7 +81,7 @@ fn note_ticks(row: &mut [u16], count: u64, arrival: u64)
 // Writes the plan into the first 2^cap places of the row.
 fn fill(row: &mut [u16], count: u64, arrival: u64)
     requires { ⌜ Counted romFloor romCap count ⌝ }
-    requires { ⌜ isSlotStart romCap count arrival ≡ true ⌝ }
+    requires { ⌜ starts (padded romFloor romCap) count arrival ≡ true ⌝ }
     requires { ⌜ (arrival ≤ askedMax) × (2 ^ romCap ≤ length (now row)) ⌝ }
     ensures { λ _. ⌜ now (row .exit)
         ≡ written (planAt romFloor romCap count arrival) (now (row .entry)) (2 ^ romCap) ⌝ }

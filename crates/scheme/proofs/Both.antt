@@ -7,7 +7,7 @@ use lib.Dec.{eqb}
 use borrow.Author.Tests.{eqb-true}
 use Rattle.rules.proofs.Tests.{decide}
 use Rattle.scheme.specs.Scheme.{steadyKind, schemeOf, tickFor}
-use Rattle.scheme.proofs.Lawful.{Lawful}
+use Rattle.scheme.specs.Lawful.{Lawful}
 use Rattle.scheme.proofs.Padded.{padded-lawful}
 use Rattle.scheme.proofs.Steady.{steady-lawful}
 
@@ -18,5 +18,5 @@ lawful kind D A K pos fit flat =
     (λ x.
     let e : A ≡ K = flat (eqb-true kind steadyKind x) in
     rw (x, e) (steady-lawful D K (omega arith)))
-    (λ x. rw x (padded-lawful D A K pos))
+    (λ x. rw x (padded-lawful D A K pos fit))
     (decide (eqb kind steadyKind))

@@ -1,20 +1,34 @@
--- The laws of a scheme by which the story is told, for a film of D ms with a tick of so many ms, floor A and cap K.
--- Nothing is shown here: each scheme shows that it meets them.
-use mathlib.Core.Path.{_≡_}
+-- What every lawful scheme has: lanes that may be looked up by a tick's remainder, and a plan that has each cell with film no later
+-- than its turn. Rests on the laws alone.
+use mathlib.Core.Path.{_≡_, sym, ap, _∙_}
 use mathlib.Core.Bool.{true}
-use Prim.Native.Nat.{ℕ, _+_, _-_, _*_, _^_, _≤_, _<_}
-use lib.Dec.{ltb}
-use Rattle.scheme.specs.Scheme.{Scheme, starts, takes}
+use Prim.Native.Nat.{ℕ, zero, suc, _+_, _-_, _*_, _/_, _%_, _^_, _≤_, _<_}
+use native.Mathlib.Omega.{arith}
+use native.Mathlib.Nat.{mod-add-div}
+use Rattle.scheme.specs.Scheme.{Scheme, starts, takes, takenAfter, filmIn}
+use Rattle.scheme.specs.Lawful.{Lawful}
+use Rattle.scheme.proofs.Takes.{window-end, taken-first}
 
-pub record Lawful (S : Scheme) (D tick A K : ℕ) : Type 0 where
-  -- a slot has ticks, and a slot start of a count is one of every larger count
-  pub slot-pos : (k : ℕ) → 0 < S .slotOf k
-  pub slots-nest : (m c t : ℕ) → m ≤ c → starts S m t ≡ true → starts S c t ≡ true
-  -- a channel's cell goes out on a lane of its count, and on no lane above
-  pub on-lane : (k d t : ℕ) → A ≤ k → k ≤ K → d < k → (l : ℕ) × (l < k) × (S .onLane l t ≡ S .onChannel k d t)
-  pub off-lane : (k l d t : ℕ) → A ≤ k → k ≤ l → l < K → d < k → S .onChannel k d t ≡ S .onLane l t → ⊥
-  -- no channel is taken for longer than 2^(K-1) ticks
-  pub spans : (k d : ℕ) → k ≤ K → d < k → S .span k d ≤ 2 ^ (K - 1)
-  -- a cell with film comes no later than its turn
-  pub in-time : (k a c : ℕ) → A ≤ k → k ≤ K → starts S k a ≡ true → ltb (c * tick) D ≡ true →
-      (t : ℕ) × (t ≤ a + c) × (takes S k a c t ≡ true)
+module _ {S : Scheme} {D tick A K : ℕ} (laws : Lawful S D tick A K) where
+  -- ---- periodic lanes
+
+  repeats-on : (l t n : ℕ) → l < K → S .onLane l (t + 2 ^ (K - 1) * n) ≡ S .onLane l t
+  repeats-on l t zero b = ap (S .onLane l) (omega arith)
+  repeats-on l t (suc n) b =
+      let e : t + 2 ^ (K - 1) * suc n ≡ t + 2 ^ (K - 1) * n + 2 ^ (K - 1) = omega arith in
+      ap (S .onLane l) e ∙ laws .repeats l (t + 2 ^ (K - 1) * n) b ∙ repeats-on l t n b
+
+  -- so a lane's cell may be looked up by the tick's remainder
+  pub lane-looked-up : (l t : ℕ) → l < K → S .onLane l t ≡ S .onLane l (t % 2 ^ (K - 1))
+  lane-looked-up l t b =
+      ap (S .onLane l) (sym (mod-add-div t (2 ^ (K - 1)))) ∙ repeats-on l (t % 2 ^ (K - 1)) (t / 2 ^ (K - 1)) b
+
+  -- ---- a plan, and an arrival in time
+
+  -- a cell with film is taken at the number that the plan gives, no later than its turn
+  pub in-plan : (k a c : ℕ) → A ≤ k → k ≤ K → starts S k a ≡ true → filmIn D tick c ≡ true →
+      (takes S k a c (a + takenAfter S K k a c) ≡ true) × (takenAfter S K k a c ≤ c)
+  in-plan k a c low high start film =
+      let r = laws .in-time k a c low high start film in
+      let s = taken-first S K k a c (r .0) (window-end S K k a c (r .0) (λ d. laws .spans k d high) (r .2)) (r .2) in
+      (s .0, omega (arith, s .1, r .1))

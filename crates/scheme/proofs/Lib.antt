@@ -1,9 +1,11 @@
--- What the story needs of a scheme, and that both have it.
+-- What the story needs of a scheme, that both have it, and what follows for either.
 pub mod Takes
 pub mod Clock
-pub mod Lawful
+pub mod Waits
 pub mod Padded
-pub mod Steady
+pub mod SteadyLanes
 pub mod Turns
+pub mod Steady
 pub mod Which
 pub mod Both
+pub mod Lawful

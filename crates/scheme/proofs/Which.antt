@@ -8,7 +8,7 @@ use Rattle.grid.specs.Bounds.{Exactly}
 use Rattle.grid.specs.Ticks.{roundedUp, tickOf}
 use Rattle.grid.proofs.Ticks.{rounded-low, rounded-high}
 use Rattle.scheme.specs.Scheme.{steady, padded, steadyKind, schemeOf, tickFor, period, steadyCell}
-use Rattle.scheme.proofs.Steady.{cell-range}
+use Rattle.scheme.proofs.SteadyLanes.{cell-range}
 
 module _ (kind A K : ℕ) where
   pub steady-scheme : kind ≡ steadyKind → schemeOf kind A K ≡ steady

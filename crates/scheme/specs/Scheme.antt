@@ -6,7 +6,7 @@ use mathlib.Core.Bool.{Bool}
 use lib.Dec.{leb, ltb, eqb}
 use Rattle.rules.specs.Limits.{both}
 use Rattle.rules.specs.Refusals.{pick}
-use Rattle.rules.specs.Search.{some}
+use Rattle.rules.specs.Search.{some, first}
 use Rattle.grid.specs.Ticks.{slot, roundedUp, tickOf}
 use Rattle.grid.specs.Channels.{channelCell}
 use Rattle.grid.specs.Lanes.{laneCell}
@@ -32,6 +32,11 @@ takesFrom S k a c t d = both (leb a t) (both (ltb t (a + S .span k d)) (eqb (S .
 -- the cell is in the plan of that box at tick t
 unfoldable pub takes : Scheme → ℕ → ℕ → ℕ → ℕ → Bool
 takes S k a c t = some (takesFrom S k a c t) k
+
+-- how many ticks after that start it takes the cell, at the first such tick; 2^(K-1), for a cap of K, where it never does: no
+-- channel is taken for longer
+unfoldable pub takenAfter : Scheme → ℕ → ℕ → ℕ → ℕ → ℕ
+takenAfter S K k a c = first (λ o. takes S k a c (a + o)) (2 ^ (K - 1))
 
 -- the padded grid of floor A and cap K
 abbrev pub padded : ℕ → ℕ → Scheme
@@ -68,6 +73,6 @@ schemeOf kind A K = pick (eqb kind steadyKind) steady (padded A K)
 unfoldable pub tickFor : ℕ → ℕ → ℕ → ℕ → ℕ
 tickFor kind D A K = pick (eqb kind steadyKind) (roundedUp D (2 ^ (K - 1))) (tickOf D A K)
 
--- cell c holds film, and is no padding
-unfoldable pub filmIn : ℕ → ℕ → ℕ → ℕ → ℕ → Bool
-filmIn kind D A K c = ltb (c * tickFor kind D A K) D
+-- of a film of D ms, with a tick of so many ms, cell c holds film and is no padding
+unfoldable pub filmIn : ℕ → ℕ → ℕ → Bool
+filmIn D tick c = ltb (c * tick) D

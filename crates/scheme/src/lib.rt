@@ -80,7 +80,7 @@ pub fn holds_film(kind: u64, length: u64, floor: u64, cap: u64, cell: u64) -> bo
     requires { ⌜ Length length ⌝ }
     requires { ⌜ FloorCap floor cap ⌝ }
     requires { ⌜ cell < 2 ^ cap ⌝ }
-    ensures { λ r. ⌜ r ≡ filmIn kind length floor cap cell ⌝ }
+    ensures { λ r. ⌜ r ≡ filmIn length (tickFor kind length floor cap) cell ⌝ }
 {
     cell * tick(kind, length, floor, cap) < length
 }

@@ -3,14 +3,14 @@ use mathlib.Core.Path.{_≡_, refl}
 use mathlib.Core.List.{List, [], _∷_}
 use Prim.Native.Nat.{ℕ}
 use Rattle.rules.specs.Search.{some, first}
-use Rattle.scheme.specs.Scheme.{takesFrom, takes, steadyCell}
-use Rattle.skipping.specs.Plan.{takenAfter}
+use Rattle.scheme.specs.Scheme.{takesFrom, takes, takenAfter, steadyCell}
+use Rattle.skipping.specs.Plan.{skipAt}
 
 -- the plan of a box that starts at tick a
 abbrev four : ℕ → List ℕ
 four a =
-    takenAfter 4 a 0 ∷ takenAfter 4 a 1 ∷ takenAfter 4 a 2 ∷ takenAfter 4 a 3
-    ∷ takenAfter 4 a 4 ∷ takenAfter 4 a 5 ∷ takenAfter 4 a 6 ∷ takenAfter 4 a 7 ∷ []
+    skipAt 4 a 0 ∷ skipAt 4 a 1 ∷ skipAt 4 a 2 ∷ skipAt 4 a 3
+    ∷ skipAt 4 a 4 ∷ skipAt 4 a 5 ∷ skipAt 4 a 6 ∷ skipAt 4 a 7 ∷ []
 
 pub from-0 : four 0 ≡ 0 ∷ 0 ∷ 0 ∷ 1 ∷ 0 ∷ 1 ∷ 2 ∷ 3 ∷ []
 unfolding takenAfter first takes takesFrom some steadyCell

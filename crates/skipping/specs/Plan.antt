@@ -1,21 +1,19 @@
 -- The plan of a box of a skip-forward title, and the call that writes it (02, 12). Block n counts as cell n - 1.
-use Prim.Native.Nat.{ℕ, _+_, _-_, _^_}
+use Prim.Native.Nat.{ℕ, _-_, _^_}
 use mathlib.Core.Bool.{Bool, not}
 use mathlib.Core.List.{List, [], _∷_}
 use lib.Dec.{leb, ltb}
 use Rattle.rules.specs.Limits.{both, within, countMin, steadyMax, askedMax}
 use Rattle.rules.specs.Refusals.{Rule, refuse, firstHit, outsideLimits, wrongRows}
-use Rattle.rules.specs.Search.{first}
-use Rattle.scheme.specs.Scheme.{steady, takes}
+use Rattle.scheme.specs.Scheme.{steady, takenAfter}
 
 -- the blocks of the film on k lanes
 abbrev pub blocks : ℕ → ℕ
 blocks k = 2 ^ (k - 1)
 
--- how many ticks after its start at tick a a box takes cell c, at the first occurrence: no lane repeats after more ticks than
--- there are blocks
-unfoldable pub takenAfter : ℕ → ℕ → ℕ → ℕ
-takenAfter k a c = first (λ o. takes steady k a c (a + o)) (blocks k)
+-- what the plan gives for cell c of a box that starts at tick a: how many ticks later it takes the cell, at the first occurrence
+abbrev pub skipAt : ℕ → ℕ → ℕ → ℕ
+skipAt k a c = takenAfter steady k k a c
 
 -- the call's two numbers are within their limits
 abbrev pub skipLimits : ℕ → ℕ → Bool

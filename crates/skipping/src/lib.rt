@@ -6,7 +6,7 @@ ghost use mathlib.Core.Path.{_≡_};
 ghost use lib.ListN.{length};
 ghost use Rattle.rules.specs.Limits.{countMin, steadyMax, askedMax};
 ghost use Rattle.plan.specs.Row.{written};
-ghost use Rattle.skipping.specs.Plan.{takenAfter, skipLimits, skipAnswer};
+ghost use Rattle.skipping.specs.Plan.{skipAt, skipLimits, skipAnswer};
 ghost use Rattle.skipping.specs.Row.{SkipPlanned};
 use grid::pow2;
 use rules::ASKED_MAX;
@@ -45,7 +45,7 @@ fn answer(count: u64, arrival: u64, places: usize) -> u8
 fn taken_after(count: u64, arrival: u64, cell: u64) -> u16
     requires { ⌜ (countMin ≤ count) × (count ≤ steadyMax) ⌝ }
     requires { ⌜ (arrival ≤ askedMax) × (cell < 2 ^ (count - 1)) ⌝ }
-    ensures { λ r. ⌜ r ≡ takenAfter count arrival cell ⌝ }
+    ensures { λ r. ⌜ r ≡ skipAt count arrival cell ⌝ }
 {
     if cell == 0 {
         return 0;
@@ -58,7 +58,7 @@ fn taken_after(count: u64, arrival: u64, cell: u64) -> u16
 fn fill(count: u64, arrival: u64, row: &mut [u16])
     requires { ⌜ (countMin ≤ count) × (count ≤ steadyMax) ⌝ }
     requires { ⌜ (arrival ≤ askedMax) × (2 ^ (count - 1) ≤ length (now row)) ⌝ }
-    ensures { λ _. ⌜ now (row .exit) ≡ written (takenAfter count arrival) (now (row .entry)) (2 ^ (count - 1)) ⌝ }
+    ensures { λ _. ⌜ now (row .exit) ≡ written (skipAt count arrival) (now (row .entry)) (2 ^ (count - 1)) ⌝ }
 {
     let blocks = pow2(count - 1);
     let mut cell: u64 = 0;

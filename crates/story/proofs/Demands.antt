@@ -28,7 +28,7 @@ use Rattle.story.specs.Story.{laneAnswerTo, statusAnswerTo, lifeAt, InTi
 use Rattle.story.specs.Story.{DropsAt, releaseOf, OneMoment, BothAccepted, WantsLanes, NineAfter}
 use Rattle.story.specs.Runs.{answered, called, stateAfter, lanesOf, Reached, BothCalled, CallWantsLanes}
 use Rattle.story.specs.Runs.{CallNineAfter}
-use Rattle.story.proofs.Ruled.{Ruled}
+use Rattle.story.specs.Ruled.{Ruled}
 use Rattle.story.proofs.Owed.{owed-reach, owes-all}
 use Rattle.story.proofs.Held
 use Rattle.story.proofs.Tells.{lanes-told}

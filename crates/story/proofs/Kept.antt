@@ -19,7 +19,8 @@ use Rattle.scheme.proofs.Clock
 use Rattle.story.specs.declared.Title.{Title}
 use Rattle.story.specs.Life.{Life, Course, usualCell, isActive, droppedAt, isOwed, reach, owedWithin, owes, isNth}
 use Rattle.story.specs.Life.{nthOwed, cell, sends, onAir, isHeld}
-use Rattle.story.proofs.Ruled.{Ruled, Legal, admits, isAdmitting, lastEnd}
+use Rattle.story.specs.Ruled.{Ruled}
+use Rattle.story.proofs.Ruled.{Legal, admits, isAdmitting, lastEnd}
 use Rattle.story.specs.Kept.{heldMark, isShut, isSteadyTitle, schemeIn, titleTick, tickAt, ruling, keptOwed, keptWithin, keptHeld, titleHeld, keptNth}
 use Rattle.story.specs.Kept.{sendingTick, shows}
 use Rattle.story.specs.Story.{tickIn, heldIn}

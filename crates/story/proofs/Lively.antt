@@ -8,7 +8,7 @@ use native.Mathlib.Omega.{arith}
 use Rattle.rules.specs.Limits.{poolMax, titlesMax, countMax}
 use Rattle.story.specs.declared.Title.{Title}
 use Rattle.story.specs.declared.State.{State}
-use Rattle.story.proofs.Ruled.{Ruled}
+use Rattle.story.specs.Ruled.{Ruled}
 use Rattle.story.specs.Kept.{titleAt, tickAt}
 use Rattle.story.specs.Calls.{emptyPool}
 use Rattle.story.specs.Next.{callNext}

@@ -13,8 +13,8 @@ use Rattle.rules.specs.Limits.{both}
 use Rattle.rules.specs.Search.{first, howMany, after}
 use Rattle.rules.proofs.Tests.{decide, both-l, both-r, both-in, fails}
 use Rattle.rules.proofs.Search
-use Rattle.scheme.proofs.Takes.{taken-out}
-use Rattle.story.proofs.Ruled.{Ruled}
+use Rattle.scheme.proofs.Takes.{window-end}
+use Rattle.story.specs.Ruled.{Ruled}
 use Rattle.story.specs.Life.{Life, scheme, isFilm, usualCell, isPlanned, isAdmission, isActive, droppedAt, isAwaited}
 use Rattle.story.specs.Life.{isOwed, reach, owedWithin, owes, isNth, nthOwed, cell, sends, onAir, isCell}
 
@@ -69,8 +69,7 @@ module _ (L : Life) (l T : ℕ) where
       let s = awaited-out L T (usualCell L l t) t (owed-out t h) in
       let a : ℕ = s .0 in
       let k : ℕ = L .rule a in
-      let o = taken-out (scheme L) k a (usualCell L l t) t (s .3) in
-      omega (arith, s .1, o .1 .before, ruled .laws .spans k (o .0) (ruled .high a) (o .1 .channel))
+      omega (arith, s .1, window-end (scheme L) (L .cap) k a (usualCell L l t) t (λ d. ruled .laws .spans k d (ruled .high a)) (s .3))
 
   -- so however many ticks are looked at, no more are owed than within that reach
   pub owes-all : Ruled L → (n : ℕ) → reach (L .cap) ≤ n → owedWithin L l T n ≡ owes L l T

@@ -1,5 +1,5 @@
--- What proofs ask of a life: its scheme is lawful, its rule keeps to floor and cap, and the count that admits boxes turns only at its own slot
--- starts; what an admission has then. Rests on the definition of an admission.
+-- What proofs ask of a life beside its being ruled: the count that admits boxes turns only at its own slot starts; and what an
+-- admission has then. Rests on the definition of an admission.
 use mathlib.Core.Path.{_≡_}
 use mathlib.Core.Bool.{Bool, true, false, not}
 use Prim.Native.Nat.{ℕ, suc, _≤_, _<_}
@@ -9,17 +9,9 @@ use Rattle.rules.specs.Limits.{both}
 use Rattle.rules.specs.Refusals.{pick}
 use Rattle.rules.specs.Search.{after}
 use Rattle.rules.proofs.Tests.{both-l, both-r}
-use Rattle.scheme.specs.Scheme.{steadyKind, starts}
-use Rattle.scheme.proofs.Lawful.{Lawful}
+use Rattle.scheme.specs.Scheme.{starts}
 use Rattle.story.specs.Life.{Life, Course, scheme, isAdmission}
-use Rattle.story.specs.Story.{tickLength}
-
--- a lawful scheme, one count alone for a skip-forward title, and a rule that keeps to floor and cap, closing apart
-pub record Ruled (L : Life) : Type 0 where
-  pub laws : Lawful (scheme L) (L .length) (tickLength L) (L .floor) (L .cap)
-  pub flat : L .kind ≡ steadyKind → L .floor ≡ L .cap
-  pub low : (t : ℕ) → 0 < L .rule t → L .floor ≤ L .rule t
-  pub high : (t : ℕ) → L .rule t ≤ L .cap
+use Rattle.story.specs.Ruled.{Ruled}
 
 -- the count that admits boxes at a tick, 0 while the doors are held
 abbrev pub admits : Life → ℕ → ℕ

@@ -2,32 +2,34 @@
 -- owes at a close: what the boxes of the tick before it still await. Rests on `planned-received` and on the steady lanes' laws.
 use mathlib.Core.Path.{_≡_, sym, ap, _∙_}
 use mathlib.Core.Bool.{Bool, true}
-use mathlib.Core.Logic.{⊎-elim}
 use mathlib.Core.List.{List}
-use Prim.Native.Nat.{ℕ, suc, _+_, _≤_, _<_}
+use Prim.Native.Nat.{ℕ, suc, _+_, _-_, _^_, _≤_, _<_}
 use native.Mathlib.Omega.{arith}
 use native.Mathlib.Nat.{le-antisymm}
-use lib.Dec.{ltb, eqb}
-use borrow.Author.Tests.{ltb-true, ltb-false, lt-ltb, eq-eqb}
+use lib.Dec.{ltb}
+use lib.Pow.{pow-pos}
+use borrow.Author.Tests.{ltb-true, lt-ltb, eq-eqb}
 use Rattle.rules.specs.Limits.{both, poolMax, titlesMax}
 use Rattle.rules.specs.Search.{howMany}
-use Rattle.rules.proofs.Tests.{decide, same, fails, pick-true}
+use Rattle.rules.proofs.Tests.{same, fails}
 use Rattle.rules.proofs.Search.{howMany-flat}
-use Rattle.scheme.specs.Scheme.{Scheme, padded, steady, steadyKind, schemeOf, steadyCell, period, takes, filmIn, tickFor}
+use Rattle.scheme.specs.Scheme.{Scheme, steady, steadyKind, steadyCell, period, takes, tickFor}
 use Rattle.scheme.proofs.Takes.{taken-in, taken-out}
-use Rattle.scheme.proofs.Steady.{apart, film-cell}
+use Rattle.scheme.proofs.Clock.{film-within}
+use Rattle.scheme.proofs.SteadyLanes.{one-lane}
+use Rattle.scheme.proofs.Which.{steady-scheme}
 use Rattle.scheme.proofs.Turns.{ahead}
 use Rattle.story.specs.Life.{Life, scheme, isFilm, usualCell, isPlanned, isAdmission, isAwaited, isOwed, reach, owedWithin, owes}
 use Rattle.story.specs.Story.{Event, Accepted, lifeAt, ReceivedBy, Begins}
-use Rattle.story.proofs.Ruled.{Ruled, admitted}
+use Rattle.story.specs.Ruled.{Ruled}
+use Rattle.story.proofs.Ruled.{admitted}
 use Rattle.story.proofs.Owed.{awaited-in, awaited-out, owed-out}
 use Rattle.story.proofs.World.{planned-received, begun-lively}
 
 module _ (L : Life) (kind : L .kind ≡ steadyKind) where
   -- its scheme is the steady one,
   pub is-steady : scheme L ≡ steady
-  unfolding schemeOf
-  is-steady = pick-true (eqb (L .kind) steadyKind) steady (padded (L .floor) (L .cap)) (eq-eqb (L .kind) steadyKind kind)
+  is-steady = steady-scheme (L .kind) (L .floor) (L .cap) kind
 
   -- and one count rules while boxes may begin
   pub one-count : Ruled L → (a : ℕ) → isAdmission L a ≡ true → L .rule a ≡ L .cap
@@ -48,11 +50,11 @@ module _ (L : Life) (kind : L .kind ≡ steadyKind) where
 pub next-ahead : (lanes : ℕ) (es : List Event) → lanes ≤ poolMax → Accepted lanes es → (i τ a c : ℕ) → i < titlesMax →
     lifeAt es i τ .kind ≡ steadyKind → Begins es i τ a → isFilm (lifeAt es i τ) (suc c) ≡ true →
     ReceivedBy es i (lifeAt es i τ) a (suc c) (a + c)
-unfolding filmIn tickFor
+unfolding tickFor
 next-ahead lanes es high acc i τ a c id kind b film =
     let L : Life = lifeAt es i τ in
     let ruled = begun-lively lanes es high acc i τ a id b .ruled in
-    let block = film-cell (L .length) (L .cap) (suc c) (rw (eq-eqb (L .kind) steadyKind kind) at film) in
+    let block = film-within (L .length) (2 ^ (L .cap - 1)) (suc c) (pow-pos (L .cap - 1)) (rw (eq-eqb (L .kind) steadyKind kind) at film) in
     let n = ahead (L .cap) a c block in
     let planned : isPlanned L a (suc c) (n .0) ≡ true =
     ap (λ k. takes (scheme L) k a (suc c) (n .0)) (one-count L kind ruled a (b .admission)) ∙ planned-is L kind (L .cap) a (suc c) (n .0) ∙ n .2 in
@@ -79,16 +81,8 @@ module _ (L : Life) (kind : L .kind ≡ steadyKind) (ruled : Ruled L) (a : ℕ) 
       there h =
           let o = awaited-out L (suc a) (usualCell L l t) t h in
           let n = taken-out steady (L .rule (o .0)) (o .0) (usualCell L l t) t (sym (planned-is L kind (L .rule (o .0)) (o .0) (usualCell L l t) t) ∙ o .3) in
-          let e : n .0 ≡ l = one-lane (n .0) l t (n .1 .carries ∙ cell-is L kind l t) in
+          let e : n .0 ≡ l = one-lane (n .0) l t t (n .1 .carries ∙ cell-is L kind l t) in
           lt-ltb t (a + period l) (omega (arith, o .1, n .1 .before, ap period e))
-        where
-          one-lane : (d l t : ℕ) → steadyCell d t ≡ steadyCell l t → d ≡ l
-          one-lane d l t e =
-              ⊎-elim (λ x. absurd (apart d l t (ltb-true d l x) e))
-              (λ x.
-              ⊎-elim (λ y. absurd (apart l d t (ltb-true l d y) (sym e))) (λ y. le-antisymm (ltb-false l d y) (ltb-false d l x))
-              (decide (ltb l d)))
-              (decide (ltb d l))
 
       back : ltb t (a + period l) ≡ true → isAwaited L (suc a) (usualCell L l t) t ≡ true
       back h =

@@ -20,7 +20,8 @@ use Rattle.scheme.specs.Scheme.{Scheme, starts, takes}
 use Rattle.scheme.proofs.Takes.{taken-in, taken-out}
 use Rattle.story.specs.declared.Title.{Title}
 use Rattle.story.specs.Life.{Life, Course, scheme, isFilm, usualCell, isPlanned, isAdmission, isAwaited, isOwed}
-use Rattle.story.proofs.Ruled.{Ruled, Legal, admits, isAdmitting, lastEnd, admitted}
+use Rattle.story.specs.Ruled.{Ruled}
+use Rattle.story.proofs.Ruled.{Legal, admits, isAdmitting, lastEnd, admitted}
 use Rattle.story.specs.Kept.{schemeIn, wantsFrom, wants, keptAwaited, keptOwed}
 use Rattle.story.proofs.Owed.{awaited-in, awaited-out}
 

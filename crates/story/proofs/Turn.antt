@@ -20,7 +20,8 @@ use Rattle.rules.proofs.Search
 use Rattle.scheme.specs.Scheme.{starts}
 use Rattle.story.specs.declared.Title.{Title}
 use Rattle.story.specs.Life.{Life, Course, isActive, droppedAt, isOwed, reach, owedWithin, owes}
-use Rattle.story.proofs.Ruled.{Ruled, Legal, admits, isAdmitting, lastEnd, SameAt}
+use Rattle.story.specs.Ruled.{Ruled}
+use Rattle.story.proofs.Ruled.{Legal, admits, isAdmitting, lastEnd, SameAt}
 use Rattle.story.specs.Kept.{openMode, closingMode, heldMark, isShut, tickAt, ruling, keptOwed}
 use Rattle.story.specs.Kept.{keptWithin, schemeIn, titleTick}
 use Rattle.story.specs.Next.{ended, turned, turnedTitle}

@@ -14,7 +14,7 @@ use borrow.Author.Tests.{ltb-true, ltb-false, le-ltb, leb-false, lt-leb, eqb-tru
 use Rattle.rules.specs.Limits.{both, poolMax, titlesMax}
 use Rattle.rules.proofs.Tests.{decide, both-l, either-false-l, either-false-r}
 use Rattle.rules.proofs.Search
-use Rattle.scheme.specs.Scheme.{starts, filmIn}
+use Rattle.scheme.specs.Scheme.{starts}
 use Rattle.story.specs.Life.{Life, Course, onCourse, scheme, isFilm, isPlanned, isAdmission, isActive, cell, onAir, isHeld}
 use Rattle.story.specs.Story.{Act, opens, changes, closes, doors, Event, event, tickLength, tickIn}
 use Rattle.story.specs.Story.{momentOf, turn}
@@ -375,7 +375,6 @@ begun-lively lanes es high acc i τ a id b =
 -- demand 3: so no later than the cell's turn, since the plan has it by then
 pub no-box-runs-dry : (lanes : ℕ) (es : List Event) → lanes ≤ poolMax → Accepted lanes es → (i τ a c : ℕ) →
     i < titlesMax → Begins es i τ a → isFilm (lifeAt es i τ) c ≡ true → Received es i (lifeAt es i τ) a c
-unfolding filmIn
 no-box-runs-dry lanes es high acc i τ a c id b film =
     let L : Life = lifeAt es i τ in
     let ruled = begun-lively lanes es high acc i τ a id b .ruled in

@@ -110,22 +110,22 @@ unfoldable pub ruling : Title → ℕ
 ruling t = pick (eqb (t .mode) openMode) (t .count) 0
 
 -- channel d of count c, whose last boxes began a slot before the stored end, is taken at tick u with cell x on it
-unfoldable pub wantsFrom : Title → ℕ → ℕ → ℕ → ℕ → Bool
-wantsFrom t x u c d =
-    both (ltb (u + schemeIn t .slotOf c) (getD (t .ends) c 0 + schemeIn t .span c d)) (eqb (schemeIn t .onChannel c d u) x)
+unfoldable pub wantsFrom : Scheme → ℕ → ℕ → ℕ → ℕ → ℕ → Bool
+wantsFrom S end x u c d = both (ltb (u + S .slotOf c) (end + S .span c d)) (eqb (S .onChannel c d u) x)
 
 -- the latest boxes of count c still take cell x at tick u
-unfoldable pub wants : Title → ℕ → ℕ → ℕ → Bool
-wants t x u c = both (ltb 0 (getD (t .ends) c 0)) (some (wantsFrom t x u c) c)
+unfoldable pub wants : Scheme → ℕ → ℕ → ℕ → ℕ → Bool
+wants S end x u c = both (ltb 0 end) (some (wantsFrom S end x u c) c)
 
 -- the boxes of some count that had lane l still take cell x at tick u
 unfoldable pub keptAwaited : Title → ℕ → ℕ → ℕ → Bool
-keptAwaited t l x u = some (λ c. both (ltb l c) (both (leb (t .floor) c) (wants t x u c))) (suc (t .cap))
+keptAwaited t l x u =
+    some (λ c. both (ltb l c) (both (leb (t .floor) c) (wants (schemeIn t) (getD (t .ends) c 0) x u c))) (suc (t .cap))
 
 -- of lane l tick u is owed: its cell holds film, and is still awaited
 unfoldable pub keptOwed : Title → ℕ → ℕ → Bool
 keptOwed t l u =
-    both (filmIn (t .kind) (t .length) (t .floor) (t .cap) (schemeIn t .onLane l u)) (keptAwaited t l (schemeIn t .onLane l u) u)
+    both (filmIn (t .length) (titleTick t) (schemeIn t .onLane l u)) (keptAwaited t l (schemeIn t .onLane l u) u)
 
 -- how many of the n ticks from T on lane l owes
 unfoldable pub keptWithin : Title → ℕ → ℕ → ℕ → ℕ

@@ -2,6 +2,7 @@
 pub mod Life
 pub mod Orders
 pub mod Story
+pub mod Ruled
 pub mod Kept
 pub mod Next
 pub mod Calls

@@ -42,7 +42,7 @@ scheme L = schemeOf (L .kind) (L .floor) (L .cap)
 
 -- what it says of the title: cell c holds film,
 abbrev pub isFilm : Life → ℕ → Bool
-isFilm L c = filmIn (L .kind) (L .length) (L .floor) (L .cap) c
+isFilm L c = filmIn (L .length) (tickFor (L .kind) (L .length) (L .floor) (L .cap)) c
 
 -- the cell that lane l carries at tick t while it is active,
 abbrev pub usualCell : Life → ℕ → ℕ → ℕ

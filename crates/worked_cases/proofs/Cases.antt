@@ -11,11 +11,11 @@ use borrow.Author.Tests.{eqb-true}
 use Rattle.rules.specs.Refusals.{firstHit}
 use Rattle.rules.specs.Search.{some, first, howMany, after, total}
 use Rattle.rules.proofs.Tests.{both-l, both-r}
-use Rattle.grid.specs.Ticks.{tickOf, holdsFilm, roundedUp, slot, isSlotStart, cellOf}
+use Rattle.grid.specs.Ticks.{tickOf, roundedUp, slot, cellOf}
 use Rattle.grid.specs.Channels.{floorRem, shift, segment, channelCell}
 use Rattle.grid.specs.Lanes.{isInG, isAdded, addedChannel, laneCell}
-use Rattle.grid.specs.Plan.{takenFrom, inPlan, takenAfter, planAt}
-use Rattle.scheme.specs.Scheme.{schemeOf, starts, takes, takesFrom, tickFor, filmIn}
+use Rattle.scheme.specs.Scheme.{schemeOf, starts, takes, takesFrom, takenAfter, tickFor, filmIn}
+use Rattle.plan.specs.Plan.{planAt}
 use Rattle.story.specs.Life.{isAdmission, isActive, droppedAt, isAwaited, isOwed, reach, owedWithin, isNth, nthOwed}
 use Rattle.story.specs.Life.{sends, onAir, isHeld}
 use Rattle.story.specs.Story.{tickIn, lifeOf, latestOf, tunedOf, upTo, heldIn, heldOver, answerTo, accepted}
@@ -26,7 +26,7 @@ use Rattle.sharing.specs.Verdict.{rowsFit, allowed, ordered, eachTitle, verdict
 use Rattle.worked_cases.specs.Cases.{Case, case, table, upFrom, along, those, sameRow, agree}
 
 pub worked : agree table ≡ true
-unfolding schemeOf starts takes takesFrom tickFor filmIn agree table sameRow upFrom along those firstHit some first howMany after total tickOf holdsFilm roundedUp slot isSlotStart cellOf floorRem shift segment channelCell isInG isAdded addedChannel laneCell takenFrom inPlan takenAfter planAt isAdmission isActive droppedAt isAwaited isOwed reach owedWithin isNth nthOwed sends onAir isHeld tickIn lifeOf latestOf tunedOf upTo heldIn heldOver answerTo accepted flatMap titles rowTotal term sumOf lessOr atLeast prefers from ways better bestOf shared rowsFit allowed ordered eachTitle verdictOf rowAfter
+unfolding schemeOf starts takes takesFrom takenAfter tickFor filmIn agree table sameRow upFrom along those firstHit some first howMany after total tickOf roundedUp slot cellOf floorRem shift segment channelCell isInG isAdded addedChannel laneCell planAt isAdmission isActive droppedAt isAwaited isOwed reach owedWithin isNth nthOwed sends onAir isHeld tickIn lifeOf latestOf tunedOf upTo heldIn heldOver answerTo accepted flatMap titles rowTotal term sumOf lessOr atLeast prefers from ways better bestOf shared rowsFit allowed ordered eachTitle verdictOf rowAfter
 worked = refl
 
 -- rows that pass the test are equal

@@ -10,11 +10,11 @@ use mathlib.Core.List.{List, [], _∷_, _++_}
 use lib.Dec.{eqb}
 use Rattle.rules.specs.Limits.{both}
 use Rattle.rules.specs.Refusals.{pick, done, outsideLimits, unchanged, aboveCap, notAtSlot, noLanes, tooSoon}
-use Rattle.grid.specs.Ticks.{cells, tickOf, holdsFilm}
+use Rattle.grid.specs.Ticks.{cells, tickOf}
 use Rattle.grid.specs.Lanes.{isInG, laneCell}
-use Rattle.grid.specs.Plan.{planAt, never}
+use Rattle.plan.specs.Plan.{planAt, never}
 use Rattle.story.specs.Life.{Air, nothing, cell}
-use Rattle.scheme.specs.Scheme.{paddedKind}
+use Rattle.scheme.specs.Scheme.{paddedKind, filmIn}
 use Rattle.story.specs.Story.{Act, opens, changes, Event, answer, accepted, airAt}
 use Rattle.sharing.specs.Verdict.{verdictOf, rowAfter}
 
@@ -99,7 +99,7 @@ share D lanes rates =
 unfoldable pub table : List Case
 table =
     case 0 (tickOf filmLength floor cap ∷ []) (1 ∷ [])
-    ∷ case 0 (those (λ c. not (holdsFilm filmLength floor cap c)) filmCells) (12 ∷ 13 ∷ 14 ∷ 15 ∷ [])
+    ∷ case 0 (those (λ c. not (filmIn filmLength (tickOf filmLength floor cap) c)) filmCells) (12 ∷ 13 ∷ 14 ∷ 15 ∷ [])
     ∷ case 1 (inG 2 0) (0 ∷ 4 ∷ [])
     ∷ case 1 (inG 3 0) (0 ∷ 4 ∷ 12 ∷ [])
     ∷ case 1 (inG 4 0) (0 ∷ 2 ∷ 4 ∷ 12 ∷ [])

@@ -3,7 +3,7 @@
 use mathlib.Core.Path.{refl, sym, _∙_}
 use borrow.Author.Tests.{lt-ltb, le-ltb}
 use native.Mathlib.Omega.{arith}
-use Rattle.grid.proofs.Plan.{in-carried, in-cells}
+use Rattle.grid.proofs.Carriers.{in-carried, in-cells}
 use borrow.Author.Needs.{needs}
 use Rattle.grid.proofs.in_g.Statement.{statement}
 use Rattle.grid.proofs.in_g.Tie as tie

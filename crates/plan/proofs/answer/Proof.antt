@@ -1,11 +1,13 @@
 -- `plan::answer` meets its contract: each way out is one refusal of the list, or done.
 -- Rests on the laws of refusals.
 use mathlib.Core.Path.{_≡_, sym, _∙_}
-use mathlib.Core.Bool.{true}
+use mathlib.Core.Bool.{Bool, true}
+use Prim.Native.Nat.{ℕ}
 use native.Mathlib.Omega.{arith}
 use borrow.Author.Needs.{needs}
 use Rattle.grid.specs.Bounds.{Counted}
-use Rattle.grid.specs.Plan.{planLimits}
+use Rattle.scheme.specs.Scheme.{padded, paddedKind, schemeOf, starts}
+use Rattle.plan.specs.Plan.{planLimits}
 use Rattle.plan.proofs.Refusals.{refused-limits, refused-cap, refused-below, refused-above, refused-slot}
 use Rattle.plan.proofs.Refusals.{refused-rows, accepted, counted}
 use Rattle.plan.proofs.answer.Statement.{statement}
@@ -47,8 +49,13 @@ returns-3 c =
     sym
     (refused-above _ _ _ _ _ (inside (at-if2 .before)) (at-if2 .if2 .left) (at-if3 .if3 .left) (c .if4 .taken))
 
-is-slot-start-requires : tie.Need-is-slot-start-requires
-is-slot-start-requires c κs = record { fit = ranked c .fit; high = ranked c .high }
+-- what the test of the arrival says, by the padded grid
+started : (A K k a : ℕ) (r b : Bool) → r ≡ starts (schemeOf paddedKind A K) k a → r ≡ b → starts (padded A K) k a ≡ b
+unfolding schemeOf
+started A K k a r b e f = sym e ∙ f
+
+starts-requires : tie.Need-starts-requires
+starts-requires c κs = record { fit = ranked c .fit; high = ranked c .high }
 
 pow2-requires : tie.Need-pow2-requires
 pow2-requires c κs = ranked (c .before .before) .high
@@ -61,7 +68,7 @@ returns-4 c =
     let at-if4 = at-slot .before in
     sym
     (refused-rows _ _ _ _ _ (inside (first at-if4)) (ranked at-if4)
-    (sym (at-slot .is-slot-start .ensures) ∙ at-if5 .if5 .taken)
+    (started _ _ _ _ _ _ (at-slot .starts .ensures) (at-if5 .if5 .taken))
     (omega (arith, at-pow2 .pow2 .ensures .is, c .if6 .taken)))
 
 returns-5 : tie.Need-returns-5
@@ -72,7 +79,7 @@ returns-5 c =
     let at-if4 = at-slot .before in
     sym
     (accepted _ _ _ _ _ (inside (first at-if4)) (ranked at-if4)
-    (sym (at-slot .is-slot-start .ensures) ∙ at-if5 .if5 .taken)
+    (started _ _ _ _ _ _ (at-slot .starts .ensures) (at-if5 .if5 .taken))
     (omega (arith, at-pow2 .pow2 .ensures .is, c .if6 .left)))
 
 returns-6 : tie.Need-returns-6
@@ -81,7 +88,7 @@ returns-6 c =
     let at-if4 = at-slot .before in
     sym
     (refused-slot _ _ _ _ _ (inside (first at-if4)) (ranked at-if4)
-    (sym (at-slot .is-slot-start .ensures) ∙ c .if5 .left))
+    (started _ _ _ _ _ _ (at-slot .starts .ensures) (c .if5 .left)))
 
 returns-7 : tie.Need-returns-7
 returns-7 c = sym (refused-limits _ _ _ _ _ (sym (c .before .in-limits .ensures) ∙ c .if1 .left))
@@ -94,7 +101,7 @@ answer-spec =
     returns
     returns-2
     returns-3
-    is-slot-start-requires
+    starts-requires
     pow2-requires
     returns-4
     returns-5

@@ -6,7 +6,7 @@ use native.Mathlib.Omega.{arith}
 use native.Mathlib.Nat.{le-antisymm}
 use lib.ListN.{length, length-set}
 use borrow.Author.Needs.{needs}
-use Rattle.grid.specs.Plan.{planAt}
+use Rattle.plan.specs.Plan.{planAt}
 use Rattle.plan.specs.Row.{written}
 use Rattle.plan.proofs.Row.{written-next}
 use Rattle.plan.proofs.fill.Statement.{statement}

@@ -6,7 +6,7 @@ use borrow.Author.Needs.{needs}
 use Prim.Native.Nat.{ℕ}
 use lib.Dec.{leb}
 use Rattle.rules.specs.Limits.{within, floorMin, floorMax, countMin, countMax, askedMax}
-use Rattle.grid.specs.Plan.{planLimits}
+use Rattle.plan.specs.Plan.{planLimits}
 use Rattle.plan.proofs.in_limits.Statement.{statement}
 use Rattle.plan.proofs.in_limits.Tie as tie
 

@@ -37,10 +37,10 @@ carrying c =
     (omega (arith, p .fit, p .high)) (omega arith) (omega (arith, c .if1 .taken, c .before .pow2 .ensures .is))
 
 cast-channel : tie.Need-cast-channel
-cast-channel c = record { fits = omega (arith, carrying c .zeros) }
+cast-channel c = record { fits = omega (arith, carrying c .bit .zeros) }
 
 sub-channel : tie.Need-sub-channel
-sub-channel c = carrying c .zeros
+sub-channel c = carrying c .bit .zeros
 
 pow2-requires-2 : tie.Need-pow2-requires-2
 pow2-requires-2 c κs =
@@ -114,7 +114,7 @@ returns c =
     let w = c .before .before .before .before .slot in
     parts-plan (s .args .floor) (s .args .cap) (s .args .count) (s .args .arrival) (s .args .cell) (w .result)
     (63 - leadingZeros 64 (s .args .cell / w .result + 1)) (c .before .pow22 .result) (c .place .result)
-    (s .pre .0 .fit) (s .pre .1 .0) (t .channel) (w .ensures .is) (c .before .pow22 .ensures .is) (c .place .ensures .is) (t .low) (t .high)
+    (s .pre .0 .fit) (s .pre .1 .0) (t .channel) (w .ensures .is) (c .before .pow22 .ensures .is) (c .place .ensures .is) (t .bit .low) (t .bit .high)
 
 returns-2 : tie.Need-returns-2
 returns-2 c =

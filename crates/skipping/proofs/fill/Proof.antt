@@ -8,13 +8,13 @@ use lib.ListN.{length, length-set}
 use borrow.Author.Needs.{needs}
 use Rattle.plan.specs.Row.{written}
 use Rattle.plan.proofs.Row.{written-next}
-use Rattle.skipping.specs.Plan.{takenAfter}
+use Rattle.skipping.specs.Plan.{skipAt}
 use Rattle.skipping.proofs.fill.Statement.{statement}
 use Rattle.skipping.proofs.fill.Tie as tie
 
 abbrev Inv-loop : tie.InvT-loop
 Inv-loop count arrival row₀ blocks cell₀ row cell =
-    (cell ≤ blocks) × (row ≡ written (takenAfter count arrival) row₀ cell) × (length row ≡ length row₀)
+    (cell ≤ blocks) × (row ≡ written (skipAt count arrival) row₀ cell) × (length row ≡ length row₀)
 
 abbrev μ-loop : tie.MeasureT-loop
 μ-loop count arrival row₀ blocks cell₀ row cell = blocks - cell
@@ -52,7 +52,7 @@ loop-again c =
     let l = c .before .before .loop in
     let t = c .taken-after in (
       omega arith,
-      written-next (takenAfter (a .count) (a .arrival)) (a .row .now) (l .row) (l .cell) (t .result) (l .inv .1) (t .ensures),
+      written-next (skipAt (a .count) (a .arrival)) (a .row .now) (l .row) (l .cell) (t .result) (l .inv .1) (t .ensures),
       length-set (l .row) (l .cell) (t .result) ∙ l .inv .2,
     )
 
@@ -64,7 +64,7 @@ returns c =
     let a = c .before .before .before .before .args in
     let l = c .before .loop in
     l .inv .1
-    ∙ ap (written (takenAfter (a .count) (a .arrival)) (a .row .now))
+    ∙ ap (written (skipAt (a .count) (a .arrival)) (a .row .now))
     (le-antisymm (l .inv .0) (c .loop-test .left) ∙ c .before .before .pow2 .ensures .is)
 
 pub fill-spec : {M : Type 1} → statement M

@@ -10,17 +10,17 @@ use borrow.Author.Needs.{needs}
 use Rattle.rules.specs.Limits.{countMin, countMax, steadyMax}
 use Rattle.grid.proofs.Numbers.{ne-zero-pos}
 use Rattle.plan.proofs.Parts.{Top, top}
-use Rattle.skipping.specs.Plan.{takenAfter}
+use Rattle.skipping.specs.Plan.{skipAt}
 use Rattle.skipping.proofs.Plan.{first-after, later-after}
 use Rattle.skipping.proofs.taken_after.Statement.{statement}
 use Rattle.skipping.proofs.taken_after.Tie as tie
 
 module _ (k a c : ℕ) (low : countMin ≤ k) where
-  at-once : c ≡ 0 → 0 ≡ takenAfter k a c
+  at-once : c ≡ 0 → 0 ≡ skipAt k a c
   at-once e = rw e (sym (first-after k a (omega arith)))
 
-  parts : (z p : ℕ) → Top (k - 1) c z → p ≡ 2 ^ (63 - z) → (c + (p - a % p)) % p ≡ takenAfter k a c
-  parts z p t e = rw e (sym (later-after k a (omega arith) (63 - z) c (t .low) (t .high) (omega (arith, t .channel))))
+  parts : (z p : ℕ) → Top (k - 1) c z → p ≡ 2 ^ (63 - z) → (c + (p - a % p)) % p ≡ skipAt k a c
+  parts z p t e = rw e (sym (later-after k a (omega arith) (63 - z) c (t .bit .low) (t .bit .high) (omega (arith, t .channel))))
 
   small : k ≤ steadyMax → c < 2 ^ (k - 1) → c < 2 ^ countMax
   small high l = let m : 2 ^ (k - 1) ≤ 2 ^ countMax = pow-mono {i = k - 1} {j = countMax} (omega arith) in omega arith
@@ -39,10 +39,10 @@ carrying c =
     top (s .args .count - 1) (s .args .cell) (omega (arith, s .pre .0 .1)) (ne-zero-pos (s .args .cell) (c .if1 .left)) (s .pre .1 .1)
 
 cast-pow2 : tie.Need-cast-pow2
-cast-pow2 c = record { fits = omega (arith, carrying c .zeros) }
+cast-pow2 c = record { fits = omega (arith, carrying c .bit .zeros) }
 
 sub-pow2 : tie.Need-sub-pow2
-sub-pow2 c = omega (arith, carrying c .zeros)
+sub-pow2 c = omega (arith, carrying c .bit .zeros)
 
 pow2-requires : tie.Need-pow2-requires
 pow2-requires c κs = omega (arith, carrying c .channel, c .before .pre .0 .1)

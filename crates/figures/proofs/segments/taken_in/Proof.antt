@@ -5,8 +5,9 @@ use Prim.Native.Nat.{ℕ, _-_}
 use native.Mathlib.Omega.{arith}
 use lib.ListN.{getD}
 use Rattle.rules.specs.Refusals.{firstHit}
-use Rattle.grid.specs.Ticks.{slot, isSlotStart}
-use Rattle.grid.specs.Plan.{planAnswer}
+use Rattle.grid.specs.Ticks.{slot}
+use Rattle.scheme.specs.Scheme.{starts}
+use Rattle.plan.specs.Plan.{planAnswer}
 use Rattle.plan.proofs.Row.{row-first}
 use borrow.Author.Needs.{needs}
 use Rattle.figures.proofs.segments.taken_in.Statement.{statement}
@@ -31,7 +32,7 @@ wide-requires : tie.Need-wide-requires
 wide-requires c κs = search needs
 
 returns : tie.Need-returns
-unfolding planAnswer firstHit slot isSlotStart
+unfolding planAnswer firstHit slot starts
 returns c =
     let s = c .before .before .before .before in
     c .wide .ensures

@@ -8,7 +8,7 @@ use lib.ListN.{length, getD, length-set}
 use borrow.Author.Needs.{needs}
 use borrow.Author.Tests.{le-leb}
 use Rattle.rules.specs.Limits.{askedMax}
-use Rattle.skipping.specs.Plan.{takenAfter}
+use Rattle.skipping.specs.Plan.{skipAt}
 use Rattle.skipping.specs.Row.{skipRow}
 use Rattle.skipping.proofs.Refusals.{accepted}
 use Rattle.skipping.proofs.Row.{row-first, row-length}
@@ -18,14 +18,14 @@ use Rattle.figures.proofs.steady.taken_from.Tie as tie
 
 abbrev Inv-loop : tie.InvT-loop
 Inv-loop start plan row₀ i₀ row i =
-    (i ≤ 8) × ((length row ≡ 8) × (Filled (takenAfter 4 start) row i × ((length plan ≡ 8) × Filled (takenAfter 4 start) plan 8)))
+    (i ≤ 8) × ((length row ≡ 8) × (Filled (skipAt 4 start) row i × ((length plan ≡ 8) × Filled (skipAt 4 start) plan 8)))
 
 abbrev μ-loop : tie.MeasureT-loop
 μ-loop start plan row₀ i₀ row i = 8 - i
 
 -- 8 places are enough for 4 lanes
 planned : (start : ℕ) (lent plan : List ℕ) → start ≤ askedMax → length lent ≡ 8 → plan ≡ skipRow 4 start lent →
-    (length plan ≡ 8) × Filled (takenAfter 4 start) plan 8
+    (length plan ≡ 8) × Filled (skipAt 4 start) plan 8
 planned start lent plan time size is =
     let yes = accepted 4 start (length lent) (le-leb start askedMax time) (omega arith) in
     (ap length is ∙ row-length 4 start lent ∙ size, λ i l. ap (λ (r : List ℕ). getD r i 0) is ∙ row-first 4 start lent yes i l)
@@ -70,12 +70,12 @@ loop-again c =
     let s = c .before .before .before .before .before .before in
     let more : l .i < 8 = c .before .loop-test .taken in
     let v : ℕ = c .wide .result in
-    let given : v ≡ takenAfter 4 (s .args .start) (l .i) = c .wide .ensures ∙ l .inv .1 .1 .1 .1 (l .i) more in
+    let given : v ≡ skipAt 4 (s .args .start) (l .i) = c .wide .ensures ∙ l .inv .1 .1 .1 .1 (l .i) more in
     let room : l .i < length (l .row) = omega (arith, l .inv .1 .0, more) in (
       omega (arith, more),
       (
         length-set (l .row) (l .i) v ∙ l .inv .1 .0,
-        (filled-next (takenAfter 4 (s .args .start)) (l .row) (l .i) v room (l .inv .1 .1 .0) given, l .inv .1 .1 .1),
+        (filled-next (skipAt 4 (s .args .start)) (l .row) (l .i) v room (l .inv .1 .1 .0) given, l .inv .1 .1 .1),
       ),
     )
 

@@ -4,6 +4,7 @@ use native.Mathlib.Omega.{arith}
 use native.Mathlib.Nat.{mul-le-mul}
 use borrow.Author.Tests.{lt-ltb, le-ltb}
 use Rattle.rules.specs.Limits.{planPlaces, lengthMax}
+use Rattle.scheme.specs.Scheme.{filmIn}
 use Rattle.judging.specs.Walk.{isLate}
 use borrow.Author.Needs.{needs}
 use Rattle.judging.proofs.results.is_late.Statement.{statement}
@@ -29,11 +30,11 @@ cast-result : tie.Need-cast-result
 cast-result c = omega (arith, c .shared-slice-known .given (c .before .before .args .cell))
 
 returns : tie.Need-returns
-unfolding isLate
+unfolding isLate filmIn
 returns c = simp (lt-ltb _ _ (c .before .if1 .taken))
 
 returns-2 : tie.Need-returns-2
-unfolding isLate
+unfolding isLate filmIn
 returns-2 c = simp (le-ltb _ _ (c .if1 .left))
 
 pub is-late-spec : {M : Type 1} → statement M

@@ -6,21 +6,22 @@ use native.Mathlib.Omega.{arith}
 use native.Mathlib.Numerals.{add-one}
 use native.Mathlib.Nat.{le-antisymm}
 use lib.Dec.{ltb, leb}
+use lib.ListN.{getD}
 use borrow.Author.Needs.{needs}
 use borrow.Author.Tests.{lt-ltb, le-ltb}
 use Rattle.rules.specs.Limits.{both, countPlaces}
 use Rattle.rules.specs.Search.{some}
 use Rattle.rules.proofs.Search.{some-none}
 use Rattle.measures.proofs.Within.{in-row}
-use Rattle.story.specs.Kept.{wants, keptAwaited}
-use Rattle.owed.proofs.Wanted.{takes-wants, own-cell}
+use Rattle.story.specs.Kept.{schemeIn, wants, keptAwaited}
+use Rattle.owed.proofs.Wanted.{padded-wants, own-cell}
 use Rattle.owed.proofs.owing.awaited_by_some.Statement.{statement}
 use Rattle.owed.proofs.owing.awaited_by_some.Tie as tie
 
 abbrev Inv-loop : tie.InvT-loop
 Inv-loop lane cell tick t cap floor found₀ count₀ found count =
     (count ≤ suc cap) × (cap ≡ t .cap) × (lane < count)
-    × (found ≡ some (λ c. both (ltb lane c) (both (leb (t .floor) c) (wants t cell tick c))) count)
+    × (found ≡ some (λ c. both (ltb lane c) (both (leb (t .floor) c) (wants (schemeIn t) (getD (t .ends) c 0) cell tick c))) count)
 
 abbrev μ-loop : tie.MeasureT-loop
 μ-loop lane cell tick t cap floor found₀ count₀ found count = suc cap - count
@@ -35,7 +36,7 @@ loop-holds c =
       omega arith,
       refl,
       omega arith,
-      sym (some-none (λ k. both (ltb (a .lane) k) (both (leb (a .t1 .floor) k) (wants (a .t1) x (a .tick) k)))
+      sym (some-none (λ k. both (ltb (a .lane) k) (both (leb (a .t1 .floor) k) (wants (schemeIn (a .t1)) (getD (a .t1 .ends) k 0) x (a .tick) k)))
           (a .lane + 1)
           (λ k l. rw (le-ltb (a .lane) k (omega arith)) refl)),
     )
@@ -78,8 +79,8 @@ loop-again c =
     let t = a .t1 in
     let k = at .loop .count in
     let x = a .cell in
-    let e : c .before .owed-to .result ≡ both (leb (t .floor) k) (wants t x (a .tick) k) =
-    c .before .owed-to .ensures ∙ ap (both (leb (t .floor) k)) (takes-wants t x (a .tick) k (at .before .pre .1 .1 .1)) in
+    let e : c .before .owed-to .result ≡ both (leb (t .floor) k) (wants (schemeIn t) (getD (t .ends) k 0) x (a .tick) k) =
+    c .before .owed-to .ensures ∙ ap (both (leb (t .floor) k)) (padded-wants t x (a .tick) k (at .before .pre .1 .1 .1)) in
     (omega arith, search needs, omega arith, rw add-one (simp (lt-ltb _ _ (at .loop .inv .2)) (cc e)))
 
 returns : tie.Need-returns Inv-loop μ-loop

@@ -10,8 +10,8 @@ use borrow.Author.Needs.{needs}
 use borrow.Author.Tests.{le-leb, lt-leb}
 use Rattle.rules.specs.Limits.{countMax}
 use Rattle.grid.specs.Lanes.{isInG}
-use Rattle.owed.specs.Owing.{takes}
-use Rattle.owed.proofs.Wanted.{channel-low, takes-window}
+use Rattle.story.specs.Kept.{wants}
+use Rattle.owed.proofs.Wanted.{channel-low, wants-window}
 use Rattle.owed.proofs.owing.owed_to.Statement.{statement}
 use Rattle.owed.proofs.owing.owed_to.Tie as tie
 
@@ -19,7 +19,7 @@ returns : tie.Need-returns
 returns c = search (le-leb, lt-leb)
 
 returns-2 : tie.Need-returns-2
-unfolding takes
+unfolding wants
 returns-2 c = simp (le-leb _ _ (c .before .if1 .left), c .if2 .taken)
 
 slot-requires : tie.Need-slot-requires
@@ -61,7 +61,7 @@ returns-3 c =
     let a = e .before .before .args in
     let d = c .before .carrier in
     simp (le-leb _ _ (e .before .if1 .left), c .before .before .slot .ensures .is, c .pow2 .ensures .is)
-    (sym (takes-window (a .floor) (a .cap) (a .count) (a .end) (a .cell) (a .tick) (d .result) (d .ensures) (goes-out (c .before))
+    (sym (wants-window (a .floor) (a .cap) (a .count) (a .end) (a .cell) (a .tick) (d .result) (d .ensures) (goes-out (c .before))
     (pos-of-ne-zero (e .if2 .left))))
 
 pub owed-to-spec : {M : Type 1} → statement M

@@ -6,7 +6,7 @@ use native.Mathlib.Numerals.{add-one}
 use native.Mathlib.Nat.{le-antisymm}
 use lib.ListN.{length, length-set}
 use borrow.Author.Needs.{needs}
-use Rattle.grid.specs.Plan.{never}
+use Rattle.plan.specs.Plan.{never}
 use Rattle.plan.specs.Row.{written}
 use Rattle.rom.specs.Table.{romCap}
 use Rattle.rom.proofs.plans.clear.Statement.{statement}

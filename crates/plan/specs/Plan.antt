@@ -1,35 +1,23 @@
--- The box plan, and the call that writes it (01, "The box plan" and "Numbers that calls give back").
-use Prim.Native.Nat.{ℕ, _+_, _*_, _^_}
+-- What the plan gives for each cell, and what the call that writes it answers (01, "The box plan" and "Numbers that calls give
+-- back").
+use Prim.Native.Nat.{ℕ, _-_, _^_}
 use mathlib.Core.Bool.{Bool, not}
 use mathlib.Core.List.{List, [], _∷_}
-use lib.Dec.{leb, ltb, eqb}
+use lib.Dec.{leb, ltb}
 use Rattle.rules.specs.Limits.{both, within, floorMin, floorMax, countMin, countMax, askedMax}
 use Rattle.rules.specs.Refusals.{pick, Rule, refuse, firstHit, outsideLimits, floorAboveCap, belowFloor, aboveCap}
 use Rattle.rules.specs.Refusals.{notAtSlot, wrongRows}
-use Rattle.rules.specs.Search.{some, first}
-use Rattle.grid.specs.Ticks.{cells, slot, isSlotStart}
-use Rattle.grid.specs.Channels.{channelCell}
+use Rattle.grid.specs.Ticks.{cells}
+use Rattle.scheme.specs.Scheme.{padded, starts, takenAfter}
 
 -- the place of a cell that is never taken
 abbrev pub never : ℕ
 never = 65535
 
--- a box that starts at tick a under count k takes cell c from channel d at tick t
-unfoldable pub takenFrom : ℕ → ℕ → ℕ → ℕ → ℕ → ℕ → ℕ → Bool
-takenFrom A K k a c t d =
-    both (leb a t) (both (ltb t (a + slot K k * 2 ^ d)) (eqb (channelCell A K k d t) c))
-
--- the cell is in the plan of that box at tick t
-unfoldable pub inPlan : ℕ → ℕ → ℕ → ℕ → ℕ → ℕ → Bool
-inPlan A K k a c t = some (takenFrom A K k a c t) k
-
--- the cell's tick minus a: no channel is taken for as many ticks as there are cells
-unfoldable pub takenAfter : ℕ → ℕ → ℕ → ℕ → ℕ → ℕ
-takenAfter A K k a c = first (λ o. inPlan A K k a c (a + o)) (cells K)
-
--- what the plan gives for cell c
+-- what the plan gives for cell c: its tick minus a, by the padded grid
 unfoldable pub planAt : ℕ → ℕ → ℕ → ℕ → ℕ → ℕ
-planAt A K k a c = pick (ltb (takenAfter A K k a c) (cells K)) (takenAfter A K k a c) never
+planAt A K k a c =
+    pick (ltb (takenAfter (padded A K) K k a c) (2 ^ (K - 1))) (takenAfter (padded A K) K k a c) never
 
 -- the call's four numbers are within their limits
 abbrev pub planLimits : ℕ → ℕ → ℕ → ℕ → Bool
@@ -44,7 +32,7 @@ planRules A K k a n =
     ∷ refuse floorAboveCap (ltb K A)
     ∷ refuse belowFloor (ltb k A)
     ∷ refuse aboveCap (ltb K k)
-    ∷ refuse notAtSlot (not (isSlotStart K k a))
+    ∷ refuse notAtSlot (not (starts (padded A K) k a))
     ∷ refuse wrongRows (ltb n (cells K))
     ∷ []
 

@@ -1,0 +1,15 @@
+-- A life as the events allow it: what statements ask of any life (01, "Events"; 02, 12). Every accepted sequence gives such lives
+-- (proofs/Lively).
+use mathlib.Core.Path.{_≡_}
+use Prim.Native.Nat.{ℕ, _≤_, _<_}
+use Rattle.scheme.specs.Scheme.{steadyKind}
+use Rattle.scheme.specs.Lawful.{Lawful}
+use Rattle.story.specs.Life.{Life, scheme}
+use Rattle.story.specs.Story.{tickLength}
+
+-- a lawful scheme, one count alone for a skip-forward title, and a rule that keeps to floor and cap, closing apart
+pub record Ruled (L : Life) : Type 0 where
+  pub laws : Lawful (scheme L) (L .length) (tickLength L) (L .floor) (L .cap)
+  pub flat : L .kind ≡ steadyKind → L .floor ≡ L .cap
+  pub low : (t : ℕ) → 0 < L .rule t → L .floor ≤ L .rule t
+  pub high : (t : ℕ) → L .rule t ≤ L .cap
