@@ -20,7 +20,7 @@ use Rattle.agent.specs.declared.Agent.{Agent}
 use Rattle.agent.specs.declared.PlayedLog.{PlayedLog}
 use Rattle.agent.specs.Turns.{freshAgent, noticed}
 use Rattle.agent.specs.Played.{agentTold}
-use Rattle.agent.specs.Steps.{keptTold, stepped, keptRead, Steps, Plays}
+use Rattle.agent.specs.inner.Steps.{keptTold, stepped, keptRead, Steps, Plays}
 
 abbrev pub playedOf : Agent → ℕ → Bool → PlayedLog
 playedOf g e b = record { agent = g; place = e; more = b }

@@ -2,4 +2,4 @@
 pub mod Turns
 pub mod Series
 pub mod Played
-pub mod Steps
+pub mod inner

@@ -29,7 +29,7 @@ use Rattle.airing.specs.declared.Judgement.{Judgement}
 use Rattle.airing.specs.Air.{airAnswer, airGives, airLeaves, refusedWith, judgementOf, inLimits, isFilmTitle, ticksAnswer, markOf, ticksLeaves}
 use Rattle.airing.proofs.Accepted.{accepted-limits, accepted-few, accepted-whole, accepted-film}
 use Rattle.air_io.specs.Lines.{admissionLine, linesTo, totalLines, airText}
-use Rattle.air_io.specs.Steps.{isMarked, judgedLine, markedLines, reportText}
+use Rattle.air_io.specs.inner.Steps.{isMarked, judgedLine, markedLines, reportText}
 
 module _ (L : Life) (r : List ℕ) where
   -- ---- who is judged

@@ -9,7 +9,7 @@ use Rattle.rules.specs.Search.{howMany}
 use Rattle.rules.proofs.Search.{howMany-hit, howMany-miss}
 use Rattle.text.specs.Output.{Page, puts}
 use Rattle.text.proofs.Pages.{puts-then}
-use Rattle.air_io.specs.Steps.{isMarked, judgedLine, markedLines}
+use Rattle.air_io.specs.inner.Steps.{isMarked, judgedLine, markedLines}
 
 module _ (marks : List ℕ) (n : ℕ) where
   pub counts-marked : getD marks n 0 ≡ 1 → howMany (isMarked marks) n + 1 ≡ howMany (isMarked marks) (n + 1)

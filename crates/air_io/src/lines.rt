@@ -15,7 +15,7 @@ ghost use mathlib.Core.Path.{_≡_};
 ghost use lib.ListN.{length, getD};
 ghost use Rattle.text.specs.Output.{Written};
 ghost use Rattle.air_io.specs.Lines.{cellText, admissionLine, totalLines, placeText, faultText};
-ghost use Rattle.air_io.specs.Steps.{judgedLine, markedLines, reportText};
+ghost use Rattle.air_io.specs.inner.Steps.{judgedLine, markedLines, reportText};
 
 // The cell that was missed, or a dash.
 fn put_result(out: &mut [u8], at: usize, cell: u16) -> usize

@@ -17,11 +17,11 @@ use Rattle.story.specs.declared.Title.{Title}
 use Rattle.story.specs.Kept.{titleAt}
 use Rattle.agent.specs.declared.PlayedLog.{PlayedLog}
 use Rattle.agent.specs.Played.{agentPlayed, lifeIn}
-use Rattle.agent.specs.Steps.{Plays}
+use Rattle.agent.specs.inner.Steps.{Plays}
 use Rattle.agent.proofs.Played.{log-series}
 use Rattle.airing.specs.declared.follow.Ending.{Ending}
 use Rattle.airing.specs.Air.{inLimits, isFilmTitle, markOf}
-use Rattle.airing.specs.Steps.{markedTo, Markable, heardMarks, toldMarks, Standing, logAnswer, isFilmSlot, answerOf, Follows}
+use Rattle.airing.specs.inner.Steps.{markedTo, Markable, heardMarks, toldMarks, Standing, logAnswer, isFilmSlot, answerOf, Follows}
 use Rattle.airing.proofs.Marking.{told-length, told-film, told-markable, told-standing, told-all}
 
 abbrev pub endingOf : ℕ → Title → Ending

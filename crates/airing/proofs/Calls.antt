@@ -22,7 +22,7 @@ use Rattle.judging.specs.Judge.{Judgeable, MarkedBy, Judges}
 use Rattle.airing.specs.declared.Judgement.{Judgement}
 use Rattle.airing.specs.declared.follow.Ending.{Ending}
 use Rattle.airing.specs.Air.{inLimits, hasRoom, isFilmTitle, allCells, airAnswer, refusedWith, airGives, airLeaves, ticksAnswer, markOf, ticksLeaves}
-use Rattle.airing.specs.Steps.{Standing, logAnswer, Follows, firstAnswer}
+use Rattle.airing.specs.inner.Steps.{Standing, logAnswer, Follows, firstAnswer}
 
 -- ---- the call that tells the admissions
 

@@ -15,7 +15,7 @@ use Rattle.story.specs.Kept.{openMode, titleAt, tickAt}
 use Rattle.agent.specs.declared.Agent.{Agent}
 use Rattle.agent.specs.Turns.{noticeAnswer}
 use Rattle.agent.proofs.Turns.{Turn}
-use Rattle.airing.specs.Steps.{markedTo, Markable, heardMarks, Ready, Hears}
+use Rattle.airing.specs.inner.Steps.{markedTo, Markable, heardMarks, Ready, Hears}
 use Rattle.airing.proofs.Ticks.{to-length}
 
 both-none : (b : Bool) → both b false ≡ false

@@ -8,7 +8,7 @@ use Rattle.notice.specs.Log.{Bytes, noticesTo}
 use Rattle.agent.specs.declared.PlayedLog.{PlayedLog}
 use Rattle.agent.proofs.Played.{log-series}
 use Rattle.agent.proofs.Reading.{PlayedTo}
-use Rattle.airing.specs.Steps.{heardMarks, Ready}
+use Rattle.airing.specs.inner.Steps.{heardMarks, Ready}
 use Rattle.airing.proofs.Marking.{told-length, told-ready}
 
 module _ (pool : ℕ) (log : List ℕ) (i : ℕ) (row : List ℕ) (p : PlayedLog) (m : List ℕ) (w : PlayedTo (heardMarks i) pool log row p m) where

@@ -9,7 +9,7 @@ use lib.Seq.{getD-set-same, getD-set-other}
 use Rattle.rules.proofs.Search.{below-suc}
 use Rattle.story.specs.declared.Title.{Title}
 use Rattle.story.specs.Kept.{tickAt}
-use Rattle.airing.specs.Steps.{markIn, markedFrom, markedTo}
+use Rattle.airing.specs.inner.Steps.{markIn, markedFrom, markedTo}
 
 pub sub-zero : (n m : ℕ) → n ≡ m → n - m ≡ 0
 sub-zero n m e = omega arith

@@ -1,4 +1,4 @@
 -- What the air carried for the boxes of a title in a log, a record of our own answers, and how the code goes through the log.
 pub mod Air
 pub mod Own
-pub mod Steps
+pub mod inner

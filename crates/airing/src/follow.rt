@@ -21,9 +21,9 @@ ghost use mathlib.Core.Path.{_≡_};
 ghost use mathlib.Core.Bool.{true};
 ghost use Rattle.rules.specs.Limits.{idMax};
 ghost use Rattle.notice.specs.Decode.{readAt};
-ghost use Rattle.agent.specs.Steps.{Steps, Plays};
+ghost use Rattle.agent.specs.inner.Steps.{Steps, Plays};
 ghost use Rattle.airing.specs.Air.{inLimits};
-ghost use Rattle.airing.specs.Steps.{heardMarks, Ready, Hears, answerOf, Follows};
+ghost use Rattle.airing.specs.inner.Steps.{heardMarks, Ready, Hears, answerOf, Follows};
 
 // What a log answers, and the title as it stands at its end.
 pub struct Ending {

@@ -7,7 +7,7 @@ use scheme::starts;
 use story::Title;
 ghost use mathlib.Core.Path.{_≡_};
 ghost use Rattle.grid.specs.Bounds.{CountCap};
-ghost use Rattle.airing.specs.Steps.{markIn, markedTo, Markable};
+ghost use Rattle.airing.specs.inner.Steps.{markIn, markedTo, Markable};
 
 // The mark of a tick while a title stays as it stands.
 fn mark_in(t: Title, tick: u64) -> u8

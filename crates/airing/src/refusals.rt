@@ -17,7 +17,7 @@ ghost use Prim.Native.Nat.{_≤_};
 ghost use mathlib.Core.Path.{_≡_};
 ghost use Rattle.rules.specs.Limits.{countMax};
 ghost use Rattle.airing.specs.Air.{inLimits, hasRoom, allCells};
-ghost use Rattle.airing.specs.Steps.{firstAnswer};
+ghost use Rattle.airing.specs.inner.Steps.{firstAnswer};
 
 // Whether pool and title are within their limits.
 pub fn in_limits(pool: u64, title: u64) -> bool

@@ -9,7 +9,7 @@ use lib.ListN.{length, set, length-set}
 use lib.Seq.{getD-set-same, getD-set-other}
 use Rattle.rules.specs.Limits.{planPlaces}
 use Rattle.judging.specs.Record.{lowest, ticksMax, ticksIn}
-use Rattle.judging.specs.Walk.{Nexts, Results, isLate, isUnseen}
+use Rattle.judging.specs.inner.Walk.{Nexts, Results, isLate, isUnseen}
 use Rattle.judging.proofs.Walked.{next-or, late-unseen, lowest-ext}
 
 module _ (r : List ℕ) (m D τ : ℕ) where

@@ -20,7 +20,7 @@ use Rattle.judging.specs.declared.Counts.{Counts}
 use Rattle.judging.specs.Record.{nothingSeen, lowest, ticksIn, isInTime}
 use Rattle.judging.specs.Judged.{isMissed, resultOf, isWhole, isJudged, isOutlasting, isPlayed, resultsTo}
 use Rattle.judging.specs.Judge.{MarkedBy, Judges}
-use Rattle.judging.specs.Walk.{isUnseen, Results, rowAfter, countsAfter, rowTo, countsTo, Tells}
+use Rattle.judging.specs.inner.Walk.{isUnseen, Results, rowAfter, countsAfter, rowTo, countsTo, Tells}
 use Rattle.judging.proofs.Walked.{lowest-ext}
 use Rattle.judging.proofs.Told.{counts-same}
 

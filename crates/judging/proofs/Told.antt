@@ -12,7 +12,7 @@ use Rattle.rules.specs.Limits.{both}
 use Rattle.rules.specs.Refusals.{pick}
 use Rattle.judging.specs.declared.Counts.{Counts}
 use Rattle.judging.specs.Record.{nothingSeen, ticksMax}
-use Rattle.judging.specs.Walk.{OneMore, Few, rowAfter, countsAfter, rowTo, countsTo}
+use Rattle.judging.specs.inner.Walk.{OneMore, Few, rowAfter, countsAfter, rowTo, countsTo}
 
 pub counts-same : {a b c x y z : ℕ} → a ≡ x → b ≡ y → c ≡ z →
     _≡_ {A = Counts} (record { judged = a; played = b; outlast = c }) (record { judged = x; played = y; outlast = z })

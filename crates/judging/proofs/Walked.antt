@@ -19,7 +19,7 @@ use Rattle.scheme.specs.Scheme.{filmIn}
 use Rattle.rules.proofs.Tests.{decide, fails, pick-true, pick-false}
 use Rattle.rules.proofs.Search.{some-in, some-none, first-hit, first-least, first-ext}
 use Rattle.judging.specs.Record.{nothingSeen, lowest, ticksIn, seen, isShown, isInTime}
-use Rattle.judging.specs.Walk.{noted, Nexts, isLate, isUnseen}
+use Rattle.judging.specs.inner.Walk.{noted, Nexts, isLate, isUnseen}
 
 -- from a on: a itself, or after it
 pub next-or : (a u : ℕ) → a ≤ u → (a ≡ u) ⊎ (suc a ≤ u)

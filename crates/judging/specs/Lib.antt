@@ -2,4 +2,4 @@
 pub mod Record
 pub mod Judged
 pub mod Judge
-pub mod Walk
+pub mod inner

@@ -7,7 +7,7 @@ ghost use Prim.Native.Nat.{_<_};
 ghost use mathlib.Core.Path.{_≡_};
 ghost use Rattle.rules.specs.Limits.{lanePlaces};
 ghost use Rattle.judging.specs.Record.{ticksIn, ticksMax};
-ghost use Rattle.judging.specs.Walk.{noted, Nexts};
+ghost use Rattle.judging.specs.inner.Walk.{noted, Nexts};
 
 // Past the record's end no cell is shown.
 pub fn never(air: &[u16]) -> [u16; PLAN_PLACES]

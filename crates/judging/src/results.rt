@@ -10,7 +10,7 @@ ghost use lib.Dec.{leb};
 ghost use lib.ListN.{length as places};
 ghost use Rattle.rules.specs.Limits.{planPlaces, lengthMax};
 ghost use Rattle.judging.specs.Record.{lowest, ticksIn, ticksMax};
-ghost use Rattle.judging.specs.Walk.{isLate, Results};
+ghost use Rattle.judging.specs.inner.Walk.{isLate, Results};
 
 // Whether a cell holds film and is next shown after its turn, or never, for a box that begins at tick `start`.
 fn is_late(next: &[u16], length: u64, tick: u64, start: usize, cell: usize) -> bool

@@ -9,7 +9,7 @@ ghost use Prim.Native.Nat.{_≤_, _<_};
 ghost use lib.ListN.{length};
 ghost use Rattle.rules.specs.Limits.{planPlaces};
 ghost use Rattle.judging.specs.Record.{ticksMax};
-ghost use Rattle.judging.specs.Walk.{OneMore, Few, Tells};
+ghost use Rattle.judging.specs.inner.Walk.{OneMore, Few, Tells};
 
 // One tick more: an admission that is judged has its result put in the next place.
 fn put(result: u16, admission: bool, whole: bool, counts: Counts, row: &mut [u16]) -> Counts

@@ -8,7 +8,7 @@ use Rattle.notice.specs.declared.Found.the-variants as found
 use Rattle.notice.specs.Decode.{placeAfter, further}
 use Rattle.notice.specs.Log.{isNotice, withFound}
 use Rattle.agent.specs.declared.Agent.{Agent}
-use Rattle.listing_io.specs.Steps.{lineAfter}
+use Rattle.listing_io.specs.Step.{lineAfter}
 
 pub same-line : (g : Agent) (d : ℕ) (f : Found) → lineAfter g f ≡ lineAfter g (further d f)
 same-line g d (found.At n e) = refl

@@ -19,7 +19,7 @@ use Rattle.notice.proofs.Through.{enough}
 use Rattle.agent.specs.declared.Agent.{Agent}
 use Rattle.agent.specs.Played.{agentTold}
 use Rattle.listing_io.specs.declared.input.Shown.{Shown}
-use Rattle.listing_io.specs.Steps.{lineAfter, Shows}
+use Rattle.listing_io.specs.Step.{lineAfter, Shows}
 use Rattle.listing_io.specs.Listing.{Run, starts, goes}
 
 -- a step that keeps its promise, on the whole log

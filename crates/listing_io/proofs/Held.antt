@@ -15,7 +15,7 @@ use Rattle.notice.specs.declared.Kind.the-variants.{Open, Change, Close, Hold, 
 use Rattle.notice.specs.declared.Reading.the-variants as reading
 use Rattle.agent.specs.declared.Agent.{Agent}
 use Rattle.agent.specs.Turns.{noticeNext, freshAgent}
-use Rattle.listing_io.specs.Steps.{heldAfter}
+use Rattle.listing_io.specs.Step.{heldAfter}
 
 abbrev ofKind : Notice → Kind → Notice
 ofKind n k = record { sequence = n .sequence; title = n .title; time = n .time; kind = k }

@@ -24,7 +24,7 @@ use Rattle.text.specs.Feed.{count}
 use Rattle.text.proofs.Moving.{count-low}
 use Rattle.listing_io.specs.declared.steps.Listed.{Listed}
 use Rattle.listing_io.specs.declared.input.Printed.{Printed}
-use Rattle.listing_io.specs.Steps.{Hears}
+use Rattle.listing_io.specs.Step.{Hears}
 use Rattle.listing_io.specs.Listing.{UpTo, Drained}
 
 -- a step that goes on has moved ahead, within the log; one that ends it stays

@@ -14,7 +14,7 @@ use Rattle.text.proofs.Pages.{stands}
 use Rattle.text.proofs.Printing.{decimal-short}
 use Rattle.listing_io.specs.declared.steps.Listed.{Listed}
 use Rattle.listing_io.specs.Lines.{space, newline, ended, lineOf, lastLine, lineRoom}
-use Rattle.listing_io.specs.Steps.{noticeLine, cutLine, lineAfter, Lists, Shows}
+use Rattle.listing_io.specs.Step.{noticeLine, cutLine, lineAfter, Lists, Shows}
 
 -- ---- the lines
 

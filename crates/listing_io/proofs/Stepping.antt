@@ -16,7 +16,7 @@ use Rattle.agent.specs.Played.{agentTold}
 use Rattle.text.specs.Output.{page, puts}
 use Rattle.listing_io.specs.declared.steps.Listed.{Listed}
 use Rattle.listing_io.specs.Lines.{lineOf, lastLine}
-use Rattle.listing_io.specs.Steps.{heldAfter, noticeLine, cutLine, Lists}
+use Rattle.listing_io.specs.Step.{heldAfter, noticeLine, cutLine, Lists}
 
 -- no byte more
 pub end-step : (g : Agent) (p : ℕ) (room : List ℕ)

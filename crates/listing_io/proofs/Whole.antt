@@ -25,7 +25,7 @@ use Rattle.agent.specs.Played.{agentTold}
 use Rattle.agent.proofs.Played.{told-more, played}
 use Rattle.listing_io.specs.declared.input.Printed.{Printed}
 use Rattle.listing_io.specs.declared.input.Shown.{Shown}
-use Rattle.listing_io.specs.Steps.{cutLine, lineAfter, Shows}
+use Rattle.listing_io.specs.Step.{cutLine, lineAfter, Shows}
 use Rattle.listing_io.specs.Listing.{linesOf, listingOf, Run, starts, goes, Drained}
 use Rattle.listing_io.proofs.Decided.{same-line, same-notices, same-more, same-place}
 

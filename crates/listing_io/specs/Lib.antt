@@ -1,4 +1,4 @@
 -- What the listing program prints.
 pub mod Lines
-pub mod Steps
+pub mod Step
 pub mod Listing

@@ -14,7 +14,7 @@ use Rattle.agent.specs.Played.{agentTold}
 use Rattle.listing_io.specs.declared.steps.Listed.{Listed}
 use Rattle.listing_io.specs.declared.input.Printed.{Printed}
 use Rattle.listing_io.specs.declared.input.Shown.{Shown}
-use Rattle.listing_io.specs.Steps.{noticeLine, cutLine, Shows}
+use Rattle.listing_io.specs.Step.{noticeLine, cutLine, Shows}
 
 -- the lines of notices that an agent is told, newest first: each told after those before it
 unfoldable pub linesOf : Agent → List Notice → List ℕ

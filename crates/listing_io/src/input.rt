@@ -18,7 +18,7 @@ ghost use Prim.Native.Nat.{_≤_, _<_};
 ghost use lib.ListN.{length};
 ghost use Rattle.notice.specs.Fields.{longestNotice};
 ghost use Rattle.notice.specs.Decode.{readAt};
-ghost use Rattle.listing_io.specs.Steps.{Hears, Shows};
+ghost use Rattle.listing_io.specs.Step.{Hears, Shows};
 ghost use Rattle.listing_io.specs.Listing.{Drained};
 
 // What a read leaves: the agent, the bytes kept at the buffer's front, and whether to go on.

@@ -13,7 +13,7 @@ use scheduler::held;
 ghost use mathlib.Core.Path.{_≡_};
 ghost use Rattle.notice.specs.declared.Found.the-variants as found;
 ghost use Rattle.notice.specs.Decode.{readAt};
-ghost use Rattle.listing_io.specs.Steps.{heldAfter, Lists};
+ghost use Rattle.listing_io.specs.Step.{heldAfter, Lists};
 
 // What a step gives back.
 pub struct Listed {

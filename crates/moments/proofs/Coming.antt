@@ -17,7 +17,7 @@ use Rattle.story.specs.Kept.{titleAt, settledAt}
 use Rattle.story.specs.Calls.{atSlotStart}
 use Rattle.measures.specs.Film.{Film}
 use Rattle.moments.specs.Moments.{isPermitted, hasLanes, isDue, FirstDue}
-use Rattle.moments.specs.Steps.{slotMs, Found, permits}
+use Rattle.moments.specs.inner.Steps.{slotMs, Found, permits}
 use Rattle.moments.proofs.Permitted.{start-here, start-next, permitted-first, permitted-second}
 use Rattle.moments.proofs.Due.{lanes-stay, permitted-by}
 

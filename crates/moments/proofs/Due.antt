@@ -20,7 +20,7 @@ use Rattle.measures.proofs.Within.{numbers, readable, dropped-ok, tuned-high, t
 use Rattle.owed.specs.Owing.{Changeable}
 use Rattle.owed.proofs.Fixed.{stored, changeable}
 use Rattle.moments.specs.Moments.{isPermitted, hasLanes, isDue, earliest}
-use Rattle.moments.specs.Steps.{Found, permits, Timed, AllTimed, Frees, FindsLanes}
+use Rattle.moments.specs.inner.Steps.{Found, permits, Timed, AllTimed, Frees, FindsLanes}
 use Rattle.moments.proofs.Earliest.{Hits, found}
 use Rattle.moments.proofs.Falling.{raised, raise-held, lanes-fall}
 

@@ -23,7 +23,7 @@ use Rattle.story.specs.declared.Title.{Title}
 use Rattle.story.specs.Kept.{schemeIn, titleTick, tickAt, atTickStart, settledAt}
 use Rattle.story.specs.Calls.{atSlotStart}
 use Rattle.measures.specs.Film.{Film}
-use Rattle.moments.specs.Steps.{slotMs, slotMost, Found, permits}
+use Rattle.moments.specs.inner.Steps.{slotMs, slotMost, Found, permits}
 
 -- a whole number of ticks, itself a whole number of slots of w ticks: a whole number of slots of w * p ms
 whole : (p w x : ℕ) → 0 < p → 0 < w → both (eqb (x % p) 0) (eqb (x / p % w) 0) ≡ eqb (x % (w * p)) 0

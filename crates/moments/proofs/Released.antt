@@ -18,8 +18,8 @@ use Rattle.story.specs.declared.Title.{Title}
 use Rattle.story.specs.declared.State.{State}
 use Rattle.story.specs.Kept.{absentMode, titleTick, titleAt, tickAt, ruling, keptHeld, titleHeld, lanesHeld}
 use Rattle.story.specs.Calls.{tooMany}
-use Rattle.moments.specs.Steps.{Timed, AllTimed, releaseOf, soonerOf, lanesRelease, titleRelease, releaseIn}
-use Rattle.moments.specs.Steps.{Frees}
+use Rattle.moments.specs.inner.Steps.{Timed, AllTimed, releaseOf, soonerOf, lanesRelease, titleRelease, releaseIn}
+use Rattle.moments.specs.inner.Steps.{Frees}
 
 -- r is no later than a, comes after τ where a does, and where b does it is no later than b
 record Sooner (τ a b r : ℕ) : Type 0 where

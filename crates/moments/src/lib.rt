@@ -19,7 +19,7 @@ ghost use Rattle.rules.specs.Limits.{idMax, eventTimeMax};
 ghost use Rattle.grid.specs.Bounds.{Exactly};
 ghost use Rattle.story.specs.Kept.{openMode, titleAt, stateOk};
 ghost use Rattle.moments.specs.Moments.{isDue, earliest};
-ghost use Rattle.moments.specs.Steps.{FindsLanes};
+ghost use Rattle.moments.specs.inner.Steps.{FindsLanes};
 
 // Stands for every time past the clock.
 pub const PAST: u64 = EVENT_TIME_MAX + 1;

@@ -15,8 +15,8 @@ ghost use lib.Dec.{leb};
 ghost use Rattle.rules.specs.Limits.{both, countMax, lengthMax, eventTimeMax, titlesMax};
 ghost use Rattle.story.specs.Kept.{absentMode, titleTick};
 ghost use Rattle.story.specs.Calls.{tooMany};
-ghost use Rattle.moments.specs.Steps.{Timed, AllTimed, releaseOf, soonerOf, lanesRelease, titleRelease};
-ghost use Rattle.moments.specs.Steps.{releaseIn, Frees};
+ghost use Rattle.moments.specs.inner.Steps.{Timed, AllTimed, releaseOf, soonerOf, lanesRelease, titleRelease};
+ghost use Rattle.moments.specs.inner.Steps.{releaseIn, Frees};
 
 // The sooner of two moments, where the second lies after a time.
 fn sooner(time: u64, a: u64, b: u64) -> u64

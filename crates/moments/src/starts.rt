@@ -9,7 +9,7 @@ ghost use Rattle.rules.specs.Limits.{askedMax, eventTimeMax};
 ghost use Rattle.grid.specs.Bounds.{Exactly};
 ghost use Rattle.story.specs.Calls.{atSlotStart};
 ghost use Rattle.measures.specs.Film.{Film};
-ghost use Rattle.moments.specs.Steps.{slotMs, slotMost, Found, permits};
+ghost use Rattle.moments.specs.inner.Steps.{slotMs, slotMost, Found, permits};
 
 // The larger of two numbers.
 fn larger(a: u64, b: u64) -> u64

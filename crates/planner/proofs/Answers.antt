@@ -16,7 +16,7 @@ use Rattle.story.specs.Kept.{stateOk}
 use Rattle.wishes.specs.Wishes.{ratesOk, floorsOf, sharedPool, wishes}
 use Rattle.planner.specs.Moves.{Move, fallsPast}
 use Rattle.planner.specs.Outcome.{moves, plannerAnswer, given, roomOf, rowFrom, Answered}
-use Rattle.planner.specs.Steps.{numbersOk, standingRules, standingAnswer}
+use Rattle.planner.specs.inner.Steps.{numbersOk, standingRules, standingAnswer}
 
 -- what a question has that is not refused before its wishes
 pub record Stands (s : State) (τ : ℕ) (rates : List ℕ) : Type 0 where

@@ -16,7 +16,7 @@ use Rattle.wishes.proofs.Wished.{Each, Wished}
 use Rattle.planner.specs.declared.times.Times.{Times}
 use Rattle.planner.specs.Moves.{Move, listed, fallsPast}
 use Rattle.planner.specs.Outcome.{moves, roomOf, rowFrom, Answered}
-use Rattle.planner.specs.Steps.{standingAnswer, AllFit, lastMoment, firstOf, Timed}
+use Rattle.planner.specs.inner.Steps.{standingAnswer, AllFit, lastMoment, firstOf, Timed}
 use Rattle.planner.proofs.Steps.{falls-last, listed-length, listed-titles, listed-counts, wishes-length, wishes-titles}
 use Rattle.planner.proofs.Steps.{wishes-counts, each-at}
 use Rattle.planner.proofs.Answers.{stands, no-room, past-clock, all-listed, refused-answered, listed-answered}

@@ -15,7 +15,7 @@ use Rattle.owed.specs.Owing.{Changeable}
 use Rattle.owed.proofs.Fixed.{changeable}
 use Rattle.wishes.specs.Wishes.{Wish}
 use Rattle.planner.specs.Moves.{momentFor, moveAt, listed, allMoved}
-use Rattle.planner.specs.Steps.{Fits, lastMoment, firstOf}
+use Rattle.planner.specs.inner.Steps.{Fits, lastMoment, firstOf}
 use Rattle.planner.proofs.Kept.{Frame, Framed, next-ok, next-framed}
 use Rattle.planner.proofs.Steps.{listed-more, moved-more, last-more, first-write}
 

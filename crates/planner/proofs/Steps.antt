@@ -19,7 +19,7 @@ use Rattle.moments.specs.Moments.{earliest}
 use Rattle.wishes.specs.Wishes.{Wish, wishAt, wishesTo}
 use Rattle.wishes.proofs.Wished.{Each, each-none, each-more}
 use Rattle.planner.specs.Moves.{Move, momentFor, movedAt, moveAt, listed, allMoved, fallsPast}
-use Rattle.planner.specs.Steps.{lastMoment, firstOf}
+use Rattle.planner.specs.inner.Steps.{lastMoment, firstOf}
 
 -- ---- one wish more
 

@@ -2,4 +2,4 @@
 pub mod Moves
 pub mod Outcome
 pub mod Carried
-pub mod Steps
+pub mod inner

@@ -16,7 +16,7 @@ ghost use mathlib.Core.Path.{_≡_};
 ghost use lib.ListN.{length};
 ghost use Rattle.rules.specs.Limits.{titlesMax};
 ghost use Rattle.planner.specs.Outcome.{Answered};
-ghost use Rattle.planner.specs.Steps.{standingAnswer};
+ghost use Rattle.planner.specs.inner.Steps.{standingAnswer};
 
 mod rows;
 mod standing;

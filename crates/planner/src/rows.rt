@@ -6,7 +6,7 @@ ghost use mathlib.Core.Path.{_≡_};
 ghost use mathlib.Core.List.{_++_};
 ghost use lib.ListN.{length, drop};
 ghost use Rattle.rules.specs.Limits.{titlesMax};
-ghost use Rattle.planner.specs.Steps.{firstOf};
+ghost use Rattle.planner.specs.inner.Steps.{firstOf};
 
 // Writes the first places of one row into those of another; later places stay.
 pub fn write(from: &[u64; TITLES_MAX], many: usize, to: &mut [u64])

@@ -12,7 +12,7 @@ use wishes::floors;
 use wishes::rates_ok;
 use wishes::shared_pool;
 ghost use mathlib.Core.Path.{_≡_};
-ghost use Rattle.planner.specs.Steps.{numbersOk, standingAnswer};
+ghost use Rattle.planner.specs.inner.Steps.{numbersOk, standingAnswer};
 
 // Every number of the question is within its limits.
 fn numbers_ok(s: State, time: u64, rates: &[u32]) -> bool

@@ -11,7 +11,7 @@ use Rattle.notice.proofs.Each.{false-true}
 use Rattle.text.specs.Feed.{count}
 use Rattle.text.proofs.Moving.{count-low}
 use Rattle.salvaging.specs.declared.steps.Progress.{Progress}
-use Rattle.salvaging.specs.Steps.{Counts}
+use Rattle.salvaging.specs.inner.Steps.{Counts}
 use Rattle.salvage_io.specs.declared.input.Fed.{Fed}
 use Rattle.salvage_io.specs.Blocks.{Passes}
 

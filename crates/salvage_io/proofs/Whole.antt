@@ -12,7 +12,7 @@ use Rattle.salvaging.specs.declared.steps.Progress.{Progress}
 use Rattle.salvaging.specs.declared.rows.Poured.{Poured}
 use Rattle.salvaging.specs.Scan.{scanTo, scanOf}
 use Rattle.salvaging.specs.Rows.{flat}
-use Rattle.salvaging.specs.Steps.{progressOf, ending}
+use Rattle.salvaging.specs.inner.Steps.{progressOf, ending}
 use Rattle.salvaging.specs.Pours.{endedIn, Stands, Pours}
 use Rattle.salvaging.proofs.Through as through
 use Rattle.salvaging.proofs.Laying.{with-open}

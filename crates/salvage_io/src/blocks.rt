@@ -5,7 +5,7 @@ use salvaging::rows::pour;
 use salvaging::steps::Progress;
 ghost use Prim.Native.Nat.{_+_, _≤_, _<_, _^_};
 ghost use lib.ListN.{length};
-ghost use Rattle.salvaging.specs.Steps.{Counts};
+ghost use Rattle.salvaging.specs.inner.Steps.{Counts};
 ghost use Rattle.salvage_io.specs.Blocks.{blockRoom, Blocks};
 
 // The bytes of a block, and the room for what it takes and for its stretches: none has more numbers than the block has bytes.

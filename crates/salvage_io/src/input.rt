@@ -18,7 +18,7 @@ ghost use mathlib.Core.Bool.{true, false};
 ghost use Prim.Native.Nat.{_+_, _≤_, _<_, _^_};
 ghost use lib.ListN.{length};
 ghost use Rattle.notice.specs.Fields.{longestNotice};
-ghost use Rattle.salvaging.specs.Steps.{Counts};
+ghost use Rattle.salvaging.specs.inner.Steps.{Counts};
 ghost use Rattle.salvage_io.specs.Blocks.{blockRoom, Passes};
 
 // Where the taken notices go, and where the report goes.

@@ -30,7 +30,7 @@ use Rattle.salvaging.specs.declared.rows.Poured.{Poured}
 use Rattle.salvaging.specs.Scan.{isLater, moveOf, Stretch, stretch, endOf, joined, Scan, lastOf, after, moveIn}
 use Rattle.salvaging.specs.Scan.{scanTo, scanOf}
 use Rattle.salvaging.specs.Claims.{Apart}
-use Rattle.salvaging.specs.Steps.{progressOf, isOpen, ending, fresh, moved, Counts, Within, Between, Advances}
+use Rattle.salvaging.specs.inner.Steps.{progressOf, isOpen, ending, fresh, moved, Counts, Within, Between, Advances}
 use Rattle.salvaging.specs.Rows.{flat}
 use Rattle.salvaging.specs.Pours.{tookOne, Lays, closed, endedIn, Stands, Follows, Pours, Fills}
 use Rattle.salvaging.proofs.Parts.{part-is}

@@ -9,7 +9,7 @@ use lib.ListN.{length}
 use Rattle.notice.specs.Decode.{readAt}
 use Rattle.salvaging.specs.declared.steps.Progress.{Progress}
 use Rattle.salvaging.specs.Scan.{moveOf, moveIn, scanTo, scanOf}
-use Rattle.salvaging.specs.Steps.{progressOf, fresh, moved, Counts, Within, Advances}
+use Rattle.salvaging.specs.inner.Steps.{progressOf, fresh, moved, Counts, Within, Advances}
 use Rattle.salvaging.proofs.Through as through
 use Rattle.salvaging.proofs.Stepping.{fresh-counts, same-step}
 

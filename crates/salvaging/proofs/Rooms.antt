@@ -16,7 +16,7 @@ use Rattle.text.proofs.Pages.{puts-fits}
 use Rattle.salvaging.specs.declared.Salvaged.{Salvaged}
 use Rattle.salvaging.specs.declared.steps.Progress.{Progress}
 use Rattle.salvaging.specs.Scan.{Stretch, scanOf}
-use Rattle.salvaging.specs.Steps.{progressOf}
+use Rattle.salvaging.specs.inner.Steps.{progressOf}
 use Rattle.salvaging.specs.Rows.{flat, isShort, noRoom, filled, Salvages}
 use Rattle.salvaging.specs.Pours.{counted, Fills}
 

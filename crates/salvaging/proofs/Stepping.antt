@@ -20,8 +20,8 @@ use Rattle.salvaging.specs.declared.scan.Move.{Move}
 use Rattle.salvaging.specs.declared.scan.Move.the-variants.{Take, Skip, Stop}
 use Rattle.salvaging.specs.declared.steps.Progress.{Progress}
 use Rattle.salvaging.specs.Scan.{moveOf, Stretch, stretch, endOf, Scan, lastOf, after, moveIn}
-use Rattle.salvaging.specs.Steps.{progressOf, fresh, isOpen, taking, joining, starting}
-use Rattle.salvaging.specs.Steps.{skipping, moved, Counts, Within, Advances}
+use Rattle.salvaging.specs.inner.Steps.{progressOf, fresh, isOpen, taking, joining, starting}
+use Rattle.salvaging.specs.inner.Steps.{skipping, moved, Counts, Within, Advances}
 use Rattle.salvaging.proofs.Through as through
 
 -- ---- is a stretch open

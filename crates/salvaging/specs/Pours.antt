@@ -15,7 +15,7 @@ use Rattle.salvaging.specs.declared.rows.Laid.{Laid}
 use Rattle.salvaging.specs.declared.rows.Poured.{Poured}
 use Rattle.salvaging.specs.declared.steps.Progress.{Progress}
 use Rattle.salvaging.specs.Scan.{Stretch, endOf, Scan, scanTo}
-use Rattle.salvaging.specs.Steps.{progressOf, ending, Counts}
+use Rattle.salvaging.specs.inner.Steps.{progressOf, ending, Counts}
 use Rattle.salvaging.specs.Rows.{flat}
 
 abbrev pub counted : Progress → Salvaged

@@ -7,7 +7,7 @@ ghost use mathlib.Core.Path.{_≡_};
 ghost use Prim.Native.Nat.{_+_, _<_, _^_};
 ghost use lib.ListN.{length};
 ghost use Rattle.salvaging.specs.Scan.{scanOf};
-ghost use Rattle.salvaging.specs.Steps.{isOpen, taking, skipping, Counts, Within, Advances, progressOf, fresh};
+ghost use Rattle.salvaging.specs.inner.Steps.{isOpen, taking, skipping, Counts, Within, Advances, progressOf, fresh};
 
 // How far a scan has come: its place in the input, the last taken notice, how many notices and bytes were taken, how many
 // stretches skipped, and where the latest of these starts and how long it is.

@@ -14,7 +14,7 @@ use Rattle.sharing.specs.declared.titles.Rated.{Rated}
 use Rattle.sharing.specs.Titles.{titleAt, rowTotal}
 use Rattle.sharing.specs.Term.{fall}
 use Rattle.sharing.specs.Choice.{sumOf, atLeast, prefers, Way, Choice, Shared}
-use Rattle.sharing.specs.Giving.{AllWeighable}
+use Rattle.sharing.specs.inner.Giving.{AllWeighable}
 use Rattle.sharing.proofs.Order.{side, Trio, less, same, more, trio, or-view}
 use Rattle.sharing.proofs.Sums.{total-set, sum-set, raised, way-set, ranks}
 use Rattle.sharing.proofs.term.Laws.{falls, fall-rest}

@@ -4,4 +4,4 @@ pub mod Term
 pub mod Choice
 pub mod Verdict
 pub mod Former
-pub mod Giving
+pub mod inner

@@ -4,7 +4,7 @@ ghost use Prim.Native.Nat.{_+_};
 ghost use lib.ListN.{length};
 ghost use Rattle.sharing.specs.Titles.{titles, rowTotal};
 ghost use Rattle.sharing.specs.Choice.{Way, shared};
-ghost use Rattle.sharing.specs.Giving.{Sound, Fillable, Neediest};
+ghost use Rattle.sharing.specs.inner.Giving.{Sound, Fillable, Neediest};
 use super::term::gain;
 use super::titles::floor_total;
 use super::titles::title_at;

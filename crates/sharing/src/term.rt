@@ -1,7 +1,7 @@
 // What one lane more is worth to a title. A request that weighs titles otherwise changes `gain`, and no other function.
 ghost use mathlib.Core.Path.{_≡_};
 ghost use Rattle.sharing.specs.Term.{worth};
-ghost use Rattle.sharing.specs.Giving.{Weighable};
+ghost use Rattle.sharing.specs.inner.Giving.{Weighable};
 use super::titles::Rated;
 
 // What the sum loses when the title with count k gets one lane more, a whole number; 0 at its cap. A lane more halves

@@ -16,7 +16,7 @@ use Rattle.rules.proofs.Search
 use Rattle.notice.specs.Log.{isWholeLog, stopOf}
 use Rattle.admissions.specs.Waits.{rowMax}
 use Rattle.waiting.specs.Report.{rowInLimits, allInLimits, reportAnswer}
-use Rattle.waiting.specs.Steps.{rowRules, rowAnswer}
+use Rattle.waiting.specs.inner.Steps.{rowRules, rowAnswer}
 
 -- ---- a row
 

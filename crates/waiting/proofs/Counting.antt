@@ -38,8 +38,8 @@ use Rattle.admissions.specs.Waits.{Tallied, rowMax}
 use Rattle.admissions.specs.Stretches.{settled, allSettled}
 use Rattle.admissions.proofs.Told.{Counted, opened-counted, never-counted, told-playing, told-few, told-turns}
 use Rattle.admissions.proofs.Told.{told-stays}
-use Rattle.agent.specs.Steps.{keptTold}
-use Rattle.waiting.specs.Steps.{eventTally, heardTally, toldTally, Ready}
+use Rattle.agent.specs.inner.Steps.{keptTold}
+use Rattle.waiting.specs.inner.Steps.{eventTally, heardTally, toldTally, Ready}
 
 -- ---- one event
 

@@ -17,7 +17,7 @@ use Rattle.agent.specs.Turns.{noticeAnswer}
 use Rattle.agent.proofs.Turns.{Turn}
 use Rattle.admissions.specs.declared.Tally.{Tally}
 use Rattle.waiting.specs.declared.Heard.{Heard}
-use Rattle.waiting.specs.Steps.{eventTally, heardTally, Hears}
+use Rattle.waiting.specs.inner.Steps.{eventTally, heardTally, Hears}
 
 -- by the notice's kind
 pub by-kind : (t : Title) (τ : ℕ) (k q : Kind) (xs : List ℕ) (y r : Tally) → k ≡ q → r ≡ eventTally t τ q xs y →

@@ -10,7 +10,7 @@ use Rattle.agent.proofs.Reading.{PlayedTo}
 use Rattle.admissions.specs.declared.Tally.{Tally}
 use Rattle.admissions.specs.Waits.{rowMax}
 use Rattle.admissions.specs.Stretches.{fresh}
-use Rattle.waiting.specs.Steps.{heardTally, Ready}
+use Rattle.waiting.specs.inner.Steps.{heardTally, Ready}
 use Rattle.waiting.proofs.Counting.{told-ready}
 
 pub ready : (pool : ℕ) (log : List ℕ) (i : ℕ) (xs : List ℕ) (p : PlayedLog) (y : Tally) →

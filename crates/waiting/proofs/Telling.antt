@@ -13,7 +13,7 @@ use Rattle.notice.specs.Log.{Bytes, noticesOf}
 use Rattle.story.specs.Kept.{titleAt}
 use Rattle.agent.specs.declared.PlayedLog.{PlayedLog}
 use Rattle.agent.specs.Played.{agentPlayed, lifeIn}
-use Rattle.agent.specs.Steps.{Plays}
+use Rattle.agent.specs.inner.Steps.{Plays}
 use Rattle.agent.proofs.Played.{log-series}
 use Rattle.admissions.specs.declared.Tally.{Tally}
 use Rattle.admissions.specs.declared.Waits.{Waits}
@@ -22,7 +22,7 @@ use Rattle.admissions.specs.Stretches.{fresh, allSettled}
 use Rattle.admissions.proofs.GetsIn.{one-tally}
 use Rattle.waiting.specs.declared.Report.{Report}
 use Rattle.waiting.specs.Report.{reportAnswer, refusedWith, Reports}
-use Rattle.waiting.specs.Steps.{heardTally, toldTally, Ready}
+use Rattle.waiting.specs.inner.Steps.{heardTally, toldTally, Ready}
 use Rattle.waiting.proofs.Answers.{Fits}
 use Rattle.waiting.proofs.Counting.{told-ready, told-tallied}
 

@@ -1,3 +1,3 @@
 -- What the report says, and how the code goes through a log.
 pub mod Report
-pub mod Steps
+pub mod inner

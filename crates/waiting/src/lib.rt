@@ -31,8 +31,8 @@ ghost use Rattle.rules.specs.Limits.{eventTimeMax, idMax};
 ghost use Rattle.notice.specs.Decode.{readAt};
 ghost use Rattle.admissions.specs.Waits.{rowMax};
 ghost use Rattle.admissions.specs.Stretches.{Playing, Few, fresh};
-ghost use Rattle.agent.specs.Steps.{Steps, Plays};
-ghost use Rattle.waiting.specs.Steps.{eventTally, heardTally, Ready, Hears, rowAnswer};
+ghost use Rattle.agent.specs.inner.Steps.{Steps, Plays};
+ghost use Rattle.waiting.specs.inner.Steps.{eventTally, heardTally, Ready, Hears, rowAnswer};
 ghost use Rattle.waiting.specs.Report.{rowInLimits, refusedWith, Reports};
 
 // The most arrivals of a row.

@@ -2,7 +2,7 @@
 use mathlib.Core.Path.{_≡_, sym, _∙_}
 use native.Mathlib.Omega.{arith}
 use Rattle.planner.specs.Outcome.{roomOf}
-use Rattle.planner.specs.Steps.{standingAnswer}
+use Rattle.planner.specs.inner.Steps.{standingAnswer}
 use Rattle.planner.proofs.Answers.{refused-before, not-sixteen, refused-answered}
 use borrow.Author.Needs.{needs}
 use Rattle.planner.proofs.planner.Statement.{statement}

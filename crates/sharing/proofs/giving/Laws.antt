@@ -14,7 +14,7 @@ use Rattle.sharing.specs.declared.titles.Rated.{Rated}
 use Rattle.sharing.specs.Titles.{titleAt, nobody, rowTotal}
 use Rattle.sharing.specs.Term.{fall, worth}
 use Rattle.sharing.specs.Choice.{Way, shared}
-use Rattle.sharing.specs.Giving.{Weighable, AllWeighable, Neediest}
+use Rattle.sharing.specs.inner.Giving.{Weighable, AllWeighable, Neediest}
 use Rattle.sharing.proofs.Order.{side, Trio, less, same, more, trio}
 use Rattle.sharing.proofs.Search.{search-finds, floors-way}
 use Rattle.sharing.proofs.Sums.{total-set, at-set, way-set}

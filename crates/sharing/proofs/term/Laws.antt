@@ -12,7 +12,7 @@ use Rattle.grid.specs.Ticks.{tickOf, slot}
 use Rattle.grid.proofs.Ticks.{slot-pos, slot-half, tick-exactly}
 use Rattle.sharing.specs.declared.titles.Rated.{Rated}
 use Rattle.sharing.specs.Term.{term, fall}
-use Rattle.sharing.specs.Giving.{Weighable}
+use Rattle.sharing.specs.inner.Giving.{Weighable}
 
 -- a lane more halves the slot, and the part with it
 twice : (r m K k : ℕ) → k < K → r * (m * slot K k) ≡ 2 * (r * (m * slot K (suc k)))

@@ -19,7 +19,7 @@ use Rattle.sharing.specs.declared.titles.Rated.{Rated}
 use Rattle.sharing.specs.Titles.{titleAt, titles, nobody, rowTotal, Even}
 use Rattle.sharing.specs.Verdict.{eachTitle, allowed, ordered, rowsFit, verdictOf, rowAfter}
 use Rattle.sharing.specs.Choice.{shared}
-use Rattle.sharing.specs.Giving.{Weighable, Sound}
+use Rattle.sharing.specs.inner.Giving.{Weighable, Sound}
 use Rattle.sharing.proofs.Order.{side}
 
 -- ---- one look at every title

@@ -3,7 +3,7 @@ use native.Mathlib.Omega.{arith}
 use borrow.Author.Needs.{needs}
 use Rattle.agent.proofs.Reading.{PlayedTo, not-begun, played-on, all-played, left, falls}
 use Rattle.admissions.specs.Stretches.{fresh}
-use Rattle.waiting.specs.Steps.{heardTally}
+use Rattle.waiting.specs.inner.Steps.{heardTally}
 use Rattle.waiting.proofs.Reading.{ready}
 use Rattle.waiting.proofs.play.Statement.{statement}
 use Rattle.waiting.proofs.play.Tie as tie

@@ -10,7 +10,7 @@ use Rattle.rules.specs.Search.{howMany}
 use Rattle.rules.proofs.Search.{howMany-le}
 use Rattle.text.specs.Output.{page, puts}
 use Rattle.text.proofs.Pages.{same-room}
-use Rattle.air_io.specs.Steps.{isMarked, markedLines}
+use Rattle.air_io.specs.inner.Steps.{isMarked, markedLines}
 use Rattle.air_io.proofs.Told.{counts-marked, counts-unmarked, lines-none, lines-marked, lines-unmarked}
 use Rattle.air_io.proofs.lines.put_admissions.Statement.{statement}
 use Rattle.air_io.proofs.lines.put_admissions.Tie as tie

@@ -2,7 +2,7 @@
 use mathlib.Core.Path.{refl}
 use borrow.Author.Tests.{lt-ltb, le-ltb}
 use Rattle.text.specs.Output.{puts}
-use Rattle.air_io.specs.Steps.{judgedLine}
+use Rattle.air_io.specs.inner.Steps.{judgedLine}
 use borrow.Author.Needs.{needs}
 use Rattle.air_io.proofs.lines.put_judged.Statement.{statement}
 use Rattle.air_io.proofs.lines.put_judged.Tie as tie

@@ -5,7 +5,7 @@ use Rattle.text.specs.Output.{page}
 use Rattle.console_answers.specs.Words.{refusalText}
 use Rattle.text.proofs.Pages.{puts-then}
 use Rattle.air_io.specs.Lines.{totalLines}
-use Rattle.air_io.specs.Steps.{markedLines, reportText}
+use Rattle.air_io.specs.inner.Steps.{markedLines, reportText}
 use lib.ListN.{length}
 use borrow.Author.Needs.{needs}
 use Rattle.air_io.proofs.lines.put_report.Statement.{statement}

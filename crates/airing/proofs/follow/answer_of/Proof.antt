@@ -2,7 +2,7 @@
 use mathlib.Core.Path.{refl}
 use borrow.Author.Tests.{lt-leb, le-leb, lt-ltb, ne-eqb}
 use Rattle.grid.proofs.Numbers.{ne-zero-pos}
-use Rattle.airing.specs.Steps.{answerOf}
+use Rattle.airing.specs.inner.Steps.{answerOf}
 use Rattle.airing.proofs.follow.answer_of.Statement.{statement}
 use Rattle.airing.proofs.follow.answer_of.Tie as tie
 

@@ -3,7 +3,7 @@ use mathlib.Core.Path.{refl}
 use native.Mathlib.Omega.{arith}
 use borrow.Author.Needs.{needs}
 use Rattle.agent.proofs.Reading.{PlayedTo, not-begun, played-on, all-played, left, falls}
-use Rattle.airing.specs.Steps.{heardMarks}
+use Rattle.airing.specs.inner.Steps.{heardMarks}
 use Rattle.airing.proofs.Reading.{ready, kept-length}
 use Rattle.airing.proofs.follow.play.Statement.{statement}
 use Rattle.airing.proofs.follow.play.Tie as tie

@@ -1,5 +1,5 @@
 -- `airing::marks::mark_in` meets its contract: whether the title admits boxes, and whether the tick is a slot start.
-use Rattle.airing.specs.Steps.{markIn}
+use Rattle.airing.specs.inner.Steps.{markIn}
 use borrow.Author.Needs.{needs}
 use Rattle.airing.proofs.marks.mark_in.Statement.{statement}
 use Rattle.airing.proofs.marks.mark_in.Tie as tie

@@ -5,7 +5,7 @@ use native.Mathlib.Nat.{le-antisymm}
 use native.Mathlib.Omega.{arith}
 use lib.ListN.{length, length-set}
 use Rattle.story.specs.Kept.{tickAt}
-use Rattle.airing.specs.Steps.{markedFrom, markedTo}
+use Rattle.airing.specs.inner.Steps.{markedFrom, markedTo}
 use Rattle.airing.proofs.Ticks.{marked-next, sub-zero}
 use borrow.Author.Needs.{needs}
 use Rattle.airing.proofs.marks.mark_to.Statement.{statement}

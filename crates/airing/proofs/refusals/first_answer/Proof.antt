@@ -1,6 +1,6 @@
 -- `airing::refusals::first_answer` meets its contract: the tests in their order.
 use Rattle.rules.specs.Refusals.{firstHit}
-use Rattle.airing.specs.Steps.{firstAnswer}
+use Rattle.airing.specs.inner.Steps.{firstAnswer}
 use borrow.Author.Needs.{needs}
 use Rattle.airing.proofs.refusals.first_answer.Statement.{statement}
 use Rattle.airing.proofs.refusals.first_answer.Tie as tie

@@ -9,7 +9,7 @@ use lib.ListN.{length, getD, length-set}
 use lib.Seq.{set-out}
 use Rattle.rules.specs.Limits.{lanePlaces}
 use Rattle.judging.specs.Record.{nothingSeen}
-use Rattle.judging.specs.Walk.{noted}
+use Rattle.judging.specs.inner.Walk.{noted}
 use Rattle.judging.proofs.Walked.{getD-any, noted-next}
 use Rattle.judging.proofs.next.note.Statement.{statement}
 use Rattle.judging.proofs.next.note.Tie as tie

@@ -5,7 +5,7 @@ use native.Mathlib.Nat.{mul-le-mul}
 use borrow.Author.Tests.{lt-ltb, le-ltb}
 use Rattle.rules.specs.Limits.{planPlaces, lengthMax}
 use Rattle.scheme.specs.Scheme.{filmIn}
-use Rattle.judging.specs.Walk.{isLate}
+use Rattle.judging.specs.inner.Walk.{isLate}
 use borrow.Author.Needs.{needs}
 use Rattle.judging.proofs.results.is_late.Statement.{statement}
 use Rattle.judging.proofs.results.is_late.Tie as tie

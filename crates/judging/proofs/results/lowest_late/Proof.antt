@@ -6,7 +6,7 @@ use Prim.Native.Nat.{ℕ, _-_, _≤_, _<_}
 use native.Mathlib.Omega.{arith}
 use borrow.Author.Needs.{needs}
 use Rattle.rules.proofs.Search.{below-suc}
-use Rattle.judging.specs.Walk.{isLate}
+use Rattle.judging.specs.inner.Walk.{isLate}
 use Rattle.judging.proofs.Walked.{lowest-hit, lowest-none}
 use Rattle.judging.proofs.results.lowest_late.Statement.{statement}
 use Rattle.judging.proofs.results.lowest_late.Tie as tie

@@ -7,7 +7,7 @@ use native.Mathlib.Omega.{arith}
 use borrow.Author.Needs.{needs}
 use borrow.Author.Tests.{leb-true, leb-false}
 use Rattle.judging.specs.Record.{ticksIn}
-use Rattle.judging.specs.Walk.{Nexts, Results}
+use Rattle.judging.specs.inner.Walk.{Nexts, Results}
 use Rattle.judging.proofs.Walked.{nexts-step}
 use Rattle.judging.proofs.Found.{found-end, found-short, found-whole}
 use Rattle.judging.proofs.results.results.Statement.{statement}

@@ -5,7 +5,7 @@ use native.Mathlib.Omega.{arith}
 use native.Mathlib.Nat.{le-antisymm}
 use borrow.Author.Needs.{needs}
 use lib.ListN.{length}
-use Rattle.judging.specs.Walk.{rowTo, countsTo}
+use Rattle.judging.specs.inner.Walk.{rowTo, countsTo}
 use Rattle.judging.proofs.Told.{row-length, room-left, told-next}
 use Rattle.judging.proofs.telling.tell.Statement.{statement}
 use Rattle.judging.proofs.telling.tell.Tie as tie

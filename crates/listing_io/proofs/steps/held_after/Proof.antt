@@ -1,6 +1,6 @@
 -- `listing_io::steps::held_after` meets its contract, by the answer.
 use borrow.Author.Tests.{eq-eqb, ne-eqb}
-use Rattle.listing_io.specs.Steps.{heldAfter}
+use Rattle.listing_io.specs.Step.{heldAfter}
 use borrow.Author.Needs.{needs}
 use Rattle.listing_io.proofs.steps.held_after.Statement.{statement}
 use Rattle.listing_io.proofs.steps.held_after.Tie as tie

@@ -4,7 +4,7 @@ use mathlib.Core.Path.{_≡_}
 use native.Mathlib.Omega.{arith}
 use native.Mathlib.Numerals.{add-one}
 use native.Mathlib.Nat.{le-antisymm}
-use Rattle.moments.specs.Steps.{lanesRelease}
+use Rattle.moments.specs.inner.Steps.{lanesRelease}
 use borrow.Author.Needs.{needs}
 use Rattle.moments.proofs.releases.lanes_release.Statement.{statement}
 use Rattle.moments.proofs.releases.lanes_release.Tie as tie

@@ -5,7 +5,7 @@ use native.Mathlib.Omega.{arith}
 use native.Mathlib.Numerals.{add-one}
 use native.Mathlib.Nat.{le-antisymm}
 use Rattle.rules.specs.Limits.{titlesMax}
-use Rattle.moments.specs.Steps.{releaseIn}
+use Rattle.moments.specs.inner.Steps.{releaseIn}
 use borrow.Author.Needs.{needs}
 use Rattle.moments.proofs.releases.next_release.Statement.{statement}
 use Rattle.moments.proofs.releases.next_release.Tie as tie

@@ -1,6 +1,6 @@
 -- `sooner` meets its contract: each way out decides whether the second moment lies after the time.
 use borrow.Author.Tests.{le-leb, lt-leb}
-use Rattle.moments.specs.Steps.{soonerOf}
+use Rattle.moments.specs.inner.Steps.{soonerOf}
 use borrow.Author.Needs.{needs}
 use Rattle.moments.proofs.releases.sooner.Statement.{statement}
 use Rattle.moments.proofs.releases.sooner.Tie as tie

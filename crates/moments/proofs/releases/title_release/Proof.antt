@@ -1,6 +1,6 @@
 -- `title_release` meets its contract: each way out decides whether the slot has a title.
 use borrow.Author.Tests.{eq-eqb, ne-eqb}
-use Rattle.moments.specs.Steps.{titleRelease}
+use Rattle.moments.specs.inner.Steps.{titleRelease}
 use Rattle.moments.proofs.releases.title_release.Statement.{statement}
 use Rattle.moments.proofs.releases.title_release.Tie as tie
 

@@ -6,7 +6,7 @@ use native.Mathlib.Omega.{arith}
 use native.Mathlib.Numerals.{add-one}
 use native.Mathlib.Nat.{le-antisymm}
 use lib.ListN.{length, getD, drop, length-set}
-use Rattle.planner.specs.Steps.{firstOf}
+use Rattle.planner.specs.inner.Steps.{firstOf}
 use Rattle.planner.proofs.Steps.{write-more}
 use borrow.Author.Needs.{needs}
 use Rattle.planner.proofs.rows.write.Statement.{statement}

@@ -1,6 +1,6 @@
 -- `numbers_ok` meets its contract: the tests of its parts, joined.
 use mathlib.Core.Path.{_∙_}
-use Rattle.planner.specs.Steps.{numbersOk}
+use Rattle.planner.specs.inner.Steps.{numbersOk}
 use borrow.Author.Needs.{needs}
 use Rattle.planner.proofs.standing.numbers_ok.Statement.{statement}
 use Rattle.planner.proofs.standing.numbers_ok.Tie as tie

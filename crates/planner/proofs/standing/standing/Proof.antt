@@ -3,7 +3,7 @@ use mathlib.Core.Path.{sym, _∙_}
 use borrow.Author.Tests.{lt-ltb, le-ltb}
 use Rattle.planner.proofs.Answers.{numbers-state}
 use Rattle.rules.specs.Refusals.{firstHit}
-use Rattle.planner.specs.Steps.{standingAnswer}
+use Rattle.planner.specs.inner.Steps.{standingAnswer}
 use borrow.Author.Needs.{needs}
 use Rattle.planner.proofs.standing.standing.Statement.{statement}
 use Rattle.planner.proofs.standing.standing.Tie as tie

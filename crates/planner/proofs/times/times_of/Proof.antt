@@ -10,7 +10,7 @@ use lib.ListN.{length, length-set}
 use Rattle.rules.specs.Limits.{titlesMax}
 use Rattle.wishes.specs.Wishes.{wishAt, wishesTo}
 use Rattle.planner.specs.Moves.{listed}
-use Rattle.planner.specs.Steps.{lastMoment, firstOf}
+use Rattle.planner.specs.inner.Steps.{lastMoment, firstOf}
 use Rattle.planner.proofs.Running.{Running, running-none, still-fits, fit-changeable, running-more, row-more}
 use borrow.Author.Needs.{needs}
 use Rattle.planner.proofs.times.times_of.Statement.{statement}

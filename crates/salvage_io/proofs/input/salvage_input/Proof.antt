@@ -2,7 +2,7 @@
 use mathlib.Core.Path.{_≡_}
 use native.Mathlib.Omega.{arith}
 use lib.ListN.{length}
-use Rattle.salvaging.specs.Steps.{Counts}
+use Rattle.salvaging.specs.inner.Steps.{Counts}
 use Rattle.salvaging.proofs.Stepping.{fresh-counts}
 use Rattle.salvage_io.specs.Blocks.{blockRoom}
 use borrow.Author.Needs.{needs}

@@ -8,7 +8,7 @@ use lib.ListN.{length, getD}
 use borrow.Author.Needs.{needs}
 use Rattle.sharing.specs.declared.titles.Rated.{Rated}
 use Rattle.sharing.specs.Titles.{titles, titleAt}
-use Rattle.sharing.specs.Giving.{Weighable}
+use Rattle.sharing.specs.inner.Giving.{Weighable}
 use Rattle.sharing.specs.Term.{worth}
 use Rattle.sharing.proofs.titles.Laws.{titles-length}
 use Rattle.sharing.proofs.giving.Laws.{Leading, leads-none, leads-next, leads-all}

@@ -14,7 +14,7 @@ use Rattle.story.specs.declared.Title.{Title}
 use Rattle.story.specs.Kept.{titleAt}
 use Rattle.agent.specs.declared.Agent.{Agent}
 use Rattle.agent.specs.Turns.{freshAgent, noticeAnswer, noticed}
-use Rattle.agent.specs.Steps.{keptTold}
+use Rattle.agent.specs.inner.Steps.{keptTold}
 use Rattle.admissions.specs.declared.Tally.{Tally}
 use Rattle.admissions.specs.Stretches.{Few, Playing, fresh, settled}
 use Rattle.waiting.specs.declared.Heard.{Heard}

@@ -21,7 +21,7 @@ use Rattle.admissions.specs.Stretches.{admitting}
 use Rattle.agent.specs.declared.Agent.{Agent}
 use Rattle.agent.specs.Turns.{freshAgent, noticeAnswer, noticed}
 use Rattle.agent.specs.Played.{lifeIn}
-use Rattle.agent.specs.Steps.{keptTold}
+use Rattle.agent.specs.inner.Steps.{keptTold}
 use Rattle.airing.specs.declared.follow.Ending.{Ending}
 use Rattle.airing.specs.Air.{inLimits, hasRoom, isFilmTitle, markOf}
 
