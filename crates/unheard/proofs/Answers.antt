@@ -1,0 +1,83 @@
+-- What the call gives back, way by way. Rests on the laws of one count and on the definition of the refusals.
+use mathlib.Core.Path.{_≡_, refl, ap, _∙_}
+use mathlib.Core.Bool.{true, false}
+use mathlib.Core.List.{List}
+use Prim.Native.Nat.{ℕ, _+_, _≤_, _<_, _^_}
+use native.Mathlib.Omega.{arith}
+use borrow.Author.Tests.{eq-eqb, ne-eqb, lt-leb, le-leb}
+use lib.ListN.{length}
+use Rattle.rules.specs.Limits.{within, poolMin, poolMax}
+use Rattle.rules.specs.Refusals.{firstHit, done, outsideLimits, malformed}
+use Rattle.notice.specs.declared.Notice.{Notice}
+use Rattle.notice.specs.declared.Found.the-variants as found
+use Rattle.notice.specs.Decode.{readAt}
+use Rattle.notice.specs.Log.{noticesOf, stopOf}
+use Rattle.notice.proofs.There.{inside}
+use Rattle.agent.specs.declared.Agent.{Agent}
+use Rattle.agent.specs.declared.PlayedLog.{PlayedLog}
+use Rattle.agent.specs.Steps.{Plays}
+use Rattle.agent.proofs.Turns.{Turn}
+use Rattle.unheard.specs.declared.Tally.{Tally}
+use Rattle.unheard.specs.declared.Unheard.{Unheard}
+use Rattle.unheard.specs.Unheard.{noneTold, refusedWith, unheardAnswer, unheardIn}
+use Rattle.unheard.specs.Steps.{counted, heardCount, Room, Small, Hears}
+use Rattle.unheard.proofs.Counting.{tally, told-tally}
+
+-- ---- one notice
+
+module _ (t : Tally) (a : ℕ) where
+  pub counts-heard : a ≡ done → tally (t .notices + 1) (t .missed) (t .first) (t .said) ≡ counted t a
+  unfolding counted
+  counts-heard ok = rw (eq-eqb a done ok) refl
+
+  module _ (not-ok : a ≡ done → ⊥) where
+    pub counts-first : t .missed ≡ 0 → tally (t .notices + 1) (t .missed + 1) (t .notices + 1) a ≡ counted t a
+    unfolding counted
+    counts-first none = rw (ne-eqb a done not-ok, eq-eqb (t .missed) 0 none) refl
+
+    pub counts-later : (t .missed ≡ 0 → ⊥) → tally (t .notices + 1) (t .missed + 1) (t .first) (t .said) ≡ counted t a
+    unfolding counted
+    counts-later some = rw (ne-eqb a done not-ok, ne-eqb (t .missed) 0 some) refl
+
+pub hears : (g : Agent) (n : Notice) (t : Tally) (a : ℕ) (h : Agent) (q : Tally) → Turn g n a h → q ≡ counted t a
+    → Hears g n t (record { agent = h; tally = q })
+hears g n t a h q told is = record { agent-is = told .1; tally-is = is ∙ ap (counted t) (told .0) }
+
+-- a notice that a log has at a place leaves room to count it
+pub roomy : (log : List ℕ) (place : ℕ) (t : Tally) (n : Notice) (e : ℕ) → Small place t → readAt log place ≡ found.At n e → e < 2 ^ 64
+    → Room t
+roomy log place t n e s is typed =
+    let i = inside log place n e is in
+    record { fits = omega (arith, s .few, i .ahead); missed-low = s .missed-low }
+
+-- ---- the call
+
+abbrev tells : Tally → Unheard
+tells t = record { answer = done; tally = t }
+
+module _ (pool : ℕ) (log : List ℕ) where
+  refuses : (a : ℕ) (r : Unheard) → r ≡ refusedWith a → a ≡ unheardAnswer pool log → (a ≡ done → ⊥) → r ≡ unheardIn pool log
+  unfolding unheardIn
+  refuses a r e is not-ok = rw (ne-eqb (unheardAnswer pool log) done (λ h. not-ok (is ∙ h)), ← is) e
+
+  pub outside : (r : Unheard) → r ≡ refusedWith outsideLimits → within poolMin poolMax pool ≡ false → r ≡ unheardIn pool log
+  unfolding unheardAnswer firstHit
+  outside r e out = refuses outsideLimits r e (rw out refl) (λ h. omega arith)
+
+  module _ (fits : within poolMin poolMax pool ≡ true) (p : PlayedLog) (t : Tally) (all : Plays heardCount pool log noneTold p t) where
+    pub cut : (r : Unheard) → r ≡ refusedWith malformed → p .place < length log → r ≡ unheardIn pool log
+    unfolding unheardAnswer firstHit
+    cut r e short =
+        let stop : stopOf log < length log = rw (all .place-is) at short in
+        refuses malformed r e (rw (fits, lt-leb (length log) (stopOf log) stop) refl) (λ h. omega arith)
+
+    whole : length log ≤ p .place → unheardAnswer pool log ≡ done
+    unfolding unheardAnswer firstHit
+    whole far =
+        let stop : length log ≤ stopOf log = rw (all .place-is) at far in
+        rw (fits, le-leb (length log) (stopOf log) stop) refl
+
+    pub told : length log ≤ p .place → tells t ≡ unheardIn pool log
+    unfolding unheardIn
+    told far =
+        rw (eq-eqb (unheardAnswer pool log) done (whole far)) (ap tells (all .kept-is ∙ told-tally pool (noticesOf log)))

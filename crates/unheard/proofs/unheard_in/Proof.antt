@@ -1,0 +1,43 @@
+-- `unheard::unheard_in` meets its contract: the refusals in their order, then the count of the log's notices.
+use mathlib.Core.Path.{sym, _∙_}
+use Rattle.unheard.proofs.Answers.{outside, cut, told}
+use borrow.Author.Needs.{needs}
+use Rattle.unheard.proofs.unheard_in.Statement.{statement}
+use Rattle.unheard.proofs.unheard_in.Tie as tie
+
+within-requires : tie.Need-within-requires
+within-requires c κs = search needs
+
+play-requires : tie.Need-play-requires
+play-requires c κs = search needs
+
+refused-requires : tie.Need-refused-requires
+refused-requires c κs = search needs
+
+returns : tie.Need-returns
+returns c =
+    let fits = sym (c .before .before .before .before .before .before .before .within .ensures) ∙ c .before .before .before .before .before .before .if1 .taken in
+    cut _ _ fits _ _ (c .before .before .before .before .before .play .ensures) _ (c .refused .ensures) (c .before .if2 .taken)
+
+returns-2 : tie.Need-returns-2
+returns-2 c =
+    let fits = sym (c .before .before .before .before .before .before .within .ensures) ∙ c .before .before .before .before .before .if1 .taken in
+    told _ _ fits _ _ (c .before .before .before .before .play .ensures) (c .if2 .left)
+
+refused-requires-2 : tie.Need-refused-requires-2
+refused-requires-2 c κs = search needs
+
+returns-3 : tie.Need-returns-3
+returns-3 c = outside _ _ _ (c .refused2 .ensures) (sym (c .before .before .within .ensures) ∙ c .before .if1 .left)
+
+pub unheard-in-spec : {M : Type 1} → statement M
+unheard-in-spec =
+    tie.close
+    (tie.spec
+    within-requires
+    play-requires
+    refused-requires
+    returns
+    returns-2
+    refused-requires-2
+    returns-3)

@@ -1,0 +1,189 @@
+// Which notices of a log did not count: they are told one after the other to a fresh agent of a pool, which refuses some. No
+// public function has a `requires`: any pool and any bytes have an answer.
+
+use agent::Agent;
+use agent::PlayedLog;
+use agent::fresh_agent;
+use agent::heed;
+use notice::Found;
+use notice::Notice;
+use notice::next_in;
+use rules::DONE;
+use rules::MALFORMED;
+use rules::OUTSIDE_LIMITS;
+use rules::POOL_MAX;
+use rules::POOL_MIN;
+use rules::within;
+ghost use mathlib.Core.Path.{_≡_};
+ghost use Rattle.notice.specs.Decode.{readAt};
+ghost use Rattle.agent.specs.Steps.{Steps, Plays};
+ghost use Rattle.unheard.specs.Unheard.{noneTold, refusedWith, unheardIn};
+ghost use Rattle.unheard.specs.Steps.{counted as countedOf, heardCount, Room, Small, Hears};
+
+// How many notices were told, how many of them did not count, and of the first of those its number, from 1 on, and what it was
+// answered; both are 0 where all count.
+pub struct Tally {
+    pub notices: u64,
+    pub missed: u64,
+    pub first: u64,
+    pub said: u8,
+}
+
+// What the call gives back. Beside a refusal the tally is of no notice.
+pub struct Unheard {
+    pub answer: u8,
+    pub tally: Tally,
+}
+
+// A log as far as it was played, and the tally of its notices.
+struct Counted {
+    played: PlayedLog,
+    tally: Tally,
+}
+
+// What a notice leaves.
+struct Heard {
+    agent: Agent,
+    tally: Tally,
+}
+
+// Before any notice.
+fn none_told() -> Tally
+    ensures { λ r. ⌜ r ≡ noneTold ⌝ }
+{
+    Tally {
+        notices: 0,
+        missed: 0,
+        first: 0,
+        said: DONE,
+    }
+}
+
+// One notice more, with what it was answered.
+fn count(tally: Tally, answer: u8) -> Tally
+    requires { ⌜ Room tally ⌝ }
+    ensures { λ r. ⌜ r ≡ countedOf tally answer ⌝ }
+{
+    let number = tally.notices + 1;
+    let missed = tally.missed;
+    let mut next = tally;
+    next.notices = number;
+    if answer == DONE {
+        return next;
+    }
+    next.missed = missed + 1;
+    if missed == 0 {
+        next.first = number;
+        next.said = answer;
+    }
+    next
+}
+
+// A notice, put to the agent.
+fn hear(agent: Agent, tally: Tally, n: Notice) -> Heard
+    requires { ⌜ Room tally ⌝ }
+    ensures { λ r. ⌜ Hears agent n tally r ⌝ }
+{
+    let followed = heed(agent, n);
+    let answer = followed.answer;
+    let next = followed.agent;
+    Heard {
+        agent: next,
+        tally: count(tally, answer),
+    }
+}
+
+// One read more: past a notice, and no further at the log's end or where bytes are no notice.
+fn step(counted: Counted, log: &[u8]) -> Counted
+    requires { ⌜ Small (counted .played .place) (counted .tally) ⌝ }
+    ensures { λ r. ⌜ Steps heardCount (counted .played) (counted .tally)
+        (readAt (now (log .entry)) (counted .played .place)) (r .played) (r .tally) ⌝ }
+{
+    let mut played = counted.played;
+    let tally = counted.tally;
+    let agent = played.agent;
+    let place = played.place;
+    played.more = false;
+    let found = next_in(log, place);
+    match found {
+        Found::At(n, end) => {
+            let heard = hear(agent, tally, n);
+            let followed = heard.agent;
+            let told = heard.tally;
+            let next = PlayedLog {
+                agent: followed,
+                place: end,
+                more: true,
+            };
+            Counted {
+                played: next,
+                tally: told,
+            }
+        }
+        Found::End => Counted {
+            played: played,
+            tally: tally,
+        },
+        Found::Malformed => Counted {
+            played: played,
+            tally: tally,
+        },
+    }
+}
+
+// A log, played into a fresh agent up to where its reading stops.
+fn play(pool: u64, log: &[u8]) -> Counted
+    ensures { λ r. ⌜ Plays heardCount pool (now (log .entry)) noneTold (r .played) (r .tally) ⌝ }
+{
+    let started = fresh_agent(pool);
+    let agent = started.agent;
+    let tally = none_told();
+    let played = PlayedLog {
+        agent: agent,
+        place: 0,
+        more: true,
+    };
+    let mut counted = Counted {
+        played: played,
+        tally: tally,
+    };
+    while counted.played.more {
+        counted = step(counted, log);
+    }
+    counted
+}
+
+fn refused(answer: u8) -> Unheard
+    ensures { λ r. ⌜ r ≡ refusedWith answer ⌝ }
+{
+    let tally = Tally {
+        notices: 0,
+        missed: 0,
+        first: 0,
+        said: DONE,
+    };
+    Unheard {
+        answer: answer,
+        tally: tally,
+    }
+}
+
+// Which notices of a log did not count, as a fresh agent of a pool takes them. Refusals, in this order: 1 for a pool outside its
+// limits, 11 for a log with a malformed or cut notice in it.
+pub fn unheard_in(pool: u64, log: &[u8]) -> Unheard
+    ensures { λ r. ⌜ r ≡ unheardIn pool (now (log .entry)) ⌝ }
+{
+    if within(POOL_MIN, POOL_MAX, pool) {
+        let counted = play(pool, log);
+        let played = counted.played;
+        let tally = counted.tally;
+        if played.place < log.len() {
+            return refused(MALFORMED);
+        }
+        return Unheard {
+            answer: DONE,
+            tally: tally,
+        };
+    }
+    refused(OUTSIDE_LIMITS)
+}
