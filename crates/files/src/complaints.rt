@@ -5,6 +5,12 @@ use libc::STDERR_FILENO;
 use text::digits::put_number;
 use text::output::put;
 
+// Lines of complaints, in a row that was written from its start up to a place.
+pub fn write_complaints(row: &[u8], place: usize) {
+    let n = within_row(place, row);
+    io::write_all(STDERR_FILENO, &row[..n]);
+}
+
 pub fn complain(what: &[u8], wrong: &[u8]) {
     io::write_all(STDERR_FILENO, b"? ");
     io::write_all(STDERR_FILENO, what);

@@ -1,3 +1,4 @@
 -- What the program reads and writes.
 pub mod Arrivals
 pub mod Lines
+pub mod Complaints

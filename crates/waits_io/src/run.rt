@@ -1,11 +1,13 @@
 // The program: arguments POOL TITLE LOG ARRIVALS, the last two file names. No contract can say what is read and written: the
-// work is in the report, in `arrivals` and in `lines`; these functions are safe and end.
+// work is in the report, in `arrivals`, in `lines` and in `complaints`; these functions are safe and end.
 
 use crate::arrivals::take_text;
+use crate::complaints::put_complaints;
 use crate::lines::put_report;
 use files::arguments::Asked;
 use files::arguments::pool_and_title;
 use files::complaints::complain_at;
+use files::complaints::write_complaints;
 use files::loading::LOG_ROOM;
 use files::loading::complain_of;
 use files::loading::load;
@@ -34,6 +36,12 @@ fn show(report: Report) {
     write_page(&out, size);
 }
 
+fn complain_beside(pool: u64, log: &[u8], arrivals: usize) {
+    let mut out = io::buffer();
+    let size = put_complaints(&mut out, pool, log, arrivals);
+    write_complaints(&out, size);
+}
+
 // The report, once every word of the arrivals is a number.
 fn tell(pool: u64, title: u64, log: &[u8], text: &[u8]) {
     let mut row = [0u64; ROW_ROOM];
@@ -41,6 +49,7 @@ fn tell(pool: u64, title: u64, log: &[u8], text: &[u8]) {
     if scan.ok {
         let count = scan.count;
         show(report_of(pool, log, title, &row[..count]));
+        complain_beside(pool, log, count);
         return;
     }
     complain_at(b"ARRIVALS", b": no number at byte ", scan.place);

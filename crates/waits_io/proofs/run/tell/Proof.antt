@@ -24,6 +24,9 @@ report-of-requires c κs = search needs
 show-requires : tie.Need-show-requires
 show-requires c κs = search needs
 
+complain-beside-requires : tie.Need-complain-beside-requires
+complain-beside-requires c κs = search needs
+
 returns : tie.Need-returns
 returns c = search needs
 
@@ -40,17 +43,4 @@ returns-2 : tie.Need-returns-2
 returns-2 c = search needs
 
 pub tell-spec : {M : Type 1} → statement M
-tell-spec =
-    tie.close
-    (tie.spec
-    slice-aggregate-take-text
-    take-text-requires
-    array-share-prefix-row
-    slice-aggregate-report-of
-    report-of-requires
-    show-requires
-    returns
-    slice-aggregate-complain-at
-    slice-aggregate-complain-at-2
-    complain-at-requires
-    returns-2)
+tell-spec = tie.close (tie.spec slice-aggregate-take-text take-text-requires array-share-prefix-row slice-aggregate-report-of report-of-requires show-requires complain-beside-requires returns slice-aggregate-complain-at slice-aggregate-complain-at-2 complain-at-requires returns-2)

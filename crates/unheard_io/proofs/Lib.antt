@@ -1,0 +1,2 @@
+-- What is said of a log.
+pub mod Line

@@ -1,0 +1,2 @@
+-- What is said of notices that did not count.
+pub mod Line

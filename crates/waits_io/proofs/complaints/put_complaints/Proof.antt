@@ -1,0 +1,27 @@
+-- `waits_io::complaints::put_complaints` meets its contract: its lines are written one behind the other.
+use Rattle.text.specs.Output.{page}
+use Rattle.text.proofs.Pages.{puts-then}
+use Rattle.unheard_io.specs.Line.{unheardLine}
+use Rattle.waits_io.specs.Complaints.{manyLine, complaintsText}
+use borrow.Author.Needs.{needs}
+use Rattle.waits_io.proofs.complaints.put_complaints.Statement.{statement}
+use Rattle.waits_io.proofs.complaints.put_complaints.Tie as tie
+
+put-unheard-requires : tie.Need-put-unheard-requires
+put-unheard-requires c κs = search needs
+
+put-many-requires : tie.Need-put-many-requires
+put-many-requires c κs = search needs
+
+same-length : tie.Need-same-length
+same-length c = search needs
+
+returns : tie.Need-returns
+unfolding complaintsText
+returns c =
+    let x = c .before .before .before .before .before .before .before .before .before .before .args in
+    puts-then (page (x .out .now) 0) (unheardLine (x .pool) (x .log .now)) (manyLine (x .arrivals)) (c .before .before .before .before .before .before .put-unheard .ensures)
+    (c .before .before .put-many .ensures)
+
+pub put-complaints-spec : {M : Type 1} → statement M
+put-complaints-spec = tie.close (tie.spec put-unheard-requires put-many-requires same-length returns)
