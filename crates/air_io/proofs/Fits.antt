@@ -19,7 +19,7 @@ use Rattle.text.specs.Output.{Written}
 use Rattle.text.proofs.Printing.{decimal-short}
 use Rattle.text.proofs.Pages.{stands}
 use Rattle.files.specs.Lines.{lineOf}
-use Rattle.console_answers.specs.Words.{refusalText, refusalWords}
+use Rattle.console_answers.specs.Words.{refusalText, meaningText, namingWords, refusalWords}
 use Rattle.notice.specs.Log.{Bytes, isWholeLog}
 use Rattle.story.specs.Life.{Life}
 use Rattle.agent.specs.Played.{lifeIn}
@@ -139,7 +139,7 @@ module _ (pool : ℕ) (log : List ℕ) (title : ℕ) (r : List ℕ) where
   answer = airAnswer pool log title r ticksMax
 
   refusal-length : length (refusalText answer 0 ++ text "\n") ≤ 120
-  unfolding airAnswer firstHit refusalText refusalWords decimal digits text
+  unfolding airAnswer firstHit refusalText meaningText namingWords refusalWords decimal digits text
   refusal-length =
       go (not (inLimits pool title)) (not (hasRoom r ticksMax)) (not (isWholeLog log)) (not (isFilmTitle (lifeIn pool log title)))
       (not (allCells (lifeIn pool log title .cap) r))

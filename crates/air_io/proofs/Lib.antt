@@ -4,3 +4,5 @@ pub mod Example
 pub mod Told
 pub mod Printed
 pub mod Fits
+pub mod Placing
+pub mod Quiet

@@ -1,4 +1,6 @@
 -- What the program reads and writes.
 pub mod Record
 pub mod Lines
+pub mod Places
+pub mod Complaints
 pub mod inner

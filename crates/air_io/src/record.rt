@@ -43,7 +43,7 @@ fn cell_of(value: u64) -> u16
     value as u16
 }
 
-fn one_more(n: u64) -> u64
+pub fn one_more(n: u64) -> u64
     ensures { λ r. ⌜ r ≡ more n ⌝ }
 {
     if n < TOP {

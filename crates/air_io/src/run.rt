@@ -1,6 +1,7 @@
 // The program: arguments POOL TITLE LOG RECORD, the last two file names. No contract can say what is read and written: the work is
-// in `record` and in `report`; these functions are safe and end.
+// in `record`, in `report` and in `complaints`; these functions are safe and end.
 
+use crate::complaints::put_complaints;
 use crate::lines::put_fault;
 use crate::record::SOUND;
 use crate::record::Scan;
@@ -9,6 +10,7 @@ use crate::report::put_air;
 use files::arguments::Asked;
 use files::arguments::pool_and_title;
 use files::complaints::complain;
+use files::complaints::write_complaints;
 use files::loading::LOG_ROOM;
 use files::loading::complain_of;
 use files::loading::load;
@@ -38,6 +40,12 @@ fn show(pool: u64, title: u64, log: &[u8], record: &[u16]) {
     write_page(&out, size);
 }
 
+fn complain_beside(pool: u64, title: u64, log: &[u8], record: &[u16], text: &[u8]) {
+    let mut out = io::buffer();
+    let size = put_complaints(&mut out, pool, log, title, record, text);
+    write_complaints(&out, size);
+}
+
 fn complain_of_fault(scan: Scan) {
     let mut out = io::buffer();
     let size = put_fault(&mut out, scan);
@@ -52,6 +60,7 @@ fn tell(pool: u64, title: u64, log: &[u8], text: &[u8]) {
     if scan.fault == SOUND {
         let count = scan.count;
         show(pool, title, log, &record[..count]);
+        complain_beside(pool, title, log, &record[..count], text);
         return;
     }
     complain_of_fault(scan);

@@ -21,8 +21,9 @@ use Rattle.agent.specs.inner.Steps.{Plays}
 use Rattle.agent.proofs.Played.{log-series}
 use Rattle.airing.specs.declared.follow.Ending.{Ending}
 use Rattle.airing.specs.Air.{inLimits, isFilmTitle, markOf}
-use Rattle.airing.specs.inner.Steps.{markedTo, Markable, heardMarks, toldMarks, Standing, logAnswer, isFilmSlot, answerOf, Follows}
-use Rattle.airing.proofs.Marking.{told-length, told-film, told-markable, told-standing, told-all}
+use Rattle.airing.specs.Reasons.{isSteadyTitle}
+use Rattle.airing.specs.Steps.{markedTo, Markable, heardMarks, toldMarks, Standing, logAnswer, isFilmSlot, isSteadySlot, answerOf, Follows}
+use Rattle.airing.proofs.Marking.{told-length, told-film, told-steady, told-markable, told-standing, told-all}
 
 abbrev pub endingOf : ℕ → Title → Ending
 endingOf a t = record { answer = a; title = t }
@@ -45,6 +46,9 @@ module _ (pool i : ℕ) (fits : inLimits pool i ≡ true) where
 
     film : isFilmTitle (lifeIn pool log i) ≡ isFilmSlot stands
     film = told-film pool i id-low row _ (noticesOf log) (log-series log small (length log))
+
+    steady : isSteadyTitle (lifeIn pool log i) ≡ isSteadySlot t
+    steady = rw here (told-steady pool i id-low row _ (noticesOf log) (log-series log small (length log)))
 
     answers : a ≡ logAnswer pool log i
     unfolding answerOf logAnswer firstHit
@@ -72,11 +76,17 @@ module _ (pool i : ℕ) (fits : inLimits pool i ≡ true) where
 
     pub follows-refused : (a ≡ done → ⊥) → Follows pool log i row (endingOf a t) m
     follows-refused not-ok =
-        record { answer-is = answers; standing = λ ok. absurd (not-ok ok); marks-are = λ ok. absurd (not-ok ok) }
+        record {
+          ends = record { answer-is = answers; standing = λ ok. absurd (not-ok ok); steady-is = steady };
+          marks-are = λ ok. absurd (not-ok ok);
+        }
 
     pub follows-done : (k : List ℕ) → a ≡ done → k ≡ markedTo t (length m) m → Follows pool log i row (endingOf a t) k
     follows-done k ok marked =
-        record { answer-is = answers; standing = λ h. stood; marks-are = λ h. marked ∙ rw (here, all .kept-is, told-length pool i row (noticesOf log)) whole }
+        record {
+          ends = record { answer-is = answers; standing = λ h. stood; steady-is = steady };
+          marks-are = λ h. marked ∙ rw (here, all .kept-is, told-length pool i row (noticesOf log)) whole;
+        }
       where
         stood : Standing (lifeIn pool log i) t
         stood =

@@ -53,7 +53,7 @@ module _ (pool : ℕ) (log : List ℕ) (title : ℕ) (row : List ℕ) where
     pub ticks-done : (r : Ending) (k : List ℕ) → a ≡ done → Follows pool log title row r k → Ticks a k
     unfolding ticksLeaves
     ticks-done r k ok w =
-        (by-log, rw (eq-eqb (ticksAnswer pool log title) done (sym by-log ∙ ok)) (w .marks-are (w .answer-is ∙ sym is ∙ ok)))
+        (by-log, rw (eq-eqb (ticksAnswer pool log title) done (sym by-log ∙ ok)) (w .marks-are (w .ends .answer-is ∙ sym is ∙ ok)))
 
 -- ---- the call that judges a record
 
@@ -137,17 +137,17 @@ module _ (pool : ℕ) (log : List ℕ) (title : ℕ) (r : List ℕ) (row : List 
       air-log j not-ok e = refused-air (f .answer) j is not-ok e
         where
           some : logAnswer pool log title ≡ 0 → ⊥
-          some h = not-ok (w .answer-is ∙ h)
+          some h = not-ok (w .ends .answer-is ∙ h)
 
           is : f .answer ≡ answer
-          is = w .answer-is ∙ sym (log-first ∙ pick-false (eqb (logAnswer pool log title) 0) _ (logAnswer pool log title) (ne-eqb (logAnswer pool log title) 0 some))
+          is = w .ends .answer-is ∙ sym (log-first ∙ pick-false (eqb (logAnswer pool log title) 0) _ (logAnswer pool log title) (ne-eqb (logAnswer pool log title) 0 some))
 
       module _ (ok : f .answer ≡ done) where
         abbrev L : Life
         L = lifeIn pool log title
 
         stood : Standing L (f .title)
-        stood = w .standing ok
+        stood = w .ends .standing ok
 
         pub cap-high : f .title .cap ≤ countMax
         cap-high = stood .film .cut .high
@@ -155,7 +155,7 @@ module _ (pool : ℕ) (log : List ℕ) (title : ℕ) (r : List ℕ) (row : List 
         last-one : answer ≡ firstHit lastRules
         last-one =
             log-first
-            ∙ pick-true (eqb (logAnswer pool log title) 0) _ (logAnswer pool log title) (eq-eqb (logAnswer pool log title) 0 (sym (w .answer-is) ∙ ok))
+            ∙ pick-true (eqb (logAnswer pool log title) 0) _ (logAnswer pool log title) (eq-eqb (logAnswer pool log title) 0 (sym (w .ends .answer-is) ∙ ok))
 
         -- a number that the title can't have
         pub air-number : (j : Judgement) → allCells (f .title .cap) r ≡ false → j ≡ refusedWith outsideLimits → Airs j row

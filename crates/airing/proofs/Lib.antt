@@ -4,6 +4,7 @@ pub mod Hearing
 pub mod Marking
 pub mod Reading
 pub mod Answers
+pub mod Ends
 pub mod Calls
 pub mod Unique
 pub mod OwnAnswers

@@ -18,7 +18,7 @@ use Rattle.rules.proofs.Tests.{decide, both-l, both-r}
 use Rattle.notice.specs.declared.Notice.{Notice}
 use Rattle.notice.specs.declared.Kind.{Kind}
 use Rattle.notice.specs.declared.Kind.the-variants.{Open, Change, Close, Hold, Lift, Skip}
-use Rattle.scheme.specs.Scheme.{paddedKind, starts}
+use Rattle.scheme.specs.Scheme.{paddedKind, steadyKind, starts}
 use Rattle.plan.specs.Row.{written}
 use Rattle.plan.proofs.Row.{written-length, written-first}
 use Rattle.story.specs.declared.Title.{Title}
@@ -45,8 +45,9 @@ use Rattle.agent.specs.Series.{Hearing}
 use Rattle.agent.specs.Played.{agentTold, heardOf, ReadAs, none-read, one-read}
 use Rattle.agent.proofs.Played.{told-follows, told-notice}
 use Rattle.airing.specs.Air.{isFilmTitle, markOf}
-use Rattle.agent.specs.inner.Steps.{keptTold}
-use Rattle.airing.specs.inner.Steps.{markIn, markedTo, Markable, heardMarks, toldMarks, Ready, Standing, isFilmSlot}
+use Rattle.airing.specs.Reasons.{isSteadyTitle}
+use Rattle.agent.specs.Steps.{keptTold}
+use Rattle.airing.specs.Steps.{markIn, markedTo, Markable, heardMarks, toldMarks, Ready, Standing, isFilmSlot, isSteadySlot}
 use Rattle.airing.proofs.Ticks.{to-length, to-before, to-at}
 use Rattle.airing.proofs.Hearing.{heard-length}
 
@@ -294,16 +295,25 @@ module _ (pool i : ℕ) (id : i ≤ idMax) (row : List ℕ) where
         go (absent e f g) on = absurd (omega (arith, on, ap (λ (z : Title). z .mode) g))
         go (present q e f p) on = present-markable standing q p
 
-    -- whether the title was opened, and last as a film with floor and cap
-    pub told-film : isFilmTitle (lifeOf events i) ≡ isFilmSlot standing
-    unfolding isFilmTitle
-    told-film = go told-title
+    -- whether the title was opened, and last by a kind
+    told-kind : (m : ℕ) → both (ltb 0 (lifeOf events i .cap)) (eqb (lifeOf events i .kind) m)
+        ≡ both (ltb 0 (standing .cap)) (eqb (standing .kind) m)
+    told-kind m = go told-title
       where
         go : TellsTitle (lifeOf events i) (latestOf events i) standing
-            → both (ltb 0 (lifeOf events i .cap)) (eqb (lifeOf events i .kind) paddedKind)
-            ≡ isFilmSlot standing
+            → both (ltb 0 (lifeOf events i .cap)) (eqb (lifeOf events i .kind) m)
+            ≡ both (ltb 0 (standing .cap)) (eqb (standing .kind) m)
         go (absent e f g) = rw (e, g) refl
         go (present q e f p) = rw e refl
+
+    -- as a film with floor and cap, or as a skip-forward title
+    pub told-film : isFilmTitle (lifeOf events i) ≡ isFilmSlot standing
+    unfolding isFilmTitle
+    told-film = told-kind paddedKind
+
+    pub told-steady : isSteadyTitle (lifeOf events i) ≡ isSteadySlot standing
+    unfolding isSteadyTitle
+    told-steady = told-kind steadyKind
 
     -- no event follows
     module _ (film : isFilmSlot standing ≡ true) where

@@ -30,9 +30,13 @@ hasRoom r room = both (eqb (length r % lanePlaces) 0) (both (leb (ticksIn r) tic
 unfoldable pub isFilmTitle : Life → Bool
 isFilmTitle L = both (ltb 0 (L .cap)) (eqb (L .kind) paddedKind)
 
--- every number of a record is a cell of a title with cap K, or nothing
+-- a number is a cell of a title with cap K, or nothing
+abbrev pub isCellOf : ℕ → ℕ → Bool
+isCellOf K n = either (eqb n nothingSeen) (ltb n (cells K))
+
+-- every number of a record is
 unfoldable pub allCells : ℕ → List ℕ → Bool
-allCells K r = every (λ j. either (eqb (getD r j 0) nothingSeen) (ltb (getD r j 0) (cells K))) (length r)
+allCells K r = every (λ j. isCellOf K (getD r j 0)) (length r)
 
 abbrev pub airRules : ℕ → List ℕ → ℕ → List ℕ → ℕ → List Rule
 airRules pool log title r room =

@@ -23,7 +23,7 @@ ghost use Rattle.rules.specs.Limits.{idMax};
 ghost use Rattle.notice.specs.Decode.{readAt};
 ghost use Rattle.agent.specs.inner.Steps.{Steps, Plays};
 ghost use Rattle.airing.specs.Air.{inLimits};
-ghost use Rattle.airing.specs.inner.Steps.{heardMarks, Ready, Hears, answerOf, Follows};
+ghost use Rattle.airing.specs.Steps.{heardMarks, Ready, Hears, answerOf, Ends, Follows};
 
 // What a log answers, and the title as it stands at its end.
 pub struct Ending {
@@ -136,4 +136,13 @@ pub fn follow(pool: u64, log: &[u8], title: u64, marks: &mut [u8]) -> Ending
         answer: answer,
         title: t,
     }
+}
+
+// A log played to its end, with no tick marked.
+pub fn end_of(pool: u64, log: &[u8], title: u64) -> Ending
+    requires { ⌜ inLimits pool title ≡ true ⌝ }
+    ensures { λ r. ⌜ Ends pool (now (log .entry)) title r ⌝ }
+{
+    let mut none = [0; 1];
+    follow(pool, log, title, &mut none[..0])
 }

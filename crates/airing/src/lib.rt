@@ -3,8 +3,10 @@
 
 mod follow;
 mod marks;
+pub mod reasons;
 mod refusals;
 
+use follow::end_of;
 use follow::follow;
 use judging::blank_marks;
 use judging::judge;
@@ -15,18 +17,16 @@ use rules::DONE;
 use rules::OUTSIDE_LIMITS;
 ghost use Prim.Native.Nat.{_≤_};
 ghost use mathlib.Core.Path.{_≡_};
-ghost use mathlib.Core.Bool.{true};
 ghost use lib.ListN.{length};
 ghost use Rattle.judging.specs.Record.{ticksMax};
 ghost use Rattle.airing.specs.Air.{
-  inLimits,
   refusedWith,
   airGives,
   airLeaves,
   ticksAnswer,
   ticksLeaves,
 };
-ghost use Rattle.airing.specs.inner.Steps.{logAnswer, firstAnswer};
+ghost use Rattle.airing.specs.Steps.{firstAnswer};
 
 // What the call gives back: how many admissions the record judges, how many of those were played through, and how many begin in
 // it but outlast it. Beside a refusal the counts are 0.
@@ -48,16 +48,6 @@ fn refused(answer: u8) -> Judgement
     }
 }
 
-// What the log answers, with no tick marked.
-fn log_answer(pool: u64, log: &[u8], title: u64) -> u8
-    requires { ⌜ inLimits pool title ≡ true ⌝ }
-    ensures { λ r. ⌜ r ≡ logAnswer pool (now (log .entry)) title ⌝ }
-{
-    let mut none = [0; 1];
-    let ending = follow(pool, log, title, &mut none[..0]);
-    ending.answer
-}
-
 // Marks in a row, from tick 0 of the title's latest opening in the log on, each tick that is an admission with 1, the others with
 // 0. Refusals, in this order, which write nothing: 1 for a pool or a title outside its limits, 11 for a log with a malformed or
 // cut notice in it, 3 for a title that was not opened in it, or last as a skip-forward title.
@@ -66,7 +56,7 @@ pub fn admissions(pool: u64, log: &[u8], title: u64, marks: &mut [u8]) -> u8
         × (now (marks .exit) ≡ ticksLeaves pool (now (log .entry)) title (now (marks .entry))) ⌝ }
 {
     if in_limits(pool, title) {
-        let answer = log_answer(pool, log, title);
+        let answer = end_of(pool, log, title).answer;
         if answer == DONE {
             follow(pool, log, title, marks);
         }

@@ -8,8 +8,8 @@ use Rattle.airing.proofs.admissions.Tie as tie
 in-limits-requires : tie.Need-in-limits-requires
 in-limits-requires c κs = search needs
 
-log-answer-requires : tie.Need-log-answer-requires
-log-answer-requires c κs = sym (c .before .in-limits .ensures) ∙ c .if1 .taken
+end-of-requires : tie.Need-end-of-requires
+end-of-requires c κs = sym (c .before .in-limits .ensures) ∙ c .if1 .taken
 
 follow-requires : tie.Need-follow-requires
 follow-requires c κs =
@@ -25,13 +25,13 @@ returns c =
     let at-if2 = at-follow .before .before in
     let at-log = at-if2 .before in
     let at-if1 = at-log .before in
-    ticks-done _ _ _ _ (sym (at-if1 .before .in-limits .ensures) ∙ at-if1 .if1 .taken) _ (at-log .log-answer .ensures) _ _ (at-if2 .if2 .taken) (at-follow .follow .ensures)
+    ticks-done _ _ _ _ (sym (at-if1 .before .in-limits .ensures) ∙ at-if1 .if1 .taken) _ (at-log .end-of .ensures .answer-is) _ _ (at-if2 .if2 .taken) (at-follow .follow .ensures)
 
 returns-2 : tie.Need-returns-2
 returns-2 c =
     let at-log = c .before in
     let at-if1 = at-log .before in
-    ticks-refused _ _ _ _ (sym (at-if1 .before .in-limits .ensures) ∙ at-if1 .if1 .taken) _ (at-log .log-answer .ensures) (c .if2 .left)
+    ticks-refused _ _ _ _ (sym (at-if1 .before .in-limits .ensures) ∙ at-if1 .if1 .taken) _ (at-log .end-of .ensures .answer-is) (c .if2 .left)
 
 returns-3 : tie.Need-returns-3
 returns-3 c = ticks-outside _ _ _ _ (sym (c .before .in-limits .ensures) ∙ c .if1 .left)
@@ -41,7 +41,7 @@ admissions-spec =
     tie.close
     (tie.spec
     in-limits-requires
-    log-answer-requires
+    end-of-requires
     follow-requires
     same-length
     returns

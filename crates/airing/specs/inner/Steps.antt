@@ -8,7 +8,7 @@ use lib.Dec.{leb, ltb, eqb}
 use lib.ListN.{length, set}
 use Rattle.rules.specs.Limits.{both, idMax}
 use Rattle.rules.specs.Refusals.{pick, refuse, firstHit, done, outsideLimits, wrongRows, malformed, notThere}
-use Rattle.scheme.specs.Scheme.{paddedKind, starts}
+use Rattle.scheme.specs.Scheme.{paddedKind, steadyKind, starts}
 use Rattle.notice.specs.declared.Notice.{Notice}
 use Rattle.notice.specs.declared.Reading.the-variants as reading
 use Rattle.notice.specs.Log.{isWholeLog}
@@ -24,6 +24,7 @@ use Rattle.agent.specs.Played.{lifeIn}
 use Rattle.agent.specs.inner.Steps.{keptTold}
 use Rattle.airing.specs.declared.follow.Ending.{Ending}
 use Rattle.airing.specs.Air.{inLimits, hasRoom, isFilmTitle, markOf}
+use Rattle.airing.specs.Reasons.{isSteadyTitle}
 
 -- the mark of tick u while a title stays as it stands
 unfoldable pub markIn : Title → ℕ → ℕ
@@ -84,9 +85,22 @@ isFilmSlot t = both (ltb 0 (t .cap)) (eqb (t .kind) paddedKind)
 unfoldable pub answerOf : ℕ → ℕ → Title → ℕ
 answerOf place size t = pick (leb size place) (pick (isFilmSlot t) done notThere) malformed
 
-pub record Follows (pool : ℕ) (log : List ℕ) (i : ℕ) (row : List ℕ) (r : Ending) (marked : List ℕ) : Type 0 where
+-- so it was opened, and last as a skip-forward title
+abbrev pub isSteadySlot : Title → Bool
+isSteadySlot t = both (ltb 0 (t .cap)) (eqb (t .kind) steadyKind)
+
+-- what a log that is followed to its end answers and leaves a title as
+pub record Ends (pool : ℕ) (log : List ℕ) (i : ℕ) (r : Ending) : Type 0 where
   pub answer-is : r .answer ≡ logAnswer pool log i
   pub standing : r .answer ≡ done → Standing (lifeIn pool log i) (r .title)
+  pub steady-is : isSteadyTitle (lifeIn pool log i) ≡ isSteadySlot (r .title)
+
+-- the log has no film title, but a skip-forward title
+unfoldable pub isSteadyEnding : Ending → Bool
+isSteadyEnding r = both (eqb (r .answer) notThere) (isSteadySlot (r .title))
+
+pub record Follows (pool : ℕ) (log : List ℕ) (i : ℕ) (row : List ℕ) (r : Ending) (marked : List ℕ) : Type 0 where
+  pub ends : Ends pool log i r
   pub marks-are : r .answer ≡ done → marked ≡ written (markOf (lifeIn pool log i)) row (length row)
 
 -- the refusals that do not hang on the log

@@ -21,6 +21,15 @@ slice-aggregate-show c = sym (length-take-le _ _ (taken-within _ _ _ _ (c .befor
 show-requires : tie.Need-show-requires
 show-requires c κs = search needs
 
+array-share-prefix-record-2 : tie.Need-array-share-prefix-record-2
+array-share-prefix-record-2 c = taken-within _ _ _ _ (c .before .before .before .before .before .take-text .ensures)
+
+slice-aggregate-complain-beside : tie.Need-slice-aggregate-complain-beside
+slice-aggregate-complain-beside c = sym (length-take-le _ _ (taken-within _ _ _ _ (c .before .before .before .before .before .before .take-text .ensures)))
+
+complain-beside-requires : tie.Need-complain-beside-requires
+complain-beside-requires c κs = search needs
+
 returns : tie.Need-returns
 returns c = search needs
 
@@ -31,14 +40,4 @@ returns-2 : tie.Need-returns-2
 returns-2 c = search needs
 
 pub tell-spec : {M : Type 1} → statement M
-tell-spec =
-    tie.close
-    (tie.spec
-    slice-aggregate-take-text
-    take-text-requires
-    array-share-prefix-record
-    slice-aggregate-show
-    show-requires
-    returns
-    complain-of-fault-requires
-    returns-2)
+tell-spec = tie.close (tie.spec slice-aggregate-take-text take-text-requires array-share-prefix-record slice-aggregate-show show-requires array-share-prefix-record-2 slice-aggregate-complain-beside complain-beside-requires returns complain-of-fault-requires returns-2)

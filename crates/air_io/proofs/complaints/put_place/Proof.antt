@@ -1,0 +1,48 @@
+-- `air_io::complaints::put_place` meets its contract: its parts are written one behind the other.
+use Prim.Native.Nat.{_%_}
+use mathlib.Core.List.{[]}
+use Rattle.text.specs.Texts.{text}
+use Rattle.text.specs.Output.{page}
+use Rattle.text.proofs.Pages.{puts-then}
+use Rattle.rules.specs.Limits.{lanePlaces}
+use Rattle.files.specs.Lines.{lineOf}
+use Rattle.air_io.specs.Complaints.{strayLine}
+use borrow.Author.Needs.{needs}
+use Rattle.air_io.proofs.complaints.put_place.Statement.{statement}
+use Rattle.air_io.proofs.complaints.put_place.Tie as tie
+
+line-of-requires : tie.Need-line-of-requires
+line-of-requires c κs = search needs
+
+slice-aggregate-put-line : tie.Need-slice-aggregate-put-line
+slice-aggregate-put-line c = search needs
+
+slice-aggregate-put-line-2 : tie.Need-slice-aggregate-put-line-2
+slice-aggregate-put-line-2 c = search needs
+
+put-line-requires : tie.Need-put-line-requires
+put-line-requires c κs = search needs
+
+slice-aggregate-put-line-3 : tie.Need-slice-aggregate-put-line-3
+slice-aggregate-put-line-3 c = search needs
+
+slice-aggregate-put-line-4 : tie.Need-slice-aggregate-put-line-4
+slice-aggregate-put-line-4 c = search needs
+
+put-line-requires-2 : tie.Need-put-line-requires-2
+put-line-requires-2 c κs = search needs
+
+same-length : tie.Need-same-length
+same-length c = search needs
+
+returns : tie.Need-returns
+unfolding strayLine text
+returns c =
+    let x = c .before .before .before .before .before .before .before .before .before .before .before .before .before .before .before .args in
+    let line = c .before .before .before .before .before .before .before .before .before .before .before .before .line-of in
+    rw (← line .ensures)
+    (puts-then (page (x .out .now) (x .at)) (lineOf (text "? RECORD: line ") (line .result) (text ", lane "))
+    (lineOf [] (x .k % lanePlaces) (text ": the title has no such cell\n")) (c .before .before .before .before .before .before .before .before .put-line .ensures) (c .before .before .put-line2 .ensures))
+
+pub put-place-spec : {M : Type 1} → statement M
+put-place-spec = tie.close (tie.spec line-of-requires slice-aggregate-put-line slice-aggregate-put-line-2 put-line-requires slice-aggregate-put-line-3 slice-aggregate-put-line-4 put-line-requires-2 same-length returns)

@@ -1,0 +1,34 @@
+-- `air_io::complaints::put_skip` meets its contract: a line for a skip-forward title.
+use mathlib.Core.Path.{refl, sym, _∙_}
+use Rattle.text.specs.Texts.{text}
+use Rattle.text.specs.Output.{puts}
+use Rattle.air_io.specs.Complaints.{skipLine}
+use borrow.Author.Needs.{needs}
+use Rattle.air_io.proofs.complaints.put_skip.Statement.{statement}
+use Rattle.air_io.proofs.complaints.put_skip.Tie as tie
+
+is-skip-forward-requires : tie.Need-is-skip-forward-requires
+is-skip-forward-requires c κs = search needs
+
+slice-aggregate-put-line : tie.Need-slice-aggregate-put-line
+slice-aggregate-put-line c = search needs
+
+slice-aggregate-put-line-2 : tie.Need-slice-aggregate-put-line-2
+slice-aggregate-put-line-2 c = search needs
+
+put-line-requires : tie.Need-put-line-requires
+put-line-requires c κs = search needs
+
+same-length : tie.Need-same-length
+same-length c = search needs
+
+returns : tie.Need-returns
+unfolding skipLine text
+returns c = rw (sym (c .before .before .before .before .before .before .before .is-skip-forward .ensures) ∙ c .before .before .before .before .before .before .if1 .taken) (c .before .before .put-line .ensures)
+
+returns-2 : tie.Need-returns-2
+unfolding skipLine puts
+returns-2 c = rw (sym (c .before .is-skip-forward .ensures) ∙ c .if1 .left) refl
+
+pub put-skip-spec : {M : Type 1} → statement M
+put-skip-spec = tie.close (tie.spec is-skip-forward-requires slice-aggregate-put-line slice-aggregate-put-line-2 put-line-requires same-length returns returns-2)
