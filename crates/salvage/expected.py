@@ -6,7 +6,15 @@
 import sys
 
 SIZES = {1: 1, 2: 4, 3: 1, 4: 8, 5: 4, 6: 1, 7: 1, 8: 1}
-KINDS = {1: [1, 2, 3, 4, 5, 6, 7, 8], 2: [1, 2, 3, 4, 8], 3: [1, 2, 3, 4]}
+# open, change, close, hold, lift and the opening of a skip-forward title
+KINDS = {
+    1: [1, 2, 3, 4, 5, 6, 7, 8],
+    2: [1, 2, 3, 4, 8],
+    3: [1, 2, 3, 4],
+    4: [1, 2, 3, 4],
+    5: [1, 2, 3, 4],
+    6: [1, 2, 3, 4, 5, 8],
+}
 
 
 def notice(kind, values):
@@ -33,33 +41,41 @@ def at(log, place):
 
 
 def salvage(log):
-    place, last, taken, skipped, count = 0, -1, b"", [], 0
+    """The taken notices one behind the other, and what is told: a stretch when it ends, with the gap that it left."""
+    place, last, taken, told, count, stretch = 0, None, b"", "", 0, None
     while place < len(log):
         found = at(log, place)
-        if found and found[0] > last:
-            last, end = found
+        if found and (last is None or found[0] > last):
+            sequence, end = found
+            if stretch:
+                told += "skipped %d %d\n" % tuple(stretch)
+                if last is not None and sequence != last + 1:
+                    told += f"sequence {sequence} follows {last}\n"
+            stretch = None
+            last = sequence
             taken += log[place:end]
             count += 1
             place = end
         else:
-            if skipped and sum(skipped[-1]) == place:
-                skipped[-1][1] += 1
-            else:
-                skipped.append([place, 1])
+            if stretch is None:
+                stretch = [place, 0]
+            stretch[1] += 1
             place += 1
-    told = "".join(f"skipped {start} {size}\n" for start, size in skipped)
+    if stretch:
+        told += "skipped %d %d\n" % tuple(stretch)
     return taken, (told + f"taken {count} notices, {len(taken)} bytes\n").encode()
 
 
 def damaged():
-    """400 notices over several blocks: a flipped byte, a lost stretch, a repeated notice and a cut end, each more than once."""
+    """400 notices of all kinds over several blocks: bytes before the first, a flipped byte, a lost stretch, a repeated notice, a
+    notice that is gone without a trace, a stretch over more than a block, and a cut end."""
     notices = []
     for s in range(1, 401):
         values = {2: s, 3: s % 16, 4: 1000 * s, 5: 60_000, 6: 2, 7: 4, 8: 2 + s % 3}
-        kind = 1 if s % 5 == 1 else 3 if s % 5 == 0 else 2
+        kind = (1, 2, 4, 5, 2, 3, 6, 3)[(s - 1) % 8]
         values[1] = kind
         notices.append(notice(kind, values))
-    out = b""
+    out = b"\0" * 5  # no notice stands before this stretch
     for s, n in enumerate(notices, 1):
         if s == 7:
             n = n[:13] + bytes([n[13] ^ 64]) + n[14:]  # a flipped byte, in the title's length
@@ -73,6 +89,8 @@ def damaged():
             n = n + n  # a repeated notice
         if s == 90:
             n = n + notices[80] + notices[81]  # old notices again, in the middle
+        if s == 110:
+            n = b""  # a gap that no stretch left
         if 120 <= s < 290:
             n = n + (b"\1" * (s % 4))  # a byte or more before most notices of four blocks
         if s == 300:

@@ -27,7 +27,7 @@ pub kept-few : (window l : List ℕ) (over : Bool) (p r : Progress) (to n : ℕ)
     → to ≡ length window → n ≡ count l (r .place - p .place) to → n < longestNotice
 unfolding table startOf spanOf
 kept-few window l over p r to n w size many =
-    let here : r .place ≡ w .block .poured .progress .place = ap (λ (q : Progress). q .place) (w .is) in
+    let here : r .place ≡ w .block .progress .place = ap (λ (q : Progress). q .place) (w .is) in
     let b = w .blocks in
     omega (arith, b .few, b .ahead, b .within, count-low l (r .place - p .place) to)
 

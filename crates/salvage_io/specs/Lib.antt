@@ -1,3 +1,5 @@
 -- What the program writes.
 pub mod Lines
+pub mod Report
 pub mod Blocks
+pub mod Walks

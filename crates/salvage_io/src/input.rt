@@ -5,12 +5,11 @@
 
 use super::blocks::BLOCK_ROOM;
 use super::blocks::scan_block;
-use super::lines::stretch_line;
-use super::lines::total_line;
+use super::lines::END_ROOM;
+use super::lines::put_end;
 use libc::STDOUT_FILENO;
 use salvaging::steps::Progress;
 use salvaging::steps::begun;
-use salvaging::steps::is_open;
 use streams::Got;
 use text::feed::compact;
 ghost use mathlib.Core.Path.{_≡_};
@@ -48,62 +47,29 @@ fn give(port: i32, bytes: &[u8]) -> bool {
     io::write_all(port, bytes)
 }
 
-fn say_stretch(port: i32, start: u64, size: u64) -> bool {
-    let line = stretch_line(start, size);
-    let row = line.row;
-    let n = line.size;
-    give(port, &row[..n])
-}
-
-fn say_total(port: i32, p: Progress) -> bool {
-    let line = total_line(p.notices as u64, p.bytes as u64);
-    let row = line.row;
-    let n = line.size;
-    give(port, &row[..n])
-}
-
-// The lines of stretches that have ended, start and length of each.
-fn say_stretches(port: i32, pairs: &[u64]) -> bool {
-    let mut i = 0;
-    while i + 1 < pairs.len() {
-        if say_stretch(port, pairs[i], pairs[i + 1]) {
-            i += 2;
-        } else {
-            return false;
-        }
-    }
-    true
-}
-
-// What the report says at the end of the input: the stretch that ends there, if one does, and how much was taken.
+// The end of the report.
 fn say_end(port: i32, p: Progress) -> bool
     requires { ⌜ Counts p ⌝ }
 {
-    if is_open(p) {
-        if say_stretch(port, p.start as u64, p.size as u64) {
-            return say_total(port, p);
-        }
-        return false;
-    }
-    say_total(port, p)
+    let mut out = [0u8; END_ROOM];
+    let n = put_end(&mut out, p);
+    give(port, &out[..n])
 }
 
-// A block, with what it takes and the stretches that end in it written.
+// A block, with what it takes and what is told of it written.
 fn pass_on(p: Progress, window: &[u8], over: bool, ports: Ports) -> Passed
     requires { ⌜ Counts p × ((length (now window) ≤ blockRoom) × (p .place + length (now window) < 2 ^ 64)) ⌝ }
     ensures { λ r. ⌜ Passes (now (window .entry)) over p (r .progress) ⌝ }
 {
     let block = scan_block(window, over, p);
-    let poured = block.poured;
-    let to = poured.to;
-    let at = to.at;
-    let cells = to.cells;
     let area = block.area;
-    let row = block.row;
-    let progress = poured.progress;
+    let at = block.at;
+    let told = block.told;
+    let said = block.said;
+    let progress = block.progress;
     let mut written = give(ports.taken, &area[..at]);
     if written {
-        written = say_stretches(ports.told, &row[..cells]);
+        written = give(ports.told, &told[..said]);
     }
     Passed {
         progress: progress,

@@ -32,7 +32,7 @@ use Rattle.salvaging.specs.Scan.{scanTo, scanOf}
 use Rattle.salvaging.specs.Claims.{Apart}
 use Rattle.salvaging.specs.inner.Steps.{progressOf, isOpen, ending, fresh, moved, Counts, Within, Between, Advances}
 use Rattle.salvaging.specs.Rows.{flat}
-use Rattle.salvaging.specs.Pours.{tookOne, Lays, closed, endedIn, Stands, Follows, Pours, Fills}
+use Rattle.salvaging.specs.Pours.{tookOne, takenIn, Lays, closed, endedIn, Stands, Follows, Pours, Fills}
 use Rattle.salvaging.proofs.Parts.{part-is}
 use Rattle.salvaging.proofs.Through as through
 use Rattle.salvaging.proofs.Pieces.{split-to}
@@ -40,7 +40,7 @@ use Rattle.salvaging.proofs.Stepping.{fresh-place, same-step}
 
 -- ---- stretches that have ended
 
-closed-joined : (p : ℕ) (ts : List Stretch) → closed (suc p) (joined p ts) ≡ closed p ts
+pub closed-joined : (p : ℕ) (ts : List Stretch) → closed (suc p) (joined p ts) ≡ closed p ts
 closed-joined p [] = rw (eq-eqb (p + 1) (suc p) (omega arith)) refl
 closed-joined p (t ∷ ts) = go (eqb (endOf t) p) refl
   where
@@ -51,7 +51,7 @@ closed-joined p (t ∷ ts) = go (eqb (endOf t) p) refl
         rw (eq-eqb (t .start + suc (t .size)) (suc p) (omega arith)) refl
     go false e = rw (eq-eqb (p + 1) (suc p) (omega arith)) refl
 
-closed-past : (p e : ℕ) (ts : List Stretch) → Apart (suc p) ts → p < e → closed e ts ≡ ts
+pub closed-past : (p e : ℕ) (ts : List Stretch) → Apart (suc p) ts → p < e → closed e ts ≡ ts
 closed-past p e [] a h = refl
 closed-past p e (t ∷ ts) a h =
     let before : endOf t < e = omega (arith, a .0) in
@@ -77,7 +77,7 @@ with-open s = go (s .skipped)
 -- ---- what one step adds
 
 -- the part that is taken, and the stretch that ended before it
-abbrev part : List ℕ → Progress → Progress → List ℕ
+abbrev pub part : List ℕ → Progress → Progress → List ℕ
 part bs p q = pick (tookOne p q) (slice (p .place) (q .place) bs) []
 
 abbrev ended : Progress → Progress → List ℕ
@@ -86,7 +86,7 @@ ended p q = pick (tookOne p q) (ending p) []
 not-more : (n : ℕ) → ltb n n ≡ false
 not-more n = le-ltb n n (omega arith)
 
-adds-part : (bs : List ℕ) (s : Scan) (m : Move)
+pub adds-part : (bs : List ℕ) (s : Scan) (m : Move)
     → after bs s m .kept ≡ s .kept ++ part bs (progressOf s) (progressOf (after bs s m))
 adds-part bs s (Take n e) = rw (lt-ltb (length (s .taken)) (suc (length (s .taken))) (omega arith)) refl
 adds-part bs s Skip = rw (not-more (length (s .taken)), append-nil) refl
@@ -103,7 +103,7 @@ adds-ended bs s a Skip is = rw (not-more (length (s .taken)), append-nil, closed
 adds-ended bs s a Stop is = rw (not-more (length (s .taken)), append-nil) refl
 
 -- neither has more numbers than the step passes bytes
-part-few : (bs : List ℕ) (s : Scan) (m : Move) → moveIn bs s ≡ m
+pub part-few : (bs : List ℕ) (s : Scan) (m : Move) → moveIn bs s ≡ m
     → length (part bs (progressOf s) (progressOf (after bs s m))) ≤ after bs s m .place - s .place
 part-few bs s (Take n e) is =
     let i = inside bs (s .place) n e (through.takes bs (lastOf (s .taken)) (s .place) n e is .found) in
@@ -140,21 +140,26 @@ pub none-put : (p : Progress) (g : Page) → isOpen p ≡ false → g ≡ puts g
 unfolding puts
 none-put p g none = rw none refl
 
-module _ (window : List ℕ) (d : ℕ) (p q : Progress) (to r : Laid) (area row area-after row-after : List ℕ) where
-  pub lays-taken : (x : List ℕ) → p .notices < q .notices → x ≡ slice (p .place - d) (q .place - d) window
-      → page area-after (r .at) ≡ puts (page area (to .at)) x
+-- the bytes of a notice, where one was taken
+pub puts-taken : (window : List ℕ) (d : ℕ) (p q : Progress) (g h : Page) (x : List ℕ) → p .notices < q .notices
+    → x ≡ slice (p .place - d) (q .place - d) window → h ≡ puts g x → h ≡ puts g (takenIn window d p q)
+puts-taken window d p q g h x more is e = e ∙ ap (puts g) (is ∙ rw (lt-ltb (p .notices) (q .notices) more) refl)
+
+pub puts-none : (window : List ℕ) (d : ℕ) (p q : Progress) (g : Page) → q .notices ≤ p .notices → g ≡ puts g (takenIn window d p q)
+unfolding puts
+puts-none window d p q g same = rw (le-ltb (p .notices) (q .notices) same) refl
+
+module _ (window : List ℕ) (d : ℕ) (p q : Progress) (to r : Laid) (area row area-after : List ℕ)
+    (taken : page area-after (r .at) ≡ puts (page area (to .at)) (takenIn window d p q)) where
+  pub lays-taken : (row-after : List ℕ) → p .notices < q .notices
       → page row-after (r .cells) ≡ puts (page row (to .cells)) (ending p)
       → Lays window d p q to r area row area-after row-after
-  lays-taken x more is a w =
-      let took = lt-ltb (p .notices) (q .notices) more in
-      record { area-is = a ∙ rw (took, is) refl; row-is = w ∙ rw took refl }
+  lays-taken row-after more w = record { area-is = taken; row-is = w ∙ rw (lt-ltb (p .notices) (q .notices) more) refl }
 
-pub lays-none : (window : List ℕ) (d : ℕ) (p q : Progress) (to : Laid) (area row : List ℕ) → q .notices ≤ p .notices
-    → Lays window d p q to to area row area row
-unfolding puts
-lays-none window d p q to area row same =
-    let none = le-ltb (p .notices) (q .notices) same in
-    record { area-is = rw none refl; row-is = rw none refl }
+  pub lays-none : q .notices ≤ p .notices → r .cells ≡ to .cells → Lays window d p q to r area row area-after row
+  unfolding puts
+  lays-none same e =
+      record { area-is = taken; row-is = rw (le-ltb (p .notices) (q .notices) same) (ap (page row) e) }
 
 -- the part between two places of a window, as the code cuts it
 pub part-between : (window : List ℕ) (d : ℕ) (p q : Progress) → Between (length window) d p q
@@ -186,7 +191,7 @@ moved-further d p found.Malformed = refl
 
 module _ (log window : List ℕ) (over : Bool) (d : ℕ) (st : Stands log d window over) where
   -- at a place that the window decides, one step over it is the step of the log's scan
-  step-in : (p q : Progress) (n : ℕ) → d ≤ p .place → isDecided (length window) (p .place - d) over ≡ true
+  pub step-in : (p q : Progress) (n : ℕ) → d ≤ p .place → isDecided (length window) (p .place - d) over ≡ true
       → p ≡ progressOf (scanTo log n) → Advances window d p q → q ≡ progressOf (scanTo log (suc n))
   unfolding scanTo
   step-in p q n low decided is a =
@@ -214,7 +219,7 @@ module _ (log window : List ℕ) (over : Bool) (d : ℕ) (st : Stands log d wind
       ∙ same-step log s (moveIn log s) refl
 
   -- and its part the log's part
-  part-in : (p q : Progress) → Between (length window) d p q
+  pub part-in : (p q : Progress) → Between (length window) d p q
       → slice (p .place - d) (q .place - d) window ≡ slice (p .place) (q .place) log
   part-in p q b =
       let size = st .there in

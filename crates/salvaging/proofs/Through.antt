@@ -104,7 +104,7 @@ module _ (bs : List ℕ) where
       (λ le. rw (stays bs (scanTo bs n) le) (place-within n))
 
   -- once no byte is left, more steps change nothing
-  still : (n d : ℕ) → length bs ≤ scanTo bs n .place → scanTo bs (n + d) ≡ scanTo bs n
+  pub still : (n d : ℕ) → length bs ≤ scanTo bs n .place → scanTo bs (n + d) ≡ scanTo bs n
   unfolding scanTo
   still n zero h = rw add-zero refl
   still n (suc d) h =

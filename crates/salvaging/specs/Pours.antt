@@ -25,11 +25,14 @@ counted p = record { answer = done; notices = p .notices; bytes = p .bytes; stre
 abbrev pub tookOne : Progress → Progress → Bool
 tookOne p q = ltb (p .notices) (q .notices)
 
--- one step's part over a window that begins at d, written behind what was there
+-- the bytes that a step over a window that begins at d takes
+abbrev pub takenIn : List ℕ → ℕ → Progress → Progress → List ℕ
+takenIn window d p q = pick (tookOne p q) (slice (p .place - d) (q .place - d) window) []
+
+-- what one step adds, written behind what was there
 pub record Lays (window : List ℕ) (d : ℕ) (p q : Progress) (to r : Laid) (area row area-after row-after : List ℕ)
     : Type 0 where
-  pub area-is : page area-after (r .at)
-      ≡ puts (page area (to .at)) (pick (tookOne p q) (slice (p .place - d) (q .place - d) window) [])
+  pub area-is : page area-after (r .at) ≡ puts (page area (to .at)) (takenIn window d p q)
   pub row-is : page row-after (r .cells) ≡ puts (page row (to .cells)) (pick (tookOne p q) (ending p) [])
 
 -- the stretches that have ended: all but the one that ends at the place

@@ -12,8 +12,8 @@ ghost use Prim.Native.Nat.{_+_, _<_, _^_};
 ghost use lib.ListN.{length};
 ghost use Rattle.text.specs.Output.{page, puts};
 ghost use Rattle.salvaging.specs.Scan.{scanOf};
-ghost use Rattle.salvaging.specs.inner.Steps.{Counts, Between, ending};
-ghost use Rattle.salvaging.specs.Pours.{Lays, Pours, Fills};
+ghost use Rattle.salvaging.specs.Steps.{Counts, Between, ending};
+ghost use Rattle.salvaging.specs.Pours.{takenIn, Lays, Pours, Fills};
 
 // The places behind what was written into the area and into the row.
 pub struct Laid {
@@ -41,6 +41,26 @@ fn put_ended(row: &mut [u64], at: usize, p: Progress) -> usize
     at
 }
 
+// The notice that one step over a window took, if it took one.
+pub fn put_taken(
+    window: &[u8],
+    base: usize,
+    p: Progress,
+    next: Progress,
+    area: &mut [u8],
+    at: usize,
+) -> usize
+    requires { ⌜ Between (length (now window)) base p next ⌝ }
+    ensures { λ r. ⌜ page (now (area .exit)) r ≡ puts (page (now (area .entry)) at) (takenIn (now (window .entry)) base p next) ⌝ }
+{
+    let from = p.place - base;
+    let end = next.place - base;
+    if p.notices < next.notices {
+        return put(area, at, &window[from..end]);
+    }
+    at
+}
+
 // What one step over a window adds: a notice that was taken, and the stretch that ended before it.
 fn lay(
     window: &[u8],
@@ -55,14 +75,12 @@ fn lay(
     ensures { λ r. ⌜ Lays (now (window .entry)) base p next to r (now (area .entry)) (now (row .entry))
         (now (area .exit)) (now (row .exit)) ⌝ }
 {
-    let from = p.place - base;
-    let end = next.place - base;
+    let at = put_taken(window, base, p, next, area, to.at);
+    let mut cells = to.cells;
     if p.notices < next.notices {
-        let cells = put_ended(row, to.cells, p);
-        let at = put(area, to.at, &window[from..end]);
-        return Laid { at, cells };
+        cells = put_ended(row, cells, p);
     }
-    to
+    Laid { at, cells }
 }
 
 // All that a window decides, from the place on at which it begins: the notices that are taken go to the start of an area, the

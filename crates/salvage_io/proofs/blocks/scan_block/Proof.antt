@@ -5,21 +5,17 @@ use borrow.Author.Needs.{needs}
 use Rattle.salvage_io.proofs.blocks.scan_block.Statement.{statement}
 use Rattle.salvage_io.proofs.blocks.scan_block.Tie as tie
 
-slice-aggregate-pour : tie.Need-slice-aggregate-pour
-slice-aggregate-pour c = search needs
+slice-aggregate-walk : tie.Need-slice-aggregate-walk
+slice-aggregate-walk c = search needs
 
-slice-aggregate-pour-2 : tie.Need-slice-aggregate-pour-2
-slice-aggregate-pour-2 c = search needs
+slice-aggregate-walk-2 : tie.Need-slice-aggregate-walk-2
+slice-aggregate-walk-2 c = search needs
 
-pour-requires : tie.Need-pour-requires
-pour-requires c κs = search needs
+walk-requires : tie.Need-walk-requires
+walk-requires c κs = search needs
 
 returns : tie.Need-returns
-returns c =
-    let poured = c .before .before in
-    let pre = poured .before .before .before .before .pre in
-    block-holds _ _ _ _ _ _ _ _ (poured .pour .ensures) (pre .1 .0) (omega arith) (omega arith)
+returns c = block-holds _ _ _ _ _ _ _ _ (c .before .before .before .walk .ensures) (c .before .before .before .before .before .before .before .pre .1 .0) (omega arith) (omega arith)
 
 pub scan-block-spec : {M : Type 1} → statement M
-scan-block-spec =
-    tie.close (tie.spec slice-aggregate-pour slice-aggregate-pour-2 pour-requires returns)
+scan-block-spec = tie.close (tie.spec slice-aggregate-walk slice-aggregate-walk-2 walk-requires returns)

@@ -12,24 +12,19 @@ array-share-prefix-area : tie.Need-array-share-prefix-area
 array-share-prefix-area c = search needs
 
 slice-aggregate-give : tie.Need-slice-aggregate-give
-slice-aggregate-give c =
-    let scanned = c .before .before .before .before .before .before in
-    sym (length-take-le _ _ (scanned .scan-block .ensures .bytes-low))
+slice-aggregate-give c = sym (length-take-le _ _ (c .before .before .before .before .scan-block .ensures .bytes-low))
 
 give-requires : tie.Need-give-requires
 give-requires c κs = search needs
 
-array-share-prefix-row : tie.Need-array-share-prefix-row
-array-share-prefix-row c = search needs
+array-share-prefix-told : tie.Need-array-share-prefix-told
+array-share-prefix-told c = search needs
 
-slice-aggregate-say-stretches : tie.Need-slice-aggregate-say-stretches
-slice-aggregate-say-stretches c =
-    let given = c .before .before .before in
-    let scanned = given .before .before .before .before .before .before .before in
-    sym (length-take-le _ _ (scanned .scan-block .ensures .cells-low))
+slice-aggregate-give-2 : tie.Need-slice-aggregate-give-2
+slice-aggregate-give-2 c = sym (length-take-le _ _ (c .before .before .before .before .before .before .before .before .scan-block .ensures .told-low))
 
-say-stretches-requires : tie.Need-say-stretches-requires
-say-stretches-requires c κs = search needs
+give-requires-2 : tie.Need-give-requires-2
+give-requires-2 c κs = search needs
 
 returns : tie.Need-returns
 returns c = search needs
@@ -38,15 +33,4 @@ returns-2 : tie.Need-returns-2
 returns-2 c = search needs
 
 pub pass-on-spec : {M : Type 1} → statement M
-pass-on-spec =
-    tie.close
-    (tie.spec
-    scan-block-requires
-    array-share-prefix-area
-    slice-aggregate-give
-    give-requires
-    array-share-prefix-row
-    slice-aggregate-say-stretches
-    say-stretches-requires
-    returns
-    returns-2)
+pass-on-spec = tie.close (tie.spec scan-block-requires array-share-prefix-area slice-aggregate-give give-requires array-share-prefix-told slice-aggregate-give-2 give-requires-2 returns returns-2)

@@ -29,31 +29,17 @@ same-length c = search needs
 returns : tie.Need-returns
 unfolding twoNumbers
 returns c =
-    let ending = c .before .before in
-    let second = ending .before .before .before .before in
-    let amid = second .before .before .before .before in
-    let first = amid .before .before .before .before in
-    let name = first .before .before .before .before in
-    let x = name .before .before .before .before .before .before .args in
-    let room = page (x .out .now) 0 in
+    let x = c .before .before .before .before .before .before .before .before .before .before .before .before .before .before .before .before .before .before .before .before .before .before .before .before .args in
+    let room = page (x .out .now) (x .at) in
     let one = x .name .now ++ decimal (x .n) in
     let two = one ++ x .amid .now in
     puts-then room (two ++ decimal (x .m)) (x .end .now)
     (puts-then room two (decimal (x .m))
     (puts-then room one (x .amid .now)
-    (puts-then room (x .name .now) (decimal (x .n)) (name .put .ensures) (first .put-number .ensures))
-    (amid .put2 .ensures))
-    (second .put-number2 .ensures))
-    (ending .put3 .ensures)
+    (puts-then room (x .name .now) (decimal (x .n)) (c .before .before .before .before .before .before .before .before .before .before .before .before .before .before .before .before .before .before .put .ensures) (c .before .before .before .before .before .before .before .before .before .before .before .before .before .before .put-number .ensures))
+    (c .before .before .before .before .before .before .before .before .before .before .put2 .ensures))
+    (c .before .before .before .before .before .before .put-number2 .ensures))
+    (c .before .before .put3 .ensures)
 
 pub put-two-spec : {M : Type 1} → statement M
-put-two-spec =
-    tie.close
-    (tie.spec
-    put-requires
-    put-number-requires
-    put-requires-2
-    put-number-requires-2
-    put-requires-3
-    same-length
-    returns)
+put-two-spec = tie.close (tie.spec put-requires put-number-requires put-requires-2 put-number-requires-2 put-requires-3 same-length returns)
