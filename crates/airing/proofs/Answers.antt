@@ -22,7 +22,7 @@ use Rattle.agent.proofs.Played.{log-series}
 use Rattle.airing.specs.declared.follow.Ending.{Ending}
 use Rattle.airing.specs.Air.{inLimits, isFilmTitle, markOf}
 use Rattle.airing.specs.Reasons.{isSteadyTitle}
-use Rattle.airing.specs.Steps.{markedTo, Markable, heardMarks, toldMarks, Standing, logAnswer, isFilmSlot, isSteadySlot, answerOf, Follows}
+use Rattle.airing.specs.inner.Steps.{markedTo, Markable, heardMarks, toldMarks, Standing, logAnswer, isFilmSlot, isSteadySlot, answerOf, Follows}
 use Rattle.airing.proofs.Marking.{told-length, told-film, told-steady, told-markable, told-standing, told-all}
 
 abbrev pub endingOf : ℕ → Title → Ending

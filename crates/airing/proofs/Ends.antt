@@ -17,7 +17,7 @@ use Rattle.rules.proofs.Search
 use Rattle.airing.specs.declared.follow.Ending.{Ending}
 use Rattle.airing.specs.Air.{inLimits, isCellOf, allCells, ticksAnswer}
 use Rattle.airing.specs.Reasons.{isSkipForward, firstStray, strayIn}
-use Rattle.airing.specs.Steps.{logAnswer, isSteadyEnding, Ends}
+use Rattle.airing.specs.inner.Steps.{logAnswer, isSteadyEnding, Ends}
 
 module _ (pool : ℕ) (log : List ℕ) (title : ℕ) where
   outside : inLimits pool title ≡ false → ticksAnswer pool log title ≡ outsideLimits

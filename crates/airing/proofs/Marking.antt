@@ -46,8 +46,8 @@ use Rattle.agent.specs.Played.{agentTold, heardOf, ReadAs, none-read, one-read}
 use Rattle.agent.proofs.Played.{told-follows, told-notice}
 use Rattle.airing.specs.Air.{isFilmTitle, markOf}
 use Rattle.airing.specs.Reasons.{isSteadyTitle}
-use Rattle.agent.specs.Steps.{keptTold}
-use Rattle.airing.specs.Steps.{markIn, markedTo, Markable, heardMarks, toldMarks, Ready, Standing, isFilmSlot, isSteadySlot}
+use Rattle.agent.specs.inner.Steps.{keptTold}
+use Rattle.airing.specs.inner.Steps.{markIn, markedTo, Markable, heardMarks, toldMarks, Ready, Standing, isFilmSlot, isSteadySlot}
 use Rattle.airing.proofs.Ticks.{to-length, to-before, to-at}
 use Rattle.airing.proofs.Hearing.{heard-length}
 

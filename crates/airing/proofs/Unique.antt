@@ -2,7 +2,7 @@
 -- Rests on their equations.
 use mathlib.Core.Path.{_≡_, sym, _∙_}
 use denote.Ref.{now}
-use Rattle.rules.proofs.OneOutcome.{OneEnd, OneOutcome}
+use Rattle.rules.specs.OneOutcome.{OneEnd, OneOutcome}
 use Rattle.airing.proofs.admissions.Kinds as admissions-kinds
 use Rattle.airing.proofs.admissions.Reads as admissions-call
 use Rattle.airing.proofs.air.Kinds as air-kinds

@@ -23,7 +23,7 @@ ghost use Rattle.rules.specs.Limits.{idMax};
 ghost use Rattle.notice.specs.Decode.{readAt};
 ghost use Rattle.agent.specs.inner.Steps.{Steps, Plays};
 ghost use Rattle.airing.specs.Air.{inLimits};
-ghost use Rattle.airing.specs.Steps.{heardMarks, Ready, Hears, answerOf, Ends, Follows};
+ghost use Rattle.airing.specs.inner.Steps.{heardMarks, Ready, Hears, answerOf, Ends, Follows};
 
 // What a log answers, and the title as it stands at its end.
 pub struct Ending {

@@ -26,7 +26,7 @@ ghost use Rattle.airing.specs.Air.{
   ticksAnswer,
   ticksLeaves,
 };
-ghost use Rattle.airing.specs.Steps.{firstAnswer};
+ghost use Rattle.airing.specs.inner.Steps.{firstAnswer};
 
 // What the call gives back: how many admissions the record judges, how many of those were played through, and how many begin in
 // it but outlast it. Beside a refusal the counts are 0.

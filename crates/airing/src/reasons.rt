@@ -15,7 +15,7 @@ ghost use mathlib.Core.Path.{_≡_};
 ghost use Rattle.rules.specs.Limits.{countMax};
 ghost use Rattle.rules.specs.Search.{keepFirst};
 ghost use Rattle.airing.specs.Reasons.{firstStray, strayIn, isSkipForward};
-ghost use Rattle.airing.specs.Steps.{isSteadyEnding};
+ghost use Rattle.airing.specs.inner.Steps.{isSteadyEnding};
 
 // Whether a log was read to its end, and the title stands as a skip-forward title.
 fn is_steady(ending: Ending) -> bool

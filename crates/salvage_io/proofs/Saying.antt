@@ -12,7 +12,7 @@ use Rattle.text.proofs.Pages.{stands}
 use Rattle.salvaging.specs.declared.scan.Last.{Last}
 use Rattle.salvaging.specs.declared.scan.Last.the-variants.{Nothing, Taken}
 use Rattle.salvaging.specs.declared.steps.Progress.{Progress}
-use Rattle.salvaging.specs.Steps.{isOpen}
+use Rattle.salvaging.specs.inner.Steps.{isOpen}
 use Rattle.salvage_io.specs.Lines.{twoNumbers, stretchLine, followsLine, gapLine, openLine, endText, endRoom}
 use Rattle.salvage_io.specs.Report.{seamText, saidIn}
 use Rattle.salvage_io.proofs.Short.{end-short}

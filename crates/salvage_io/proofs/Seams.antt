@@ -16,7 +16,7 @@ use Rattle.salvaging.specs.declared.scan.Move.{Move}
 use Rattle.salvaging.specs.declared.scan.Move.the-variants.{Take, Skip, Stop}
 use Rattle.salvaging.specs.declared.steps.Progress.{Progress}
 use Rattle.salvaging.specs.Scan.{Stretch, endOf, Scan, lastOf, after, moveIn, scanTo}
-use Rattle.salvaging.specs.Steps.{progressOf, isOpen}
+use Rattle.salvaging.specs.inner.Steps.{progressOf, isOpen}
 use Rattle.salvaging.specs.Pours.{closed}
 use Rattle.salvaging.proofs.Through as through
 use Rattle.salvaging.proofs.Laying.{closed-joined, closed-past}

@@ -27,7 +27,7 @@ use Rattle.salvaging.specs.declared.scan.Move.{Move}
 use Rattle.salvaging.specs.declared.scan.Move.the-variants.{Take, Skip, Stop}
 use Rattle.salvaging.specs.declared.steps.Progress.{Progress}
 use Rattle.salvaging.specs.Scan.{Scan, lastOf, after, moveIn}
-use Rattle.salvaging.specs.Steps.{progressOf, isOpen}
+use Rattle.salvaging.specs.inner.Steps.{progressOf, isOpen}
 use Rattle.salvaging.proofs.Through as through
 use Rattle.salvage_io.specs.Lines.{twoNumbers, stretchLine, followsLine, gapLine, totalLine, openLine, endText, wordMost, lineMost, endRoom}
 use Rattle.salvage_io.specs.Report.{seamOf, seamText, saidIn}

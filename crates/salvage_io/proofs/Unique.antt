@@ -2,7 +2,7 @@
 -- the same arguments are equal. Rests on the contracts being equations of pages.
 use mathlib.Core.Path.{_≡_}
 use denote.Ref.{now}
-use Rattle.rules.proofs.OneOutcome.{OneEnd}
+use Rattle.rules.specs.OneOutcome.{OneEnd}
 use Rattle.text.proofs.Unique.{page-one-outcome}
 use Rattle.salvage_io.proofs.lines.put_stretch.Kinds as stretch-kinds
 use Rattle.salvage_io.proofs.lines.put_stretch.Reads as stretch

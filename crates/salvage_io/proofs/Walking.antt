@@ -16,7 +16,7 @@ use Rattle.notice.proofs.Each.{false-true}
 use Rattle.notice.proofs.Seen.{few-left, at-end-decided}
 use Rattle.salvaging.specs.declared.steps.Progress.{Progress}
 use Rattle.salvaging.specs.Scan.{moveIn, scanTo}
-use Rattle.salvaging.specs.Steps.{progressOf, Counts, Within, Between, Advances}
+use Rattle.salvaging.specs.inner.Steps.{progressOf, Counts, Within, Between, Advances}
 use Rattle.salvaging.specs.Pours.{tookOne, takenIn, Stands}
 use Rattle.salvaging.proofs.Laying.{part, adds-part, part-few, step-in, part-in}
 use Rattle.salvage_io.specs.Report.{toldTo, saidIn}

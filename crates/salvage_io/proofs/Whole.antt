@@ -10,7 +10,7 @@ use lib.ListN.{length}
 use Rattle.text.proofs.Pages.{stands}
 use Rattle.salvaging.specs.declared.steps.Progress.{Progress}
 use Rattle.salvaging.specs.Scan.{scanTo, scanOf}
-use Rattle.salvaging.specs.Steps.{progressOf}
+use Rattle.salvaging.specs.inner.Steps.{progressOf}
 use Rattle.salvaging.specs.Pours.{Stands}
 use Rattle.salvaging.proofs.Through as through
 use Rattle.salvage_io.specs.declared.blocks.Block.{Block}

@@ -7,7 +7,7 @@ use lib.ListN.{length, take}
 use Rattle.notice.specs.Fields.{longestNotice}
 use Rattle.salvaging.specs.declared.steps.Progress.{Progress}
 use Rattle.salvaging.specs.Scan.{scanTo, scanOf}
-use Rattle.salvaging.specs.Steps.{progressOf, fresh, Counts}
+use Rattle.salvaging.specs.inner.Steps.{progressOf, fresh, Counts}
 use Rattle.salvaging.specs.Pours.{Stands}
 use Rattle.salvage_io.specs.declared.blocks.Block.{Block}
 use Rattle.salvage_io.specs.Lines.{endText}

@@ -8,7 +8,7 @@ use Rattle.text.specs.Digits.{digitsMost, decimal}
 use Rattle.salvaging.specs.declared.scan.Last.{Last}
 use Rattle.salvaging.specs.declared.scan.Last.the-variants.{Nothing, Taken}
 use Rattle.salvaging.specs.declared.steps.Progress.{Progress}
-use Rattle.salvaging.specs.Steps.{isOpen}
+use Rattle.salvaging.specs.inner.Steps.{isOpen}
 
 -- two numbers in decimal among words
 unfoldable pub twoNumbers : List ℕ → ℕ → List ℕ → ℕ → List ℕ → List ℕ

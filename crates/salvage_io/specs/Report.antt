@@ -9,7 +9,7 @@ use Rattle.rules.specs.Refusals.{pick}
 use Rattle.salvaging.specs.declared.scan.Last.{Last}
 use Rattle.salvaging.specs.declared.steps.Progress.{Progress}
 use Rattle.salvaging.specs.Scan.{Stretch, stretch, scanTo, scanOf}
-use Rattle.salvaging.specs.Steps.{progressOf, isOpen}
+use Rattle.salvaging.specs.inner.Steps.{progressOf, isOpen}
 use Rattle.salvaging.specs.Pours.{tookOne}
 use Rattle.salvage_io.specs.Lines.{stretchLine, gapLine, endText}
 

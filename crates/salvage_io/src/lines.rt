@@ -6,7 +6,7 @@ use salvaging::steps::is_open;
 use text::digits::put_number;
 use text::output::put;
 ghost use Rattle.text.specs.Output.{Written};
-ghost use Rattle.salvaging.specs.Steps.{Counts};
+ghost use Rattle.salvaging.specs.inner.Steps.{Counts};
 ghost use Rattle.salvage_io.specs.Lines.{twoNumbers, stretchLine, followsLine, gapLine, totalLine, openLine, endText};
 ghost use Rattle.salvage_io.specs.Report.{saidIn};
 

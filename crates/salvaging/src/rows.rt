@@ -12,7 +12,7 @@ ghost use Prim.Native.Nat.{_+_, _<_, _^_};
 ghost use lib.ListN.{length};
 ghost use Rattle.text.specs.Output.{page, puts};
 ghost use Rattle.salvaging.specs.Scan.{scanOf};
-ghost use Rattle.salvaging.specs.Steps.{Counts, Between, ending};
+ghost use Rattle.salvaging.specs.inner.Steps.{Counts, Between, ending};
 ghost use Rattle.salvaging.specs.Pours.{takenIn, Lays, Pours, Fills};
 
 // The places behind what was written into the area and into the row.

@@ -15,12 +15,12 @@ use Rattle.notice.specs.Log.{noticesOf, stopOf}
 use Rattle.notice.proofs.There.{inside}
 use Rattle.agent.specs.declared.Agent.{Agent}
 use Rattle.agent.specs.declared.PlayedLog.{PlayedLog}
-use Rattle.agent.specs.Steps.{Plays}
+use Rattle.agent.specs.inner.Steps.{Plays}
 use Rattle.agent.proofs.Turns.{Turn}
 use Rattle.unheard.specs.declared.Tally.{Tally}
 use Rattle.unheard.specs.declared.Unheard.{Unheard}
 use Rattle.unheard.specs.Unheard.{noneTold, refusedWith, unheardAnswer, unheardIn}
-use Rattle.unheard.specs.Steps.{counted, heardCount, Room, Small, Hears}
+use Rattle.unheard.specs.inner.Steps.{counted, heardCount, Room, Small, Hears}
 use Rattle.unheard.proofs.Counting.{tally, told-tally}
 
 -- ---- one notice

@@ -17,11 +17,11 @@ use Rattle.notice.specs.Log.{placeTo, withFound, noticesTo}
 use Rattle.notice.proofs.There.{inside}
 use Rattle.agent.specs.declared.PlayedLog.{PlayedLog}
 use Rattle.agent.specs.Turns.{freshAgent}
-use Rattle.agent.specs.Steps.{keptTold}
+use Rattle.agent.specs.inner.Steps.{keptTold}
 use Rattle.agent.proofs.Reading.{PlayedTo}
 use Rattle.unheard.specs.declared.Tally.{Tally}
 use Rattle.unheard.specs.Unheard.{answerTo, missedIn, firstIn, saidIn, tallyIn, noneTold}
-use Rattle.unheard.specs.Steps.{counted, heardCount, Small}
+use Rattle.unheard.specs.inner.Steps.{counted, heardCount, Small}
 
 -- ---- the tally of notices
 

@@ -1,6 +1,6 @@
 -- The call's contract settles what it gives back: two outcomes that it admits are equal. Rests on its equation.
 use mathlib.Core.Path.{sym, _∙_}
-use Rattle.rules.proofs.OneOutcome.{OneOutcome}
+use Rattle.rules.specs.OneOutcome.{OneOutcome}
 use Rattle.unheard.proofs.unheard_in.Kinds as unheard-kinds
 use Rattle.unheard.proofs.unheard_in.Reads as unheard-call
 

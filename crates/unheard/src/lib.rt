@@ -16,9 +16,9 @@ use rules::POOL_MIN;
 use rules::within;
 ghost use mathlib.Core.Path.{_≡_};
 ghost use Rattle.notice.specs.Decode.{readAt};
-ghost use Rattle.agent.specs.Steps.{Steps, Plays};
+ghost use Rattle.agent.specs.inner.Steps.{Steps, Plays};
 ghost use Rattle.unheard.specs.Unheard.{noneTold, refusedWith, unheardIn};
-ghost use Rattle.unheard.specs.Steps.{counted as countedOf, heardCount, Room, Small, Hears};
+ghost use Rattle.unheard.specs.inner.Steps.{counted as countedOf, heardCount, Room, Small, Hears};
 
 // How many notices were told, how many of them did not count, and of the first of those its number, from 1 on, and what it was
 // answered; both are 0 where all count.

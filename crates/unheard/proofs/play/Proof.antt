@@ -2,7 +2,7 @@
 use borrow.Author.Needs.{needs}
 use Rattle.agent.proofs.Reading.{PlayedTo, not-begun, played-on, all-played, left, falls}
 use Rattle.unheard.specs.Unheard.{noneTold}
-use Rattle.unheard.specs.Steps.{heardCount}
+use Rattle.unheard.specs.inner.Steps.{heardCount}
 use Rattle.unheard.proofs.Counting.{small}
 use Rattle.unheard.proofs.play.Statement.{statement}
 use Rattle.unheard.proofs.play.Tie as tie

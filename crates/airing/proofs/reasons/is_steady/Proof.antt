@@ -1,7 +1,7 @@
 -- `airing::reasons::is_steady` meets its contract: the tests in their order.
 use mathlib.Core.Path.{refl}
 use borrow.Author.Tests.{eq-eqb, ne-eqb, lt-ltb, le-ltb}
-use Rattle.airing.specs.Steps.{isSteadyEnding}
+use Rattle.airing.specs.inner.Steps.{isSteadyEnding}
 use borrow.Author.Needs.{needs}
 use Rattle.airing.proofs.reasons.is_steady.Statement.{statement}
 use Rattle.airing.proofs.reasons.is_steady.Tie as tie
