@@ -1,7 +1,7 @@
 -- What counts and what does not are all notices of a log: those that did not count are the ones that are not heard, so the
 -- report over what is heard and the line about what is not tell of the same log.
 -- Rests on the agent following the notices that count (`told-notice`).
-use mathlib.Core.Path.{_≡_, subst}
+use mathlib.Core.Path.{_≡_}
 use mathlib.Core.Bool.{Bool, true, false}
 use mathlib.Core.Logic.{⊎-elim}
 use mathlib.Core.List.{List, [], _∷_, map}
@@ -9,7 +9,7 @@ use Prim.Native.Nat.{ℕ, suc, _+_}
 use native.Mathlib.Omega.{arith}
 use lib.Dec.{eqb}
 use lib.ListN.{length}
-use Rattle.rules.specs.Limits.{both, within, poolMin, poolMax}
+use Rattle.rules.specs.Limits.{both}
 use Rattle.rules.specs.Refusals.{pick, done, outOfTurn}
 use Rattle.rules.proofs.Tests.{decide}
 use Rattle.notice.specs.declared.Notice.{Notice}
@@ -18,7 +18,7 @@ use Rattle.story.specs.Story.{answer}
 use Rattle.story.specs.Runs.{lanesOf}
 use Rattle.agent.specs.Turns.{eventOf}
 use Rattle.agent.specs.Played.{heardOf, ReadAs, none-read, one-read}
-use Rattle.agent.proofs.Played.{same-pool, log-series, told-follows, told-notice}
+use Rattle.agent.proofs.Played.{log-series, told-follows, told-notice}
 use Rattle.unheard.specs.Unheard.{missedIn}
 
 module _ (pool : ℕ) where
@@ -42,10 +42,7 @@ module _ (pool : ℕ) where
       go false m before = omega arith
       go true m before = ⊎-elim (λ x. rw x (omega arith)) (λ x. rw x (omega arith)) (decide (eqb m 0))
 
--- of a log in a pool within its limits
-pub log-counts : (pool : ℕ) (log : List ℕ) → within poolMin poolMax pool ≡ true → Bytes log
-    → missedIn pool (noticesOf log) + length (heardOf pool (noticesOf log)) ≡ length (noticesOf log)
-log-counts pool log fits small =
-    subst (λ (n : ℕ). missedIn pool (noticesOf log) + length (heardOf n (noticesOf log)) ≡ length (noticesOf log))
-    (same-pool pool fits)
-    (heard-or-missed pool _ (noticesOf log) (log-series log small (length log)))
+-- of a log
+pub log-counts : (pool : ℕ) (log : List ℕ) → Bytes log
+    → missedIn pool (noticesOf log) + length (heardOf (lanesOf pool) (noticesOf log)) ≡ length (noticesOf log)
+log-counts pool log small = heard-or-missed pool _ (noticesOf log) (log-series log small (length log))
