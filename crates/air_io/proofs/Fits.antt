@@ -29,11 +29,7 @@ use Rattle.judging.proofs.Plays.{result-missed}
 use Rattle.airing.specs.declared.Judgement.{Judgement}
 use Rattle.airing.specs.Air.{inLimits, hasRoom, isFilmTitle, allCells, airAnswer, judgementOf}
 use Rattle.airing.proofs.Accepted.{accepted-few, accepted-numbers}
-use Rattle.air_io.specs.Lines.{cellText, admissionLine, linesTo, totalLines, airText}
-
--- the bytes of the room
-abbrev roomMost : ℕ
-roomMost = 65_536
+use Rattle.air_io.specs.Lines.{cellText, admissionLine, roomMost, linesTo, totalLines, airText}
 
 -- ---- how long a number of few digits is
 

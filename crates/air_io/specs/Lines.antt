@@ -24,6 +24,10 @@ cellText cell = pick (eqb cell nothingSeen) (text "-") (decimal cell)
 unfoldable pub admissionLine : ℕ → ℕ → List ℕ
 admissionLine tick cell = (lineOf [] tick (text " ") ++ cellText cell) ++ text "\n"
 
+-- the bytes of the room that all of it is written in
+abbrev pub roomMost : ℕ
+roomMost = 65_536
+
 -- the lines of the first n ticks of a record, one for each admission that is judged
 unfoldable pub linesTo : Life → List ℕ → ℕ → List ℕ
 linesTo L r zero = []

@@ -9,10 +9,9 @@ use lib.Seq.{take-at}
 use Rattle.notice.specs.declared.Notice.{Notice}
 use Rattle.notice.specs.declared.Kind.{Kind}
 use Rattle.notice.specs.declared.Kind.the-variants.{Open, Change, Close, Hold, Lift, Skip}
-use Rattle.notice.specs.Fields.{lengthOf}
-use Rattle.notice.specs.Encode.{kindOf, bytesOf, Writes}
-use Rattle.notice.proofs.Bytes.{length-notice}
-use Rattle.notice.proofs.Worked.{open-length, change-length, close-length, hold-length, lift-length, skip-length}
+use Rattle.notice.specs.Fields.{longestNotice}
+use Rattle.notice.specs.Encode.{bytesOf, Writes}
+use Rattle.notice.proofs.Worked.{none-longer}
 use Rattle.console_lines.specs.Commands
 use Rattle.console_lines.specs.declared.lines.Line.{Line}
 use Rattle.console_desk.specs.Acts.{numberIn}
@@ -52,23 +51,11 @@ module _ (l : Line) where
   unfolding noticeIn
   notice-made a b k e f g = rw (e, f, g)
 
--- a notice has at most 45 bytes
-short-kind : (k : Kind) → lengthOf (kindOf k) ≤ 45
-short-kind (Open d a k n) = omega (arith, open-length)
-short-kind (Change n) = omega (arith, change-length)
-short-kind Close = omega (arith, close-length)
-short-kind Hold = omega (arith, hold-length)
-short-kind Lift = omega (arith, lift-length)
-short-kind (Skip d n) = omega (arith, skip-length)
-
-pub short : (n : Notice) → length (bytesOf n) ≤ 45
-short n = rw length-notice (short-kind (n .kind))
-
-module _ (n : Notice) (room room' : List ℕ) (a size : ℕ) (e : Writes n room a room') (big : length room ≡ 64)
+module _ (n : Notice) (room room' : List ℕ) (a size : ℕ) (e : Writes n room a room') (big : length room ≡ longestNotice)
     (f : size ≡ length (bytesOf n)) where
   row : room' ≡ bytesOf n ++ drop (length (bytesOf n)) room
   row =
-      let few : length (bytesOf n) ≤ length room = omega (arith, short n) in
+      let few : length (bytesOf n) ≤ length room = omega (arith, none-longer n) in
       rw (le-ltb _ _ few) at (e .leaves)
 
   -- its bytes stand first

@@ -62,7 +62,7 @@ pub fn notice_of(line: Line) -> Notice
 pub fn put_bytes(out: &mut [u8], at: usize, n: Notice) -> usize
     ensures { λ r. ⌜ Written (now (out .entry)) at (hexText (bytesOf n)) (now (out .exit)) r ⌝ }
 {
-    let mut room = [0u8; 64];
+    let mut room = [0u8; notice::LONGEST];
     notice::write(n, &mut room);
     let size = notice::size(n);
     digits::put_hex(out, at, &room[..size])

@@ -9,6 +9,7 @@ use borrow.Author.Tests.{le-ltb}
 use lib.ListN.{length, take, drop}
 use lib.Seq.{length-take-le, take-append-seam}
 use Rattle.notice.specs.declared.Notice.{Notice}
+use Rattle.notice.specs.Fields.{table, startOf, spanOf}
 use Rattle.notice.specs.Encode.{bytesOf, Writes}
 use Rattle.notice.specs.Decode.{readOf}
 use Rattle.notice.proofs.Held.{held}
@@ -25,13 +26,10 @@ first n room after enough w =
     rw whole (take-append-seam (bytesOf n) (drop (length (bytesOf n)) room))
 
 -- any notice fits the room of the longest
-fits : (n : Notice) → length (bytesOf n) ≤ 45
-fits n = omega (arith, none-longer n, open-length)
-
 enough : (c : tie.After-room2) → c .before .before .before .size .result ≤ length (c .before .write .last .1 .0)
 enough c =
     let sized = c .before .before .before in
-    omega (arith, sized .size .ensures, c .before .write .kept .1 .0, fits (sized .before .args .n))
+    omega (arith, sized .size .ensures, c .before .write .kept .1 .0, none-longer (sized .before .args .n), open-length)
 
 size-requires : tie.Need-size-requires
 size-requires c κs = search needs
@@ -52,12 +50,13 @@ read-requires : tie.Need-read-requires
 read-requires c κs = search needs
 
 returns : tie.Need-returns
+unfolding table startOf spanOf
 returns c =
     let wrote = c .before .before .before in
     let sized = wrote .before .before in
     let s = sized .before in
     let n = s .args .n in
-    let part = first n _ (wrote .write .last .1 .0) (fits n) (wrote .write .ensures) in
+    let part = first n _ (wrote .write .last .1 .0) (none-longer n) (wrote .write .ensures) in
     c .read .ensures .is
     ∙ (ap readOf (rw (sized .size .ensures) part) ∙ written-reads n (held n _ (s .good .0)))
 
