@@ -1,5 +1,5 @@
--- How the code fills an area and a row, window by window. The call's contract cites nothing of this; of a program that reads in
--- blocks it says what each block adds.
+-- How the code fills an area and a row over a window. The call's contract cites nothing of this; what a step takes, and how a window
+-- stands in a log, are words of the program that reads in blocks too.
 use Prim.Native.Nat.{ℕ, _+_, _-_, _≤_, _<_}
 use mathlib.Core.Path.{_≡_}
 use mathlib.Core.Bool.{Bool, true}

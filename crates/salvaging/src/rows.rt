@@ -16,15 +16,15 @@ ghost use Rattle.salvaging.specs.inner.Steps.{Counts, Between, ending};
 ghost use Rattle.salvaging.specs.Pours.{takenIn, Lays, Pours, Fills};
 
 // The places behind what was written into the area and into the row.
-pub struct Laid {
-    pub at: usize,
-    pub cells: usize,
+struct Laid {
+    at: usize,
+    cells: usize,
 }
 
 // How far a window was scanned, and what that left in the area and the row.
-pub struct Poured {
-    pub progress: Progress,
-    pub to: Laid,
+struct Poured {
+    progress: Progress,
+    to: Laid,
 }
 
 // The stretch that ends at the place, if one does.
@@ -85,7 +85,7 @@ fn lay(
 
 // All that a window decides, from the place on at which it begins: the notices that are taken go to the start of an area, the
 // stretches that end to the start of a row.
-pub fn pour(window: &[u8], over: bool, p: Progress, area: &mut [u8], row: &mut [u64]) -> Poured
+fn pour(window: &[u8], over: bool, p: Progress, area: &mut [u8], row: &mut [u64]) -> Poured
     requires { ⌜ Counts p × (p .place + length (now window) < 2 ^ 64) ⌝ }
     ensures { λ r. ⌜ Pours (now (window .entry)) over p r (now (area .entry)) (now (row .entry))
         (now (area .exit)) (now (row .exit)) ⌝ }
