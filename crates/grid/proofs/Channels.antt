@@ -12,16 +12,12 @@ use lib.Dec.{ltb, eqb}
 use lib.Pow.{pow-pos, pow-mono}
 use borrow.Author.Tests.{ltb-true, ltb-false, eqb-true, eqb-false}
 use Rattle.rules.proofs.Tests.{decide}
-use Rattle.rules.specs.Refusals.{pick}
 use Rattle.grid.specs.Ticks.{slot, cellOf}
 use Rattle.grid.specs.Channels.{floorRem, shift, segment, channelCell}
 use Rattle.grid.specs.Bounds.{IsCell}
+unfoldable pub use Rattle.grid.specs.Lifted.{lifted, nextSlot, raised}
 use Rattle.grid.proofs.Ticks.{slot-pos, slot-half, half-cells, all-cells}
 use Rattle.grid.proofs.Numbers.{mod-unique, mod-same, pow-part, top-unique, ne-zero-pos}
-
--- slot j of count k, one later and moved from the shift up to 2^k
-unfoldable pub lifted : ℕ → ℕ → ℕ → ℕ
-lifted A k j = j + 1 + (2 ^ k - 2 ^ (k - A))
 
 -- ---- one natural for the shifted grid
 
@@ -93,14 +89,6 @@ module _ (P X b Y : ℕ) (p : 0 < P) (bit : b < 2) (e : Y + 1 ≡ 2 * X + b) whe
       let g : Y % (2 * P) ≡ 2 * (X % P) + b - 1 = mod-unique (2 * P) (2 * (X % P) + b - 1) Y 0 (X / P) (omega arith) (omega arith) in
       omega arith
 
--- the lifted slot of count k + 1, one more: its factors of two say which channel is added
-unfoldable pub turn : ℕ → ℕ → ℕ → ℕ → ℕ
-turn A K k t = lifted A (suc k) (t / slot K (suc k)) + 1
-
--- channel d of count k, seen under count k + 1
-unfoldable pub raised : ℕ → ℕ → ℕ → ℕ → ℕ → ℕ
-raised A K k t d = pick (eqb (turn A K k t % 2 ^ suc d) 0) d (suc d)
-
 module _ (A K k t : ℕ) (low : A ≤ k) (high : k < K) where
   -- a cell of count k, by slots of count k + 1
   cell-halved : (d : ℕ) → d ≤ k →
@@ -112,8 +100,8 @@ module _ (A K k t : ℕ) (low : A ≤ k) (high : k < K) where
       let r : t % slot K k ≡ (t / w % 2) * w + t % w = ap (λ n. t % n) (slot-half K k high) ∙ mod-mul t (omega arith) (slot-pos K (suc k)) in
       cell-lifted A K k d t l ∙ rw (q, r, slot-half K k high) (omega arith)
 
-  raise-same : (d : ℕ) → d < k → turn A K k t % 2 ^ suc d ≡ 0 → channelCell A K k d t ≡ channelCell A K (suc k) d t
-  unfolding turn
+  raise-same : (d : ℕ) → d < k → nextSlot A K k t % 2 ^ suc d ≡ 0 → channelCell A K k d t ≡ channelCell A K (suc k) d t
+  unfolding nextSlot
   raise-same d l z =
       let j : ℕ = t / slot K (suc k) in
       cell-halved d (omega arith)
@@ -121,9 +109,9 @@ module _ (A K k t : ℕ) (low : A ≤ k) (high : k < K) where
       (same-place (2 ^ d) (lifted A k (j / 2)) (j % 2) (lifted A (suc k) j) (pow-pos d) (omega arith) (lifted-half A k j low) (rw (← pow-succ' 2 d) z))
       ∙ sym (cell-lifted A K (suc k) d t (omega arith))
 
-  raise-next : (d : ℕ) → d < k → 0 < turn A K k t % 2 ^ suc d →
+  raise-next : (d : ℕ) → d < k → 0 < nextSlot A K k t % 2 ^ suc d →
       channelCell A K k d t ≡ channelCell A K (suc k) (suc d) t
-  unfolding turn
+  unfolding nextSlot
   raise-next d l z =
       let j : ℕ = t / slot K (suc k) in
       cell-halved d (omega arith)
@@ -136,9 +124,9 @@ module _ (A K k t : ℕ) (low : A ≤ k) (high : k < K) where
   pub raise : (d : ℕ) → d < k → channelCell A K k d t ≡ channelCell A K (suc k) (raised A K k t d) t
   unfolding raised
   raise d l =
-      ⊎-elim (λ h. rw h (raise-same d l (eqb-true (turn A K k t % 2 ^ suc d) 0 h)))
-      (λ h. rw h (raise-next d l (ne-zero-pos (turn A K k t % 2 ^ suc d) (eqb-false (turn A K k t % 2 ^ suc d) 0 h))))
-      (decide (eqb (turn A K k t % 2 ^ suc d) 0))
+      ⊎-elim (λ h. rw h (raise-same d l (eqb-true (nextSlot A K k t % 2 ^ suc d) 0 h)))
+      (λ h. rw h (raise-next d l (ne-zero-pos (nextSlot A K k t % 2 ^ suc d) (eqb-false (nextSlot A K k t % 2 ^ suc d) 0 h))))
+      (decide (eqb (nextSlot A K k t % 2 ^ suc d) 0))
 
 -- ---- apart, in a period, within the film
 

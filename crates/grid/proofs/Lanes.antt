@@ -15,7 +15,7 @@ use Rattle.rules.proofs.Search.{some-in, some-out, first-le, first-before, firs
 use Rattle.grid.specs.Channels.{channelCell, InG}
 use Rattle.grid.specs.Lanes.{isInG, isAdded, addedChannel, laneCell}
 use Rattle.grid.proofs.Numbers.{divides-lower}
-use Rattle.grid.proofs.Channels.{turn, raised, raise, channel-period}
+use Rattle.grid.proofs.Channels.{nextSlot, raised, raise, channel-period}
 pub use Rattle.grid.proofs.Channels.{distinct}
 
 -- ---- the set as a test
@@ -34,11 +34,11 @@ isInG-out A K k t c h =
 pub raised-lt : (A K k t d : ℕ) → d < k → raised A K k t d < suc k
 unfolding raised
 raised-lt A K k t d l =
-    elim (eqb (turn A K k t % 2 ^ suc d) 0) as (λ b. pick b d (suc d) < suc k) [ true ↦ omega arith | false ↦ omega arith ]
+    elim (eqb (nextSlot A K k t % 2 ^ suc d) 0) as (λ b. pick b d (suc d) < suc k) [ true ↦ omega arith | false ↦ omega arith ]
 
--- the test by which the channel that is added is found: the first power of two that does not divide the turn
+-- the test by which the channel that is added is found: the first power of two that does not divide the nextSlot
 abbrev odd : ℕ → ℕ → ℕ → ℕ → ℕ → Bool
-odd A K k t d = not (eqb (turn A K k t % 2 ^ suc d) 0)
+odd A K k t d = not (eqb (nextSlot A K k t % 2 ^ suc d) 0)
 
 -- the channel of count k + 1 that is none of count k's
 unfoldable pub spare : ℕ → ℕ → ℕ → ℕ → ℕ
@@ -51,17 +51,17 @@ module _ (A K k t : ℕ) where
 
   raised-below : (d : ℕ) → d < spare A K k t → raised A K k t d ≡ d
   unfolding raised spare
-  raised-below d l = pick-true (eqb (turn A K k t % 2 ^ suc d) 0) d (suc d) (not-false (eqb (turn A K k t % 2 ^ suc d) 0) (first-before (odd A K k t) k d l))
+  raised-below d l = pick-true (eqb (nextSlot A K k t % 2 ^ suc d) 0) d (suc d) (not-false (eqb (nextSlot A K k t % 2 ^ suc d) 0) (first-before (odd A K k t) k d l))
 
   raised-above : (d : ℕ) → spare A K k t ≤ d → d < k → raised A K k t d ≡ suc d
   unfolding raised spare
   raised-above d a l =
-      pick-false (eqb (turn A K k t % 2 ^ suc d) 0) d (suc d)
-      (ne-eqb (turn A K k t % 2 ^ suc d) 0
+      pick-false (eqb (nextSlot A K k t % 2 ^ suc d) 0) d (suc d)
+      (ne-eqb (nextSlot A K k t % 2 ^ suc d) 0
       (λ z. let s : ℕ = first (odd A K k t) k in
-      eqb-false (turn A K k t % 2 ^ suc s) 0
-      (not-true (eqb (turn A K k t % 2 ^ suc s) 0) (first-hit (odd A K k t) k (omega arith)))
-      (divides-lower (suc s) (suc d) (turn A K k t) (omega arith) z)))
+      eqb-false (nextSlot A K k t % 2 ^ suc s) 0
+      (not-true (eqb (nextSlot A K k t % 2 ^ suc s) 0) (first-hit (odd A K k t) k (omega arith)))
+      (divides-lower (suc s) (suc d) (nextSlot A K k t) (omega arith) z)))
 
   not-raised : (d : ℕ) → d < k → raised A K k t d ≡ spare A K k t → ⊥
   not-raised d l e =

@@ -18,8 +18,9 @@ use Rattle.grid.specs.Ticks.{slot}
 use Rattle.grid.specs.Channels.{shift}
 use Rattle.grid.specs.Lanes.{addedChannel}
 use Rattle.grid.specs.Bounds.{IsChannel}
+use Rattle.grid.specs.Lifted.{shiftedSum}
 use Rattle.grid.proofs.Numbers.{mod-unique, mod-same, divides-lower, pow-part}
-use Rattle.grid.proofs.Channels.{lifted, turn}
+use Rattle.grid.proofs.Channels.{lifted, nextSlot}
 use Rattle.grid.proofs.Lanes.{spare, added-spare}
 
 -- ---- low zeros, and what the language counts
@@ -153,62 +154,58 @@ opposite P x y r p e h =
 
 -- ---- the channel that is added
 
--- the slot number of count l + 1, shifted as in 01, plus one, as far from zero as it lies
-abbrev pub sum : ℕ → ℕ → ℕ → ℕ → ℕ
-sum A K l t = (t / slot K (suc l) + 1 - shift A (suc l)) + (shift A (suc l) - (t / slot K (suc l) + 1))
-
 module _ (A K l t : ℕ) where
-  -- the turn is that sum, or what it lacks to 2^(l + 1)
-  turn-above : shift A (suc l) ≤ t / slot K (suc l) + 1 → turn A K l t ≡ sum A K l t + 2 ^ suc l
-  unfolding turn lifted shift
+  -- the nextSlot is that sum, or what it lacks to 2^(l + 1)
+  turn-above : shift A (suc l) ≤ t / slot K (suc l) + 1 → nextSlot A K l t ≡ shiftedSum A K l t + 2 ^ suc l
+  unfolding nextSlot lifted shift
   turn-above h =
       let p : 2 ^ (suc l - A) ≤ 2 ^ suc l = pow-mono (omega arith) in
       let o : 0 < 2 ^ (suc l - A) = pow-pos (suc l - A) in
       omega arith
 
-  turn-below : t / slot K (suc l) + 1 < shift A (suc l) → sum A K l t + turn A K l t ≡ 2 ^ suc l
-  unfolding turn lifted shift
+  turn-below : t / slot K (suc l) + 1 < shift A (suc l) → shiftedSum A K l t + nextSlot A K l t ≡ 2 ^ suc l
+  unfolding nextSlot lifted shift
   turn-below h =
       let p : 2 ^ (suc l - A) ≤ 2 ^ suc l = pow-mono (omega arith) in
       let o : 0 < 2 ^ (suc l - A) = pow-pos (suc l - A) in
       omega arith
 
-  turn-zeros : LowZeros l (turn A K l t) (trailingZeros l (sum A K l t))
+  turn-zeros : LowZeros l (nextSlot A K l t) (trailingZeros l (shiftedSum A K l t))
   turn-zeros = ⊎-elim below above (decide (ltb (t / slot K (suc l) + 1) (shift A (suc l))))
     where
       below : ltb (t / slot K (suc l) + 1) (shift A (suc l)) ≡ true
-          → LowZeros l (turn A K l t) (trailingZeros l (sum A K l t))
+          → LowZeros l (nextSlot A K l t) (trailingZeros l (shiftedSum A K l t))
       below b =
           let e = turn-below (ltb-true (t / slot K (suc l) + 1) (shift A (suc l)) b) in
-          zeros-alike l (sum A K l t) (turn A K l t) (trailingZeros l (sum A K l t))
-          (λ i h. opposite (2 ^ i) (sum A K l t) (turn A K l t) (2 ^ (suc l - i)) (pow-pos i)
+          zeros-alike l (shiftedSum A K l t) (nextSlot A K l t) (trailingZeros l (shiftedSum A K l t))
+          (λ i h. opposite (2 ^ i) (shiftedSum A K l t) (nextSlot A K l t) (2 ^ (suc l - i)) (pow-pos i)
           (e ∙ pow-part i (suc l) (omega arith)))
           (λ i h.
-          opposite (2 ^ i) (turn A K l t) (sum A K l t) (2 ^ (suc l - i)) (pow-pos i)
+          opposite (2 ^ i) (nextSlot A K l t) (shiftedSum A K l t) (2 ^ (suc l - i)) (pow-pos i)
           (omega (arith, e, pow-part i (suc l) (omega arith))))
-          (zeros-are l (sum A K l t))
+          (zeros-are l (shiftedSum A K l t))
 
       above : ltb (t / slot K (suc l) + 1) (shift A (suc l)) ≡ false
-          → LowZeros l (turn A K l t) (trailingZeros l (sum A K l t))
+          → LowZeros l (nextSlot A K l t) (trailingZeros l (shiftedSum A K l t))
       above b =
           let e = turn-above (ltb-false (t / slot K (suc l) + 1) (shift A (suc l)) b) in
-          let same : (i : ℕ) → i ≤ l → turn A K l t % 2 ^ i ≡ sum A K l t % 2 ^ i =
-          λ i h. mod-same (2 ^ i) (sum A K l t) (turn A K l t) 0 (2 ^ (suc l - i))
+          let same : (i : ℕ) → i ≤ l → nextSlot A K l t % 2 ^ i ≡ shiftedSum A K l t % 2 ^ i =
+          λ i h. mod-same (2 ^ i) (shiftedSum A K l t) (nextSlot A K l t) 0 (2 ^ (suc l - i))
           (omega (arith, e, pow-part i (suc l) (omega arith))) in
-          zeros-alike l (sum A K l t) (turn A K l t) (trailingZeros l (sum A K l t)) (λ i h z. same i h ∙ z)
+          zeros-alike l (shiftedSum A K l t) (nextSlot A K l t) (trailingZeros l (shiftedSum A K l t)) (λ i h z. same i h ∙ z)
           (λ i h z. sym (same i h) ∙ z)
-          (zeros-are l (sum A K l t))
+          (zeros-are l (shiftedSum A K l t))
 
   -- its low zeros, at most l, are the number of the channel whose cell is new
-  pub zeros-added : A ≤ l → l < K → trailingZeros l (sum A K l t) ≡ addedChannel A K l t
+  pub zeros-added : A ≤ l → l < K → trailingZeros l (shiftedSum A K l t) ≡ addedChannel A K l t
   unfolding spare
   zeros-added low high =
-      sym (added-spare A K l t low high ∙ zeros-first l (turn A K l t) (trailingZeros l (sum A K l t)) turn-zeros)
+      sym (added-spare A K l t low high ∙ zeros-first l (nextSlot A K l t) (trailingZeros l (shiftedSum A K l t)) turn-zeros)
 
 -- and the channel, from the parts by which code computes it
 pub parts-added : (A K l t w s m r : ℕ) → A ≤ l → l < K → w ≡ slot K (l + 1) → s ≡ shift A (l + 1)
     → m ≡ (t / w + 1 - s) + (s - (t / w + 1)) → r ≡ trailingZeros l m → IsChannel (suc l) (addedChannel A K l t) r
 parts-added A K l t w s m r low high e f g h =
-    let q : m ≡ sum A K l t = g ∙ rw (e, f, add-one l) refl in
-    let z : r ≡ trailingZeros l (sum A K l t) = h ∙ ap (trailingZeros l) q in
-    record { is = z ∙ zeros-added A K l t low high; within = omega (arith, z, trailing-le l (sum A K l t)) }
+    let q : m ≡ shiftedSum A K l t = g ∙ rw (e, f, add-one l) refl in
+    let z : r ≡ trailingZeros l (shiftedSum A K l t) = h ∙ ap (trailingZeros l) q in
+    record { is = z ∙ zeros-added A K l t low high; within = omega (arith, z, trailing-le l (shiftedSum A K l t)) }

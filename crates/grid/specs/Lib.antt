@@ -2,4 +2,5 @@
 pub mod Ticks
 pub mod Channels
 pub mod Lanes
+pub mod Lifted
 pub mod Bounds

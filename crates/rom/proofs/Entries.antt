@@ -9,7 +9,6 @@ use native.Mathlib.Omega.{arith}
 use lib.Arith.{digits-div, digits-mod}
 use lib.ListN.{length, getD}
 use borrow.Author.Tests.{eqb-true}
-use Rattle.rules.specs.Limits.{both}
 use Rattle.rules.proofs.Tests.{both-l, both-r}
 use Rattle.grid.specs.Bounds.{IsCell}
 use Rattle.grid.specs.Lanes.{laneCell}

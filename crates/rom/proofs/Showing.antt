@@ -7,8 +7,7 @@ use Prim.Native.Nat.{ℕ, _+_, _-_, _^_, _≤_, _<_}
 use native.Mathlib.Omega.{arith}
 use lib.Dec.{ltb, eqb}
 use borrow.Author.Tests.{ltb-true, ltb-false, lt-ltb, eqb-true, eq-eqb}
-use Rattle.rules.specs.Refusals.{pick}
-use Rattle.rules.specs.Search.{some, first}
+use Rattle.rules.specs.Search.{first}
 use Rattle.rules.proofs.Tests.{decide, fails}
 use Rattle.rules.proofs.Search.{some-in, some-out, first-hit, first-least}
 use Rattle.grid.specs.Ticks.{slot}

@@ -25,8 +25,8 @@ use Rattle.story.specs.Story.{Quiet, nothing-new, elsewhere, none-tunes,
 use Rattle.story.specs.Runs.{stateAfter, Reached}
 use Rattle.story.proofs.Reached.{accepted-is, reached}
 use Rattle.story.proofs.Retuned.{far-apart}
-use Rattle.story.proofs.Sooner.{formerlyOwed, formerlyOwes, formerlyHeld, formerlyHeldIn, formerlyHeldOver}
-use Rattle.story.proofs.Sooner.{formerAnswerTo, formerAnswer}
+use Rattle.story.specs.Formerly.{formerlyOwed, formerlyOwes, formerlyHeld, formerlyHeldIn, formerlyHeldOver}
+use Rattle.story.specs.Formerly.{formerlyAnswerTo, formerlyAnswer}
 use Rattle.story.proofs.Demands.{exactly, throughout, held-exactly, held-throughout}
 
 -- newest first; the change to 2 at 2 comes half a floor slot after the opening
@@ -229,8 +229,8 @@ passes-now : answer 4 released (event 1 6 (opens paddedKind 12 2 4 2)) ≡ done
 unfolding answerTo firstHit lifeOf latestOf tunedOf heldOver heldIn tickIn total howMany isHeld onAir isActive droppedAt after sends nthOwed isNth owedWithin isOwed isAwaited isAdmission reach some first takes takesFrom schemeOf laneCell addedChannel isAdded isInG channelCell segment shift floorRem cellOf slot starts tickFor tickOf filmIn roundedUp
 passes-now = refl
 
-got-nine : formerAnswer 4 released (event 1 6 (opens paddedKind 12 2 4 2)) ≡ noLanes
-unfolding formerAnswerTo formerlyHeldOver formerlyHeldIn formerlyHeld formerlyOwes formerlyOwed firstHit lifeOf latestOf tunedOf heldOver heldIn tickIn total howMany isHeld onAir isActive droppedAt after sends nthOwed isNth owedWithin isOwed isAwaited isAdmission reach some first takes takesFrom schemeOf laneCell addedChannel isAdded isInG channelCell segment shift floorRem cellOf slot starts tickFor tickOf filmIn roundedUp
+got-nine : formerlyAnswer 4 released (event 1 6 (opens paddedKind 12 2 4 2)) ≡ noLanes
+unfolding formerlyAnswerTo formerlyHeldOver formerlyHeldIn formerlyHeld formerlyOwes formerlyOwed firstHit lifeOf latestOf tunedOf heldOver heldIn tickIn total howMany isHeld onAir isActive droppedAt after sends nthOwed isNth owedWithin isOwed isAwaited isAdmission reach some first takes takesFrom schemeOf laneCell addedChannel isAdded isInG channelCell segment shift floorRem cellOf slot starts tickFor tickOf filmIn roundedUp
 got-nine = refl
 
 -- the doors are held at 7, and the count goes from 4 to 3 at 8, before the close at 12: no box of count 3 ever began, and lane 1

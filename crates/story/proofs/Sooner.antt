@@ -15,65 +15,21 @@ use Rattle.rules.specs.Refusals.{firstHit, outsideLimits, tooEarly, idTaken, is
 use Rattle.rules.specs.Refusals.{isSteady, aboveCap, unchanged}
 use Rattle.rules.specs.Refusals.{doorsUnchanged, secondEvent, tooSoon}
 use Rattle.rules.specs.Refusals.{notAtSlot, noLanes}
-use Rattle.rules.specs.Search.{howMany, total}
+use Rattle.rules.specs.Search.{howMany}
 use Rattle.rules.proofs.Tests.{decide, either-l, either-r, either-false, either-false-l, either-false-r}
 use Rattle.rules.proofs.Search
 use Rattle.rules.proofs.Refusals.{hitsOf, numbered, cleared}
 use Rattle.grid.proofs.Numbers.{ne-zero-pos}
-use Rattle.story.specs.Life.{Life, usualCell, isActive, droppedAt, isAwaited, isOwed, reach, owedWithin, owes}
+use Rattle.story.specs.Life.{Life, isActive, droppedAt, isOwed, reach, owedWithin, owes}
 use Rattle.story.specs.Life.{isHeld}
-use Rattle.story.specs.Orders.{Tests}
 use Rattle.story.specs.Story.{Act, opens, changes, closes, doors, Event, tickIn, lifeOf, countIn, isHeldIn}
 use Rattle.story.specs.Story.{heldIn}
 use Rattle.story.specs.Story.{heldOver}
-use Rattle.story.specs.Story.{isThereIn, testsTo, orderOf, answerTo, answer}
+use Rattle.story.specs.Story.{isThereIn, orderOf, answerTo, answer}
+use Rattle.story.specs.Formerly.{formerlyOwed, formerlyOwes, formerlyHeld, formerlyHeldIn, formerlyHeldOver, formerlyTests}
+use Rattle.story.specs.Formerly.{formerlyAnswerTo, formerlyAnswer}
 use Rattle.story.proofs.Owed.{owed-out}
 use Rattle.story.proofs.Held.{held-sending}
-
--- the rule before: a tick was owed whether or not its cell holds film
-unfoldable pub formerlyOwed : Life → ℕ → ℕ → ℕ → Bool
-formerlyOwed L l T t = isAwaited L T (usualCell L l t) t
-
-unfoldable pub formerlyOwes : Life → ℕ → ℕ → ℕ
-formerlyOwes L l T = howMany (λ o. formerlyOwed L l T (T + o)) (reach (L .cap))
-
--- a lane was held while it was active, and from its drop on for as many ticks as it owed cells
-unfoldable pub formerlyHeld : Life → ℕ → ℕ → Bool
-formerlyHeld L l t = either (isActive L l t) (ltb (t - droppedAt L l t) (formerlyOwes L l (droppedAt L l t)))
-
--- the lanes of a title that were held at a moment, and those over all titles
-unfoldable pub formerlyHeldIn : Life → ℕ → ℕ
-formerlyHeldIn L τ = howMany (λ l. formerlyHeld L l (tickIn L τ)) (L .cap)
-
-unfoldable pub formerlyHeldOver : List Event → ℕ → ℕ
-formerlyHeldOver es τ = total (λ i. formerlyHeldIn (lifeOf es i) τ) titlesMax
-
--- what an event was answered after the accepted events es: two of the tests asked for lanes held
-abbrev pub formerTests : ℕ → List Event → Event → Life → Act → Tests
-formerTests pool es e L a =
-    let now : Tests = testsTo pool es e L a in
-    record {
-      outside = now .outside;
-      early = now .early;
-      there = either (ltb 0 (countIn L (e .time))) (ltb 0 (formerlyHeldIn L (e .time)));
-      closing = now .closing;
-      steady = now .steady;
-      crossed = now .crossed;
-      below = now .below;
-      above = now .above;
-      same = now .same;
-      sameDoors = now .sameDoors;
-      second = now .second;
-      soon = now .soon;
-      off = now .off;
-      full = ltb pool (formerlyHeldOver (e ∷ es) (e .time));
-    }
-
-unfoldable pub formerAnswerTo : ℕ → List Event → Event → Life → Act → ℕ
-formerAnswerTo pool es e L a = firstHit (orderOf a (formerTests pool es e L a))
-
-abbrev pub formerAnswer : ℕ → List Event → Event → ℕ
-formerAnswer pool es e = formerAnswerTo pool es e (lifeOf es (e .title)) (e .act)
 
 module _ (L : Life) (l : ℕ) where
   -- what is owed was owed, so a dropped lane owes no more than it did
@@ -144,15 +100,15 @@ open-there L τ h =
     (lt-ltb 0 (countIn L τ) (ne-zero-pos (countIn L τ) (eqb-false (countIn L τ) 0 h)))
 
 module _ (pool : ℕ) (es : List Event) (e : Event) (L : Life) where
-  clears : (a : Act) → formerAnswerTo pool es e L a ≡ 0 → (n : ℕ) →
-      hitsOf n (orderOf a (formerTests pool es e L a)) ≡ false
-  unfolding formerAnswerTo numbered
-  clears (opens m D A K k) h = cleared (orderOf (opens m D A K k) (formerTests pool es e L (opens m D A K k))) refl h
-  clears (changes k) h = cleared (orderOf (changes k) (formerTests pool es e L (changes k))) refl h
-  clears closes h = cleared (orderOf closes (formerTests pool es e L closes)) refl h
-  clears (doors b) h = cleared (orderOf (doors b) (formerTests pool es e L (doors b))) refl h
+  clears : (a : Act) → formerlyAnswerTo pool es e L a ≡ 0 → (n : ℕ) →
+      hitsOf n (orderOf a (formerlyTests pool es e L a)) ≡ false
+  unfolding formerlyAnswerTo numbered
+  clears (opens m D A K k) h = cleared (orderOf (opens m D A K k) (formerlyTests pool es e L (opens m D A K k))) refl h
+  clears (changes k) h = cleared (orderOf (changes k) (formerlyTests pool es e L (changes k))) refl h
+  clears closes h = cleared (orderOf closes (formerlyTests pool es e L closes)) refl h
+  clears (doors b) h = cleared (orderOf (doors b) (formerlyTests pool es e L (doors b))) refl h
 
-  still : (a : Act) → formerAnswerTo pool es e L a ≡ 0 → answerTo pool es e L a ≡ 0
+  still : (a : Act) → formerlyAnswerTo pool es e L a ≡ 0 → answerTo pool es e L a ≡ 0
   unfolding answerTo firstHit hitsOf
   still (opens m D A K k) h =
       let clear = clears (opens m D A K k) h in
@@ -209,5 +165,5 @@ module _ (pool : ℕ) (es : List Event) (e : Event) (L : Life) where
       refl
 
 -- an event that was accepted after the accepted events es is accepted after them now
-pub accepted-still : (pool : ℕ) (es : List Event) (e : Event) → formerAnswer pool es e ≡ 0 → answer pool es e ≡ 0
+pub accepted-still : (pool : ℕ) (es : List Event) (e : Event) → formerlyAnswer pool es e ≡ 0 → answer pool es e ≡ 0
 accepted-still pool es e = still pool es e (lifeOf es (e .title)) (e .act)

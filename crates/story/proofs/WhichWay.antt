@@ -2,11 +2,11 @@
 -- test, answer what today's answer but for those numbers, so the same calls are accepted and leave the same states.
 -- Rests on the laws of former answers.
 use mathlib.Core.Path.{_≡_, refl, sym, ap, _∙_}
-use mathlib.Core.Bool.{Bool, false, not}
+use mathlib.Core.Bool.{Bool}
 use mathlib.Core.List.{List, [], _∷_}
 use Prim.Native.Nat.{ℕ}
 use lib.Dec.{ltb, eqb}
-use Rattle.rules.specs.Limits.{either, within}
+use Rattle.rules.specs.Limits.{either}
 use Rattle.rules.specs.Refusals.{pick, Rule, refuse, firstHit, done, outsideLimits, tooEarly, notThere, idTaken}
 use Rattle.rules.specs.Refusals.{isClosing, isSteady, secondEvent, tooSoon, notAtSlot, noLanes}
 use Rattle.rules.proofs.Refusals.{hit-same}
@@ -16,55 +16,9 @@ use Rattle.story.specs.Orders.{Tests, openOrder, changeOrder, closeOrder
 use Rattle.story.specs.Story.{Act, opens, changes, closes, doors, Event}
 use Rattle.story.specs.Kept.{titleAt}
 use Rattle.story.specs.Next.{callNext}
-use Rattle.story.specs.Calls.{testsIn, callAnswer, freshNext}
+use Rattle.story.specs.Calls.{testsIn, callAnswer}
 use Rattle.story.specs.Runs.{called, stateAfter}
-
--- 6 as it was: count outside floor..cap, floor above cap, or count unchanged
-abbrev pub wrongCount : ℕ
-wrongCount = 6
-
-abbrev pub countWrong : Act → ℕ → ℕ → ℕ → Bool
-countWrong (opens m D A K k) _ _ _ = either (ltb K A) (not (within A K k))
-countWrong (changes n) A K k = either (not (within A K n)) (eqb n k)
-countWrong closes A K k = false
-countWrong (doors b) A K k = false
-
--- the orders as they stood, 1 2 4 6 9 and 1 2 3 5 6 7 8 9, of a count that is wrong or not; 16 and 19, which came later,
--- have their places
-abbrev pub formerOpen : Tests → Bool → List Rule
-formerOpen t wrong =
-    refuse outsideLimits (t .outside)
-    ∷ refuse tooEarly (t .early)
-    ∷ refuse idTaken (t .there)
-    ∷ refuse wrongCount wrong
-    ∷ refuse noLanes (t .full)
-    ∷ []
-
-abbrev pub formerChange : Tests → Bool → List Rule
-formerChange t wrong =
-    refuse outsideLimits (t .outside)
-    ∷ refuse tooEarly (t .early)
-    ∷ refuse notThere (not (t .there))
-    ∷ refuse isClosing (t .closing)
-    ∷ refuse isSteady (t .steady)
-    ∷ refuse wrongCount wrong
-    ∷ refuse secondEvent (t .second)
-    ∷ refuse tooSoon (t .soon)
-    ∷ refuse notAtSlot (t .off)
-    ∷ refuse noLanes (t .full)
-    ∷ []
-
-abbrev pub formerOrder : Act → Tests → Bool → List Rule
-formerOrder (opens m D A K k) = formerOpen
-formerOrder (changes k) = formerChange
-formerOrder closes = λ t wrong. closeOrder t
-formerOrder (doors b) = λ t wrong. doorsOrder t
-
--- what a call answered
-unfoldable pub formerAnswer : State → ℕ → ℕ → Act → ℕ
-formerAnswer s i τ a =
-    firstHit
-    (formerOrder a (testsIn s i τ a) (countWrong a (titleAt s i .floor) (titleAt s i .cap) (titleAt s i .count)))
+use Rattle.story.specs.Former.{wrongCount, formerOpen, formerChange, formerAnswer, formerCalled, formerState}
 
 -- no other place of an order moved
 open-place : (t : Tests) (wrong : Bool) → wrong ≡ either (t .crossed) (either (t .below) (t .above))
@@ -118,14 +72,6 @@ pub same-calls : (s : State) (i τ : ℕ) (a : Act) → eqb (formerAnswer s i τ
 same-calls s i τ a = sym (ap (λ n. eqb n done) (same-place s i τ a)) ∙ formerly-done (callAnswer s i τ a)
 
 -- and leaves the same state, call by call and over any run
-abbrev pub formerCalled : State → Event → State
-formerCalled s e =
-    pick (eqb (formerAnswer s (e .title) (e .time) (e .act)) done) (callNext s (e .title) (e .time) (e .act)) s
-
-unfoldable pub formerState : ℕ → List Event → State
-formerState pool [] = freshNext pool
-formerState pool (c ∷ cs) = formerCalled (formerState pool cs) c
-
 pub same-outcome : (s : State) (e : Event) → formerCalled s e ≡ called s e
 same-outcome s e =
     ap (λ b. pick b (callNext s (e .title) (e .time) (e .act)) s) (same-calls s (e .title) (e .time) (e .act))

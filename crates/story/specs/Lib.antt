@@ -7,3 +7,5 @@ pub mod Kept
 pub mod Next
 pub mod Calls
 pub mod Runs
+pub mod Former
+pub mod Formerly
