@@ -2,7 +2,7 @@
 #   python3 crates/air/expected.py log | cmp - crates/air/data/evening.log
 #   python3 crates/air/expected.py record | cmp - crates/air/data/record.txt
 #   python3 crates/air/expected.py told | cmp - crates/air/stdout
-# and with `lost` and `told_lost` for air_lost. `script` is for the console, whose answers are those of the record, line by line:
+# and with `lost` and `told_lost` for checks/cases/air/lost. `script` is for the console, whose answers are those of the record, line by line:
 #   python3 crates/air/expected.py script | target/bin/console | python3 crates/air/expected.py answers
 import sys
 

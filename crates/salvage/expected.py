@@ -1,7 +1,7 @@
 # The damaged log that the salvage is run on, and what is left of it, worked out apart from the product:
 #   python3 crates/salvage/expected.py log | cmp - crates/salvage/stdin
 #   python3 crates/salvage/expected.py taken | cmp - crates/salvage/stdout
-#   python3 crates/salvage/expected.py told | cmp - crates/salvage_told/stdout
+#   python3 crates/salvage/expected.py told | cmp - crates/salvage/stderr
 # With a file instead of `log` it works out that file's: python3 crates/salvage/expected.py taken FILE.
 import sys
 
