@@ -1,0 +1,15 @@
+-- The lines of a text, of which each ends in a newline.
+use Prim.Native.Nat.{ℕ, zero, suc}
+use mathlib.Core.List.{List}
+use lib.ListN.{take, drop}
+use Rattle.text.specs.declared.bytes.Sort.the-variants.{Line}
+use Rattle.text.specs.Bytes.{run}
+
+-- what stands behind the first line and its newline
+unfoldable pub afterFirst : List ℕ → List ℕ
+afterFirst s = drop (suc (run Line s)) s
+
+-- the k-th line, from 0, without its newline; empty where there is none
+unfoldable pub lineOf : List ℕ → ℕ → List ℕ
+lineOf s zero = take (run Line s) s
+lineOf s (suc k) = lineOf (afterFirst s) k
