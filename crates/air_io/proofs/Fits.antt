@@ -19,7 +19,7 @@ use Rattle.text.specs.Output.{Written}
 use Rattle.text.proofs.Printing.{decimal-short}
 use Rattle.text.proofs.Pages.{stands}
 use Rattle.files.specs.Lines.{lineOf}
-use Rattle.console_answers.specs.Words.{refusalText, meaningText, namingWords, refusalWords}
+use Rattle.words.specs.Words.{refusalText, meaningText, namingWords, refusalWords}
 use Rattle.notice.specs.Log.{Bytes, isWholeLog}
 use Rattle.story.specs.Life.{Life}
 use Rattle.agent.specs.Played.{lifeIn}

@@ -7,7 +7,7 @@ use Rattle.rules.specs.Refusals.{pick, done}
 use Rattle.text.specs.Texts.{text}
 use Rattle.text.specs.Digits.{decimal}
 use Rattle.files.specs.Lines.{lineOf}
-use Rattle.console_answers.specs.Words.{refusalText}
+use Rattle.words.specs.Words.{refusalText}
 use Rattle.story.specs.Life.{Life}
 use Rattle.agent.specs.Played.{lifeIn}
 use Rattle.judging.specs.Record.{nothingSeen, ticksMax, ticksIn}

@@ -4,13 +4,13 @@
 use crate::record::NO_NUMBER;
 use crate::record::Scan;
 use airing::Judgement;
-use console_answers::words::put_refusal;
 use files::lines::difference;
 use files::lines::put_line;
 use judging::NOTHING_SEEN;
 use rules::DONE;
 use text::digits::put_number;
 use text::output::put;
+use words::put_refusal;
 ghost use mathlib.Core.Path.{_≡_};
 ghost use lib.ListN.{length, getD};
 ghost use Rattle.text.specs.Output.{Written};

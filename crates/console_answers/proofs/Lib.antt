@@ -1,5 +1,4 @@
--- Laws of what was asked and where its answer stands, and of the rows that questions lend. That two
--- outcomes of a call here are equal is `page-one-outcome` of `text`.
+-- Laws of rows that are written, and of a row that stands behind an answer. That two outcomes of a call here are equal is
+-- `page-one-outcome` of `text`.
 pub mod Rows
 pub mod Answered
-pub mod Listed

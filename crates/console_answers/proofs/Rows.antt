@@ -1,18 +1,14 @@
 -- Laws of rows: the loops that write one place by place, and the lengths of those that the questions lend.
-use Prim.Native.Nat.{ℕ, zero, suc, _+_, _*_, _<_, _≤_, min}
+use Prim.Native.Nat.{ℕ, zero, suc, _+_, _<_, _≤_}
 use mathlib.Core.Path.{_≡_, refl, ap, _∙_}
 use mathlib.Core.List.{List}
-use native.Mathlib.Nat.{le-antisymm, mul-le-mul}
+use native.Mathlib.Nat.{le-antisymm}
 use native.Mathlib.Omega.{arith}
 use native.Mathlib.Numerals.{add-one}
-use lib.ListN.{length, getD, take, length-set, length-take}
-use Rattle.text.specs.Numbers.{fourBytesMost}
+use lib.ListN.{length, take, length-take}
 use Rattle.text.specs.Output.{Page, puts}
 use Rattle.text.proofs.Pages.{puts-then, same-room}
-use Rattle.console_lines.specs.Commands.{titlesMost, titleNumbers}
-use Rattle.console_lines.specs.Lines.{numbersMost}
 use Rattle.console_answers.specs.Entries.{each}
-use Rattle.console_answers.specs.Questions.{column}
 
 -- of n places in all the first i are written, each by its text: p is the page before the loop, q the page so far
 pub record Passed (f : ℕ → List ℕ) (n : ℕ) (p : Page) (i : ℕ) (q : Page) : Type 0 where
@@ -43,21 +39,6 @@ pub each-same : (f g : ℕ → List ℕ) (n : ℕ) → ((j : ℕ) → j < n → 
 unfolding each
 each-same f g zero h = refl
 each-same f g (suc n) h = rw (each-same f g n (λ j l. h j (omega arith)), h n (omega arith))
-
-pub column-length : (numbers : List ℕ) (first apart n : ℕ) → length (column numbers first apart n) ≡ titlesMost
-unfolding column
-column-length numbers first apart zero = refl
-column-length numbers first apart (suc n) =
-    length-set (column numbers first apart n) n (min (getD numbers (first + apart * n) 0) fourBytesMost)
-    ∙ column-length numbers first apart n
-
--- such a number stands in the line
-pub in-line : (first apart i : ℕ) → first ≤ titleNumbers → apart ≤ titleNumbers → i < titlesMost
-    → (apart * i ≤ titleNumbers * 16) × (first + apart * i < numbersMost)
-in-line first apart i f a l =
-    let below : i ≤ 16 = omega arith in
-    let most : apart * i ≤ titleNumbers * 16 = mul-le-mul a below in
-    (most, omega arith)
 
 -- a part from the start on is as long as asked
 pub counted : (n m : ℕ) (row : List ℕ) → length row ≡ m → n ≤ m → n ≡ length (take n row)

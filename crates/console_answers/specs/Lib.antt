@@ -1,7 +1,4 @@
--- What the console answers.
-pub mod Parts
-pub mod Words
+-- What every answer of the console is made of.
 pub mod Entries
 pub mod Outcomes
-pub mod Notices
-pub mod Questions
+pub mod Faults

@@ -4,7 +4,7 @@ use mathlib.Core.List.{List, [], _++_}
 use lib.Dec.{eqb}
 use Rattle.rules.specs.Refusals.{pick, done}
 use Rattle.text.specs.Texts.{text}
-use Rattle.console_answers.specs.Words.{refusalText}
+use Rattle.words.specs.Words.{refusalText}
 use Rattle.console_answers.specs.Entries.{entry}
 
 -- x is the number that the words of a refusal name

@@ -1,7 +1,6 @@
 // What a call answered: done, alone or with a number, or the refusal in words.
 
 use crate::entries;
-use crate::words;
 use rules::DONE;
 use text::output;
 ghost use Rattle.text.specs.Output.{Written};

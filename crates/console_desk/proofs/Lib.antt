@@ -1,8 +1,4 @@
 -- Laws of the desk: each test on a line says which case of the definitions it is.
-pub mod Spelling
-pub mod Following
-pub mod Missing
-pub mod Written
 pub mod Asking
 pub mod Lines
 pub mod Unique

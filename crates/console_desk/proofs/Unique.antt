@@ -6,19 +6,10 @@ use Rattle.rules.specs.OneOutcome.{OneEnd}
 use mathlib.Core.List.{List}
 use Rattle.agent.specs.declared.Agent.{Agent}
 use Rattle.text.specs.Output.{Page, page}
-use Rattle.console_lines.specs.declared.lines.Line.{Line}
-use Rattle.console_desk.specs.Acts.{answerAfter, agentActed}
 use Rattle.console_desk.specs.declared.Turned.{Turned}
 use Rattle.console_desk.specs.Desk.{Left}
 use Rattle.console_desk.proofs.answer.Kinds as answer-kinds
 use Rattle.console_desk.proofs.answer.Reads as answer-call
-
--- of `acts::follow`: the answer, and the agent
-pub follow-one-outcome : (g : Agent) (l : Line) (s : List ℕ) (m n : ℕ) (a b : Agent)
-    → (m ≡ answerAfter g l s) × (a ≡ agentActed g l s)
-    → (n ≡ answerAfter g l s) × (b ≡ agentActed g l s)
-    → (m ≡ n) × (a ≡ b)
-follow-one-outcome g l s m n a b e f = (e .0 ∙ sym (f .0), e .1 ∙ sym (f .1))
 
 -- of `answer`: the agent and the place, and the lent row, parameter 2, from 0
 same-left : {g : Agent} {o : List ℕ} {n : ℕ} {t : List ℕ} (x y : Turned) (c d : List ℕ) →

@@ -3,7 +3,7 @@ use Prim.Native.Nat.{ℕ}
 use mathlib.Core.Path.{_≡_}
 use mathlib.Core.Bool.{Bool}
 use mathlib.Core.List.{List, [], _∷_, _++_}
-use lib.Dec.{eqb, ltb}
+use lib.Dec.{eqb}
 use Rattle.rules.specs.Limits.{either, within}
 use Rattle.rules.specs.Refusals.{pick}
 use Rattle.story.specs.declared.State.{State}
@@ -16,14 +16,19 @@ use Rattle.console_lines.specs.declared.lines.Line.{Line}
 use Rattle.console_lines.specs.Lines.{meaning}
 use Rattle.text.specs.Output.{Written}
 use Rattle.text.specs.Digits.{hexText}
-use Rattle.console_answers.specs.Words.{faultText, helpText}
+use Rattle.console_answers.specs.Faults.{faultText, helpText}
 use Rattle.console_answers.specs.Outcomes.{doneText, valueText}
-use Rattle.console_answers.specs.Notices.{readingText}
-use Rattle.console_answers.specs.Questions.{laneText, statusText, idsIn, planText, roomOf, shareIn}
-use Rattle.console_answers.specs.Questions.{romLaneText, romPlanText, plannerIn, skipPlanText}
-use Rattle.console_desk.specs.Acts.{numberIn, bytesIn, answerAfter, agentActed}
-use Rattle.console_desk.specs.Named.{namedIn}
-use Rattle.console_desk.specs.Writing.{noticeIn}
+use Rattle.console_notices.specs.Reading.{readingText}
+use Rattle.console_boxes.specs.Lanes.{laneText, romLaneText}
+use Rattle.console_boxes.specs.Plans.{planIn}
+use Rattle.console_pools.specs.Titles.{statusText, idsIn}
+use Rattle.console_pools.specs.Shares.{shareIn}
+use Rattle.console_pools.specs.Moves.{plannerIn}
+use Rattle.console_lines.specs.Lines.{numberIn}
+use Rattle.console_notices.specs.Hex.{bytesIn}
+use Rattle.console_acts.specs.Acts.{answerAfter, agentActed}
+use Rattle.console_acts.specs.Named.{namedIn}
+use Rattle.console_notices.specs.Writing.{writtenNotice}
 
 -- the commands that may change the agent: fresh, the events, notice
 unfoldable pub mayChange : ℕ → Bool
@@ -44,40 +49,18 @@ unfoldable pub tellText : Line → List ℕ → List ℕ
 tellText l s =
     pick (eqb (l .command) Commands.doHelp) helpText
     (pick (eqb (l .command) Commands.doRead) (readingText (readOf (bytesIn s l)))
-    (hexText (bytesOf (noticeIn l))))
+    (hexText (bytesOf (writtenNotice l))))
 
--- where the places stand in a line that asks for a plan: behind the four numbers of a title and a box, or behind count and
--- arrival
-abbrev pub planPlace : ℕ
-planPlace = 4
-
-abbrev pub skipPlanPlace : ℕ
-skipPlanPlace = 2
-
--- the places that a plan is lent, the most where the line leaves them out
-unfoldable pub placesIn : Line → ℕ → ℕ
-placesIn l i = pick (ltb i (l .count)) (numberIn l i) Commands.placesMost
-
--- a question to the small box, or what is told
-unfoldable pub romText : State → Line → List ℕ → List ℕ
-romText t l s =
-    pick (eqb (l .command) Commands.doRomLane) (romLaneText t (numberIn l 0) (numberIn l 1) (numberIn l 2))
-    (pick (eqb (l .command) Commands.doRomPlan)
-    (romPlanText (numberIn l 0) (numberIn l 1) (numberIn l 2) (numberIn l 3) (roomOf (placesIn l planPlace)))
-    (tellText l s))
-
--- a question, which changes nothing
+-- a question, which changes nothing, or what is told
 unfoldable pub askText : State → Line → List ℕ → List ℕ
 askText t l s =
     pick (eqb (l .command) Commands.doLane) (laneText t (numberIn l 0) (numberIn l 1) (numberIn l 2))
     (pick (eqb (l .command) Commands.doStatus) (statusText t (numberIn l 0) (idsIn (l .numbers) (l .count)))
     (pick (eqb (l .command) Commands.doShare) (shareIn (l .numbers) (l .count))
-    (pick (eqb (l .command) Commands.doPlan)
-    (planText (numberIn l 0) (numberIn l 1) (numberIn l 2) (numberIn l 3) (roomOf (placesIn l planPlace)))
     (pick (eqb (l .command) Commands.doPlanner) (plannerIn t (l .numbers) (l .count))
-    (pick (eqb (l .command) Commands.doSkipPlan)
-    (skipPlanText (numberIn l 0) (numberIn l 1) (roomOf (placesIn l skipPlanPlace)))
-    (romText t l s))))))
+    (pick (eqb (l .command) Commands.doRomLane) (romLaneText t (numberIn l 0) (numberIn l 1) (numberIn l 2))
+    (pick (Commands.asksPlan (l .command)) (planIn l)
+    (tellText l s))))))
 
 abbrev pub newline : List ℕ
 newline = 10 ∷ []

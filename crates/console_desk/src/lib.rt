@@ -4,34 +4,34 @@
 // the row's end.
 
 use agent::Agent;
-use console_answers::lanes;
-use console_answers::moves;
-use console_answers::notices;
+use console_acts::acts;
+use console_acts::named;
+use console_answers::faults;
 use console_answers::outcomes;
-use console_answers::plans;
-use console_answers::roms;
-use console_answers::shares;
-use console_answers::skips;
-use console_answers::titles;
-use console_answers::words;
+use console_boxes::lanes;
+use console_boxes::plans;
 use console_lines::commands;
 use console_lines::lines;
 use console_lines::lines::Line;
+use console_notices::hex;
+use console_notices::reading;
+use console_notices::writing;
+use console_pools::moves;
+use console_pools::shares;
+use console_pools::titles;
 use story::State;
 use text::output;
 ghost use mathlib.Core.Path.{_≡_};
-ghost use Prim.Native.Nat.{_<_, _≤_};
+ghost use Prim.Native.Nat.{_≤_};
 ghost use lib.ListN.{length};
 ghost use Rattle.text.specs.Output.{Written};
-ghost use Rattle.console_lines.specs.Lines.{longest, numbersMost};
-ghost use Rattle.console_desk.specs.Acts.{agentActed};
+ghost use Rattle.console_lines.specs.Lines.{longest};
+ghost use Rattle.console_acts.specs.Acts.{agentActed};
 ghost use Rattle.console_desk.specs.Desk.{
   mayChange,
   followedText,
   actText,
-  placesIn,
   askText,
-  romText,
   tellText,
   Left,
   afterWhole,
@@ -39,11 +39,6 @@ ghost use Rattle.console_desk.specs.Desk.{
   afterLine,
   lineText,
 };
-
-mod acts;
-mod hex;
-mod named;
-mod writing;
 
 // What a line leaves: the agent, and the place behind what was answered.
 pub struct Turned {
@@ -106,48 +101,13 @@ fn tell(line: Line, s: &[u8], out: &mut [u8], at: usize) -> usize
 {
     let command = line.command;
     if command == commands::HELP {
-        return words::put_help(out, at);
+        return faults::put_help(out, at);
     }
     let n = line.numbers;
     if command == commands::READ {
-        return notices::put_reading(out, at, hex::reading(s, n[0], n[1]));
+        return reading::put_reading(out, at, hex::reading(s, n[0], n[1]));
     }
     writing::put_bytes(out, at, writing::notice_of(line))
-}
-
-// Where the places stand in a line that asks for a plan: behind the four numbers of a title and a box, or behind count and
-// arrival.
-const PLAN_PLACE: usize = 4;
-
-const SKIP_PLAN_PLACE: usize = 2;
-
-// The places that a plan is lent, from their own place in the line; the most where the line leaves them out.
-fn places_of(line: Line, place: usize) -> u64
-    requires { ⌜ place < numbersMost ⌝ }
-    ensures { λ r. ⌜ r ≡ placesIn line place ⌝ }
-{
-    let count = line.count;
-    let n = line.numbers;
-    if place < count {
-        return n[place];
-    }
-    commands::PLACES_MOST as u64
-}
-
-// A question to the small box, or what is told.
-fn ask_rom(state: State, line: Line, s: &[u8], out: &mut [u8], at: usize) -> usize
-    requires { ⌜ length (now s) ≤ longest ⌝ }
-    ensures { λ r. ⌜ Written (now (out .entry)) at (romText state line (now (s .entry))) (now (out .exit)) r ⌝ }
-{
-    let command = line.command;
-    let n = line.numbers;
-    if command == commands::ROM_LANE {
-        return roms::put_lane(out, at, state, n[0], n[1], n[2]);
-    }
-    if command == commands::ROM_PLAN {
-        return roms::put_plan(out, at, n[0], n[1], n[2], n[3], places_of(line, PLAN_PLACE));
-    }
-    tell(line, s, out, at)
 }
 
 // A question, which changes nothing.
@@ -166,16 +126,16 @@ fn ask(state: State, line: Line, s: &[u8], out: &mut [u8], at: usize) -> usize
     if command == commands::SHARE {
         return shares::put_share(out, at, n, line.count);
     }
-    if command == commands::PLAN {
-        return plans::put_plan(out, at, n[0], n[1], n[2], n[3], places_of(line, PLAN_PLACE));
-    }
     if command == commands::PLANNER {
         return moves::put_planner(out, at, state, n, line.count);
     }
-    if command == commands::SKIP_PLAN {
-        return skips::put_plan(out, at, n[0], n[1], places_of(line, SKIP_PLAN_PLACE));
+    if command == commands::ROM_LANE {
+        return lanes::put_rom_lane(out, at, state, n[0], n[1], n[2]);
     }
-    ask_rom(state, line, s, out, at)
+    if commands::asks_plan(command) {
+        return plans::put_plan(out, at, line);
+    }
+    tell(line, s, out, at)
 }
 
 // A line with nothing wrong.
@@ -210,7 +170,7 @@ pub fn answer(agent: Agent, s: &[u8], out: &mut [u8], at: usize) -> Turned
     if fault == commands::NO_FAULT {
         return whole(agent, line, s, out, at);
     }
-    let p = words::put_fault(out, at, fault, line.place);
+    let p = faults::put_fault(out, at, fault, line.place);
     let e = output::put(out, p, b"\n");
     Turned { agent, at: e }
 }

@@ -16,6 +16,10 @@ use Rattle.console_lines.specs.Commands
 abbrev pub numbersMost : ℕ
 numbersMost = 72
 
+-- the number at a place of a line
+abbrev pub numberIn : Line → ℕ → ℕ
+numberIn l i = getD (l .numbers) i 0
+
 -- a line that answers nothing
 unfoldable pub blank : Line
 blank =

@@ -280,7 +280,7 @@ pub fn takes_kind(command: u8, count: usize) -> bool
 }
 
 // Whether a command asks for a plan, whose places may stand last.
-fn asks_plan(command: u8) -> bool
+pub fn asks_plan(command: u8) -> bool
     ensures { λ r. ⌜ r ≡ asksPlan command ⌝ }
 {
     if command == PLAN {

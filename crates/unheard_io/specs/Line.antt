@@ -5,7 +5,7 @@ use lib.Dec.{eqb}
 use Rattle.rules.specs.Refusals.{pick}
 use Rattle.text.specs.Texts.{text}
 use Rattle.files.specs.Lines.{lineOf}
-use Rattle.console_answers.specs.Words.{meaningText}
+use Rattle.words.specs.Words.{meaningText}
 use Rattle.unheard.specs.declared.Tally.{Tally}
 use Rattle.unheard.specs.Unheard.{unheardIn}
 

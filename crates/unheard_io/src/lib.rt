@@ -1,6 +1,6 @@
 // What programs over a log say on standard error where notices of it did not count. No public function has a `requires`.
 
-use console_answers::words::put_meaning;
+use words::put_meaning;
 use files::lines::put_line;
 use text::output::put;
 use unheard::Tally;

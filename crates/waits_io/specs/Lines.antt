@@ -5,7 +5,7 @@ use lib.Dec.{eqb}
 use Rattle.rules.specs.Refusals.{pick, done}
 use Rattle.text.specs.Texts.{text}
 use Rattle.files.specs.Lines.{lineOf}
-use Rattle.console_answers.specs.Words.{refusalText}
+use Rattle.words.specs.Words.{refusalText}
 use Rattle.admissions.specs.declared.Waits.{Waits}
 use Rattle.waiting.specs.declared.Report.{Report}
 

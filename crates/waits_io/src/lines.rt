@@ -1,12 +1,12 @@
 // The lines of the report, written at the start of a lent row. What has no room is left out.
 
 use admissions::Waits;
-use console_answers::words::put_refusal;
 use files::lines::difference;
 use files::lines::put_line;
 use rules::DONE;
 use text::output::put;
 use waiting::Report;
+use words::put_refusal;
 ghost use mathlib.Core.Path.{_≡_};
 ghost use Rattle.text.specs.Output.{page, puts};
 ghost use Rattle.waits_io.specs.Lines.{countLines, waitLines, nearest, meanLine, reportText};

@@ -24,11 +24,11 @@ refusals =
     text "too few free lanes" ∷
     text "rows do not match or room too short" ∷
     text "malformed notice" ∷
-    text "notice out of turn, expected is " ∷
-    text "below the floor, which is " ∷
-    text "above the cap, which is " ∷
+    text "notice out of turn" ∷
+    text "below the floor" ∷
+    text "above the cap" ∷
     text "floor above its cap" ∷
-    text "change too soon, not before " ∷
+    text "change too soon" ∷
     text "doors already held or lifted" ∷
     text "an event would fall after the clock's last time" ∷
     text "a skip-forward title has a steady count and no doors to hold" ∷ []
@@ -36,14 +36,21 @@ refusals =
 unfoldable pub refusalWords : ℕ → List ℕ
 refusalWords n = getD refusals n []
 
--- the words of 12, 13, 14 and 16 name a number
+-- number and words
+unfoldable pub meaningText : ℕ → List ℕ
+meaningText n = (decimal n ++ text " ") ++ refusalWords n
+
+-- 12, 13, 14 and 16 name a number, with words that lead to it
 abbrev pub isNaming : ℕ → Bool
 isNaming n = either (eqb n tooSoon) (within outOfTurn aboveCap n)
 
--- the answer to a refused call: number, words, and the number that the words name
+unfoldable pub namingWords : ℕ → List ℕ
+namingWords n =
+    pick (eqb n outOfTurn) (text ", expected is ") (pick (eqb n tooSoon) (text ", not before ") (text ", which is "))
+
+-- the answer to a refused call: number, words, and the number that they name
 unfoldable pub refusalText : ℕ → ℕ → List ℕ
-refusalText n named =
-    ((decimal n ++ text " ") ++ refusalWords n) ++ pick (isNaming n) (decimal named) []
+refusalText n named = meaningText n ++ pick (isNaming n) (namingWords n ++ decimal named) []
 
 -- of a count that is below floor A or above cap K, by the refusal's number: the one that it missed
 unfoldable pub missed : ℕ → ℕ → ℕ → ℕ

@@ -5,7 +5,7 @@ use text::digits;
 use text::output;
 ghost use mathlib.Core.Path.{_≡_};
 ghost use Rattle.text.specs.Output.{Written};
-ghost use Rattle.words.specs.Words.{refusalWords, isNaming, refusalText, missed as missedOf};
+ghost use Rattle.words.specs.Words.{refusalWords, isNaming, meaningText, namingWords, refusalText, missed as missedOf};
 
 pub mod lines;
 
@@ -25,18 +25,18 @@ fn refusal_words(out: &mut [u8], at: usize, number: u8) -> usize
         too few free lanes\n\
         rows do not match or room too short\n\
         malformed notice\n\
-        notice out of turn, expected is \n\
-        below the floor, which is \n\
-        above the cap, which is \n\
+        notice out of turn\n\
+        below the floor\n\
+        above the cap\n\
         floor above its cap\n\
-        change too soon, not before \n\
+        change too soon\n\
         doors already held or lifted\n\
         an event would fall after the clock's last time\n\
         a skip-forward title has a steady count and no doors to hold\n";
     lines::put_line(out, at, words, number)
 }
 
-// Whether the words of a refusal end in a number: those from OUT_OF_TURN to ABOVE_CAP, and of TOO_SOON.
+// Whether a refusal names a number: those from OUT_OF_TURN to ABOVE_CAP, and TOO_SOON.
 fn names_number(number: u8) -> bool
     ensures { λ r. ⌜ r ≡ isNaming number ⌝ }
 {
@@ -50,17 +50,38 @@ fn names_number(number: u8) -> bool
     )
 }
 
-// A refusal: its number, its words, and the number that the words name, if they name one.
-pub fn put_refusal(out: &mut [u8], at: usize, number: u8, named: u64) -> usize
-    ensures { λ r. ⌜ Written (now (out .entry)) at (refusalText number named) (now (out .exit)) r ⌝ }
+// A refusal's number and its words.
+pub fn put_meaning(out: &mut [u8], at: usize, number: u8) -> usize
+    ensures { λ r. ⌜ Written (now (out .entry)) at (meaningText number) (now (out .exit)) r ⌝ }
 {
     let a = digits::put_number(out, at, number as u64);
     let b = output::put(out, a, b" ");
-    let c = refusal_words(out, b, number);
-    if names_number(number) {
-        return digits::put_number(out, c, named);
+    refusal_words(out, b, number)
+}
+
+// The words that lead from a refusal to the number that it names.
+fn put_naming(out: &mut [u8], at: usize, number: u8) -> usize
+    ensures { λ r. ⌜ Written (now (out .entry)) at (namingWords number) (now (out .exit)) r ⌝ }
+{
+    if number == rules::OUT_OF_TURN {
+        return output::put(out, at, b", expected is ");
     }
-    c
+    if number == rules::TOO_SOON {
+        return output::put(out, at, b", not before ");
+    }
+    output::put(out, at, b", which is ")
+}
+
+// A refusal: its number, its words, and the number that it names, if it names one.
+pub fn put_refusal(out: &mut [u8], at: usize, number: u8, named: u64) -> usize
+    ensures { λ r. ⌜ Written (now (out .entry)) at (refusalText number named) (now (out .exit)) r ⌝ }
+{
+    let a = put_meaning(out, at, number);
+    if names_number(number) {
+        let b = put_naming(out, a, number);
+        return digits::put_number(out, b, named);
+    }
+    a
 }
 
 // Of a count below its floor or above its cap, the one that it missed.

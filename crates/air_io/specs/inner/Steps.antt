@@ -8,7 +8,7 @@ use lib.ListN.{length, getD}
 use Rattle.rules.specs.Refusals.{pick, done}
 use Rattle.rules.specs.Search.{howMany}
 use Rattle.text.specs.Texts.{text}
-use Rattle.console_answers.specs.Words.{refusalText}
+use Rattle.words.specs.Words.{refusalText}
 use Rattle.airing.specs.declared.Judgement.{Judgement}
 use Rattle.air_io.specs.Lines.{admissionLine, totalLines}
 

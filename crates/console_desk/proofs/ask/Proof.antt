@@ -1,6 +1,14 @@
 -- `console_desk::ask` meets its contract: each question's own answer.
 use Rattle.text.specs.Output.{page}
-use Rattle.console_desk.proofs.Asking.{asks-lane, asks-status, asks-share, asks-plan, asks-planner, asks-skip-plan, asks-else}
+use Rattle.console_desk.proofs.Asking.{
+  asks-lane,
+  asks-status,
+  asks-share,
+  asks-planner,
+  asks-rom-lane,
+  asks-plan,
+  asks-told,
+}
 use borrow.Author.Needs.{needs}
 use Rattle.console_desk.proofs.ask.Statement.{statement}
 use Rattle.console_desk.proofs.ask.Tie as tie
@@ -64,52 +72,16 @@ returns-3 c =
     asks-share (x .line) (x .s .now) p _ (x .state) (at-if1 .if1 .left) (at-if2 .if2 .left) (at-if3 .if3 .taken)
     (at-put-share .put-share .ensures)
 
-array-read-put-plan : tie.Need-array-read-put-plan
-array-read-put-plan c = search needs
-
-array-read-put-plan-2 : tie.Need-array-read-put-plan-2
-array-read-put-plan-2 c = search needs
-
-array-read-put-plan-3 : tie.Need-array-read-put-plan-3
-array-read-put-plan-3 c = search needs
-
-array-read-put-plan-4 : tie.Need-array-read-put-plan-4
-array-read-put-plan-4 c = search needs
-
-places-of-requires : tie.Need-places-of-requires
-places-of-requires c κs = search needs
-
-put-plan-requires : tie.Need-put-plan-requires
-put-plan-requires c κs = search needs
+put-planner-requires : tie.Need-put-planner-requires
+put-planner-requires c κs = search needs
 
 same-length-4 : tie.Need-same-length-4
 same-length-4 c = search needs
 
 returns-4 : tie.Need-returns-4
 returns-4 c =
-    let at-put-plan = c .before .before in
-    let at-places-of = at-put-plan .before in
-    let at-if4 = at-places-of .before .before in
-    let at-if3 = at-if4 .before in
-    let at-if2 = at-if3 .before in
-    let at-if1 = at-if2 .before in
-    let at-start = at-if1 .before .before .before .before in
-    let x = at-start .args in
-    let p = page (x .out .now) (x .at) in
-    asks-plan (x .line) (x .s .now) p _ (x .state) (at-if1 .if1 .left) (at-if2 .if2 .left) (at-if3 .if3 .left) _
-    (at-if4 .if4 .taken) (at-places-of .places-of .ensures) (at-put-plan .put-plan .ensures)
-
-put-planner-requires : tie.Need-put-planner-requires
-put-planner-requires c κs = search needs
-
-same-length-5 : tie.Need-same-length-5
-same-length-5 c = search needs
-
-returns-5 : tie.Need-returns-5
-returns-5 c =
     let at-put-planner = c .before .before in
-    let at-if5 = at-put-planner .before .before in
-    let at-if4 = at-if5 .before in
+    let at-if4 = at-put-planner .before .before in
     let at-if3 = at-if4 .before in
     let at-if2 = at-if3 .before in
     let at-if1 = at-if2 .before in
@@ -117,46 +89,27 @@ returns-5 c =
     let x = at-start .args in
     let p = page (x .out .now) (x .at) in
     asks-planner (x .line) (x .s .now) p _ (x .state) (at-if1 .if1 .left) (at-if2 .if2 .left) (at-if3 .if3 .left)
-    (at-if4 .if4 .left) (at-if5 .if5 .taken) (at-put-planner .put-planner .ensures)
+    (at-if4 .if4 .taken) (at-put-planner .put-planner .ensures)
 
-array-read-put-plan-5 : tie.Need-array-read-put-plan-5
-array-read-put-plan-5 c = search needs
+array-read-put-rom-lane : tie.Need-array-read-put-rom-lane
+array-read-put-rom-lane c = search needs
 
-array-read-put-plan-6 : tie.Need-array-read-put-plan-6
-array-read-put-plan-6 c = search needs
+array-read-put-rom-lane-2 : tie.Need-array-read-put-rom-lane-2
+array-read-put-rom-lane-2 c = search needs
 
-places-of-requires-2 : tie.Need-places-of-requires-2
-places-of-requires-2 c κs = search needs
+array-read-put-rom-lane-3 : tie.Need-array-read-put-rom-lane-3
+array-read-put-rom-lane-3 c = search needs
 
-put-plan-requires-2 : tie.Need-put-plan-requires-2
-put-plan-requires-2 c κs = search needs
+put-rom-lane-requires : tie.Need-put-rom-lane-requires
+put-rom-lane-requires c κs = search needs
 
-same-length-6 : tie.Need-same-length-6
-same-length-6 c = search needs
+same-length-5 : tie.Need-same-length-5
+same-length-5 c = search needs
 
-returns-6 : tie.Need-returns-6
-returns-6 c =
-    let at-put-plan = c .before .before in
-    let at-places-of = at-put-plan .before in
-    let at-if6 = at-places-of .before .before in
-    let at-if1 = at-if6 .before .before .before .before .before in
-    let at-start = at-if1 .before .before .before .before in
-    let x = at-start .args in
-    let p = page (x .out .now) (x .at) in
-    asks-skip-plan (x .line) (x .s .now) p _ (x .state) _ (at-if6 .if6 .taken) (at-places-of .places-of2 .ensures)
-    (at-put-plan .put-plan2 .ensures)
-
-ask-rom-requires : tie.Need-ask-rom-requires
-ask-rom-requires c κs = search needs
-
-same-length-7 : tie.Need-same-length-7
-same-length-7 c = search needs
-
-returns-7 : tie.Need-returns-7
-returns-7 c =
-    let at-ask-rom = c .before .before in
-    let at-if6 = at-ask-rom .before .before in
-    let at-if5 = at-if6 .before in
+returns-5 : tie.Need-returns-5
+returns-5 c =
+    let at-put-rom-lane = c .before .before in
+    let at-if5 = at-put-rom-lane .before .before in
     let at-if4 = at-if5 .before in
     let at-if3 = at-if4 .before in
     let at-if2 = at-if3 .before in
@@ -164,8 +117,57 @@ returns-7 c =
     let at-start = at-if1 .before .before .before .before in
     let x = at-start .args in
     let p = page (x .out .now) (x .at) in
-    asks-else (x .line) (x .s .now) p _ (x .state) (at-if1 .if1 .left) (at-if2 .if2 .left) (at-if3 .if3 .left)
-    (at-if4 .if4 .left) (at-if5 .if5 .left) (at-if6 .if6 .left) (at-ask-rom .ask-rom .ensures)
+    asks-rom-lane (x .line) (x .s .now) p _ (x .state) (at-if1 .if1 .left) (at-if2 .if2 .left) (at-if3 .if3 .left)
+    (at-if4 .if4 .left) (at-if5 .if5 .taken) (at-put-rom-lane .put-rom-lane .ensures)
+
+asks-plan-requires : tie.Need-asks-plan-requires
+asks-plan-requires c κs = search needs
+
+put-plan-requires : tie.Need-put-plan-requires
+put-plan-requires c κs = search needs
+
+same-length-6 : tie.Need-same-length-6
+same-length-6 c = search needs
+
+returns-6 : tie.Need-returns-6
+returns-6 c =
+    let at-put-plan = c .before .before in
+    let at-if6 = at-put-plan .before .before in
+    let at-asks-plan = at-if6 .before in
+    let at-if5 = at-asks-plan .before in
+    let at-if4 = at-if5 .before in
+    let at-if3 = at-if4 .before in
+    let at-if2 = at-if3 .before in
+    let at-if1 = at-if2 .before in
+    let at-start = at-if1 .before .before .before .before in
+    let x = at-start .args in
+    let p = page (x .out .now) (x .at) in
+    asks-plan (x .line) (x .s .now) p _ (x .state) (at-if1 .if1 .left) (at-if2 .if2 .left) (at-if3 .if3 .left)
+    (at-if4 .if4 .left) (at-if5 .if5 .left) _ (at-asks-plan .asks-plan .ensures) (at-if6 .if6 .taken)
+    (at-put-plan .put-plan .ensures)
+
+tell-requires : tie.Need-tell-requires
+tell-requires c κs = search needs
+
+same-length-7 : tie.Need-same-length-7
+same-length-7 c = search needs
+
+returns-7 : tie.Need-returns-7
+returns-7 c =
+    let at-tell = c .before .before in
+    let at-if6 = at-tell .before .before in
+    let at-asks-plan = at-if6 .before in
+    let at-if5 = at-asks-plan .before in
+    let at-if4 = at-if5 .before in
+    let at-if3 = at-if4 .before in
+    let at-if2 = at-if3 .before in
+    let at-if1 = at-if2 .before in
+    let at-start = at-if1 .before .before .before .before in
+    let x = at-start .args in
+    let p = page (x .out .now) (x .at) in
+    asks-told (x .line) (x .s .now) p _ (x .state) (at-if1 .if1 .left) (at-if2 .if2 .left) (at-if3 .if3 .left)
+    (at-if4 .if4 .left) (at-if5 .if5 .left) _ (at-asks-plan .asks-plan .ensures) (at-if6 .if6 .left)
+    (at-tell .tell .ensures)
 
 pub ask-spec : {M : Type 1} → statement M
 ask-spec =
@@ -183,23 +185,19 @@ ask-spec =
     put-share-requires
     same-length-3
     returns-3
-    array-read-put-plan
-    array-read-put-plan-2
-    array-read-put-plan-3
-    array-read-put-plan-4
-    places-of-requires
-    put-plan-requires
+    put-planner-requires
     same-length-4
     returns-4
-    put-planner-requires
+    array-read-put-rom-lane
+    array-read-put-rom-lane-2
+    array-read-put-rom-lane-3
+    put-rom-lane-requires
     same-length-5
     returns-5
-    array-read-put-plan-5
-    array-read-put-plan-6
-    places-of-requires-2
-    put-plan-requires-2
+    asks-plan-requires
+    put-plan-requires
     same-length-6
     returns-6
-    ask-rom-requires
+    tell-requires
     same-length-7
     returns-7)

@@ -4,7 +4,7 @@ use Rattle.text.specs.Texts.{text}
 use Rattle.text.specs.Output.{page}
 use Rattle.text.proofs.Pages.{puts-then}
 use Rattle.files.specs.Lines.{lineOf}
-use Rattle.console_answers.specs.Words.{meaningText}
+use Rattle.words.specs.Words.{meaningText}
 use Rattle.unheard_io.specs.Line.{missedLine}
 use borrow.Author.Needs.{needs}
 use Rattle.unheard_io.proofs.put_missed.Statement.{statement}

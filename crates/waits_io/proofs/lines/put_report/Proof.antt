@@ -2,7 +2,7 @@
 use borrow.Author.Tests.{eq-eqb, ne-eqb}
 use Rattle.text.specs.Texts.{text}
 use Rattle.text.specs.Output.{page}
-use Rattle.console_answers.specs.Words.{refusalText}
+use Rattle.words.specs.Words.{refusalText}
 use Rattle.text.proofs.Pages.{puts-then}
 use Rattle.waits_io.specs.Lines.{countLines, waitLines, reportText}
 use borrow.Author.Needs.{needs}

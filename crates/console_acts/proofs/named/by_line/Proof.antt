@@ -1,0 +1,56 @@
+-- `console_acts::named::by_line` meets its contract: the sequence after 12, else what a notice or an event missed.
+use Rattle.console_acts.proofs.Missing.{names-sequence, names-notice, names-event}
+use borrow.Author.Needs.{needs}
+use Rattle.console_acts.proofs.named.by_line.Statement.{statement}
+use Rattle.console_acts.proofs.named.by_line.Tie as tie
+
+cast-result : tie.Need-cast-result
+cast-result c = search needs
+
+add-result : tie.Need-add-result
+add-result c = search needs
+
+returns : tie.Need-returns
+returns c = names-sequence _ _ _ _ (c .before .if1 .taken)
+
+array-read-reading : tie.Need-array-read-reading
+array-read-reading c = search needs
+
+array-read-reading-2 : tie.Need-array-read-reading-2
+array-read-reading-2 c = search needs
+
+reading-requires : tie.Need-reading-requires
+reading-requires c κs = search needs
+
+by-reading-requires : tie.Need-by-reading-requires
+by-reading-requires c κs = search needs
+
+returns-2 : tie.Need-returns-2
+returns-2 c =
+    let at-reading = c .before in
+    let at-if2 = at-reading .before in
+    names-notice _ _ _ _ _ _ (at-if2 .before .before .before .if1 .left) (at-if2 .if2 .taken)
+    (at-reading .reading .ensures) (c .by-reading .ensures)
+
+by-event-requires : tie.Need-by-event-requires
+by-event-requires c κs = search needs
+
+returns-3 : tie.Need-returns-3
+returns-3 c =
+    let at-if2 = c .before in
+    names-event _ _ _ _ _ (at-if2 .before .before .before .if1 .left) (at-if2 .if2 .left) (c .by-event .ensures)
+
+pub by-line-spec : {M : Type 1} → statement M
+by-line-spec =
+    tie.close
+    (tie.spec
+    cast-result
+    add-result
+    returns
+    array-read-reading
+    array-read-reading-2
+    reading-requires
+    by-reading-requires
+    returns-2
+    by-event-requires
+    returns-3)

@@ -1,2 +1,0 @@
--- Laws of a row that is cut into texts.
-pub mod Laws

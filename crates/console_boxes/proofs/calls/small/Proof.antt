@@ -1,0 +1,52 @@
+-- `console_boxes::calls::small` meets its contract: the plan that the small box left stands behind its answer.
+use Prim.Native.Nat.{_^_, _≤_}
+use mathlib.Core.Path.{_≡_, sym, _∙_}
+use native.Mathlib.Omega.{arith}
+use lib.ListN.{length}
+use Rattle.rules.specs.Refusals.{done}
+use Rattle.rom.proofs.Planned.{RomAccepted, rom-accepted}
+use Rattle.console_boxes.proofs.Answered.{small-told, cells-fit}
+use borrow.Author.Needs.{needs}
+use Rattle.console_boxes.proofs.calls.small.Statement.{statement}
+use Rattle.console_boxes.proofs.calls.small.Tie as tie
+
+-- what the call's numbers are where it is done
+fits : (at-plan : tie.After-plan) → at-plan .plan .result ≡ done →
+    let x = at-plan .before .before .before .args in
+    RomAccepted (x .floor) (x .cap) (x .count) (x .arrival) (length (x .row .now))
+fits at-plan z = rom-accepted _ _ _ _ _ (sym (at-plan .plan .ensures .answer) ∙ z)
+
+plan-requires : tie.Need-plan-requires
+plan-requires c κs = search needs
+
+missed-requires : tie.Need-missed-requires
+missed-requires c κs = search needs
+
+cells-of-requires : tie.Need-cells-of-requires
+cells-of-requires c κs =
+    λ z.
+    let t = fits (c .before .before .before) z in
+    omega (arith, t .cap, t .accepted .count .high)
+
+same-length : tie.Need-same-length
+same-length c = search needs
+
+returns : tie.Need-returns
+returns c =
+    let at-missed = c .before in
+    let at-plan = at-missed .before .before .before in
+    let x = at-plan .before .before .before .args in
+    record {
+      told = small-told (x .floor) (x .cap) (x .count) (x .arrival) _ _ _ (x .row .now) _ (at-missed .missed .ensures)
+          (c .cells-of .ensures) (at-plan .plan .ensures);
+      room = cells-fit _ _ (2 ^ x .cap) _ (c .cells-of .ensures)
+          (λ z.
+          let t = fits at-plan z in
+          let room : 2 ^ x .cap ≤ length (x .row .now) = rw (t .cap) (t .accepted .room) in
+          omega (arith, room, at-plan .plan .kept));
+    }
+
+pub small-spec : {M : Type 1} → statement M
+small-spec =
+    tie.close
+    (tie.spec plan-requires missed-requires cells-of-requires same-length returns)

@@ -1,0 +1,24 @@
+-- `console_boxes::lanes::put_lane` meets its contract: the scheduler's answer and cell.
+use Rattle.text.specs.Output.{page}
+use Rattle.console_boxes.proofs.Answered.{lane-told}
+use borrow.Author.Needs.{needs}
+use Rattle.console_boxes.proofs.lanes.put_lane.Statement.{statement}
+use Rattle.console_boxes.proofs.lanes.put_lane.Tie as tie
+
+lane-requires : tie.Need-lane-requires
+lane-requires c κs = search needs
+
+put-value-requires : tie.Need-put-value-requires
+put-value-requires c κs = search needs
+
+same-length : tie.Need-same-length
+same-length c = search needs
+
+returns : tie.Need-returns
+returns c = let x = c .before .before .before .before .before .before .args in
+    let p = page (x .out .now) (x .at) in
+    lane-told p _ (x .s) (x .id) (x .lane) (x .time) _ _ (c .before .before .before .before .lane .ensures .0)
+    (c .before .before .before .before .lane .ensures .1) (c .before .before .put-value .ensures)
+
+pub put-lane-spec : {M : Type 1} → statement M
+put-lane-spec = tie.close (tie.spec lane-requires put-value-requires same-length returns)

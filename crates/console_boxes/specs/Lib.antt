@@ -1,0 +1,3 @@
+-- What a box asks.
+pub mod Lanes
+pub mod Plans

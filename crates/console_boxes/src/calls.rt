@@ -1,0 +1,92 @@
+// What a plan's call gives: the one of a title on the padded grid, that of the small box, and that of a skip-forward title.
+
+use console_lines::commands;
+use console_lines::lines::Line;
+use rules::DONE;
+ghost use mathlib.Core.Path.{_≡_};
+ghost use Prim.Native.Nat.{_-_, _^_, _≤_};
+ghost use lib.Dec.{eqb};
+ghost use Rattle.rules.specs.Limits.{countMax};
+ghost use Rattle.rules.specs.Refusals.{pick, done};
+ghost use Rattle.console_boxes.specs.Plans.{Filled, planText, romPlanText, skipPlanText, planOver};
+
+// The answer, the number that the words of a refusal name, and how many cells were written into the row.
+pub struct Told {
+    pub answer: u8,
+    pub named: u64,
+    pub cells: usize,
+}
+
+// The 2^cap cells of a plan, none of a refusal.
+fn cells_of(answer: u8, cap: u64) -> usize
+    requires { ⌜ (answer ≡ done → cap ≤ countMax) ⌝ }
+    ensures { λ r. ⌜ r ≡ pick (eqb answer done) (2 ^ cap) 0 ⌝ }
+{
+    if answer == DONE {
+        return grid::pow2(cap) as usize;
+    }
+    0
+}
+
+fn padded(floor: u64, cap: u64, count: u64, arrival: u64, row: &mut [u16]) -> Told
+    ensures { λ r. ⌜ Filled (planText floor cap count arrival (now (row .entry))) r (now (row .exit)) ⌝ }
+{
+    let answer = plan::plan(floor, cap, count, arrival, row);
+    let named = words::missed(answer, floor, cap);
+    let cells = cells_of(answer, cap);
+    Told {
+        answer,
+        named,
+        cells,
+    }
+}
+
+fn small(floor: u64, cap: u64, count: u64, arrival: u64, row: &mut [u16]) -> Told
+    ensures { λ r. ⌜ Filled (romPlanText floor cap count arrival (now (row .entry))) r (now (row .exit)) ⌝ }
+{
+    let answer = rom::plans::plan(floor, cap, count, arrival, row);
+    let named = words::missed(answer, floor, cap);
+    let cells = cells_of(answer, cap);
+    Told {
+        answer,
+        named,
+        cells,
+    }
+}
+
+fn one_less(count: u64) -> u64
+    ensures { λ r. ⌜ r ≡ count - 1 ⌝ }
+{
+    if count < 1 {
+        return 0;
+    }
+    count - 1
+}
+
+// A skip-forward title of a count has 2^(count-1) blocks.
+fn forward(count: u64, arrival: u64, row: &mut [u16]) -> Told
+    ensures { λ r. ⌜ Filled (skipPlanText count arrival (now (row .entry))) r (now (row .exit)) ⌝ }
+{
+    let answer = skipping::skip_plan(count, arrival, row);
+    let cells = cells_of(answer, one_less(count));
+    Told {
+        answer,
+        named: 0,
+        cells,
+    }
+}
+
+// By the line's command, into a row that is lent.
+pub fn fill(line: Line, row: &mut [u16]) -> Told
+    ensures { λ r. ⌜ Filled (planOver line (now (row .entry))) r (now (row .exit)) ⌝ }
+{
+    let command = line.command;
+    let n = line.numbers;
+    if command == commands::SKIP_PLAN {
+        return forward(n[0], n[1], row);
+    }
+    if command == commands::ROM_PLAN {
+        return small(n[0], n[1], n[2], n[3], row);
+    }
+    padded(n[0], n[1], n[2], n[3], row)
+}

@@ -1,0 +1,94 @@
+-- `console_pools::moves::put_rows` meets its contract: the planner's list stands behind its answer.
+use Rattle.text.specs.Output.{page}
+use Rattle.console_pools.proofs.Listed.{room-for, planner-told, planner-refused}
+use borrow.Author.Needs.{needs}
+use Rattle.console_pools.proofs.moves.put_rows.Statement.{statement}
+use Rattle.console_pools.proofs.moves.put_rows.Tie as tie
+
+-- the planner's call, seen from where its answer is put: the three rows come back between
+abbrev asked : tie.After-put-done → tie.After-planner
+asked at-put-done =
+    let rows-back = at-put-done .before .before .before in
+    rows-back .before .before .before .before .before
+
+-- the function's start, seen from the planner's call: the rows are lent between
+abbrev start : tie.After-planner → tie.Start
+start at-planner =
+    let rows-lent = at-planner .before .before .before .before .before in
+    rows-lent .before .before .before .before
+
+planner-requires : tie.Need-planner-requires
+planner-requires c κs = search needs
+
+put-done-requires : tie.Need-put-done-requires
+put-done-requires c κs = search needs
+
+put-moves-requires : tie.Need-put-moves-requires
+put-moves-requires c κs =
+    let at-put-done = c .before .before .before .before .before .before .before in
+    let at-planner = asked at-put-done in
+    let x = start at-planner .args in
+    room-for (x .s) (x .time) (x .rates .now) (x .ids .now) (x .times .now) (x .counts .now) _ _ _ _ _
+    (at-planner .planner .ensures)
+
+same-length : tie.Need-same-length
+same-length c = search needs
+
+same-length-2 : tie.Need-same-length-2
+same-length-2 c = search needs
+
+same-length-3 : tie.Need-same-length-3
+same-length-3 c = search needs
+
+same-length-4 : tie.Need-same-length-4
+same-length-4 c = search needs
+
+returns : tie.Need-returns
+returns c =
+    let at-put-moves = c .before .before in
+    let at-if1 = at-put-moves .before .before .before .before .before in
+    let at-put-done = at-if1 .before .before .before in
+    let at-planner = asked at-put-done in
+    let x = start at-planner .args in
+    planner-told (x .s) (x .time) (x .rates .now) (x .ids .now) (x .times .now) (x .counts .now) _ _ _ _ _
+    (at-planner .planner .ensures) (page (x .out .now) (x .at)) _ _ (at-put-done .put-done .ensures)
+    (at-if1 .if1 .taken) (at-put-moves .put-moves .ensures)
+
+same-length-5 : tie.Need-same-length-5
+same-length-5 c = search needs
+
+same-length-6 : tie.Need-same-length-6
+same-length-6 c = search needs
+
+same-length-7 : tie.Need-same-length-7
+same-length-7 c = search needs
+
+same-length-8 : tie.Need-same-length-8
+same-length-8 c = search needs
+
+returns-2 : tie.Need-returns-2
+returns-2 c =
+    let at-put-done = c .before .before .before in
+    let at-planner = asked at-put-done in
+    let x = start at-planner .args in
+    let p = page (x .out .now) (x .at) in
+    planner-refused (x .s) (x .time) (x .rates .now) (x .ids .now) (x .times .now) (x .counts .now) _ _ _ _ _
+    (at-planner .planner .ensures) p _ p (at-put-done .put-done .ensures) (c .if1 .left)
+
+pub put-rows-spec : {M : Type 1} → statement M
+put-rows-spec =
+    tie.close
+    (tie.spec
+    planner-requires
+    put-done-requires
+    put-moves-requires
+    same-length
+    same-length-2
+    same-length-3
+    same-length-4
+    returns
+    same-length-5
+    same-length-6
+    same-length-7
+    same-length-8
+    returns-2)

@@ -1,0 +1,4 @@
+-- The questions over a whole pool.
+pub mod Titles
+pub mod Shares
+pub mod Moves

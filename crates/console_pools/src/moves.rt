@@ -1,0 +1,123 @@
+// What the planner lists.
+
+use crate::columns::column;
+use console_answers::entries::put_entry;
+use console_answers::outcomes;
+use console_lines::commands::ROOM_MOST;
+use console_lines::commands::TITLES_MOST;
+use console_lines::lines::NUMBERS_MOST;
+use rules::DONE;
+use story::State;
+ghost use mathlib.Core.Path.{_≡_};
+ghost use Prim.Native.Nat.{_-_, _≤_, min};
+ghost use lib.ListN.{length};
+ghost use Rattle.console_lines.specs.Commands.{titlesMost, roomMost};
+ghost use Rattle.planner.specs.Outcome.{roomOf};
+ghost use Rattle.text.specs.Output.{Written};
+ghost use Rattle.console_pools.specs.Moves.{plannerText, plannerIn, moveEntry, movesText};
+
+// A listed change: title, time and count.
+fn put_move(out: &mut [u8], at: usize, id: u64, time: u64, count: u64) -> usize
+    ensures { λ r. ⌜ Written (now (out .entry)) at (moveEntry id time count) (now (out .exit)) r ⌝ }
+{
+    let a = put_entry(out, at, id);
+    let b = put_entry(out, a, time);
+    put_entry(out, b, count)
+}
+
+// The first n listed changes.
+pub fn put_moves(
+    out: &mut [u8],
+    at: usize,
+    ids: &[u64],
+    times: &[u64],
+    counts: &[u64],
+    n: usize,
+) -> usize
+    requires { ⌜ (n ≤ length (now ids)) × ((n ≤ length (now times)) × (n ≤ length (now counts))) ⌝ }
+    ensures { λ r. ⌜ Written (now (out .entry)) at
+        (movesText (now (ids .entry)) (now (times .entry)) (now (counts .entry)) n) (now (out .exit)) r ⌝ }
+{
+    let mut place = at;
+    let mut i = 0;
+    while i < n {
+        place = put_move(out, place, ids[i], times[i], counts[i]);
+        i += 1;
+    }
+    place
+}
+
+// Into rows that are lent.
+fn put_rows(
+    out: &mut [u8],
+    at: usize,
+    s: State,
+    time: u64,
+    rates: &[u32],
+    ids: &mut [u64],
+    times: &mut [u64],
+    counts: &mut [u64],
+) -> usize
+    ensures { λ r. ⌜ Written (now (out .entry)) at
+        (plannerText s time (now (rates .entry)) (roomOf (now (ids .entry)) (now (times .entry)) (now (counts .entry))))
+        (now (out .exit)) r ⌝ }
+{
+    let listed = planner::planner(s, time, rates, ids, times, counts);
+    let answer = listed.answer;
+    let a = outcomes::put_done(out, at, answer, 0);
+    if answer == DONE {
+        return put_moves(out, a, ids, times, counts, listed.many as usize);
+    }
+    a
+}
+
+// How many rates follow the time and the room, up to the most.
+fn rates_of(count: usize) -> usize
+    ensures { λ r. ⌜ (r ≡ min (count - 2) titlesMost) × (r ≤ titlesMost) ⌝ }
+{
+    if count < 2 {
+        return 0;
+    }
+    if 2 + TITLES_MOST < count {
+        return TITLES_MOST;
+    }
+    count - 2
+}
+
+// As many places as are asked for, up to the most.
+fn room_for(room: u64) -> usize
+    ensures { λ r. ⌜ (r ≡ min room roomMost) × (r ≤ roomMost) ⌝ }
+{
+    if room < ROOM_MOST as u64 {
+        return room as usize;
+    }
+    ROOM_MOST
+}
+
+// The numbers of the line: a time, a room for the list, and rates up to its count.
+pub fn put_planner(
+    out: &mut [u8],
+    at: usize,
+    s: State,
+    numbers: [u64; NUMBERS_MOST],
+    count: usize,
+) -> usize
+    ensures { λ r. ⌜ Written (now (out .entry)) at (plannerIn s numbers count) (now (out .exit)) r ⌝ }
+{
+    let n = rates_of(count);
+    let room = room_for(numbers[1]);
+    let rates = column(&numbers, 2, 1);
+    let mut ids = [0u64; ROOM_MOST];
+    let mut times = [0u64; ROOM_MOST];
+    let mut counts = [0u64; ROOM_MOST];
+    put_rows(
+        out,
+        at,
+        s,
+        numbers[0],
+        &rates[..n],
+        &mut ids[..room],
+        &mut times[..room],
+        &mut counts[..room],
+    )
+}
