@@ -8,6 +8,10 @@ use Rattle.text.specs.Bytes.{isSort, run, runEnd}
 use Rattle.text.specs.Numbers.{amount, tooLarge}
 use Rattle.text.specs.Texts.{text, same}
 use Rattle.console_lines.specs.Commands.{
+  commandTable,
+  commandOf,
+  nameOf,
+  seek,
   verbOf,
   leastOf,
   mostOf,
@@ -15,7 +19,6 @@ use Rattle.console_lines.specs.Commands.{
   takesHex,
   takesKind,
   asksPlan,
-  limitsOf,
   limitOf,
   crowded,
   oversized,
@@ -42,7 +45,7 @@ unfoldable pub told : Line → List ℕ
 told l = l .command ∷ l .fault ∷ l .place ∷ take (l .count) (l .numbers)
 
 unfoldable pub each : List String → List (List ℕ)
-unfolding told isSort run runEnd amount tooLarge text same verbOf leastOf mostOf enough takesHex takesKind asksPlan limitsOf
+unfolding told isSort run runEnd amount tooLarge text same commandTable commandOf nameOf seek verbOf leastOf mostOf enough takesHex takesKind asksPlan
     limitOf crowded oversized blank withFault ended goOn withNumber withKind withHex wordAt withWord step withVerb begun
     readOn meaning
 each [] = []
@@ -114,7 +117,7 @@ meanings =
 
 -- the lines above, one after the other, mean what the list says
 pub shown : each lines ≡ meanings
-unfolding told each isSort run runEnd amount tooLarge text same verbOf leastOf mostOf enough takesHex takesKind asksPlan limitsOf
+unfolding told each isSort run runEnd amount tooLarge text same commandTable commandOf nameOf seek verbOf leastOf mostOf enough takesHex takesKind asksPlan
     limitOf crowded oversized blank withFault ended goOn withNumber withKind withHex wordAt withWord step withVerb begun
     readOn meaning
 shown = refl

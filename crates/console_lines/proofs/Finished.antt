@@ -6,7 +6,7 @@ use mathlib.Core.Bool.{Bool, true, false}
 use mathlib.Core.List.{List}
 use native.Mathlib.Omega.{arith}
 use borrow.Author.Tests.{leb-false, leb-true, eqb-true, eqb-false, ne-eqb}
-use lib.ListN.{length, getD, drop}
+use lib.ListN.{length, drop}
 use lib.Dec.{eqb, leb, ltb}
 use Rattle.rules.specs.Limits.{within}
 use Rattle.rules.specs.Refusals.{pick}
@@ -15,7 +15,7 @@ use Rattle.text.specs.Bytes.{runEnd}
 use Rattle.text.specs.Numbers.{amount, tooLarge}
 use Rattle.console_lines.specs.Commands
 use Rattle.rules.proofs.Tests.{both-l}
-use Rattle.text.proofs.Tables.{up-to, allUpTo}
+use Rattle.console_lines.proofs.Rows.{most-few}
 use Rattle.console_lines.specs.declared.lines.Line.{Line}
 use Rattle.console_lines.specs.Lines.{
   withFault,
@@ -68,8 +68,8 @@ unfolding Commands.oversized
 oversized-known c = pick-case known (Commands.asksPlan c) _ _ (λ e u. omega arith) (λ e u. omega arith)
 
 few : (c : ℕ) → Commands.mostOf c ≤ Commands.wordsMost
-unfolding Commands.mostOf allUpTo
-few c = up-to Commands.wordsMost Commands.mostTable refl c
+unfolding Commands.mostOf
+few c = most-few c
 
 -- ---- each word takes room
 
@@ -109,9 +109,9 @@ kind-falls w l a e h =
     (λ t. stops l Commands.unknownWord a (λ u. omega arith))
 
 hex-one : (c : ℕ) → Commands.takesHex c ≡ true → Commands.mostOf c ≡ 1
-unfolding Commands.takesHex Commands.mostOf
+unfolding Commands.takesHex Commands.mostOf Commands.commandOf Commands.commandTable
 hex-one c e = by-read (eqb c Commands.doRead) refl where
-  by-read : (t : Bool) → eqb c Commands.doRead ≡ t → getD Commands.mostTable c 0 ≡ 1
+  by-read : (t : Bool) → eqb c Commands.doRead ≡ t → Commands.mostOf c ≡ 1
   by-read true q = rw (eqb-true c Commands.doRead q)
   by-read false q = rw (eqb-true c Commands.doNotice (rw q at e))
 

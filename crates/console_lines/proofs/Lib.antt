@@ -2,4 +2,5 @@
 pub mod Reading
 pub mod Examples
 pub mod Unique
+pub mod Rows
 pub mod Finished

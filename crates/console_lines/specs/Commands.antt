@@ -1,14 +1,18 @@
 -- The console's commands, the words that name them, and how many numbers each takes, of which size (docs/CONSOLE.md,
 -- "Commands").
-use Prim.Native.Nat.{ℕ, _+_, _*_, _%_}
+use Prim.Native.Nat.{ℕ, suc, _+_, _*_, _%_}
+use Prim.Native.String.{String}
 use mathlib.Core.Bool.{Bool}
 use mathlib.Core.List.{List, [], _∷_}
-use lib.ListN.{getD}
+use lib.ListN.{getD, take}
 use lib.Dec.{eqb, leb, ltb}
-use Rattle.rules.specs.Limits.{both, either, within, planPlaces, titlesMax}
+use Rattle.rules.specs.Limits.{both, either, planPlaces, titlesMax}
 use Rattle.rules.specs.Refusals.{pick}
 use Rattle.text.specs.Texts.{text, same}
+use Rattle.text.specs.declared.bytes.Sort.the-variants.{Word}
+use Rattle.text.specs.Bytes.{run}
 use Rattle.text.specs.Numbers.{byteMost, fourBytesMost, top}
+use Rattle.console_lines.specs.declared.commands.Command.{Command}
 
 -- a line that asks nothing
 abbrev pub none : ℕ
@@ -93,29 +97,6 @@ writeLift = 24
 abbrev pub writeSkip : ℕ
 writeSkip = 25
 
--- the command that a word names
-unfoldable pub verbOf : List ℕ → ℕ
-verbOf w =
-    pick (same w (text "fresh")) doFresh
-    (pick (same w (text "open")) doOpen
-    (pick (same w (text "change")) doChange
-    (pick (same w (text "close")) doClose
-    (pick (same w (text "hold")) doHold
-    (pick (same w (text "lift")) doLift
-    (pick (same w (text "skip")) doSkip
-    (pick (same w (text "lane")) doLane
-    (pick (same w (text "status")) doStatus
-    (pick (same w (text "plan")) doPlan
-    (pick (same w (text "share")) doShare
-    (pick (same w (text "read")) doRead
-    (pick (same w (text "notice")) doNotice
-    (pick (same w (text "romlane")) doRomLane
-    (pick (same w (text "romplan")) doRomPlan
-    (pick (same w (text "planner")) doPlanner
-    (pick (same w (text "skipplan")) doSkipPlan
-    (pick (same w (text "write")) doWrite
-    (pick (same w (text "help")) doHelp none))))))))))))))))))
-
 -- what a line may name at most: ids of a status, titles of a share and rates of a planner, places of a plan, as many as the
 -- longest has, and places for a planner's list, one for each title. One title or rate more than the product takes, so that
 -- its own refusal is seen
@@ -139,20 +120,79 @@ titleNumbers = 4
 abbrev pub wordsMost : ℕ
 wordsMost = 1 + titleNumbers * titlesMost
 
--- by command: the fewest words after its own, and the most
-abbrev pub leastTable : List ℕ
-leastTable = 0 ∷ 1 ∷ 6 ∷ 3 ∷ 2 ∷ 2 ∷ 2 ∷ 4 ∷ 3 ∷ 1 ∷ 4 ∷ 1 ∷ 1 ∷ 1 ∷ 3 ∷ 4 ∷ 2 ∷ 2 ∷ 2 ∷ 0 ∷ 7 ∷ 4 ∷ 3 ∷ 3 ∷ 3 ∷ 5 ∷ []
+-- no command limits more of its numbers than these
+abbrev pub limited : ℕ
+limited = 7
 
-abbrev pub mostTable : List ℕ
-mostTable =
-    0 ∷ 1 ∷ 6 ∷ 3 ∷ 2 ∷ 2 ∷ 2 ∷ 4 ∷ 3 ∷ (1 + idsMost) ∷ 5 ∷ wordsMost ∷ 1 ∷ 1 ∷ 3 ∷ 5 ∷ (2 + titlesMost)
-    ∷ 3 ∷ 2 ∷ 0 ∷ 7 ∷ 4 ∷ 3 ∷ 3 ∷ 3 ∷ 5 ∷ []
+-- a limit of 0: any value is handed on
+abbrev pub any : ℕ
+any = 0
+
+abbrev pub free : List ℕ
+free = any ∷ any ∷ any ∷ any ∷ any ∷ any ∷ any ∷ []
+
+-- a row: the word, with spaces behind it, and blank where no word alone names the command; the fewest words after it and the
+-- most; and by place the largest value of a number, where a larger one is an error of the line. Of a notice's fields (01,
+-- "Notices"), and of the places lent for a plan and for a planner's list
+abbrev pub row : String → ℕ → ℕ → List ℕ → Command
+row w least most limits = record { word = text w; least = least; most = most; limits = limits }
+
+-- a row for each command, by its number; the last are the kinds of a write
+unfoldable pub commandTable : List Command
+commandTable =
+    row "        " 0 0 free
+    ∷ row "fresh   " 1 1 free
+    ∷ row "open    " 6 6 free
+    ∷ row "change  " 3 3 free
+    ∷ row "close   " 2 2 free
+    ∷ row "hold    " 2 2 free
+    ∷ row "lift    " 2 2 free
+    ∷ row "skip    " 4 4 free
+    ∷ row "lane    " 3 3 free
+    ∷ row "status  " 1 (1 + idsMost) free
+    ∷ row "plan    " 4 5 (any ∷ any ∷ any ∷ any ∷ placesMost ∷ any ∷ any ∷ [])
+    ∷ row "share   " 1 wordsMost free
+    ∷ row "read    " 1 1 free
+    ∷ row "notice  " 1 1 free
+    ∷ row "romlane " 3 3 free
+    ∷ row "romplan " 4 5 (any ∷ any ∷ any ∷ any ∷ placesMost ∷ any ∷ any ∷ [])
+    ∷ row "planner " 2 (2 + titlesMost) (any ∷ roomMost ∷ any ∷ any ∷ any ∷ any ∷ any ∷ [])
+    ∷ row "skipplan" 2 3 (any ∷ any ∷ placesMost ∷ any ∷ any ∷ any ∷ any ∷ [])
+    ∷ row "write   " 2 2 (fourBytesMost ∷ any ∷ any ∷ any ∷ any ∷ any ∷ any ∷ [])
+    ∷ row "help    " 0 0 free
+    ∷ row "        " 7 7 (fourBytesMost ∷ byteMost ∷ top ∷ fourBytesMost ∷ byteMost ∷ byteMost ∷ byteMost ∷ [])
+    ∷ row "        " 4 4 (fourBytesMost ∷ byteMost ∷ top ∷ byteMost ∷ any ∷ any ∷ any ∷ [])
+    ∷ row "        " 3 3 (fourBytesMost ∷ byteMost ∷ top ∷ any ∷ any ∷ any ∷ any ∷ [])
+    ∷ row "        " 3 3 (fourBytesMost ∷ byteMost ∷ top ∷ any ∷ any ∷ any ∷ any ∷ [])
+    ∷ row "        " 3 3 (fourBytesMost ∷ byteMost ∷ top ∷ any ∷ any ∷ any ∷ any ∷ [])
+    ∷ row "        " 5 5 (fourBytesMost ∷ byteMost ∷ top ∷ fourBytesMost ∷ byteMost ∷ any ∷ any ∷ [])
+    ∷ []
+
+-- the row of a command; past the last, that of a line that asks nothing
+abbrev pub nobody : Command
+nobody = row "        " 0 0 free
+
+unfoldable pub commandOf : ℕ → Command
+commandOf c = getD commandTable c nobody
+
+-- the word of a row
+unfoldable pub nameOf : Command → List ℕ
+nameOf r = take (run Word (r .word)) (r .word)
+
+-- the first of the rows from the i-th on whose word is w
+unfoldable pub seek : List ℕ → ℕ → List Command → ℕ
+seek w i [] = none
+seek w i (r ∷ rows) = pick (same w (nameOf r)) i (seek w (suc i) rows)
+
+-- the command that a word names
+unfoldable pub verbOf : List ℕ → ℕ
+verbOf w = seek w 0 commandTable
 
 unfoldable pub leastOf : ℕ → ℕ
-leastOf c = getD leastTable c 0
+leastOf c = commandOf c .least
 
 unfoldable pub mostOf : ℕ → ℕ
-mostOf c = getD mostTable c 0
+mostOf c = commandOf c .most
 
 -- the command may end after n words: sharing after its pool and whole titles, any other from its least on
 unfoldable pub enough : ℕ → ℕ → Bool
@@ -170,27 +210,9 @@ takesKind c n = both (eqb c doWrite) (eqb n 1)
 unfoldable pub asksPlan : ℕ → Bool
 asksPlan c = either (eqb c doPlan) (either (eqb c doSkipPlan) (eqb c doRomPlan))
 
--- the largest value of each number of a command, where a larger one is an error of the line; 0 where any is handed on.
--- Of a notice's fields (01, "Notices"), and of the places lent for a plan and for a planner's list
-unfoldable pub limitsOf : ℕ → List ℕ
-limitsOf c =
-    pick (eqb c doSkipPlan) (0 ∷ 0 ∷ placesMost ∷ 0 ∷ 0 ∷ 0 ∷ 0 ∷ [])
-    (pick (asksPlan c) (0 ∷ 0 ∷ 0 ∷ 0 ∷ placesMost ∷ 0 ∷ 0 ∷ [])
-    (pick (eqb c doWrite) (fourBytesMost ∷ 0 ∷ 0 ∷ 0 ∷ 0 ∷ 0 ∷ 0 ∷ [])
-    (pick (eqb c writeOpen) (fourBytesMost ∷ byteMost ∷ top ∷ fourBytesMost ∷ byteMost ∷ byteMost ∷ byteMost ∷ [])
-    (pick (eqb c writeChange) (fourBytesMost ∷ byteMost ∷ top ∷ byteMost ∷ 0 ∷ 0 ∷ 0 ∷ [])
-    (pick (within writeClose writeLift c) (fourBytesMost ∷ byteMost ∷ top ∷ 0 ∷ 0 ∷ 0 ∷ 0 ∷ [])
-    (pick (eqb c writeSkip) (fourBytesMost ∷ byteMost ∷ top ∷ fourBytesMost ∷ byteMost ∷ 0 ∷ 0 ∷ [])
-    (pick (eqb c doPlanner) (0 ∷ roomMost ∷ 0 ∷ 0 ∷ 0 ∷ 0 ∷ 0 ∷ [])
-    (0 ∷ 0 ∷ 0 ∷ 0 ∷ 0 ∷ 0 ∷ 0 ∷ []))))))))
-
--- no command limits more of its numbers than these
-abbrev pub limited : ℕ
-limited = 7
-
--- of its n-th number, from 0
+-- the largest value of a command's n-th number, from 0
 unfoldable pub limitOf : ℕ → ℕ → ℕ
-limitOf c n = pick (ltb n limited) (getD (limitsOf c) n 0) 0
+limitOf c n = pick (ltb n limited) (getD (commandOf c .limits) n 0) 0
 
 -- what can be wrong with a line
 abbrev pub noFault : ℕ

@@ -2,6 +2,8 @@
 
 use rules::PLAN_PLACES;
 use rules::TITLES_MAX;
+use text::bytes;
+use text::bytes::Sort;
 use text::numbers::BYTE_MOST;
 use text::numbers::FOUR_BYTES_MOST;
 use text::numbers::TOP;
@@ -10,10 +12,10 @@ ghost use Prim.Native.Nat.{_≤_};
 ghost use Rattle.rules.specs.Refusals.{pick};
 ghost use Rattle.text.specs.Texts.{same};
 ghost use Rattle.console_lines.specs.Commands.{
+  commandOf,
+  nameOf,
   verbOf,
-  leastOf,
   mostOf,
-  limitsOf,
   limitOf,
   enough as suffices,
   crowded,
@@ -133,71 +135,223 @@ const PLANNER_MOST: usize = 2 + TITLES_MOST;
 
 const SHARE_MOST: usize = 1 + TITLE_NUMBERS * TITLES_MOST;
 
-// By command: the fewest words after its own, and the most. Read and notice have no number, but HEX, which is a word.
-const LEAST: [usize; COMMANDS] = [
-    0,
-    1,
-    6,
-    3,
-    2,
-    2,
-    2,
-    4,
-    3,
-    1,
-    4,
-    1,
-    1,
-    1,
-    3,
-    4,
-    2,
-    2,
-    2,
-    0,
-    7,
-    4,
-    3,
-    3,
-    3,
-    5,
+// No command limits more of its numbers than these.
+const LIMITED: usize = 7;
+
+// A row: the word, with spaces behind it, and blank where no word alone names the command; the fewest words after it and
+// the most, where read and notice have no number, but HEX, which is a word; and by place the largest value of a number, where
+// a larger one is an error of the line.
+pub struct Command {
+    pub word: [u8; WORD_ROOM],
+    pub least: usize,
+    pub most: usize,
+    pub limits: [u64; LIMITED],
+}
+
+// The longest word has so many letters.
+const WORD_ROOM: usize = 8;
+
+// The limits: any value is handed on, the fields of a notice, the places of a plan, and the room of a planner's list.
+const ANY: u64 = 0;
+
+const SEQUENCE: u64 = FOUR_BYTES_MOST;
+
+const ID: u64 = BYTE_MOST;
+
+const TIME: u64 = TOP;
+
+const LENGTH: u64 = FOUR_BYTES_MOST;
+
+const COUNT: u64 = BYTE_MOST;
+
+const PLACES: u64 = PLACES_MOST as u64;
+
+const ROOM: u64 = ROOM_MOST as u64;
+
+const FREE: [u64; LIMITED] = [ANY; LIMITED];
+
+// A row for each command, by its number.
+const ROWS: [Command; COMMANDS] = [
+    // a line that asks nothing
+    Command {
+        word: *b"        ",
+        least: 0,
+        most: 0,
+        limits: FREE,
+    },
+    Command {
+        word: *b"fresh   ",
+        least: 1,
+        most: 1,
+        limits: FREE,
+    },
+    Command {
+        word: *b"open    ",
+        least: 6,
+        most: 6,
+        limits: FREE,
+    },
+    Command {
+        word: *b"change  ",
+        least: 3,
+        most: 3,
+        limits: FREE,
+    },
+    Command {
+        word: *b"close   ",
+        least: 2,
+        most: 2,
+        limits: FREE,
+    },
+    Command {
+        word: *b"hold    ",
+        least: 2,
+        most: 2,
+        limits: FREE,
+    },
+    Command {
+        word: *b"lift    ",
+        least: 2,
+        most: 2,
+        limits: FREE,
+    },
+    Command {
+        word: *b"skip    ",
+        least: 4,
+        most: 4,
+        limits: FREE,
+    },
+    Command {
+        word: *b"lane    ",
+        least: 3,
+        most: 3,
+        limits: FREE,
+    },
+    Command {
+        word: *b"status  ",
+        least: 1,
+        most: STATUS_MOST,
+        limits: FREE,
+    },
+    Command {
+        word: *b"plan    ",
+        least: 4,
+        most: 5,
+        limits: [ANY, ANY, ANY, ANY, PLACES, ANY, ANY],
+    },
+    Command {
+        word: *b"share   ",
+        least: 1,
+        most: SHARE_MOST,
+        limits: FREE,
+    },
+    Command {
+        word: *b"read    ",
+        least: 1,
+        most: 1,
+        limits: FREE,
+    },
+    Command {
+        word: *b"notice  ",
+        least: 1,
+        most: 1,
+        limits: FREE,
+    },
+    Command {
+        word: *b"romlane ",
+        least: 3,
+        most: 3,
+        limits: FREE,
+    },
+    Command {
+        word: *b"romplan ",
+        least: 4,
+        most: 5,
+        limits: [ANY, ANY, ANY, ANY, PLACES, ANY, ANY],
+    },
+    Command {
+        word: *b"planner ",
+        least: 2,
+        most: PLANNER_MOST,
+        limits: [ANY, ROOM, ANY, ANY, ANY, ANY, ANY],
+    },
+    Command {
+        word: *b"skipplan",
+        least: 2,
+        most: 3,
+        limits: [ANY, ANY, PLACES, ANY, ANY, ANY, ANY],
+    },
+    Command {
+        word: *b"write   ",
+        least: 2,
+        most: 2,
+        limits: [SEQUENCE, ANY, ANY, ANY, ANY, ANY, ANY],
+    },
+    Command {
+        word: *b"help    ",
+        least: 0,
+        most: 0,
+        limits: FREE,
+    },
+    // a write of an opening, and of each other kind: named by two words
+    Command {
+        word: *b"        ",
+        least: 7,
+        most: 7,
+        limits: [SEQUENCE, ID, TIME, LENGTH, COUNT, COUNT, COUNT],
+    },
+    Command {
+        word: *b"        ",
+        least: 4,
+        most: 4,
+        limits: [SEQUENCE, ID, TIME, COUNT, ANY, ANY, ANY],
+    },
+    Command {
+        word: *b"        ",
+        least: 3,
+        most: 3,
+        limits: [SEQUENCE, ID, TIME, ANY, ANY, ANY, ANY],
+    },
+    Command {
+        word: *b"        ",
+        least: 3,
+        most: 3,
+        limits: [SEQUENCE, ID, TIME, ANY, ANY, ANY, ANY],
+    },
+    Command {
+        word: *b"        ",
+        least: 3,
+        most: 3,
+        limits: [SEQUENCE, ID, TIME, ANY, ANY, ANY, ANY],
+    },
+    Command {
+        word: *b"        ",
+        least: 5,
+        most: 5,
+        limits: [SEQUENCE, ID, TIME, LENGTH, COUNT, ANY, ANY],
+    },
 ];
 
-const MOST: [usize; COMMANDS] = [
-    0,
-    1,
-    6,
-    3,
-    2,
-    2,
-    2,
-    4,
-    3,
-    STATUS_MOST,
-    5,
-    SHARE_MOST,
-    1,
-    1,
-    3,
-    5,
-    PLANNER_MOST,
-    3,
-    2,
-    0,
-    7,
-    4,
-    3,
-    3,
-    3,
-    5,
-];
-
-// verb where the word is that name, or other.
-fn named(word: &[u8], name: &[u8], verb: u8, other: u8) -> u8
-    ensures { λ r. ⌜ r ≡ pick (same (now (word .entry)) (now (name .entry))) verb other ⌝ }
+// The row of a command; past the last, that of a line that asks nothing.
+fn entry(command: u8) -> Command
+    ensures { λ r. ⌜ r ≡ commandOf command ⌝ }
 {
-    if check::same(word, name) {
-        return verb;
+    let k = command as usize;
+    if k < COMMANDS {
+        return ROWS[k];
+    }
+    ROWS[0]
+}
+
+// command where the word is its name, or other.
+fn named(word: &[u8], command: u8, other: u8) -> u8
+    ensures { λ r. ⌜ r ≡ pick (same (now (word .entry)) (nameOf (commandOf command))) command other ⌝ }
+{
+    let row = entry(command);
+    let name = row.word;
+    let end = bytes::run_end(&name, 0, Sort::Word);
+    if check::same(word, &name[..end]) {
+        return command;
     }
     other
 }
@@ -206,47 +360,20 @@ fn named(word: &[u8], name: &[u8], verb: u8, other: u8) -> u8
 pub fn verb(word: &[u8]) -> u8
     ensures { λ r. ⌜ r ≡ verbOf (now (word .entry)) ⌝ }
 {
-    let a = named(word, b"help", HELP, NONE);
-    let b = named(word, b"write", WRITE, a);
-    let c = named(word, b"skipplan", SKIP_PLAN, b);
-    let d = named(word, b"planner", PLANNER, c);
-    let e = named(word, b"romplan", ROM_PLAN, d);
-    let f = named(word, b"romlane", ROM_LANE, e);
-    let g = named(word, b"notice", NOTICE, f);
-    let h = named(word, b"read", READ, g);
-    let i = named(word, b"share", SHARE, h);
-    let j = named(word, b"plan", PLAN, i);
-    let k = named(word, b"status", STATUS, j);
-    let l = named(word, b"lane", LANE, k);
-    let m = named(word, b"skip", SKIP, l);
-    let n = named(word, b"lift", LIFT, m);
-    let o = named(word, b"hold", HOLD, n);
-    let p = named(word, b"close", CLOSE, o);
-    let q = named(word, b"change", CHANGE, p);
-    let r = named(word, b"open", OPEN, q);
-    named(word, b"fresh", FRESH, r)
+    let mut found = NONE;
+    let mut left = COMMANDS as u8;
+    while 0 < left {
+        left -= 1;
+        found = named(word, left, found);
+    }
+    found
 }
 
 // The most words that a command takes after its own.
 pub fn most(command: u8) -> usize
     ensures { λ r. ⌜ (r ≡ mostOf command) × (r ≤ wordsMost) ⌝ }
 {
-    let k = command as usize;
-    if k < COMMANDS {
-        return MOST[k];
-    }
-    0
-}
-
-// The fewest.
-pub fn least(command: u8) -> usize
-    ensures { λ r. ⌜ r ≡ leastOf command ⌝ }
-{
-    let k = command as usize;
-    if k < COMMANDS {
-        return LEAST[k];
-    }
-    0
+    entry(command).most
 }
 
 // Whether a command may end after so many words.
@@ -256,7 +383,7 @@ pub fn enough(command: u8, count: usize) -> bool
     if command == SHARE {
         return count % TITLE_NUMBERS == 1;
     }
-    least(command) <= count
+    entry(command).least <= count
 }
 
 // Whether a command's word is HEX.
@@ -292,62 +419,13 @@ pub fn asks_plan(command: u8) -> bool
     command == ROM_PLAN
 }
 
-// No command limits more of its numbers than these.
-const LIMITED: usize = 7;
-
-// By place: the largest value of a command's numbers, 0 where any is handed on.
-fn limits(command: u8) -> [u64; LIMITED]
-    ensures { λ r. ⌜ r ≡ limitsOf command ⌝ }
-{
-    if command == SKIP_PLAN {
-        return [0, 0, PLACES_MOST as u64, 0, 0, 0, 0];
-    }
-    if asks_plan(command) {
-        return [0, 0, 0, 0, PLACES_MOST as u64, 0, 0];
-    }
-    if command == WRITE {
-        return [FOUR_BYTES_MOST, 0, 0, 0, 0, 0, 0];
-    }
-    if command == WRITE_OPEN {
-        return [
-            FOUR_BYTES_MOST,
-            BYTE_MOST,
-            TOP,
-            FOUR_BYTES_MOST,
-            BYTE_MOST,
-            BYTE_MOST,
-            BYTE_MOST,
-        ];
-    }
-    if command == WRITE_CHANGE {
-        return [FOUR_BYTES_MOST, BYTE_MOST, TOP, BYTE_MOST, 0, 0, 0];
-    }
-    if rules::within(WRITE_CLOSE as u64, WRITE_LIFT as u64, command as u64) {
-        return [FOUR_BYTES_MOST, BYTE_MOST, TOP, 0, 0, 0, 0];
-    }
-    if command == WRITE_SKIP {
-        return [
-            FOUR_BYTES_MOST,
-            BYTE_MOST,
-            TOP,
-            FOUR_BYTES_MOST,
-            BYTE_MOST,
-            0,
-            0,
-        ];
-    }
-    if command == PLANNER {
-        return [0, ROOM_MOST as u64, 0, 0, 0, 0, 0];
-    }
-    [0, 0, 0, 0, 0, 0, 0]
-}
-
+// The limit of the n-th number, from 0.
 pub fn limit(command: u8, n: usize) -> u64
     ensures { λ r. ⌜ r ≡ limitOf command n ⌝ }
 {
     if n < LIMITED {
-        let row = limits(command);
-        return row[n];
+        let row = entry(command);
+        return row.limits[n];
     }
     0
 }

@@ -1,26 +1,33 @@
--- `console_lines::commands::limit` meets its contract: an entry of the command's row, and 0 past the row's end.
+-- `console_lines::commands::limit` meets its contract: an entry of the row's limits, and 0 past their end.
+use mathlib.Core.Path.{ap}
 use borrow.Author.Tests.{lt-ltb, le-ltb}
+use lib.ListN.{getD}
+use Rattle.console_lines.specs.declared.commands.Command.{Command}
 use Rattle.console_lines.specs.Commands.{limitOf}
 use borrow.Author.Needs.{needs}
 use Rattle.console_lines.proofs.commands.limit.Statement.{statement}
 use Rattle.console_lines.proofs.commands.limit.Tie as tie
 
-limits-requires : tie.Need-limits-requires
-limits-requires c κs = search needs
+entry-requires : tie.Need-entry-requires
+entry-requires c κs = search needs
 
 mul-result : tie.Need-mul-result
 mul-result c = search needs
 
-array-read-result : tie.Need-array-read-result
-array-read-result c = search needs
+element-copy-out-result : tie.Need-element-copy-out-result
+element-copy-out-result c = search needs
 
 returns : tie.Need-returns
 unfolding limitOf
-returns c = rw (lt-ltb _ _ (c .before .if1 .taken), c .limits .ensures)
+returns c =
+    let at-entry = c .before in
+    rw (lt-ltb _ _ (at-entry .before .if1 .taken))
+    (ap (λ (r : Command). getD (r .limits) (at-entry .before .before .args .n) 0) (at-entry .entry .ensures))
 
 returns-2 : tie.Need-returns-2
 unfolding limitOf
 returns-2 c = rw (le-ltb _ _ (c .if1 .left))
 
 pub limit-spec : {M : Type 1} → statement M
-limit-spec = tie.close (tie.spec limits-requires mul-result array-read-result returns returns-2)
+limit-spec =
+    tie.close (tie.spec entry-requires mul-result element-copy-out-result returns returns-2)
