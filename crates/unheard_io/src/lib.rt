@@ -1,10 +1,10 @@
 // What programs over a log say on standard error where notices of it did not count. No public function has a `requires`.
 
-use words::put_meaning;
 use files::lines::put_line;
 use text::output::put;
 use unheard::Tally;
 use unheard::unheard_in;
+use words::put_meaning;
 ghost use Rattle.text.specs.Output.{Written};
 ghost use Rattle.unheard_io.specs.Line.{missedLine, unheardLine};
 
