@@ -66,11 +66,11 @@ next-soon s x z low = omega (arith, next-is s x z low .soon, z .short, z .early)
 -- ---- the stretch of a title
 
 pub stretch-spaced : (t : Title) (a b : ℕ) → Playing t → Exactly (schemeIn t .slotOf (t .count)) 1 (2 ^ countMax) a →
-    Exactly (titleTick t) 1 (t .length) b
+    Exactly (titleTick t) 1 (t .film .length) b
     → (spacedAt (t .opened) (a * b) (t .last) ≡ stretchOf t) × Spaced (spacedAt (t .opened) (a * b) (t .last))
 unfolding stretchOf
 stretch-spaced t a b p x y =
-    let m = slot-ms a b (t .length) (x .low) (x .high) (y .low) (y .high) (p .sized .high) in (
+    let m = slot-ms a b (t .film .length) (x .low) (x .high) (y .low) (y .high) (p .sized .high) in (
       rw (x .is, y .is),
       record { some = m .0; short = m .1; since = p .since; early = p .early },
     )

@@ -55,9 +55,9 @@ pub record Few (n : ℕ) (w : Waits) : Type 0 where
 
 -- the numbers of an open title
 pub record Playing (t : Title) : Type 0 where
-  pub sized : Length (t .length)
-  pub cut : FloorCap (t .floor) (t .cap)
-  pub fit : t .count ≤ t .cap
+  pub sized : Length (t .film .length)
+  pub cut : FloorCap (t .film .floor) (t .film .cap)
+  pub fit : t .count ≤ t .film .cap
   pub since : t .opened ≤ t .last
   pub early : t .last ≤ eventTimeMax
 

@@ -112,8 +112,8 @@ fn stretch_of(t: Title) -> Stretch
     requires { ⌜ Playing t ⌝ }
     ensures { λ r. ⌜ (r ≡ stretchOf t) × Spaced r ⌝ }
 {
-    let slot = scheme::slot(t.kind, t.floor, t.cap, t.count)
-        * scheme::tick(t.kind, t.length, t.floor, t.cap);
+    let slot = scheme::slot(t.film.kind, t.film.floor, t.film.cap, t.count)
+        * scheme::tick(t.film.kind, t.film.length, t.film.floor, t.film.cap);
     Stretch {
         opened: t.opened,
         slot: slot,

@@ -6,7 +6,8 @@ use mathlib.Core.List.{List}
 use Prim.Native.Nat.{ℕ}
 use Rattle.story.specs.Kept.{lanesHeld}
 use Rattle.story.specs.Calls.{laneAnswer, laneShows, statusAnswer, statusCount, statusHeld, statusMark}
-use Rattle.story.specs.Story.{Event, accepted}
+use Rattle.story.specs.declared.Event.{Event}
+use Rattle.story.specs.Story.{accepted}
 use Rattle.story.specs.Runs.{stateAfter, lanesOf}
 use Rattle.story.proofs.Demands.{every-run, left-alone}
 use Rattle.agent.specs.Series.{agentAfter, eventsHeard}

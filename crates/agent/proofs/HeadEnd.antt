@@ -21,8 +21,12 @@ use Rattle.notice.proofs.RoundTrip.{written-reads}
 use Rattle.notice.proofs.Typed.{typed-fits}
 use Rattle.notice.proofs.Through.{log-read}
 use Rattle.scheme.specs.Scheme.{paddedKind, steadyKind}
-use Rattle.story.specs.Story.{Act, opens, changes, closes, doors, Event, event, answer, accepted, Accepted, none}
-use Rattle.story.specs.Story.{more, withinLimits, openLimits, skipLimits, kindLimits, actLimits}
+use Rattle.story.specs.declared.Film.{Film}
+use Rattle.story.specs.declared.Act.{Act}
+use Rattle.story.specs.declared.Act.the-variants.{Opens, Changes, Closes, Doors}
+use Rattle.story.specs.declared.Event.{Event}
+use Rattle.story.specs.Story.{event, filmOf, answer, accepted, Accepted, none}
+use Rattle.story.specs.Story.{more, withinLimits, paddedLimits, steadyLimits, filmLimits, actLimits}
 use Rattle.story.specs.Runs.{stateAfter, lanesOf}
 use Rattle.story.proofs.Passed.{in-limits}
 use Rattle.story.proofs.Reached.{accepted-is, accepted-all}
@@ -34,36 +38,36 @@ use Rattle.agent.proofs.Alike.{alike}
 use Rattle.agent.proofs.Played.{heard-alike}
 
 -- the numbers of an opening within their limits fit the fields of its kind of notice
-opening-typed : (D A K k : ℕ) (t : Bool) → pick t (skipLimits D A K k) (openLimits D A K k) ≡ true →
-    KindTyped (pick t (Skip D k) (Open D A K k))
-opening-typed D A K k true h =
-    let D-high : D ≤ lengthMax = search (both-l, both-r, leb-true) depth 12 in
+opening-typed : (f : Film) (k : ℕ) (t : Bool) → pick t (steadyLimits f k) (paddedLimits f k) ≡ true →
+    KindTyped (pick t (Skip (f .length) k) (Open (f .length) (f .floor) (f .cap) k))
+opening-typed f k true h =
+    let D-high : (f .length) ≤ lengthMax = search (both-l, both-r, leb-true) depth 12 in
     let k-high : k ≤ steadyMax = search (both-l, both-r, leb-true) depth 12 in
     (omega arith, omega arith)
-opening-typed D A K k false h =
-    let D-high : D ≤ lengthMax = search (both-l, both-r, leb-true) depth 12 in
-    let A-high : A ≤ floorMax = search (both-l, both-r, leb-true) depth 12 in
-    let K-high : K ≤ countMax = search (both-l, both-r, leb-true) depth 12 in
+opening-typed f k false h =
+    let D-high : (f .length) ≤ lengthMax = search (both-l, both-r, leb-true) depth 12 in
+    let A-high : (f .floor) ≤ floorMax = search (both-l, both-r, leb-true) depth 12 in
+    let K-high : (f .cap) ≤ countMax = search (both-l, both-r, leb-true) depth 12 in
     let k-high : k ≤ countMax = search (both-l, both-r, leb-true) depth 12 in
     (omega arith, (omega arith, (omega arith, omega arith)))
 
 -- and so do those of any event
 act-typed : (a : Act) (b : Bool) → actLimits a b ≡ true → KindTyped (kindFor a)
-act-typed (opens m D A K k) b h =
-    opening-typed D A K k (eqb m steadyKind)
-    (both-r (leb m steadyKind) (pick (eqb m steadyKind) (skipLimits D A K k) (openLimits D A K k)) (both-r b (kindLimits m D A K k) h))
-act-typed (changes k) b h =
+act-typed (Opens f k) b h =
+    opening-typed f k (eqb (f .kind) steadyKind)
+    (both-r (leb (f .kind) steadyKind) (pick (eqb (f .kind) steadyKind) (steadyLimits f k) (paddedLimits f k)) (both-r b (filmLimits f k) h))
+act-typed (Changes k) b h =
     let k-high : k ≤ countMax = search (both-l, both-r, leb-true) depth 12 in
     omega arith
-act-typed closes b h = tt
-act-typed (doors true) b h = tt
-act-typed (doors false) b h = tt
+act-typed Closes b h = tt
+act-typed (Doors true) b h = tt
+act-typed (Doors false) b h = tt
 
 named : (a : Act) (e : Event) → actLimits a (withinLimits e) ≡ true → withinLimits e ≡ true
-named (opens m D A K k) e h = both-l (withinLimits e) (kindLimits m D A K k) h
-named (changes k) e h = both-l (withinLimits e) (within countMin countMax k) h
-named closes e h = h
-named (doors b) e h = h
+named (Opens f k) e h = both-l (withinLimits e) (filmLimits f k) h
+named (Changes k) e h = both-l (withinLimits e) (within countMin countMax k) h
+named Closes e h = h
+named (Doors b) e h = h
 
 typed : (lanes : ℕ) (es : List Event) (e : Event) (q : ℕ) → q < 2 ^ 32 → answer lanes es e ≡ 0 → Typed (noticeFor q e)
 typed lanes es e q small h =
@@ -83,29 +87,29 @@ below-one zero low not-one = refl
 below-one (suc m) low not-one = absurd (not-one (omega arith))
 
 -- what the notice of an opening does is that opening: a skip-forward title has its count for floor and cap
-same-opening : (m D A K k : ℕ) (t : Bool) → eqb m steadyKind ≡ t → m ≤ steadyKind →
-    pick t (skipLimits D A K k) (openLimits D A K k) ≡ true → actOf (pick t (Skip D k) (Open D A K k)) ≡ opens m D A K k
-same-opening m D A K k true e low h =
-    let is : m ≡ steadyKind = eqb-true m steadyKind e in
-    let floor : A ≡ k = eqb-true A k (search (both-l, both-r) depth 12) in
-    let cap : K ≡ k = eqb-true K k (search (both-l, both-r) depth 12) in
-    sym (λ i. opens (is i) D (floor i) (cap i) k)
-same-opening m D A K k false e low h =
-    let not-steady : m ≡ steadyKind → ⊥ = eqb-false m steadyKind e in
-    let is : m ≡ paddedKind = below-one m low not-steady in
-    sym (ap (λ x. opens x D A K k) is)
+same-opening : (f : Film) (k : ℕ) (t : Bool) → eqb (f .kind) steadyKind ≡ t → (f .kind) ≤ steadyKind →
+    pick t (steadyLimits f k) (paddedLimits f k) ≡ true → actOf (pick t (Skip (f .length) k) (Open (f .length) (f .floor) (f .cap) k)) ≡ Opens f k
+same-opening f k true e low h =
+    let is : (f .kind) ≡ steadyKind = eqb-true (f .kind) steadyKind e in
+    let floor : (f .floor) ≡ k = eqb-true (f .floor) k (search (both-l, both-r) depth 12) in
+    let cap : (f .cap) ≡ k = eqb-true (f .cap) k (search (both-l, both-r) depth 12) in
+    sym (λ i. Opens (filmOf (is i) (f .length) (floor i) (cap i)) k)
+same-opening f k false e low h =
+    let not-steady : (f .kind) ≡ steadyKind → ⊥ = eqb-false (f .kind) steadyKind e in
+    let is : (f .kind) ≡ paddedKind = below-one (f .kind) low not-steady in
+    sym (ap (λ x. Opens (filmOf x (f .length) (f .floor) (f .cap)) k) is)
 
 -- the event of the notice of an event within its limits is that event
 same-act : (a : Act) (b : Bool) → actLimits a b ≡ true → actOf (kindFor a) ≡ a
-same-act (opens m D A K k) b h =
-    let of-kind : kindLimits m D A K k ≡ true = both-r b (kindLimits m D A K k) h in
-    let nums = pick (eqb m steadyKind) (skipLimits D A K k) (openLimits D A K k) in
-    same-opening m D A K k (eqb m steadyKind) refl (leb-true m steadyKind (both-l (leb m steadyKind) nums of-kind))
-    (both-r (leb m steadyKind) nums of-kind)
-same-act (changes k) b h = refl
-same-act closes b h = refl
-same-act (doors true) b h = refl
-same-act (doors false) b h = refl
+same-act (Opens f k) b h =
+    let of-kind : filmLimits f k ≡ true = both-r b (filmLimits f k) h in
+    let nums = pick (eqb (f .kind) steadyKind) (steadyLimits f k) (paddedLimits f k) in
+    same-opening f k (eqb (f .kind) steadyKind) refl (leb-true (f .kind) steadyKind (both-l (leb (f .kind) steadyKind) nums of-kind))
+    (both-r (leb (f .kind) steadyKind) nums of-kind)
+same-act (Changes k) b h = refl
+same-act Closes b h = refl
+same-act (Doors true) b h = refl
+same-act (Doors false) b h = refl
 
 pub same-event : (lanes : ℕ) (es : List Event) (q : ℕ) (e : Event) → answer lanes es e ≡ 0 → eventOf (noticeFor q e) ≡ e
 same-event lanes es q e h =

@@ -11,10 +11,12 @@ use Rattle.rules.specs.Search.{some, first, howMany, after, total}
 use Rattle.grid.specs.Ticks.{tickOf, roundedUp, slot, cellOf}
 use Rattle.grid.specs.Channels.{floorRem, shift, segment, channelCell}
 use Rattle.grid.specs.Lanes.{isInG, isAdded, addedChannel, laneCell}
-use Rattle.scheme.specs.Scheme.{paddedKind, schemeOf, starts, takes, takesFrom, tickFor, filmIn}
+use Rattle.scheme.specs.Scheme.{schemeOf, starts, takes, takesFrom, tickFor, filmIn}
 use Rattle.story.specs.Life.{isAdmission, isActive, droppedAt, isAwaited, isOwed, reach, owedWithin, isNth, nthOwed}
 use Rattle.story.specs.Life.{sends, onAir, isHeld}
-use Rattle.story.specs.Story.{tickIn, lifeOf, latestOf, tunedOf, heldIn, heldOver, answerTo, opens, changes, Event}
+use Rattle.story.specs.declared.Act.the-variants.{Changes}
+use Rattle.story.specs.declared.Event.{Event}
+use Rattle.story.specs.Story.{opens, tickIn, lifeOf, latestOf, tunedOf, heldIn, heldOver, answerTo}
 use Rattle.story.specs.Story.{event, accepted}
 use Rattle.story.specs.Runs.{stateAfter}
 use Rattle.notice.specs.declared.Notice.{Notice}
@@ -125,7 +127,7 @@ caught-up =
 
 -- and a head-end with those events is in its state
 abbrev calls : List Event
-calls = event 0 8 (changes 3) ∷ event 0 4 (changes 4) ∷ event 0 0 (opens paddedKind 12 2 4 3) ∷ []
+calls = event 0 8 (Changes 3) ∷ event 0 4 (Changes 4) ∷ event 0 0 (opens 12 2 4 3) ∷ []
 
 same-events : accepted 8 calls ≡ eventsHeard 8 overtaken
 unfolding accepted heard answerTo firstHit lifeOf latestOf tunedOf heldOver heldIn tickIn total howMany isHeld onAir isActive droppedAt after sends nthOwed isNth owedWithin isOwed isAwaited isAdmission reach some first takes takesFrom schemeOf laneCell addedChannel isAdded isInG channelCell segment shift floorRem cellOf slot starts tickFor tickOf filmIn roundedUp readOf noticeIn kindIn valueAt standsTo rowStands headStands numberAt startOf spanOf table bigEndian bytesOf bytesTo rowBytes fieldBytes

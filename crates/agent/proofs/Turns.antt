@@ -21,16 +21,6 @@ use Rattle.agent.specs.Turns.{actOf, eventOf, noticeAnswer, noticed, Sto
 abbrev pub agentOf : ℕ → State → Agent
 agentOf n s = record { sequence = n; state = s }
 
--- what a call answers and leaves, by the notice's kind
-pub enacts : (s : State) (n : Notice) (k : Kind) (a : ℕ) (t : State) → n .kind ≡ k →
-    a ≡ callAnswer s (n .title) (n .time) (actOf k) →
-    t ≡ pick (eqb (callAnswer s (n .title) (n .time) (actOf k)) 0) (callNext s (n .title) (n .time) (actOf k)) s →
-    (a ≡ answered s (eventOf n)) × (t ≡ called s (eventOf n))
-enacts s n k a t e p q = (
-  p ∙ sym (ap (λ x. callAnswer s (n .title) (n .time) (actOf x)) e),
-  q ∙ sym (ap (λ x. pick (eqb (callAnswer s (n .title) (n .time) (actOf x)) 0) (callNext s (n .title) (n .time) (actOf x)) s) e),
-)
-
 -- what an agent makes of a notice
 abbrev pub Turn : Agent → Notice → ℕ → Agent → Type 0
 Turn g n a h = (a ≡ noticeAnswer g (reading.Whole n)) × (h ≡ noticed g (reading.Whole n))

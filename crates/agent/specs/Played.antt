@@ -8,7 +8,8 @@ use Rattle.notice.specs.Decode.{readOf}
 use Rattle.notice.specs.Log.{noticesOf}
 use Rattle.agent.specs.declared.Agent.{Agent}
 use Rattle.story.specs.Life.{Life}
-use Rattle.story.specs.Story.{Event, lifeOf}
+use Rattle.story.specs.declared.Event.{Event}
+use Rattle.story.specs.Story.{lifeOf}
 use Rattle.story.specs.Runs.{lanesOf}
 use Rattle.agent.specs.Turns.{eventOf, freshAgent, noticed}
 use Rattle.agent.specs.Series.{hearing}

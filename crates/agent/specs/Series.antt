@@ -17,7 +17,10 @@ use Rattle.notice.specs.Encode.{bytesOf}
 use Rattle.notice.specs.Decode.{readOf}
 use Rattle.notice.specs.Log.{logOf}
 use Rattle.scheme.specs.Scheme.{steadyKind}
-use Rattle.story.specs.Story.{Act, opens, changes, closes, doors, Event, upTo, answer}
+use Rattle.story.specs.declared.Act.{Act}
+use Rattle.story.specs.declared.Act.the-variants.{Opens, Changes, Closes, Doors}
+use Rattle.story.specs.declared.Event.{Event}
+use Rattle.story.specs.Story.{upTo, answer}
 use Rattle.story.specs.Runs.{lanesOf, Reached}
 use Rattle.agent.specs.declared.Agent.{Agent}
 use Rattle.agent.specs.Turns.{eventOf, freshAgent, noticed}
@@ -40,11 +43,11 @@ heard lanes (bs ∷ bss) = hearing lanes (heard lanes bss) (readOf bs)
 
 -- the notice that a head-end writes of an event that it accepted, with its sequence
 abbrev pub kindFor : Act → Kind
-kindFor (opens m D A K k) = pick (eqb m steadyKind) (Skip D k) (Open D A K k)
-kindFor (changes k) = Change k
-kindFor closes = Close
-kindFor (doors true) = Hold
-kindFor (doors false) = Lift
+kindFor (Opens f k) = pick (eqb (f .kind) steadyKind) (Skip (f .length) k) (Open (f .length) (f .floor) (f .cap) k)
+kindFor (Changes k) = Change k
+kindFor Closes = Close
+kindFor (Doors true) = Hold
+kindFor (Doors false) = Lift
 
 abbrev pub noticeFor : ℕ → Event → Notice
 noticeFor q e = record { sequence = q; title = e .title; time = e .time; kind = kindFor (e .act) }

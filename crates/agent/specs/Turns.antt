@@ -8,25 +8,27 @@ use Rattle.notice.specs.declared.Kind.{Kind}
 use Rattle.notice.specs.declared.Kind.the-variants.{Open, Change, Close, Hold, Lift, Skip}
 use Rattle.notice.specs.declared.Reading.{Reading}
 use Rattle.notice.specs.declared.Reading.the-variants as reading
-use Rattle.scheme.specs.Scheme.{paddedKind}
 use Rattle.story.specs.Calls.{freshNext}
-use Rattle.story.specs.Story.{Act, opens, skips, changes, closes, holds, lifts, Event}
+use Rattle.story.specs.declared.Act.{Act}
+use Rattle.story.specs.declared.Act.the-variants.{Changes, Closes}
+use Rattle.story.specs.declared.Event.{Event}
+use Rattle.story.specs.Story.{event, opens, skips, holds, lifts}
 use Rattle.story.specs.Next.{callNext}
 use Rattle.story.specs.Runs.{answered}
 use Rattle.agent.specs.declared.Agent.{Agent}
 
 -- what a notice's kind does
 abbrev pub actOf : Kind → Act
-actOf (Open d a k n) = opens paddedKind d a k n
-actOf (Change n) = changes n
-actOf Close = closes
+actOf (Open d a k n) = opens d a k n
+actOf (Change n) = Changes n
+actOf Close = Closes
 actOf Hold = holds
 actOf Lift = lifts
 actOf (Skip d n) = skips d n
 
 -- the event that a notice carries
 abbrev pub eventOf : Notice → Event
-eventOf n = record { time = n .time; title = n .title; act = actOf (n .kind) }
+eventOf n = event (n .title) (n .time) (actOf (n .kind))
 
 -- a fresh agent has accepted nothing; a refused one has a pool of 0 lanes
 abbrev pub freshAgent : ℕ → Agent

@@ -8,13 +8,20 @@ use rules::DONE;
 use rules::MALFORMED;
 use rules::OUT_OF_TURN;
 use scheduler::Outcome;
+use scheduler::call;
+use scheduler::event_at;
+use scheduler::opening;
+use scheme::PADDED;
+use scheme::STEADY;
+use story::Act;
+use story::Event;
 use story::State;
 ghost use mathlib.Core.Path.{_≡_};
 ghost use Rattle.notice.specs.declared.Reading.the-variants as reading;
 ghost use Rattle.notice.specs.Decode.{readOf};
 ghost use Rattle.story.specs.Calls.{freshAnswer};
 ghost use Rattle.story.specs.Runs.{answered, called};
-ghost use Rattle.agent.specs.Turns.{eventOf, freshAgent, noticeAnswer, noticed};
+ghost use Rattle.agent.specs.Turns.{actOf, eventOf, freshAgent, noticeAnswer, noticed};
 
 pub struct Agent {
     // the sequence of the last notice that it accepted, 0 when fresh
@@ -51,34 +58,52 @@ pub fn fresh_agent(pool: u64) -> Followed
     }
 }
 
-// The event of a notice, put to the scheduler whether or not it is the notice's turn.
-pub fn enact(s: State, n: Notice) -> Outcome
-    ensures { λ r. ⌜ (r .answer ≡ answered s (eventOf n)) × (r .state ≡ called s (eventOf n)) ⌝ }
+// What a notice's kind does.
+fn act_of(kind: Kind) -> Act
+    ensures { λ r. ⌜ r ≡ actOf kind ⌝ }
 {
-    let id = n.title as u64;
-    let time = n.time;
-    let kind = n.kind;
     match kind {
         Kind::Open {
             length,
             floor,
             cap,
             count,
-        } => scheduler::open(
-            s,
-            id,
-            time,
+        } => opening(
+            PADDED,
             length as u64,
             floor as u64,
             cap as u64,
             count as u64,
         ),
-        Kind::Change { count } => scheduler::change(s, id, time, count as u64),
-        Kind::Close => scheduler::close(s, id, time),
-        Kind::Hold => scheduler::hold(s, id, time),
-        Kind::Lift => scheduler::lift(s, id, time),
-        Kind::Skip { length, count } => scheduler::skip(s, id, time, length as u64, count as u64),
+        Kind::Change { count } => Act::Changes {
+            count: count as u64,
+        },
+        Kind::Close => Act::Closes,
+        Kind::Hold => Act::Doors { held: true },
+        Kind::Lift => Act::Doors { held: false },
+        Kind::Skip { length, count } => opening(
+            STEADY,
+            length as u64,
+            count as u64,
+            count as u64,
+            count as u64,
+        ),
     }
+}
+
+// The event that a notice carries.
+pub fn event_of(n: Notice) -> Event
+    ensures { λ r. ⌜ r ≡ eventOf n ⌝ }
+{
+    let kind = n.kind;
+    event_at(n.title as u64, n.time, act_of(kind))
+}
+
+// The event of a notice, put to the scheduler whether or not it is the notice's turn.
+pub fn enact(s: State, n: Notice) -> Outcome
+    ensures { λ r. ⌜ (r .answer ≡ answered s (eventOf n)) × (r .state ≡ called s (eventOf n)) ⌝ }
+{
+    call(s, event_of(n))
 }
 
 // A notice in its turn is its event; any other changes nothing.

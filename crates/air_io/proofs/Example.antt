@@ -108,4 +108,4 @@ pub no-cell-refused : (pool : ℕ) (log : List ℕ) (title : ℕ) (r : List ℕ)
 unfolding airAnswer firstHit
 no-cell-refused pool log title r room j small limits roomy whole film there is =
     let high = film-numbers pool log title small limits film .cap-high in
-    rw (limits, roomy, whole, film, no-title-cell (lifeIn pool log title .cap) r j high there is) refl
+    rw (limits, roomy, whole, film, no-title-cell (lifeIn pool log title .film .cap) r j high there is) refl

@@ -83,10 +83,10 @@ admission-length tick cell soon low =
 
 -- ---- the lines
 
-module _ (L : Life) (r : List ℕ) (high : L .cap ≤ countMax) where
+module _ (L : Life) (r : List ℕ) (high : L .film .cap ≤ countMax) where
   result-low : (a : ℕ) → (resultOf L r a ≡ nothingSeen → ⊥) → resultOf L r a < 10_000
   result-low a some =
-      let most : 2 ^ L .cap ≤ 2 ^ countMax = pow-mono high in omega (arith, result-missed L r a some .0)
+      let most : 2 ^ L .film .cap ≤ 2 ^ countMax = pow-mono high in omega (arith, result-missed L r a some .0)
 
   lines-length : (n : ℕ) → n ≤ ticksMax → length (linesTo L r n) ≤ n * 10
   unfolding linesTo
@@ -138,7 +138,7 @@ module _ (pool : ℕ) (log : List ℕ) (title : ℕ) (r : List ℕ) where
   unfolding airAnswer firstHit refusalText meaningText namingWords refusalWords decimal digits text
   refusal-length =
       go (not (inLimits pool title)) (not (hasRoom r ticksMax)) (not (isWholeLog log)) (not (isFilmTitle (lifeIn pool log title)))
-      (not (allCells (lifeIn pool log title .cap) r))
+      (not (allCells (lifeIn pool log title .film .cap) r))
     where
       go : (a b c d e : Bool) →
           length (refusalText (pick a outsideLimits (pick b wrongRows (pick c malformed (pick d notThere (pick e outsideLimits done))))) 0 ++ text "\n") ≤ 120

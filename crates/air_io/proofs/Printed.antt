@@ -36,7 +36,7 @@ module _ (L : Life) (r : List ℕ) where
 
   whole-in : (a : ℕ) → isWhole L r a ≡ true → a < ticksIn r
   unfolding isWhole
-  whole-in a h = omega (arith, leb-true (a + cells (L .cap)) (ticksIn r) h, pow-pos (L .cap))
+  whole-in a h = omega (arith, leb-true (a + cells (L .film .cap)) (ticksIn r) h, pow-pos (L .film .cap))
 
   judged-in : (a : ℕ) → isJudged L r a ≡ true → a < ticksIn r
   unfolding isJudged

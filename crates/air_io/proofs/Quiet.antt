@@ -19,12 +19,12 @@ use Rattle.airing.proofs.Ends.{none-stray}
 use Rattle.air_io.specs.Complaints.{longLine, skipLine, strayText, complaintsText}
 
 module _ (pool : ℕ) (log : List ℕ) (title : ℕ) (r text : List ℕ) (ok : airAnswer pool log title r ticksMax ≡ done) where
-  cells : allCells (lifeIn pool log title .cap) r ≡ true
+  cells : allCells (lifeIn pool log title .film .cap) r ≡ true
   unfolding airAnswer firstHit
   cells =
-      not-false (allCells (lifeIn pool log title .cap) r)
+      not-false (allCells (lifeIn pool log title .film .cap) r)
       (go (not (inLimits pool title)) (not (hasRoom r ticksMax)) (not (isWholeLog log)) (not (isFilmTitle (lifeIn pool log title)))
-      (not (allCells (lifeIn pool log title .cap) r)) ok)
+      (not (allCells (lifeIn pool log title .film .cap) r)) ok)
     where
       go : (a b c d e : Bool) →
           pick a outsideLimits (pick b wrongRows (pick c malformed (pick d notThere (pick e outsideLimits done)))) ≡ done → e ≡ false
@@ -44,5 +44,5 @@ module _ (pool : ℕ) (log : List ℕ) (title : ℕ) (r text : List ℕ) (ok : a
   pub judged-quiet : complaintsText pool log title r text ≡ unheardLine pool log
   unfolding complaintsText longLine skipLine strayText isSkipForward strayIn
   judged-quiet =
-      rw (le-ltb ticksMax (ticksIn r) (accepted-few pool log title r ticksMax ok), ticks, none-stray (lifeIn pool log title .cap) r cells, le-ltb (length r) (length r) (omega arith), append-nil, append-nil, append-nil)
+      rw (le-ltb ticksMax (ticksIn r) (accepted-few pool log title r ticksMax ok), ticks, none-stray (lifeIn pool log title .film .cap) r cells, le-ltb (length r) (length r) (omega arith), append-nil, append-nil, append-nil)
       refl

@@ -84,7 +84,7 @@ module _ (pool : ℕ) (log : List ℕ) (title : ℕ) (r : List ℕ) (row : List 
   logRules = refuse malformed (not (isWholeLog log)) ∷ refuse notThere (not (isFilmTitle (lifeIn pool log title))) ∷ []
 
   abbrev lastRules : List Rule
-  lastRules = refuse outsideLimits (not (allCells (lifeIn pool log title .cap) r)) ∷ []
+  lastRules = refuse outsideLimits (not (allCells (lifeIn pool log title .film .cap) r)) ∷ []
 
   in-two : answer ≡ pick (eqb first 0) (firstHit (logRules ++ lastRules)) first
   unfolding airAnswer firstAnswer numbered
@@ -94,11 +94,11 @@ module _ (pool : ℕ) (log : List ℕ) (title : ℕ) (r : List ℕ) (row : List 
   unfolding logAnswer numbered
   then-log = hit-append logRules lastRules refl
 
-  numbers-hit : allCells (lifeIn pool log title .cap) r ≡ false → firstHit lastRules ≡ outsideLimits
+  numbers-hit : allCells (lifeIn pool log title .film .cap) r ≡ false → firstHit lastRules ≡ outsideLimits
   unfolding firstHit
   numbers-hit bad = rw bad refl
 
-  numbers-pass : allCells (lifeIn pool log title .cap) r ≡ true → firstHit lastRules ≡ done
+  numbers-pass : allCells (lifeIn pool log title .film .cap) r ≡ true → firstHit lastRules ≡ done
   unfolding firstHit
   numbers-pass good = rw good refl
 
@@ -149,7 +149,7 @@ module _ (pool : ℕ) (log : List ℕ) (title : ℕ) (r : List ℕ) (row : List 
         stood : Standing L (f .title)
         stood = w .ends .standing ok
 
-        pub cap-high : f .title .cap ≤ countMax
+        pub cap-high : f .title .film .cap ≤ countMax
         cap-high = stood .film .cut .high
 
         last-one : answer ≡ firstHit lastRules
@@ -158,7 +158,7 @@ module _ (pool : ℕ) (log : List ℕ) (title : ℕ) (r : List ℕ) (row : List 
             ∙ pick-true (eqb (logAnswer pool log title) 0) _ (logAnswer pool log title) (eq-eqb (logAnswer pool log title) 0 (sym (w .ends .answer-is) ∙ ok))
 
         -- a number that the title can't have
-        pub air-number : (j : Judgement) → allCells (f .title .cap) r ≡ false → j ≡ refusedWith outsideLimits → Airs j row
+        pub air-number : (j : Judgement) → allCells (f .title .film .cap) r ≡ false → j ≡ refusedWith outsideLimits → Airs j row
         air-number j bad e = refused-air outsideLimits j (sym last-one′) (λ h. omega arith) e
           where
             last-one′ : answer ≡ outsideLimits
@@ -190,7 +190,7 @@ module _ (pool : ℕ) (log : List ℕ) (title : ℕ) (r : List ℕ) (row : List 
               }
 
           -- the judgement
-          pub air-judged : (c : Counts) (after : List ℕ) → allCells (f .title .cap) r ≡ true → Judges (f .title) r k row after c →
+          pub air-judged : (c : Counts) (after : List ℕ) → allCells (f .title .film .cap) r ≡ true → Judges (f .title) r k row after c →
               Airs (counted c) after
           unfolding airGives airLeaves
           air-judged c after good j =

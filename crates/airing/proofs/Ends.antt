@@ -41,10 +41,10 @@ module _ (pool : ℕ) (log : List ℕ) (title : ℕ) where
     unfolding isSkipForward isSteadyEnding
     skip-inside b is = is ∙ rw (by-log, w .steady-is) refl
 
-    pub cap-high : e .answer ≡ done → e .title .cap ≤ countMax
+    pub cap-high : e .answer ≡ done → e .title .film .cap ≤ countMax
     cap-high ok = w .standing ok .film .cut .high
 
-    pub stray-found : (r : List ℕ) (n : ℕ) → e .answer ≡ done → n ≡ firstStray (e .title .cap) r → n ≡ strayIn pool log title r
+    pub stray-found : (r : List ℕ) (n : ℕ) → e .answer ≡ done → n ≡ firstStray (e .title .film .cap) r → n ≡ strayIn pool log title r
     unfolding strayIn
     stray-found r n ok is = is ∙ rw (by-log, eq-eqb (e .answer) done ok, w .standing ok .same-cap) refl
 

@@ -19,7 +19,7 @@ use Rattle.rules.proofs.Search.{every-out}
 use Rattle.grid.specs.Ticks.{cells, tickOf, roundedUp, slot, cellOf}
 use Rattle.grid.specs.Channels.{floorRem, shift, segment, channelCell}
 use Rattle.grid.specs.Lanes.{isInG, isAdded, addedChannel, laneCell}
-use Rattle.scheme.specs.Scheme.{paddedKind, schemeOf, starts, takes, takesFrom, tickFor, filmIn}
+use Rattle.scheme.specs.Scheme.{schemeOf, starts, takes, takesFrom, tickFor, filmIn}
 use Rattle.notice.specs.declared.Notice.{Notice}
 use Rattle.notice.specs.declared.Kind.the-variants.{Open, Change}
 use Rattle.notice.specs.Fields.{table, startOf, spanOf}
@@ -30,7 +30,9 @@ use Rattle.notice.proofs.Typed.{typed-fits}
 use Rattle.notice.proofs.Through.{log-read}
 use Rattle.story.specs.Life.{Life, isAdmission, isActive, droppedAt, isAwaited, isOwed, reach, owedWithin, isNth, nthOwed}
 use Rattle.story.specs.Life.{sends, onAir, isHeld}
-use Rattle.story.specs.Story.{opens, changes, Event, event, tickIn, lifeOf, latestOf, tunedOf, heldIn, heldOver, answerTo}
+use Rattle.story.specs.declared.Act.the-variants.{Changes}
+use Rattle.story.specs.declared.Event.{Event}
+use Rattle.story.specs.Story.{opens, event, tickIn, lifeOf, latestOf, tunedOf, heldIn, heldOver, answerTo}
 use Rattle.agent.specs.Turns.{eventOf}
 use Rattle.agent.specs.Played.{heardOf, eventsPlayed, lifeIn}
 use Rattle.judging.specs.Record.{ticksIn}
@@ -82,7 +84,7 @@ unfolding heardOf answerTo firstHit lifeOf latestOf tunedOf heldOver heldIn tick
 both-heard = refl
 
 abbrev events : List Event
-events = event 0 4 (changes 2) ∷ event 0 0 (opens paddedKind 6 2 3 3) ∷ []
+events = event 0 4 (Changes 2) ∷ event 0 0 (opens 6 2 3 3) ∷ []
 
 played-events : eventsPlayed 3 log ≡ events
 played-events = ap (λ ns. map eventOf (heardOf 3 ns)) (read .0) ∙ ap (map eventOf) both-heard
@@ -100,12 +102,12 @@ pub taken : (airAnswer 3 log 0 own 12 ≡ done) × (airGives 3 log 0 own 12 .pla
 taken = own-record-starves-none 3 log 0 small refl 12 12 film (omega arith) (omega arith) (read .1)
 
 judged-of : (L : Life) (r : List ℕ) (n : ℕ) → ticksIn r ≡ n
-    → judgedIn L r ≡ howMany (λ a. both (isAdmission L a) (leb (a + cells (L .cap)) n)) n
+    → judgedIn L r ≡ howMany (λ a. both (isAdmission L a) (leb (a + cells (L .film .cap)) n)) n
 unfolding isJudged isWhole
-judged-of L r n is = ap (λ (m : ℕ). howMany (λ a. both (isAdmission L a) (leb (a + cells (L .cap)) m)) m) is
+judged-of L r n is = ap (λ (m : ℕ). howMany (λ a. both (isAdmission L a) (leb (a + cells (L .film .cap)) m)) m) is
 
 -- the admissions at ticks 0 to 4, the last of them with two lanes
-five-begin : howMany (λ a. both (isAdmission (lifeOf events 0) a) (leb (a + cells (lifeOf events 0 .cap)) 12)) 12 ≡ 5
+five-begin : howMany (λ a. both (isAdmission (lifeOf events 0) a) (leb (a + cells (lifeOf events 0 .film .cap)) 12)) 12 ≡ 5
 unfolding howMany isAdmission lifeOf tickIn tickFor tickOf schemeOf starts slot roundedUp
 five-begin = refl
 
@@ -114,7 +116,7 @@ unfolding airGives
 five-judged =
     rw (taken .0)
     (judged-of (lifeIn 3 log 0) own 12 (own-ticks 3 (eventsPlayed 3 log) 0 12)
-    ∙ ap (λ (es : List Event). howMany (λ a. both (isAdmission (lifeOf es 0) a) (leb (a + cells (lifeOf es 0 .cap)) 12)) 12) played-events
+    ∙ ap (λ (es : List Event). howMany (λ a. both (isAdmission (lifeOf es 0) a) (leb (a + cells (lifeOf es 0 .film .cap)) 12)) 12) played-events
     ∙ five-begin)
 
 pub five-played : airGives 3 log 0 own 12 .played ≡ 5

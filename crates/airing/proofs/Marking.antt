@@ -26,7 +26,10 @@ use Rattle.story.specs.declared.State.{State}
 use Rattle.story.specs.Calls.{blankTitle}
 use Rattle.story.specs.Kept.{openMode, titleAt, isShut, schemeIn, tickAt}
 use Rattle.story.specs.Life.{Life, Course, onCourse, isAdmission}
-use Rattle.story.specs.Story.{Act, changes, closes, holds, lifts, Event, event, unopened, lifeAfter, lifeOf, latestOf, lastTime}
+use Rattle.story.specs.declared.Act.{Act}
+use Rattle.story.specs.declared.Act.the-variants.{Changes, Closes}
+use Rattle.story.specs.declared.Event.{Event}
+use Rattle.story.specs.Story.{holds, lifts, event, unopened, lifeAfter, lifeOf, latestOf, lastTime}
 use Rattle.story.specs.Story.{tickLength, tickIn, answer}
 use Rattle.story.specs.Runs.{lanesOf}
 use Rattle.story.proofs.Ruled.{SameAt}
@@ -38,7 +41,7 @@ use Rattle.story.proofs.Passed.{Turned, changing, closing, doored}
 use Rattle.story.proofs.World.{courseAfter, same-before}
 use Rattle.story.proofs.Runs.{Told}
 use Rattle.story.proofs.Reached.{run-told}
-use Rattle.measures.specs.Film.{Film}
+use Rattle.measures.specs.Readable.{Filmed}
 use Rattle.admissions.specs.Stretches.{admitting}
 use Rattle.agent.specs.Turns.{actOf, eventOf, freshAgent}
 use Rattle.agent.specs.Series.{Hearing}
@@ -54,7 +57,7 @@ use Rattle.airing.proofs.Hearing.{heard-length}
 -- ---- a title as it stands
 
 module _ (t : Title) (r : Course) (here : Present t r) where
-  present-film : Film t
+  present-film : Filmed (t .film)
   present-film =
       let z = here .sized in
       record {
@@ -152,8 +155,8 @@ module _ (lanes : ℕ) (es : List Event) (s : State) (i : ℕ) (row : List ℕ)
       MarkedBelow (lifeAfter L τ (actOf k)) (tickIn (lifeAfter L τ (actOf k)) τ) (after τ)
   unfolding tickIn
   event-marked τ (Open d a p n) ok = rw (sub-self τ, zero-div) (λ u lt room. absurd (omega arith))
-  event-marked τ (Change n) ok = turns τ (changes n) (changing lanes es i τ n ok .0)
-  event-marked τ Close ok = turns τ closes (closing lanes es i τ ok)
+  event-marked τ (Change n) ok = turns τ (Changes n) (changing lanes es i τ n ok .0)
+  event-marked τ Close ok = turns τ Closes (closing lanes es i τ ok)
   event-marked τ Hold ok = turns τ holds (doored lanes es i τ true ok)
   event-marked τ Lift ok = turns τ lifts (doored lanes es i τ false ok)
   event-marked τ (Skip d n) ok = rw (sub-self τ, zero-div) (λ u lt room. absurd (omega arith))
@@ -174,7 +177,7 @@ module _ (lanes : ℕ) (es : List Event) (s : State) (i : ℕ) (row : List ℕ)
 
 module _ (L : Life) (m : ℕ) (t : Title) (told : TellsTitle L m t) (film : isFilmSlot t ≡ true) where
   never-blank : t ≡ blankTitle → ⊥
-  never-blank g = let none : 0 < 0 = subst (λ (z : Title). 0 < z .cap) g (ltb-true 0 (t .cap) (both-l _ _ film)) in omega arith
+  never-blank g = let none : 0 < 0 = subst (λ (z : Title). 0 < z .cap) g (ltb-true 0 (t .film .cap) (both-l _ _ film)) in omega arith
 
   film-markable : Markable t
   film-markable = go told
@@ -192,7 +195,7 @@ module _ (L : Life) (m : ℕ) (t : Title) (told : TellsTitle L m t) (film : isFi
           rw e
           (record {
             film = present-film t r p;
-            same-kind = eqb-true (t .kind) paddedKind (both-r (ltb 0 (t .cap)) (eqb (t .kind) paddedKind) film);
+            same-kind = eqb-true (t .film .kind) paddedKind (both-r (ltb 0 (t .film .cap)) (eqb (t .film .kind) paddedKind) film);
             same-length = refl;
             same-floor = refl;
             same-cap = refl;
@@ -296,13 +299,13 @@ module _ (pool i : ℕ) (id : i ≤ idMax) (row : List ℕ) where
         go (present q e f p) on = present-markable standing q p
 
     -- whether the title was opened, and last by a kind
-    told-kind : (m : ℕ) → both (ltb 0 (lifeOf events i .cap)) (eqb (lifeOf events i .kind) m)
-        ≡ both (ltb 0 (standing .cap)) (eqb (standing .kind) m)
+    told-kind : (m : ℕ) → both (ltb 0 (lifeOf events i .film .cap)) (eqb (lifeOf events i .film .kind) m)
+        ≡ both (ltb 0 (standing .film .cap)) (eqb (standing .film .kind) m)
     told-kind m = go told-title
       where
         go : TellsTitle (lifeOf events i) (latestOf events i) standing
-            → both (ltb 0 (lifeOf events i .cap)) (eqb (lifeOf events i .kind) m)
-            ≡ both (ltb 0 (standing .cap)) (eqb (standing .kind) m)
+            → both (ltb 0 (lifeOf events i .film .cap)) (eqb (lifeOf events i .film .kind) m)
+            ≡ both (ltb 0 (standing .film .cap)) (eqb (standing .film .kind) m)
         go (absent e f g) = rw (e, g) refl
         go (present q e f p) = rw e refl
 

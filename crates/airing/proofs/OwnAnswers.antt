@@ -16,7 +16,8 @@ use Rattle.story.specs.declared.State.{State}
 use Rattle.story.specs.declared.Title.{Title}
 use Rattle.story.specs.Life.{Life, isFilm, isAdmission}
 use Rattle.story.specs.Kept.{titleAt}
-use Rattle.story.specs.Story.{Event, lifeOf, lifeAt, latestOf, momentOf, tickLength, InTick, Received, Begins}
+use Rattle.story.specs.declared.Event.{Event}
+use Rattle.story.specs.Story.{lifeOf, lifeAt, latestOf, momentOf, tickLength, InTick, Received, Begins}
 use Rattle.story.specs.Runs.{lanesOf, Reached}
 use Rattle.story.proofs.Tells.{TellsTitle, absent, present}
 use Rattle.story.proofs.Runs.{lanes-limit}
@@ -33,28 +34,28 @@ pub record Numbers (L : Life) : Type 0 where
   pub opened-high : L .opened ≤ eventTimeMax
   pub tick-some : 0 < tickLength L
   pub tick-low : tickLength L ≤ lengthMax
-  pub floor-some : 0 < L .floor
-  pub floor-low : L .floor ≤ L .cap
-  pub cap-high : L .cap ≤ countMax
+  pub floor-some : 0 < L .film .floor
+  pub floor-low : L .film .floor ≤ L .film .cap
+  pub cap-high : L .film .cap ≤ countMax
 
-numbers-told : (L : Life) (m : ℕ) (t : Title) → 0 < L .cap → TellsTitle L m t → Numbers L
-numbers-told L m t some (absent e f g) = absurd (let z : L .cap ≡ 0 = ap (λ (L : Life). L .cap) e in omega arith)
+numbers-told : (L : Life) (m : ℕ) (t : Title) → 0 < L .film .cap → TellsTitle L m t → Numbers L
+numbers-told L m t some (absent e f g) = absurd (let z : L .film .cap ≡ 0 = ap (λ (L : Life). L .film .cap) e in omega arith)
 numbers-told L m t some (present r e f p) =
     let z = p .sized in
-    let film : 0 < t .length = omega (arith, z .length-low) in
-    let some-floor : 0 < t .floor = omega (arith, z .floor-low) in
-    let floor-fits : t .floor ≤ t .cap = omega (arith, z .count-low, z .count-high) in
+    let film : 0 < t .film .length = omega (arith, z .length-low) in
+    let some-floor : 0 < t .film .floor = omega (arith, z .floor-low) in
+    let floor-fits : t .film .floor ≤ t .film .cap = omega (arith, z .count-low, z .count-high) in
     subst Numbers (sym e)
     (record {
       opened-high = z .opened-high;
-      tick-some = tick-pos (t .kind) (t .length) (t .floor) (t .cap) film some-floor floor-fits;
-      tick-low = omega (arith, z .length-high, tick-high (t .kind) (t .length) (t .floor) (t .cap) film some-floor floor-fits);
+      tick-some = tick-pos (t .film .kind) (t .film .length) (t .film .floor) (t .film .cap) film some-floor floor-fits;
+      tick-low = omega (arith, z .length-high, tick-high (t .film .kind) (t .film .length) (t .film .floor) (t .film .cap) film some-floor floor-fits);
       floor-some = some-floor;
       floor-low = floor-fits;
       cap-high = z .cap-high;
     })
 
-pub numbers : (pool : ℕ) (es : List Event) (s : State) → Reached pool es s → (i : ℕ) → i < titlesMax → 0 < lifeOf es i .cap →
+pub numbers : (pool : ℕ) (es : List Event) (s : State) → Reached pool es s → (i : ℕ) → i < titlesMax → 0 < lifeOf es i .film .cap →
     Numbers (lifeOf es i)
 numbers pool es s run i id some =
     let w = witness (lanesOf pool) es (lanes-limit pool) (in-sequence pool es s run) in
@@ -73,7 +74,7 @@ module _ (pool : ℕ) (es : List Event) (s : State) (run : Reached pool es s) (i
         admission = ap (λ M. isAdmission M a) (w .life) ∙ rw (same .rule, same .shut) h;
       }
 
-  module _ (r : List ℕ) (own : OwnAnswers pool es i r) (some : 0 < lifeOf es i .cap) (short : ticksIn r ≤ ticksMax) where
+  module _ (r : List ℕ) (own : OwnAnswers pool es i r) (some : 0 < lifeOf es i .film .cap) (short : ticksIn r ≤ ticksMax) where
     -- every moment of the record may be asked about
     asked-soon : (t l : ℕ) → t < ticksIn r → own .moment t l ≤ askedMax
     asked-soon t l b =
@@ -93,7 +94,7 @@ module _ (pool : ℕ) (es : List Event) (s : State) (run : Reached pool es s) (i
         let υ : ℕ = own .moment (f .tick) l in
         let there : InTick (lifeAt es i (momentOf L a)) (f .tick) υ = subst (λ M. InTick M (f .tick) υ) (sym (w .life)) (record { from = own .within-tick (f .tick) l b .from; until = own .within-tick (f .tick) l b .until }) in
         let told = by-the-calls pool es s run i (momentOf L a) a c id f υ there (asked-soon (f .tick) l b) in
-        let cap : lifeAt es i (momentOf L a) .cap ≡ L .cap = ap (λ (M : Life). M .cap) (w .life) in
+        let cap : lifeAt es i (momentOf L a) .cap ≡ L .film .cap = ap (λ (M : Life). M .film .cap) (w .life) in
         let low : l < lanePlaces = omega (arith, f .lane-low, numbers pool es s run i id some .cap-high) in
         let is : seen r (f .tick) l ≡ c = own .answers (f .tick) l b low ∙ rw (told .0) (told .1) in
         some-in (λ l. eqb (seen r (f .tick) l) c) lanePlaces l low (eq-eqb _ _ is)

@@ -7,7 +7,8 @@ use native.Mathlib.Omega.{arith}
 use lib.ListN.{getD, length, replicate, length-replicate}
 use Rattle.rules.specs.Limits.{lanePlaces}
 use Rattle.plan.proofs.Row.{written-length, written-first}
-use Rattle.story.specs.Story.{Event, lifeOf, upTo, momentOf, tickLength}
+use Rattle.story.specs.declared.Event.{Event}
+use Rattle.story.specs.Story.{lifeOf, upTo, momentOf, tickLength}
 use Rattle.story.specs.Runs.{stateAfter}
 use Rattle.judging.specs.Record.{nothingSeen, ticksIn, seen}
 use Rattle.judging.proofs.Walked.{getD-any}

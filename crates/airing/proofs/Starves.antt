@@ -17,7 +17,7 @@ use Rattle.grid.specs.Ticks.{cells}
 use Rattle.scheme.specs.Scheme.{paddedKind}
 use Rattle.notice.specs.Log.{Bytes, isWholeLog}
 use Rattle.story.specs.Life.{Life, isAdmission}
-use Rattle.story.specs.Story.{Event}
+use Rattle.story.specs.declared.Event.{Event}
 use Rattle.story.specs.Runs.{Reached}
 use Rattle.agent.specs.Played.{agentPlayed, eventsPlayed, lifeIn}
 use Rattle.agent.proofs.Played.{log-reached}
@@ -38,17 +38,17 @@ module _ (pool : ℕ) (log : List ℕ) (title : ℕ) (small : Bytes log) (limits
   low-id : title < titlesMax
   low-id = omega (arith, leb-true title idMax (both-r (within poolMin poolMax pool) (leb title idMax) limits))
 
-  opened-some : isFilmTitle (lifeIn pool log title) ≡ true → 0 < lifeIn pool log title .cap
+  opened-some : isFilmTitle (lifeIn pool log title) ≡ true → 0 < lifeIn pool log title .film .cap
   unfolding isFilmTitle
   opened-some film =
       let L : Life = lifeIn pool log title in
-      ltb-true 0 (L .cap) (both-l (ltb 0 (L .cap)) (eqb (L .kind) paddedKind) film)
+      ltb-true 0 (L .film .cap) (both-l (ltb 0 (L .film .cap)) (eqb (L .film .kind) paddedKind) film)
 
-  opened-padded : isFilmTitle (lifeIn pool log title) ≡ true → lifeIn pool log title .kind ≡ paddedKind
+  opened-padded : isFilmTitle (lifeIn pool log title) ≡ true → lifeIn pool log title .film .kind ≡ paddedKind
   unfolding isFilmTitle
   opened-padded film =
       let L : Life = lifeIn pool log title in
-      eqb-true (L .kind) paddedKind (both-r (ltb 0 (L .cap)) (eqb (L .kind) paddedKind) film)
+      eqb-true (L .film .kind) paddedKind (both-r (ltb 0 (L .film .cap)) (eqb (L .film .kind) paddedKind) film)
 
   -- a film keeps to its limits
   pub film-numbers : isFilmTitle (lifeIn pool log title) ≡ true → Numbers (lifeIn pool log title)
@@ -75,12 +75,12 @@ module _ (pool : ℕ) (log : List ℕ) (title : ℕ) (small : Bytes log) (limits
     unfolding isJudged isWhole
     own-result a h =
         let L : Life = lifeIn pool log title in
-        let ends : ℕ = a + cells (L .cap) in
+        let ends : ℕ = a + cells (L .film .cap) in
         let in-all : ends ≤ ticksIn r = leb-true ends (ticksIn r) (both-r (isAdmission L a) (leb ends (ticksIn r)) h) in
         plays-through L r a
         (λ c low has.
         own-in-time pool (eventsPlayed pool log) (agentPlayed pool log .state) reach-log title low-id r own (opened-some film) few-ticks a c
-        (both-l (isAdmission L a) (leb (a + cells (L .cap)) (ticksIn r)) h) (omega arith) has)
+        (both-l (isAdmission L a) (leb (a + cells (L .film .cap)) (ticksIn r)) h) (omega arith) has)
 
     -- so all that are judged played through
     pub own-played : playedIn (lifeIn pool log title) r ≡ judgedIn (lifeIn pool log title) r
@@ -91,11 +91,11 @@ module _ (pool : ℕ) (log : List ℕ) (title : ℕ) (small : Bytes log) (limits
         same (isPlayed L r a) (isJudged L r a) (λ h. played-out L r a h .0) (λ h. played-in L r a h (own-result a h)))
 
     -- and every number of the record is a cell of the title, or nothing
-    pub own-cells : allCells (lifeIn pool log title .cap) r ≡ true
+    pub own-cells : allCells (lifeIn pool log title .film .cap) r ≡ true
     unfolding allCells
     own-cells =
         let L : Life = lifeIn pool log title in
-        every-in (λ j. isNumber (L .cap) (getD r j 0)) (length r)
+        every-in (λ j. isNumber (L .film .cap) (getD r j 0)) (length r)
         (λ j b.
         own-number pool (eventsPlayed pool log) (agentPlayed pool log .state) reach-log title low-id r own (opened-padded film) whole-ticks j b)
 

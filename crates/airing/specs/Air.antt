@@ -28,7 +28,7 @@ hasRoom r room = both (eqb (length r % lanePlaces) 0) (both (leb (ticksIn r) tic
 
 -- the title was opened, and last as a film with floor and cap
 unfoldable pub isFilmTitle : Life → Bool
-isFilmTitle L = both (ltb 0 (L .cap)) (eqb (L .kind) paddedKind)
+isFilmTitle L = both (ltb 0 (L .film .cap)) (eqb (L .film .kind) paddedKind)
 
 -- a number is a cell of a title with cap K, or nothing
 abbrev pub isCellOf : ℕ → ℕ → Bool
@@ -44,7 +44,7 @@ airRules pool log title r room =
     ∷ refuse wrongRows (not (hasRoom r room))
     ∷ refuse malformed (not (isWholeLog log))
     ∷ refuse notThere (not (isFilmTitle (lifeIn pool log title)))
-    ∷ refuse outsideLimits (not (allCells (lifeIn pool log title .cap) r))
+    ∷ refuse outsideLimits (not (allCells (lifeIn pool log title .film .cap) r))
     ∷ []
 
 unfoldable pub airAnswer : ℕ → List ℕ → ℕ → List ℕ → ℕ → ℕ

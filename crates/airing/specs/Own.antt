@@ -9,7 +9,8 @@ use Rattle.rules.specs.Refusals.{pick, done}
 use Rattle.plan.specs.Row.{written}
 use Rattle.story.specs.declared.State.{State}
 use Rattle.story.specs.Calls.{laneAnswer, laneShows}
-use Rattle.story.specs.Story.{Event, lifeOf, upTo, momentOf, InTick}
+use Rattle.story.specs.declared.Event.{Event}
+use Rattle.story.specs.Story.{lifeOf, upTo, momentOf, InTick}
 use Rattle.story.specs.Runs.{stateAfter}
 use Rattle.judging.specs.Record.{nothingSeen, ticksIn, seen}
 

@@ -15,7 +15,7 @@ use Rattle.airing.specs.Air.{isCellOf, ticksAnswer}
 
 -- the title was opened, and last as a skip-forward title
 unfoldable pub isSteadyTitle : Life → Bool
-isSteadyTitle L = both (ltb 0 (L .cap)) (eqb (L .kind) steadyKind)
+isSteadyTitle L = both (ltb 0 (L .film .cap)) (eqb (L .film .kind) steadyKind)
 
 -- so it was in a whole log, which has no film title of that id
 unfoldable pub isSkipForward : ℕ → List ℕ → ℕ → Bool
@@ -28,4 +28,4 @@ firstStray K r = first (λ j. not (isCellOf K (getD r j 0))) (length r)
 -- of a film title of a log
 unfoldable pub strayIn : ℕ → List ℕ → ℕ → List ℕ → ℕ
 strayIn pool log title r =
-    pick (eqb (ticksAnswer pool log title) done) (firstStray (lifeIn pool log title .cap) r) (length r)
+    pick (eqb (ticksAnswer pool log title) done) (firstStray (lifeIn pool log title .film .cap) r) (length r)

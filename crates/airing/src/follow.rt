@@ -106,8 +106,8 @@ fn play(pool: u64, log: &[u8], title: u64, marks: &mut [u8]) -> PlayedLog
 fn answer_of(place: usize, size: usize, t: Title) -> u8
     ensures { λ r. ⌜ r ≡ answerOf place size t ⌝ }
 {
-    let cap = t.cap;
-    let kind = t.kind;
+    let cap = t.film.cap;
+    let kind = t.film.kind;
     if place < size {
         return MALFORMED;
     }

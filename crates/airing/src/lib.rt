@@ -83,7 +83,7 @@ fn judge_log(
     let answer = ending.answer;
     if answer == DONE {
         let t = ending.title;
-        if all_cells(t.cap, record) {
+        if all_cells(t.film.cap, record) {
             let counts = judge(t, record, marks, row);
             return Judgement {
                 answer: DONE,

@@ -11,11 +11,11 @@ ghost use Rattle.airing.specs.inner.Steps.{markIn, markedTo, Markable};
 
 // The mark of a tick while a title stays as it stands.
 fn mark_in(t: Title, tick: u64) -> u8
-    requires { ⌜ CountCap (t .count) (t .cap) ⌝ }
+    requires { ⌜ CountCap (t .count) (t .film .cap) ⌝ }
     ensures { λ r. ⌜ r ≡ markIn t tick ⌝ }
 {
     if admitting(t) {
-        if starts(t.kind, t.floor, t.cap, t.count, tick) {
+        if starts(t.film.kind, t.film.floor, t.film.cap, t.count, tick) {
             return 1;
         }
     }

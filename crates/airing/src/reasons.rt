@@ -23,8 +23,8 @@ fn is_steady(ending: Ending) -> bool
 {
     let answer = ending.answer;
     let t = ending.title;
-    let cap = t.cap;
-    let kind = t.kind;
+    let cap = t.film.cap;
+    let kind = t.film.kind;
     if answer == NOT_THERE {
         if cap > 0 {
             return kind == STEADY;
@@ -82,7 +82,7 @@ pub fn first_stray(pool: u64, log: &[u8], title: u64, record: &[u16]) -> usize
         let answer = ending.answer;
         let t = ending.title;
         if answer == DONE {
-            return stray_of(t.cap, record);
+            return stray_of(t.film.cap, record);
         }
     }
     record.len()

@@ -2,3 +2,4 @@
 pub mod Following
 pub mod Missing
 pub mod Unique
+pub mod Written

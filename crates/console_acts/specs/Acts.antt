@@ -3,9 +3,7 @@ use Prim.Native.Nat.{ℕ}
 use mathlib.Core.List.{List}
 use lib.Dec.{eqb}
 use Rattle.rules.specs.Refusals.{pick}
-use Rattle.scheme.specs.Scheme.{paddedKind}
 use Rattle.story.specs.Calls.{freshAnswer}
-use Rattle.story.specs.Story.{Act, opens, skips, changes, closes, holds, lifts, Event}
 use Rattle.story.specs.Runs.{answered, called}
 use Rattle.notice.specs.Decode.{readOf}
 use Rattle.agent.specs.declared.Agent.{Agent}
@@ -14,19 +12,7 @@ use Rattle.console_lines.specs.Commands
 use Rattle.console_lines.specs.declared.lines.Line.{Line}
 use Rattle.console_lines.specs.Lines.{numberIn}
 use Rattle.console_notices.specs.Hex.{bytesIn}
-
-unfoldable pub actIn : Line → Act
-actIn l =
-    pick (eqb (l .command) Commands.doOpen) (opens paddedKind (numberIn l 2) (numberIn l 3) (numberIn l 4) (numberIn l 5))
-    (pick (eqb (l .command) Commands.doChange) (changes (numberIn l 2))
-    (pick (eqb (l .command) Commands.doHold) holds
-    (pick (eqb (l .command) Commands.doLift) lifts
-    (pick (eqb (l .command) Commands.doSkip) (skips (numberIn l 2) (numberIn l 3))
-    closes))))
-
--- the event of a line: id, time, and what its word says
-abbrev pub eventIn : Line → Event
-eventIn l = record { time = numberIn l 1; title = numberIn l 0; act = actIn l }
+use Rattle.console_acts.specs.Events.{eventIn}
 
 -- an event acts on the agent's scheduler and leaves its sequence alone
 abbrev pub afterEvent : Agent → Line → Agent

@@ -7,7 +7,9 @@ use lib.Dec.{leb, eqb}
 use Rattle.rules.specs.Limits.{idMax}
 use Rattle.rules.specs.Refusals.{pick, outOfTurn, tooSoon}
 use Rattle.story.specs.declared.State.{State}
-use Rattle.story.specs.Story.{Act, opens, changes, closes, doors, Event}
+use Rattle.story.specs.declared.Act.{Act}
+use Rattle.story.specs.declared.Act.the-variants.{Opens, Changes, Closes, Doors}
+use Rattle.story.specs.declared.Event.{Event}
 use Rattle.story.specs.Kept.{titleAt}
 use Rattle.verdicts.specs.Asked.{settledIn}
 use Rattle.notice.specs.declared.Reading.{Reading}
@@ -19,19 +21,19 @@ use Rattle.console_lines.specs.Commands
 use Rattle.console_lines.specs.declared.lines.Line.{Line}
 use Rattle.words.specs.Words.{missed}
 use Rattle.console_notices.specs.Hex.{bytesIn}
-use Rattle.console_acts.specs.Acts.{eventIn}
+use Rattle.console_acts.specs.Events.{eventIn}
 
 -- of the title of an id, by the answer a; an id that is out of range has none
 abbrev pub missedAt : ℕ → State → ℕ → ℕ
 missedAt a t i =
-    pick (eqb a tooSoon) (settledIn t i) (pick (leb i idMax) (missed a (titleAt t i .floor) (titleAt t i .cap)) 0)
+    pick (eqb a tooSoon) (settledIn t i) (pick (leb i idMax) (missed a (titleAt t i .film .floor) (titleAt t i .film .cap)) 0)
 
 -- of what an event does to an id: an opening has its own floor and cap
 abbrev pub missedAs : ℕ → State → ℕ → Act → ℕ
-missedAs a t i (opens m D A K k) = missed a A K
-missedAs a t i (changes k) = missedAt a t i
-missedAs a t i closes = missedAt a t i
-missedAs a t i (doors b) = missedAt a t i
+missedAs a t i (Opens f k) = missed a (f .floor) (f .cap)
+missedAs a t i (Changes k) = missedAt a t i
+missedAs a t i Closes = missedAt a t i
+missedAs a t i (Doors b) = missedAt a t i
 
 abbrev pub missedBy : ℕ → State → Event → ℕ
 missedBy a t e = missedAs a t (e .title) (e .act)

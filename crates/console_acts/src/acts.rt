@@ -1,22 +1,23 @@
 // What a line of the console does to the agent: a fresh one, an event put to its scheduler, a notice handed to it.
 // `follow` answers as specs/Acts.antt defines it.
 
+use crate::events::event_in;
 use agent::Agent;
 use agent::Followed;
 use console_lines::commands;
 use console_lines::lines::Line;
 use console_notices::hex;
-use scheduler::Outcome;
-use story::State;
+use scheduler::call;
 ghost use mathlib.Core.Path.{_≡_};
 ghost use Prim.Native.Nat.{_≤_};
 ghost use lib.ListN.{length};
-ghost use Rattle.story.specs.Runs.{answered, called};
+ghost use Rattle.story.specs.Runs.{answered};
 ghost use Rattle.notice.specs.Decode.{readOf};
 ghost use Rattle.agent.specs.Turns.{noticeAnswer, noticed};
 ghost use Rattle.console_lines.specs.Lines.{longest};
 ghost use Rattle.console_notices.specs.Hex.{hexBetween};
-ghost use Rattle.console_acts.specs.Acts.{eventIn, afterEvent, answerAfter, agentActed};
+ghost use Rattle.console_acts.specs.Events.{eventIn};
+ghost use Rattle.console_acts.specs.Acts.{afterEvent, answerAfter, agentActed};
 
 // The agent is handed what the digits spell.
 fn taken(agent: Agent, s: &[u8], from: u64, to: u64) -> Followed
@@ -30,36 +31,12 @@ fn taken(agent: Agent, s: &[u8], from: u64, to: u64) -> Followed
     agent::take(agent, &room[..n])
 }
 
-// The event of a line, put to the scheduler.
-fn happen(s: State, line: Line) -> Outcome
-    ensures { λ r. ⌜ (r .answer ≡ answered s (eventIn line)) × (r .state ≡ called s (eventIn line)) ⌝ }
-{
-    let command = line.command;
-    let n = line.numbers;
-    if command == commands::OPEN {
-        return scheduler::open(s, n[0], n[1], n[2], n[3], n[4], n[5]);
-    }
-    if command == commands::CHANGE {
-        return scheduler::change(s, n[0], n[1], n[2]);
-    }
-    if command == commands::HOLD {
-        return scheduler::hold(s, n[0], n[1]);
-    }
-    if command == commands::LIFT {
-        return scheduler::lift(s, n[0], n[1]);
-    }
-    if command == commands::SKIP {
-        return scheduler::skip(s, n[0], n[1], n[2], n[3]);
-    }
-    scheduler::close(s, n[0], n[1])
-}
-
 // An event acts on the agent's scheduler and leaves its sequence alone.
 fn event(agent: Agent, line: Line) -> Followed
     ensures { λ r. ⌜ (r .answer ≡ answered (agent .state) (eventIn line)) × (r .agent ≡ afterEvent agent line) ⌝ }
 {
     let state = agent.state;
-    let outcome = happen(state, line);
+    let outcome = call(state, event_in(line));
     let next = outcome.state;
     let after = Agent {
         sequence: agent.sequence,

@@ -1,3 +1,6 @@
-// What a line of the console does to the agent, and the number that the words of its refusal name.
+// The event of a line of the console, what the line does to the agent, the number that the words of its refusal name, and the
+// notice that it writes.
 pub mod acts;
+pub mod events;
 pub mod named;
+pub mod writing;

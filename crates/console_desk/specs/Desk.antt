@@ -28,7 +28,7 @@ use Rattle.console_lines.specs.Lines.{numberIn}
 use Rattle.console_notices.specs.Hex.{bytesIn}
 use Rattle.console_acts.specs.Acts.{answerAfter, agentActed}
 use Rattle.console_acts.specs.Named.{namedIn}
-use Rattle.console_notices.specs.Writing.{writtenNotice}
+use Rattle.console_acts.specs.Writing.{writtenNotice}
 
 -- the commands that may change the agent: fresh, the events, notice
 unfoldable pub mayChange : ℕ → Bool

@@ -6,6 +6,7 @@
 use agent::Agent;
 use console_acts::acts;
 use console_acts::named;
+use console_acts::writing::notice_of;
 use console_answers::faults;
 use console_answers::outcomes;
 use console_boxes::lanes;
@@ -107,7 +108,7 @@ fn tell(line: Line, s: &[u8], out: &mut [u8], at: usize) -> usize
     if command == commands::READ {
         return reading::put_reading(out, at, hex::reading(s, n[0], n[1]));
     }
-    writing::put_bytes(out, at, writing::notice_of(line))
+    writing::put_bytes(out, at, notice_of(line))
 }
 
 // A question, which changes nothing.

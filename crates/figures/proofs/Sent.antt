@@ -5,30 +5,26 @@ use mathlib.Core.Path.{_≡_, ap, _∙_}
 use borrow.Author.Tests.{eq-eqb, ne-eqb, lt-ltb, le-ltb}
 use lib.Dec.{eqb}
 use Rattle.rules.specs.Refusals.{pick}
-use Rattle.scheme.specs.Scheme.{paddedKind}
 use Rattle.story.specs.declared.State.{State}
-use Rattle.story.specs.Calls.{freshNext, openAnswer, changeAnswer, laneAnswer, laneShows}
-use Rattle.story.specs.Next.{openNext, changeNext}
-use Rattle.story.specs.Story.{opens, changes}
+use Rattle.story.specs.Calls.{freshNext, laneAnswer, laneShows}
+use Rattle.story.specs.declared.Act.the-variants.{Changes}
+use Rattle.story.specs.Story.{opens, event}
 use Rattle.story.specs.Runs.{called}
 use Rattle.figures.specs.Transitions.{changedTo, sentOf}
 
 -- three calls in turn leave the state that the definitions name
 pub in-turn : (pool D A K k τ n : ℕ) (a b c : State) → a ≡ freshNext pool →
-    b ≡ pick (eqb (openAnswer a 0 0 paddedKind D A K k) 0) (openNext a 0 0 paddedKind D A K k) a →
-    c ≡ pick (eqb (changeAnswer b 0 τ n) 0) (changeNext b 0 τ n) b →
-    c ≡ called (called (freshNext pool) (record { time = 0; title = 0; act = opens paddedKind D A K k }))
-    (record { time = τ; title = 0; act = changes n })
+    b ≡ called a (event 0 0 (opens D A K k)) → c ≡ called b (event 0 τ (Changes n)) →
+    c ≡ called (called (freshNext pool) (event 0 0 (opens D A K k))) (event 0 τ (Changes n))
 in-turn pool D A K k τ n a b c first second third =
     third
-    ∙ ap (λ (s : State). called s (record { time = τ; title = 0; act = changes n }))
-    (second ∙ ap (λ (s : State). called s (record { time = 0; title = 0; act = opens paddedKind D A K k })) first)
+    ∙ ap (λ (s : State). called s (event 0 τ (Changes n))) (second ∙ ap (λ (s : State). called s (event 0 0 (opens D A K k))) first)
 
 -- the three states of figures 6 and 7
 pub record Run (n : ℕ) (a b c : State) : Type 0 where
   pub first : a ≡ freshNext 4
-  pub second : b ≡ pick (eqb (openAnswer a 0 0 paddedKind 12 2 4 4) 0) (openNext a 0 0 paddedKind 12 2 4 4) a
-  pub third : c ≡ pick (eqb (changeAnswer b 0 4 n) 0) (changeNext b 0 4 n) b
+  pub second : b ≡ called a (event 0 0 (opens 12 2 4 4))
+  pub third : c ≡ called b (event 0 4 (Changes n))
 
 run-is : (n : ℕ) (a b c : State) → Run n a b c → c ≡ changedTo n
 unfolding changedTo

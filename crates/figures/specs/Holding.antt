@@ -5,18 +5,18 @@ use lib.Dec.{eqb, ltb}
 use Rattle.rules.specs.Refusals.{pick}
 use Rattle.rules.specs.Search.{howMany}
 use Rattle.grid.specs.Ticks.{tickOf}
-use Rattle.scheme.specs.Scheme.{paddedKind}
 use Rattle.story.specs.declared.State.{State}
 use Rattle.story.specs.Calls.{freshNext, laneAnswer}
-use Rattle.story.specs.Story.{opens, changes}
+use Rattle.story.specs.declared.Act.the-variants.{Changes}
+use Rattle.story.specs.Story.{opens, event}
 use Rattle.story.specs.Runs.{called}
 use Rattle.figures.specs.Times.{film}
 
 -- opened with count k at 0, and changed to one lane less at the start of a tick
 unfoldable pub returnedAt : ℕ → ℕ → ℕ → State
 returnedAt A k drop =
-    called (called (freshNext k) (record { time = 0; title = 0; act = opens paddedKind film A k k }))
-    (record { time = drop * tickOf film A k; title = 0; act = changes (k - 1) })
+    called (called (freshNext k) (event 0 0 (opens film A k k)))
+    (record { time = drop * tickOf film A k; title = 0; act = Changes (k - 1) })
 
 -- in how many of the first n ticks from the drop on the lane is held
 unfoldable pub heldOf : ℕ → ℕ → ℕ → ℕ → ℕ

@@ -2,17 +2,17 @@
 use Prim.Native.Nat.{ℕ, _+_}
 use lib.Dec.{eqb, ltb}
 use Rattle.rules.specs.Refusals.{pick}
-use Rattle.scheme.specs.Scheme.{paddedKind}
 use Rattle.story.specs.declared.State.{State}
 use Rattle.story.specs.Calls.{freshNext, laneAnswer, laneShows}
-use Rattle.story.specs.Story.{opens, changes}
+use Rattle.story.specs.declared.Act.the-variants.{Changes}
+use Rattle.story.specs.Story.{opens, event}
 use Rattle.story.specs.Runs.{called}
 
 -- floor 2, cap 4 and a tick of 1 ms, opened with count 4 at 0, and changed at 4
 unfoldable pub changedTo : ℕ → State
 changedTo count =
-    called (called (freshNext 4) (record { time = 0; title = 0; act = opens paddedKind 12 2 4 4 }))
-    (record { time = 4; title = 0; act = changes count })
+    called (called (freshNext 4) (event 0 0 (opens 12 2 4 4)))
+    (event 0 4 (Changes count))
 
 -- the segment of count 4 that a lane sends at a time; 99 for none
 unfoldable pub sentOf : ℕ → ℕ → ℕ → ℕ

@@ -74,15 +74,15 @@ module _ (L : Life) (r : List ℕ) where
   pub whole-before : (a b : ℕ) → a ≤ b → isWhole L r b ≡ true → isWhole L r a ≡ true
   unfolding isWhole
   whole-before a b l h =
-      let fits : b + cells (L .cap) ≤ ticksIn r = leb-true (b + cells (L .cap)) (ticksIn r) h in
-      le-leb (a + cells (L .cap)) (ticksIn r) (omega arith)
+      let fits : b + cells (L .film .cap) ≤ ticksIn r = leb-true (b + cells (L .film .cap)) (ticksIn r) h in
+      le-leb (a + cells (L .film .cap)) (ticksIn r) (omega arith)
 
   -- those that outlast the record come after all that are judged
   pub in-order : (a b : ℕ) → isJudged L r a ≡ true → isOutlasting L r b ≡ true → a < b
   unfolding isJudged isOutlasting isWhole
   in-order a b j o =
-      let fits : a + cells (L .cap) ≤ ticksIn r = leb-true _ _ (both-r (isAdmission L a) _ j) in
-      let lasts : ticksIn r < b + cells (L .cap) = leb-false _ _ (is-false _ (both-r (isAdmission L b) _ o)) in omega arith
+      let fits : a + cells (L .film .cap) ≤ ticksIn r = leb-true _ _ (both-r (isAdmission L a) _ j) in
+      let lasts : ticksIn r < b + cells (L .film .cap) = leb-false _ _ (is-false _ (both-r (isAdmission L b) _ o)) in omega arith
     where
       is-false : (b : Bool) → not b ≡ true → b ≡ false
       is-false true h = absurd (false≢true h)

@@ -33,25 +33,25 @@ module _ (t : Title) (r marks : List ℕ) (L : Life) (M : MarkedBy t marks (tick
   admission-is : (a : ℕ) → a < ticksIn r → eqb (getD marks a 0) 1 ≡ isAdmission L a
   admission-is a l = ap (λ x. eqb x 1) (M .mark a l) ∙ mark-read (isAdmission L a)
 
-  module _ (m τ : ℕ) (cut : m ≡ 2 ^ t .cap) (timed : τ ≡ tickFor paddedKind (t .length) (t .floor) (t .cap)) where
+  module _ (m τ : ℕ) (cut : m ≡ 2 ^ t .film .cap) (timed : τ ≡ tickFor paddedKind (t .film .length) (t .film .floor) (t .film .cap)) where
     whole-is : (a : ℕ) → leb (a + m) (ticksIn r) ≡ isWhole L r a
     unfolding isWhole
     whole-is a = ap (λ k. leb (a + k) (ticksIn r)) (cut ∙ sym (ap (λ k. 2 ^ k) (M .same-cap)))
 
-    film-is : (c : ℕ) → filmIn (t .length) τ c ≡ isFilm L c
+    film-is : (c : ℕ) → filmIn (t .film .length) τ c ≡ isFilm L c
     film-is c = rw (timed, M .same-kind, M .same-length, M .same-floor, M .same-cap) refl
 
-    unseen-missed : (a c : ℕ) → isUnseen (t .length) τ r a c ≡ isMissed L r a c
+    unseen-missed : (a c : ℕ) → isUnseen (t .film .length) τ r a c ≡ isMissed L r a c
     unfolding isUnseen isMissed
     unseen-missed a c = ap (λ b. both b (not (isInTime r a c))) (film-is c)
 
-    result-is : (a : ℕ) → lowest (isUnseen (t .length) τ r a) m ≡ resultOf L r a
+    result-is : (a : ℕ) → lowest (isUnseen (t .film .length) τ r a) m ≡ resultOf L r a
     unfolding resultOf
     result-is a =
-        lowest-ext (isUnseen (t .length) τ r a) (isMissed L r a) m (λ c l. unseen-missed a c)
+        lowest-ext (isUnseen (t .film .length) τ r a) (isMissed L r a) m (λ c l. unseen-missed a c)
         ∙ ap (lowest (isMissed L r a)) (cut ∙ sym (ap (λ k. 2 ^ k) (M .same-cap)))
 
-    module _ (found : List ℕ) (R : Results r m (t .length) τ 0 found) where
+    module _ (found : List ℕ) (R : Results r m (t .film .length) τ 0 found) where
       judged-is : (a : ℕ) → a < ticksIn r → both (eqb (getD marks a 0) 1) (leb (a + m) (ticksIn r)) ≡ isJudged L r a
       unfolding isJudged
       judged-is a l = rw (admission-is a l, whole-is a) refl
@@ -96,8 +96,8 @@ module _ (t : Title) (r marks : List ℕ) (L : Life) (M : MarkedBy t marks (tick
           (decide (isJudged L r a)))
 
 -- what the two walks come to
-pub judges : (t : Title) (r marks row after : List ℕ) (w : Counts) (m τ : ℕ) (found : List ℕ) → m ≡ 2 ^ t .cap →
-    τ ≡ tickFor paddedKind (t .length) (t .floor) (t .cap) → Results r m (t .length) τ 0 found →
+pub judges : (t : Title) (r marks row after : List ℕ) (w : Counts) (m τ : ℕ) (found : List ℕ) → m ≡ 2 ^ t .film .cap →
+    τ ≡ tickFor paddedKind (t .film .length) (t .film .floor) (t .film .cap) → Results r m (t .film .length) τ 0 found →
     Tells found marks m (ticksIn r) row after w → Judges t r marks row after w
 judges t r marks row after w m τ found cut timed R T =
     record {

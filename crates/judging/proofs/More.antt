@@ -15,15 +15,15 @@ use Rattle.judging.specs.Record.{ticksIn, isShown, isInTime}
 use Rattle.judging.specs.Judged.{isWhole, isJudged, isPlayed, playedIn, Covers}
 use Rattle.judging.proofs.Plays.{plays-through, played-has-all, played-in, played-out}
 
-module _ (L : Life) (high : L .cap ≤ countMax) (r q : List ℕ) (more : Covers L r q) where
-  more-in-time : (a c : ℕ) → c < cells (L .cap) → a + c < ticksIn r → isInTime r a c ≡ true → isInTime q a c ≡ true
+module _ (L : Life) (high : L .film .cap ≤ countMax) (r q : List ℕ) (more : Covers L r q) where
+  more-in-time : (a c : ℕ) → c < cells (L .film .cap) → a + c < ticksIn r → isInTime r a c ≡ true → isInTime q a c ≡ true
   unfolding isInTime
   more-in-time a c l in-record h =
       let seen = some-out (λ j. isShown r c (a + j)) (suc c) h in
       let soon : seen .0 < suc c = seen .1 in
       some-in (λ j. isShown q c (a + j)) (suc c) (seen .0) soon (more .shows c (a + seen .0) l (omega arith) (seen .2))
 
-  judged-fits : (a : ℕ) → isJudged L r a ≡ true → a + cells (L .cap) ≤ ticksIn r
+  judged-fits : (a : ℕ) → isJudged L r a ≡ true → a + cells (L .film .cap) ≤ ticksIn r
   unfolding isJudged isWhole
   judged-fits a j = leb-true _ _ (both-r (isAdmission L a) _ j)
 
@@ -31,12 +31,12 @@ module _ (L : Life) (high : L .cap ≤ countMax) (r q : List ℕ) (more : Covers
   unfolding isJudged isWhole
   more-judged a j =
       both-in (isAdmission L a) _ (both-l (isAdmission L a) _ j)
-      (le-leb (a + cells (L .cap)) (ticksIn q) (omega (arith, judged-fits a j, more .longer)))
+      (le-leb (a + cells (L .film .cap)) (ticksIn q) (omega (arith, judged-fits a j, more .longer)))
 
   pub more-shown : (a : ℕ) → isPlayed L r a ≡ true → isPlayed L q a ≡ true
   more-shown a h =
       let p = played-out L r a h in
-      let fits : a + cells (L .cap) ≤ ticksIn r = judged-fits a (p .0) in
+      let fits : a + cells (L .film .cap) ≤ ticksIn r = judged-fits a (p .0) in
       played-in L q a (more-judged a (p .0))
       (plays-through L q a (λ c l film. more-in-time a c l (omega arith) (played-has-all L r a high (p .1) c l film)))
 

@@ -20,35 +20,35 @@ use Rattle.judging.specs.Judged.{isMissed, resultOf, isJudged, isPlayed,
 use Rattle.judging.proofs.Walked.{lowest-none}
 
 module _ (L : Life) (r : List ℕ) (a : ℕ) where
-  none-missed : HasAll L r a → (c : ℕ) → c < cells (L .cap) → isMissed L r a c ≡ true → ⊥
+  none-missed : HasAll L r a → (c : ℕ) → c < cells (L .film .cap) → isMissed L r a c ≡ true → ⊥
   unfolding isMissed
   none-missed all c l h =
       false≢true (sym (ap not (all c l (both-l (isFilm L c) (not (isInTime r a c)) h))) ∙ both-r (isFilm L c) (not (isInTime r a c)) h)
 
   pub plays-through : HasAll L r a → resultOf L r a ≡ nothingSeen
   unfolding resultOf
-  plays-through all = lowest-none (isMissed L r a) (cells (L .cap)) (λ c l. fails (isMissed L r a c) (none-missed all c l))
+  plays-through all = lowest-none (isMissed L r a) (cells (L .film .cap)) (λ c l. fails (isMissed L r a c) (none-missed all c l))
 
   -- a result that is a cell is one that was missed, and the lowest
   pub result-missed : (resultOf L r a ≡ nothingSeen → ⊥) →
-      (resultOf L r a < cells (L .cap)) × ((isMissed L r a (resultOf L r a) ≡ true)
+      (resultOf L r a < cells (L .film .cap)) × ((isMissed L r a (resultOf L r a) ≡ true)
       × ((c : ℕ) → c < resultOf L r a → isMissed L r a c ≡ false))
   unfolding resultOf lowest
   result-missed some =
       ⊎-elim
-      (λ b. rw b (let low = ltb-true (first (isMissed L r a) (cells (L .cap))) (cells (L .cap)) b in
-      (low, (first-hit (isMissed L r a) (cells (L .cap)) low, λ c l. first-before (isMissed L r a) (cells (L .cap)) c l))))
+      (λ b. rw b (let low = ltb-true (first (isMissed L r a) (cells (L .film .cap))) (cells (L .film .cap)) b in
+      (low, (first-hit (isMissed L r a) (cells (L .film .cap)) low, λ c l. first-before (isMissed L r a) (cells (L .film .cap)) c l))))
       (λ n. absurd (some (pick-false _ _ nothingSeen n)))
-      (decide (ltb (first (isMissed L r a) (cells (L .cap))) (cells (L .cap))))
+      (decide (ltb (first (isMissed L r a) (cells (L .film .cap))) (cells (L .film .cap))))
 
-  module _ (high : L .cap ≤ countMax) where
+  module _ (high : L .film .cap ≤ countMax) where
     -- a cell's number is never 65535
-    missed-result : (c : ℕ) → c < cells (L .cap) → isMissed L r a c ≡ true → resultOf L r a < nothingSeen
+    missed-result : (c : ℕ) → c < cells (L .film .cap) → isMissed L r a c ≡ true → resultOf L r a < nothingSeen
     unfolding resultOf lowest
     missed-result c l h =
-        let most : 2 ^ L .cap ≤ 2 ^ countMax = pow-mono high in
-        let low : first (isMissed L r a) (cells (L .cap)) ≤ c = first-least (isMissed L r a) (cells (L .cap)) c h in
-        rw (lt-ltb (first (isMissed L r a) (cells (L .cap))) (cells (L .cap)) (omega arith)) (omega arith)
+        let most : 2 ^ L .film .cap ≤ 2 ^ countMax = pow-mono high in
+        let low : first (isMissed L r a) (cells (L .film .cap)) ≤ c = first-least (isMissed L r a) (cells (L .film .cap)) c h in
+        rw (lt-ltb (first (isMissed L r a) (cells (L .film .cap))) (cells (L .film .cap)) (omega arith)) (omega arith)
 
     pub played-has-all : resultOf L r a ≡ nothingSeen → HasAll L r a
     unfolding isMissed

@@ -15,8 +15,8 @@ use Rattle.judging.specs.Judged.{judgedIn, playedIn, outlastingIn, resul
 
 -- a title within its limits, a record that is not too long, and a mark and a place in the row for each of its ticks
 pub record Judgeable (t : Title) (r marks row : List ℕ) : Type 0 where
-  pub sized : Length (t .length)
-  pub cut : FloorCap (t .floor) (t .cap)
+  pub sized : Length (t .film .length)
+  pub cut : FloorCap (t .film .floor) (t .film .cap)
   pub few : ticksIn r ≤ ticksMax
   pub marked : ticksIn r ≤ length marks
   pub room : ticksIn r ≤ length row
@@ -24,10 +24,10 @@ pub record Judgeable (t : Title) (r marks row : List ℕ) : Type 0 where
 -- a life that is sent by the padded grid and has the title's numbers, and of whose first n ticks the admissions are marked 1
 -- and the others 0
 pub record MarkedBy (t : Title) (marks : List ℕ) (n : ℕ) (L : Life) : Type 0 where
-  pub same-kind : L .kind ≡ paddedKind
-  pub same-length : L .length ≡ t .length
-  pub same-floor : L .floor ≡ t .floor
-  pub same-cap : L .cap ≡ t .cap
+  pub same-kind : L .film .kind ≡ paddedKind
+  pub same-length : L .film .length ≡ t .film .length
+  pub same-floor : L .film .floor ≡ t .film .floor
+  pub same-cap : L .film .cap ≡ t .film .cap
   pub mark : (a : ℕ) → a < n → getD marks a 0 ≡ pick (isAdmission L a) 1 0
 
 -- how many admissions of a life the record judges, how many of those played through, and how many outlast it

@@ -19,15 +19,15 @@ isMissed L r a c = both (isFilm L c) (not (isInTime r a c))
 
 -- every cell of film is shown in time to a box that begins at tick a
 abbrev pub HasAll : Life → List ℕ → ℕ → Type 0
-HasAll L r a = (c : ℕ) → c < cells (L .cap) → isFilm L c ≡ true → isInTime r a c ≡ true
+HasAll L r a = (c : ℕ) → c < cells (L .film .cap) → isFilm L c ≡ true → isInTime r a c ≡ true
 
 -- what an admission gets: the lowest cell that was missed, or that none was
 unfoldable pub resultOf : Life → List ℕ → ℕ → ℕ
-resultOf L r a = lowest (isMissed L r a) (cells (L .cap))
+resultOf L r a = lowest (isMissed L r a) (cells (L .film .cap))
 
 -- the play ticks of a box that begins at tick a lie in the record
 unfoldable pub isWhole : Life → List ℕ → ℕ → Bool
-isWhole L r a = leb (a + cells (L .cap)) (ticksIn r)
+isWhole L r a = leb (a + cells (L .film .cap)) (ticksIn r)
 
 -- an admission that is judged, and one that outlasts the record
 unfoldable pub isJudged : Life → List ℕ → ℕ → Bool
@@ -62,4 +62,4 @@ resultsIn L r row = resultsTo L r row (ticksIn r)
 -- record q shows all that r shows of a title, when r does, and maybe more; it is no shorter
 pub record Covers (L : Life) (r q : List ℕ) : Type 0 where
   pub longer : ticksIn r ≤ ticksIn q
-  pub shows : (c t : ℕ) → c < cells (L .cap) → t < ticksIn r → isShown r c t ≡ true → isShown q c t ≡ true
+  pub shows : (c t : ℕ) → c < cells (L .film .cap) → t < ticksIn r → isShown r c t ≡ true → isShown q c t ≡ true

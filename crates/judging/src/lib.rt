@@ -38,10 +38,10 @@ pub fn judge(t: Title, air: &[u16], marks: &[u8], row: &mut [u16]) -> Counts
     requires { ⌜ Judgeable t (now air) (now marks) (now row) ⌝ }
     ensures { λ w. ⌜ Judges t (now (air .entry)) (now (marks .entry)) (now (row .entry)) (now (row .exit)) w ⌝ }
 {
-    let length = t.length;
+    let length = t.film.length;
     let ticks = air.len() / LANE_PLACES;
-    let cells = grid::pow2(t.cap) as usize;
-    let tick = scheme::tick(scheme::PADDED, length, t.floor, t.cap);
+    let cells = grid::pow2(t.film.cap) as usize;
+    let tick = scheme::tick(scheme::PADDED, length, t.film.floor, t.film.cap);
     let results = results::results(air, cells, length, tick);
     telling::tell(&results, marks, cells, ticks, row)
 }

@@ -16,7 +16,7 @@ use Rattle.scheme.specs.Scheme.{steadyKind}
 use Rattle.story.specs.declared.Title.{Title}
 use Rattle.story.specs.declared.State.{State}
 use Rattle.story.specs.Kept.{absentMode, titleAt, rowOk, numbersOk, orderOk, titleOk, stateOk}
-use Rattle.measures.specs.Film.{slotOk, Readable, AllReadable}
+use Rattle.measures.specs.Readable.{slotOk, Readable, AllReadable}
 
 module _ (t : Title) (ok : titleOk t ≡ true) where
   pub numbers : numbersOk t ≡ true
@@ -39,12 +39,12 @@ module _ (t : Title) (ok : titleOk t ≡ true) where
   tuned-high = let n = numbers in search (both-l, both-r, leb-true) depth 12
 
   -- of a skip-forward title floor and cap are one
-  pub level : (t .mode ≡ absentMode → ⊥) → t .kind ≡ steadyKind → t .floor ≡ t .cap
+  pub level : (t .mode ≡ absentMode → ⊥) → t .film .kind ≡ steadyKind → t .film .floor ≡ t .film .cap
   unfolding orderOk
   level there steady =
       let o = order there in
-      let l : either (not (eqb (t .kind) steadyKind)) (eqb (t .floor) (t .cap)) ≡ true = search (both-r) depth 12 in
-      eqb-true (t .floor) (t .cap) (rw (eq-eqb (t .kind) steadyKind steady) at l)
+      let l : either (not (eqb (t .film .kind) steadyKind)) (eqb (t .film .floor) (t .film .cap)) ≡ true = search (both-r) depth 12 in
+      eqb-true (t .film .floor) (t .film .cap) (rw (eq-eqb (t .film .kind) steadyKind steady) at l)
 
   pub readable : Readable t
   unfolding numbersOk orderOk
@@ -55,15 +55,15 @@ module _ (t : Title) (ok : titleOk t ≡ true) where
         sized = record
             { low = search (both-l, leb-true) depth 12; high = search (both-l, both-r, leb-true) depth 12 };
         cut = record
-            { low = let l : floorMin ≤ t .floor = search (both-l, both-r, leb-true) depth 12 in omega arith; fit = search (both-l, both-r, leb-true) depth 12; high = search (both-l, both-r, leb-true) depth 12 };
+            { low = let l : floorMin ≤ t .film .floor = search (both-l, both-r, leb-true) depth 12 in omega arith; fit = search (both-l, both-r, leb-true) depth 12; high = search (both-l, both-r, leb-true) depth 12 };
         flat = level there;
       }
 
-  pub count-low : (t .mode ≡ absentMode → ⊥) → t .floor ≤ t .count
+  pub count-low : (t .mode ≡ absentMode → ⊥) → t .film .floor ≤ t .count
   unfolding orderOk
   count-low there = let o = order there in search (both-l, both-r, leb-true) depth 12
 
-  pub count-fit : (t .mode ≡ absentMode → ⊥) → t .count ≤ t .cap
+  pub count-fit : (t .mode ≡ absentMode → ⊥) → t .count ≤ t .film .cap
   unfolding orderOk
   count-fit there = let o = order there in search (both-l, both-r, leb-true) depth 12
 

@@ -1,2 +1,2 @@
 -- What a title's numbers are known to be once its state is within the limits.
-pub mod Film
+pub mod Readable

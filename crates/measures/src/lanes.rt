@@ -17,7 +17,7 @@ ghost use Rattle.rules.specs.Limits.{countMax};
 ghost use Rattle.rules.specs.Search.{howMany};
 ghost use Rattle.grid.specs.Bounds.{Exactly};
 ghost use Rattle.story.specs.Kept.{ruling as rulingOf, keptHeld, titleHeld, lanesHeld, isThere};
-ghost use Rattle.measures.specs.Film.{Readable, AllReadable};
+ghost use Rattle.measures.specs.Readable.{Readable, AllReadable};
 
 // The ruling count, 0 where the title isn't open.
 pub fn ruling(t: Title) -> u64
@@ -53,10 +53,10 @@ pub fn is_held(t: Title, lane: u64, tick: u64) -> bool
 // How many lanes a title holds at a tick: the active ones, and of those above them the ones that still send. So a lane that
 // resumed before its list had gone counts once.
 fn held_at(t: Title, tick: u64) -> u64
-    requires { ⌜ t .cap ≤ countMax ⌝ }
-    ensures { λ r. ⌜ Exactly (howMany (λ l. keptHeld t l tick) (t .cap)) 0 countMax r ⌝ }
+    requires { ⌜ t .film .cap ≤ countMax ⌝ }
+    ensures { λ r. ⌜ Exactly (howMany (λ l. keptHeld t l tick) (t .film .cap)) 0 countMax r ⌝ }
 {
-    let cap = t.cap;
+    let cap = t.film.cap;
     let active = smaller(ruling(t), cap);
     let mut n = active;
     let mut lane = active;

@@ -29,7 +29,7 @@ ghost use Rattle.rules.specs.Refusals.{pick};
 ghost use Rattle.rules.specs.Search.{every};
 ghost use Rattle.scheme.specs.Scheme.{steadyKind};
 ghost use Rattle.story.specs.Kept.{absentMode, numbersOk, orderOk, titleOk, stateOk};
-ghost use Rattle.measures.specs.Film.{keptOk, restOk, slotOk};
+ghost use Rattle.measures.specs.Readable.{keptOk, restOk, slotOk};
 
 // The time of a title's latest opening or change, and its three rows.
 fn kept_ok(t: Title) -> bool
@@ -62,7 +62,7 @@ fn floor_ok(kind: u64, floor: u64) -> bool
 fn rest_ok(t: Title) -> bool
     ensures { λ r. ⌜ r ≡ restOk t ⌝ }
 {
-    if t.cap > COUNT_MAX {
+    if t.film.cap > COUNT_MAX {
         return false;
     }
     if t.count > COUNT_MAX {
@@ -84,16 +84,16 @@ fn numbers_ok(t: Title) -> bool
     if t.mode > CLOSING {
         return false;
     }
-    if t.kind > STEADY {
+    if t.film.kind > STEADY {
         return false;
     }
     if t.opened > ASKED_MAX {
         return false;
     }
-    if t.length > LENGTH_MAX {
+    if t.film.length > LENGTH_MAX {
         return false;
     }
-    also(floor_ok(t.kind, t.floor), rest_ok(t))
+    also(floor_ok(t.film.kind, t.film.floor), rest_ok(t))
 }
 
 // Floor and cap are one where the kind asks for it.
@@ -110,18 +110,18 @@ fn is_level(kind: u64, floor: u64, cap: u64) -> bool
 fn order_ok(t: Title) -> bool
     ensures { λ r. ⌜ r ≡ orderOk t ⌝ }
 {
-    if t.length < LENGTH_MIN {
+    if t.film.length < LENGTH_MIN {
         return false;
     }
-    if t.floor < FLOOR_MIN {
+    if t.film.floor < FLOOR_MIN {
         return false;
     }
-    if t.floor > t.cap {
+    if t.film.floor > t.film.cap {
         return false;
     }
     also(
-        within(t.floor, t.cap, t.count),
-        is_level(t.kind, t.floor, t.cap),
+        within(t.film.floor, t.film.cap, t.count),
+        is_level(t.film.kind, t.film.floor, t.film.cap),
     )
 }
 

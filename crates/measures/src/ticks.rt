@@ -6,7 +6,7 @@ ghost use mathlib.Core.Path.{_≡_};
 ghost use Rattle.rules.specs.Limits.{askedMax};
 ghost use Rattle.grid.specs.Bounds.{Exactly};
 ghost use Rattle.story.specs.Kept.{tickAt, atTickStart, settledAt};
-ghost use Rattle.measures.specs.Film.{Film};
+ghost use Rattle.measures.specs.Readable.{Filmed};
 
 // How far a moment lies after another, 0 where it lies before.
 pub fn since(from: u64, moment: u64) -> u64
@@ -20,27 +20,27 @@ pub fn since(from: u64, moment: u64) -> u64
 
 // The tick of a title that holds a time.
 pub fn tick_at(t: Title, time: u64) -> u64
-    requires { ⌜ Film t ⌝ }
+    requires { ⌜ Filmed (t .film) ⌝ }
     ensures { λ r. ⌜ Exactly (tickAt t time) 0 time r ⌝ }
 {
-    since(t.opened, time) / scheme::tick(t.kind, t.length, t.floor, t.cap)
+    since(t.opened, time) / scheme::tick(t.film.kind, t.film.length, t.film.floor, t.film.cap)
 }
 
 // Whether a time is the start of a tick.
 pub fn at_tick_start(t: Title, time: u64) -> bool
-    requires { ⌜ Film t ⌝ }
+    requires { ⌜ Filmed (t .film) ⌝ }
     ensures { λ r. ⌜ r ≡ atTickStart t time ⌝ }
 {
-    since(t.opened, time) % scheme::tick(t.kind, t.length, t.floor, t.cap) == 0
+    since(t.opened, time) % scheme::tick(t.film.kind, t.film.length, t.film.floor, t.film.cap) == 0
 }
 
 // The moment from which on a title may change again: one slot of its floor after its latest opening or change.
 pub fn settled_at(t: Title) -> u64
-    requires { ⌜ Film t ⌝ }
+    requires { ⌜ Filmed (t .film) ⌝ }
     requires { ⌜ t .tuned ≤ askedMax ⌝ }
     ensures { λ r. ⌜ r ≡ settledAt t ⌝ }
 {
-    let slot = scheme::slot(t.kind, t.floor, t.cap, t.floor)
-        * scheme::tick(t.kind, t.length, t.floor, t.cap);
+    let slot = scheme::slot(t.film.kind, t.film.floor, t.film.cap, t.film.floor)
+        * scheme::tick(t.film.kind, t.film.length, t.film.floor, t.film.cap);
     t.tuned + slot
 }

@@ -15,13 +15,13 @@ use Rattle.story.specs.declared.Title.{Title}
 use Rattle.story.specs.declared.State.{State}
 use Rattle.story.specs.Kept.{titleAt, settledAt}
 use Rattle.story.specs.Calls.{atSlotStart}
-use Rattle.measures.specs.Film.{Film}
+use Rattle.measures.specs.Readable.{Filmed}
 use Rattle.moments.specs.Moments.{isPermitted, hasLanes, isDue, FirstDue}
 use Rattle.moments.specs.inner.Steps.{slotMs, Found, permits}
 use Rattle.moments.proofs.Permitted.{start-here, start-next, permitted-first, permitted-second}
 use Rattle.moments.proofs.Due.{lanes-stay, permitted-by}
 
-module _ (t : Title) (c : ℕ) (film : Film t) where
+module _ (t : Title) (c : ℕ) (film : Filmed (t .film)) where
   start-comes : (x : ℕ) → (r : ℕ) × Found (atSlotStart t c) x r r
   start-comes x =
       let m : ℕ = (x - t .opened) % slotMs t c in
@@ -47,7 +47,7 @@ module _ (t : Title) (c : ℕ) (film : Film t) where
       (decide (eqb (a .0) (t .last)))
 
 -- from any time on a change is due at a first time, once it finds its lanes at some time
-pub due-comes : (s : State) (i k : ℕ) → Film (titleAt s i) → (τ σ : ℕ) → hasLanes s i k σ ≡ true →
+pub due-comes : (s : State) (i k : ℕ) → Filmed (titleAt s i .film) → (τ σ : ℕ) → hasLanes s i k σ ≡ true →
     (r : ℕ) × FirstDue s i k τ r
 unfolding isDue
 due-comes s i k film τ σ lanes =

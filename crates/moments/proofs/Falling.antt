@@ -45,12 +45,12 @@ unfolding titleHeld
 title-falls t τ υ le = go (eqb (t .mode) absentMode)
   where
     held : ℕ → ℕ
-    held x = howMany (λ l. keptHeld t l (tickAt t x)) (t .cap)
+    held x = howMany (λ l. keptHeld t l (tickAt t x)) (t .film .cap)
 
     go : (b : Bool) → pick b 0 (held υ) ≤ pick b 0 (held τ)
     go true = omega arith
     go false =
-        Search.howMany-wider (λ l. keptHeld t l (tickAt t υ)) (λ l. keptHeld t l (tickAt t τ)) (t .cap)
+        Search.howMany-wider (λ l. keptHeld t l (tickAt t υ)) (λ l. keptHeld t l (tickAt t τ)) (t .film .cap)
         (λ l b h. lane-falls t l (tickAt t τ) (tickAt t υ) (tick-later t τ υ le) h)
 
 -- in any state fewer lanes are held the later it is

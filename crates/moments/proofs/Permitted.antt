@@ -22,7 +22,7 @@ use Rattle.scheme.proofs.Both.{lawful}
 use Rattle.story.specs.declared.Title.{Title}
 use Rattle.story.specs.Kept.{schemeIn, titleTick, tickAt, atTickStart, settledAt}
 use Rattle.story.specs.Calls.{atSlotStart}
-use Rattle.measures.specs.Film.{Film}
+use Rattle.measures.specs.Readable.{Filmed}
 use Rattle.moments.specs.inner.Steps.{slotMs, slotMost, Found, permits}
 
 -- a whole number of ticks, itself a whole number of slots of w ticks: a whole number of slots of w * p ms
@@ -39,13 +39,13 @@ whole p w x a b =
     let m : x / p % w * 1 ≤ x / p % w * p = mul-le-mul {n₁ = x / p % w} {m₁ = 1} {n₂ = x / p % w} {m₂ = p} (omega arith) a in
     both-in (eqb (x % p) 0) (eqb (x / p % w) 0) (eq-eqb (x % p) 0 (omega arith)) (eq-eqb (x / p % w) 0 (omega arith)))
 
-module _ (t : Title) (c : ℕ) (film : Film t) where
+module _ (t : Title) (c : ℕ) (film : Filmed (t .film)) where
   tick-some : 0 < titleTick t
   tick-some =
-      tick-pos (t .kind) (t .length) (t .floor) (t .cap) (omega (arith, film .sized .low)) (film .cut .low) (film .cut .fit)
+      tick-pos (t .film .kind) (t .film .length) (t .film .floor) (t .film .cap) (omega (arith, film .sized .low)) (film .cut .low) (film .cut .fit)
 
   ticks-some : 0 < schemeIn t .slotOf c
-  ticks-some = lawful (t .kind) (t .length) (t .floor) (t .cap) (film .cut .low) (film .cut .fit) (film .flat) .slot-pos c
+  ticks-some = lawful (t .film .kind) (t .film .length) (t .film .floor) (t .film .cap) (film .cut .low) (film .cut .fit) (film .flat) .slot-pos c
 
   pub slot-some : 0 < slotMs t c
   slot-some = mul-le-mul {n₁ = 1} {m₁ = 1} {n₂ = schemeIn t .slotOf c} ticks-some tick-some
@@ -181,12 +181,12 @@ slot-high kind A K c le =
     (decide (eqb kind steadyKind))
 
 -- a title that settles within its limits does so soon after them
-pub settled-high : (t : Title) → Film t → t .tuned ≤ askedMax → settledAt t ≤ askedMax + slotMost
+pub settled-high : (t : Title) → Filmed (t .film) → t .tuned ≤ askedMax → settledAt t ≤ askedMax + slotMost
 unfolding settledAt
 settled-high t film le =
-    let long : 0 < t .length = omega (arith, film .sized .low) in
-    let short = tick-high (t .kind) (t .length) (t .floor) (t .cap) long (film .cut .low) (film .cut .fit) in
-    let wide = slot-high (t .kind) (t .floor) (t .cap) (t .floor) (film .cut .high) in
-    let some = ticks-some t (t .floor) film in
-    let tick = tick-some t (t .floor) film in
-    omega (arith, slot-ms (schemeIn t .slotOf (t .floor)) (titleTick t) (t .length) some wide tick short (film .sized .high) .1)
+    let long : 0 < t .film .length = omega (arith, film .sized .low) in
+    let short = tick-high (t .film .kind) (t .film .length) (t .film .floor) (t .film .cap) long (film .cut .low) (film .cut .fit) in
+    let wide = slot-high (t .film .kind) (t .film .floor) (t .film .cap) (t .film .floor) (film .cut .high) in
+    let some = ticks-some t (t .film .floor) film in
+    let tick = tick-some t (t .film .floor) film in
+    omega (arith, slot-ms (schemeIn t .slotOf (t .film .floor)) (titleTick t) (t .film .length) some wide tick short (film .sized .high) .1)

@@ -63,21 +63,21 @@ module _ (t : Title) (τ a : ℕ) where
   unfolding titleRelease
   title-first = go (eqb (t .mode) absentMode)
     where
-      go : (b : Bool) → pick b a (lanesRelease t τ a (t .cap)) ≤ a
+      go : (b : Bool) → pick b a (lanesRelease t τ a (t .film .cap)) ≤ a
       go true = omega arith
-      go false = lanes-first t τ a (t .cap)
+      go false = lanes-first t τ a (t .film .cap)
 
   title-low : τ < a → τ < titleRelease t τ a
   unfolding titleRelease
   title-low l = go (eqb (t .mode) absentMode)
     where
-      go : (b : Bool) → τ < pick b a (lanesRelease t τ a (t .cap))
+      go : (b : Bool) → τ < pick b a (lanesRelease t τ a (t .film .cap))
       go true = l
-      go false = lanes-low t τ a (t .cap) l
+      go false = lanes-low t τ a (t .film .cap) l
 
-  title-each : (t .mode ≡ absentMode → ⊥) → (l : ℕ) → l < t .cap → τ < releaseOf t l → titleRelease t τ a ≤ releaseOf t l
+  title-each : (t .mode ≡ absentMode → ⊥) → (l : ℕ) → l < t .film .cap → τ < releaseOf t l → titleRelease t τ a ≤ releaseOf t l
   unfolding titleRelease
-  title-each there l b h = rw (ne-eqb (t .mode) absentMode there) (lanes-each t τ a (t .cap) l b h)
+  title-each there l b h = rw (ne-eqb (t .mode) absentMode there) (lanes-each t τ a (t .film .cap) l b h)
 
 module _ (s : State) (τ : ℕ) where
   pub release-high : (n : ℕ) → releaseIn s τ n ≤ suc eventTimeMax
@@ -90,7 +90,7 @@ module _ (s : State) (τ : ℕ) where
   release-low zero l = omega arith
   release-low (suc n) l = title-low (titleAt s n) τ (releaseIn s τ n) (release-low n l)
 
-  release-each : (n i : ℕ) → i < n → (titleAt s i .mode ≡ absentMode → ⊥) → (l : ℕ) → l < titleAt s i .cap →
+  release-each : (n i : ℕ) → i < n → (titleAt s i .mode ≡ absentMode → ⊥) → (l : ℕ) → l < titleAt s i .film .cap →
       τ < releaseOf (titleAt s i) l → releaseIn s τ n ≤ releaseOf (titleAt s i) l
   unfolding releaseIn
   release-each zero i b there l c h = absurd (omega arith)
@@ -122,7 +122,7 @@ module _ (t : Title) (timed : Timed t) (τ υ : ℕ) (early : τ ≤ eventTimeMa
       let n : ℕ = getD (t .dropped) l 0 + getD (t .owed) l 0 in
       let p : ℕ = titleTick t in
       let f = timed .film in
-      let pos : 0 < p = tick-pos (t .kind) (t .length) (t .floor) (t .cap) (omega (arith, f .sized .low)) (f .cut .low) (f .cut .fit) in
+      let pos : 0 < p = tick-pos (t .film .kind) (t .film .length) (t .film .floor) (t .film .cap) (omega (arith, f .sized .low)) (f .cut .low) (f .cut .fit) in
       ⊎-elim (λ a. either-l (ltb l (ruling t)) (ltb ((υ - t .opened) / p) n) a)
       (λ b.
       either-r (ltb l (ruling t)) (ltb ((υ - t .opened) / p) n)
@@ -144,7 +144,7 @@ lanes-steady s timed τ υ early until =
         let t : Title = titleAt s i in
         let is : t .mode ≡ absentMode → ⊥ = eqb-false (t .mode) absentMode some in
         rw some
-        (Search.howMany-wider (λ l. keptHeld t l (tickAt t τ)) (λ l. keptHeld t l (tickAt t υ)) (t .cap)
+        (Search.howMany-wider (λ l. keptHeld t l (tickAt t τ)) (λ l. keptHeld t l (tickAt t υ)) (t .film .cap)
         (λ l c h.
         lane-steady t (timed i b is) τ υ early l
         (λ after. omega (arith, release-each s τ titlesMax i b is l c after)) h))

@@ -7,7 +7,7 @@ use lib.Dec.{leb}
 use Rattle.rules.specs.Limits.{both, either, eventTimeMax}
 use Rattle.rules.specs.Search.{first}
 use Rattle.story.specs.declared.State.{State}
-use Rattle.story.specs.Story.{changes}
+use Rattle.story.specs.declared.Act.the-variants.{Changes}
 use Rattle.story.specs.Kept.{titleAt}
 use Rattle.story.specs.Orders.{Tests}
 use Rattle.story.specs.Calls.{testsIn}
@@ -17,11 +17,11 @@ abbrev pub isPermittedBy : Tests → Bool
 isPermittedBy t = both (not (t .second)) (both (not (t .soon)) (not (t .off)))
 
 unfoldable pub isPermitted : State → ℕ → ℕ → ℕ → Bool
-isPermitted s i k τ = isPermittedBy (testsIn s i τ (changes k))
+isPermitted s i k τ = isPermittedBy (testsIn s i τ (Changes k))
 
 -- a drop needs no lanes; a raise finds them where the pool has as many as would be held
 unfoldable pub hasLanes : State → ℕ → ℕ → ℕ → Bool
-hasLanes s i k τ = either (leb k (titleAt s i .count)) (not (testsIn s i τ (changes k) .full))
+hasLanes s i k τ = either (leb k (titleAt s i .count)) (not (testsIn s i τ (Changes k) .full))
 
 -- the change of title i to count k may come at τ
 unfoldable pub isDue : State → ℕ → ℕ → ℕ → Bool

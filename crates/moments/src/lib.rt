@@ -42,8 +42,8 @@ fn lanes_from(s: State, id: u64, count: u64, from: u64) -> u64
 // The earliest time from another on at which a title can change to a count, PAST where the clock has none.
 pub fn due_at(s: State, id: u64, count: u64, from: u64) -> u64
     requires { ⌜ stateOk s ≡ true ⌝ }
-    requires { ⌜ (id ≤ idMax) × ((titleAt s id .mode ≡ openMode) × (count ≤ titleAt s id .cap)) ⌝ }
-    requires { ⌜ (titleAt s id .floor ≤ count) × (from ≤ suc eventTimeMax) ⌝ }
+    requires { ⌜ (id ≤ idMax) × ((titleAt s id .mode ≡ openMode) × (count ≤ titleAt s id .film .cap)) ⌝ }
+    requires { ⌜ (titleAt s id .film .floor ≤ count) × (from ≤ suc eventTimeMax) ⌝ }
     ensures { λ r. ⌜ Exactly (earliest (isDue s id count) from) from (suc eventTimeMax) r ⌝ }
 {
     let t = title_of(s, id);

@@ -44,10 +44,10 @@ fn release_of(t: Title, tick: u64, lane: u64) -> u64
 // The soonest of a moment and the releases of a title's lanes after a time.
 fn lanes_release(t: Title, time: u64, soonest: u64) -> u64
     requires { ⌜ Timed t ⌝ }
-    ensures { λ r. ⌜ r ≡ lanesRelease t time soonest (t .cap) ⌝ }
+    ensures { λ r. ⌜ r ≡ lanesRelease t time soonest (t .film .cap) ⌝ }
 {
-    let cap = t.cap;
-    let tick = scheme::tick(t.kind, t.length, t.floor, t.cap);
+    let cap = t.film.cap;
+    let tick = scheme::tick(t.film.kind, t.film.length, t.film.floor, t.film.cap);
     let mut r = soonest;
     let mut lane = 0;
     while lane < cap {

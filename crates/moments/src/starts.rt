@@ -8,7 +8,7 @@ ghost use mathlib.Core.Path.{_≡_};
 ghost use Rattle.rules.specs.Limits.{askedMax, eventTimeMax};
 ghost use Rattle.grid.specs.Bounds.{Exactly};
 ghost use Rattle.story.specs.Calls.{atSlotStart};
-ghost use Rattle.measures.specs.Film.{Film};
+ghost use Rattle.measures.specs.Readable.{Filmed};
 ghost use Rattle.moments.specs.inner.Steps.{slotMs, slotMost, Found, permits};
 
 // The larger of two numbers.
@@ -20,17 +20,18 @@ fn larger(a: u64, b: u64) -> u64
 
 // A slot of a count of a title, in ms.
 fn slot_ms(t: Title, count: u64) -> u64
-    requires { ⌜ Film t ⌝ }
-    requires { ⌜ count ≤ t .cap ⌝ }
+    requires { ⌜ Filmed (t .film) ⌝ }
+    requires { ⌜ count ≤ t .film .cap ⌝ }
     ensures { λ r. ⌜ Exactly (slotMs t count) 1 slotMost r ⌝ }
 {
-    scheme::slot(t.kind, t.floor, t.cap, count) * scheme::tick(t.kind, t.length, t.floor, t.cap)
+    scheme::slot(t.film.kind, t.film.floor, t.film.cap, count)
+        * scheme::tick(t.film.kind, t.film.length, t.film.floor, t.film.cap)
 }
 
 // The first slot start of a count from a time on. Times up to the opening count as slot starts.
 fn next_start(t: Title, count: u64, from: u64) -> u64
-    requires { ⌜ Film t ⌝ }
-    requires { ⌜ (count ≤ t .cap) × (from ≤ 2 ^ 42) ⌝ }
+    requires { ⌜ Filmed (t .film) ⌝ }
+    requires { ⌜ (count ≤ t .film .cap) × (from ≤ 2 ^ 42) ⌝ }
     ensures { λ r. ⌜ Found (atSlotStart t count) from (from + slotMost) r ⌝ }
 {
     let slot = slot_ms(t, count);
@@ -44,8 +45,8 @@ fn next_start(t: Title, count: u64, from: u64) -> u64
 // The first time from another on that a title's rules permit for a change at a slot start of a count: settled, and not
 // the moment of its last event.
 pub fn permitted_from(t: Title, count: u64, from: u64) -> u64
-    requires { ⌜ Film t ⌝ }
-    requires { ⌜ (count ≤ t .cap) × ((t .last ≤ askedMax) × (t .tuned ≤ askedMax)) ⌝ }
+    requires { ⌜ Filmed (t .film) ⌝ }
+    requires { ⌜ (count ≤ t .film .cap) × ((t .last ≤ askedMax) × (t .tuned ≤ askedMax)) ⌝ }
     requires { ⌜ from ≤ suc eventTimeMax ⌝ }
     ensures { λ r. ⌜ Found (permits t count) from (2 ^ 43) r ⌝ }
 {

@@ -10,35 +10,35 @@ use borrow.Author.Tests.{le-leb, lt-ltb}
 use Rattle.rules.specs.Limits.{both, askedMax, countPlaces}
 use Rattle.rules.specs.Refusals.{pick}
 use Rattle.rules.proofs.Search.{every-in}
+use Rattle.story.specs.declared.Film.{Film}
 use Rattle.story.specs.declared.Title.{Title}
-use Rattle.story.specs.Kept.{absentMode, isShut, rowOk, titleOk, tickAt}
-use Rattle.story.specs.Next.{ended, dropLane, dropLanes, changedTitle}
-use Rattle.measures.specs.Film.{Film}
+use Rattle.story.specs.declared.Act.{Act}
+use Rattle.story.specs.declared.Act.the-variants.{Opens, Changes, Closes, Doors}
+use Rattle.story.specs.Kept.{absentMode, openMode, closingMode, clearMark, isShut, rowOk, titleOk, tickAt}
+use Rattle.story.specs.Next.{ended, dropLane, dropLanes, turnedTitle, changedTitle, closedTitle, doorsTitle, nextTitle}
+use Rattle.measures.specs.Readable.{Filmed}
 use Rattle.measures.proofs.Within.{in-row, readable, count-fit, ends-ok, dropped-ok}
-use Rattle.owed.specs.Owing.{Owing, Sending, Changeable}
+use Rattle.owed.specs.Owing.{Owing, Sending, Changeable, Turnable}
 
 -- a title with the same film, count and ends
 pub record Fixed (t q : Title) : Type 0 where
-  pub kind : q .kind ≡ t .kind
-  pub length : q .length ≡ t .length
-  pub floor : q .floor ≡ t .floor
-  pub cap : q .cap ≡ t .cap
+  pub film : q .film ≡ t .film
   pub count : q .count ≡ t .count
   pub ends : q .ends ≡ t .ends
 
 pub fixed-drops : (t : Title) (n k i : ℕ) → Fixed t (dropLanes t n k i)
 unfolding dropLanes
-fixed-drops t n k zero = record { kind = refl; length = refl; floor = refl; cap = refl; count = refl; ends = refl }
+fixed-drops t n k zero = record { film = refl; count = refl; ends = refl }
 fixed-drops t n k (suc i) = go (both (leb k i) (ltb i (t .count))) (fixed-drops t n k i)
   where
     go : (b : Bool) → Fixed t (dropLanes t n k i) →
         Fixed t (pick b (dropLane (dropLanes t n k i) n i) (dropLanes t n k i))
-    go true f = record { kind = f .kind; length = f .length; floor = f .floor; cap = f .cap; count = f .count; ends = f .ends }
+    go true f = record { film = f .film; count = f .count; ends = f .ends }
     go false f = f
 
--- the film of a title with the same kind, length, floor and cap
-pub fixed-film : (t q : Title) → Fixed t q → Film t → Film q
-fixed-film t q f o = record { sized = rw (f .length) (o .sized); cut = rw (f .floor, f .cap) (o .cut); flat = rw (f .kind, f .floor, f .cap) (o .flat) }
+-- the limits of the same film
+pub fixed-film : (t q : Title) → Fixed t q → Filmed (t .film) → Filmed (q .film)
+fixed-film t q f o = record { sized = rw (f .film) (o .sized); cut = rw (f .film) (o .cut); flat = rw (f .film) (o .flat) }
 
 pub fixed-owing : (t q : Title) → Fixed t q → Owing t → Owing q
 fixed-owing t q f o = record { film = fixed-film t q f (o .film); ends = rw (f .ends) (o .ends) }
@@ -88,10 +88,14 @@ module _ (t : Title) (ok : titleOk t ≡ true) (there : t .mode ≡ absentMode �
   pub changeable : Changeable t
   changeable = record { owing = owing; ruled = count-fit t ok there }
 
-pub changed-film : (t : Title) (τ k : ℕ) → Film t → Film (changedTitle t τ k)
-unfolding changedTitle
-changed-film t τ k o =
-    let u = ended t (tickAt t τ) in
-    let d = dropLanes u (tickAt t τ) k (t .count) in
-    let f = fixed-film u d (fixed-drops u (tickAt t τ) k (t .count)) (record { sized = o .sized; cut = o .cut; flat = o .flat }) in
-    record { sized = f .sized; cut = f .cut; flat = f .flat }
+-- the film of a title after an event is within its limits: an opening's own, or as it was
+turned-film : (t : Title) (τ q m c d u : ℕ) → turnedTitle t τ q m c d u .film ≡ t .film
+turned-film t τ q m c d u = fixed-drops (ended t (tickAt t τ)) (tickAt t τ) q (t .count) .film
+
+pub next-filmed : (t : Title) (τ : ℕ) (a : Act) → Turnable t a → ((f : Film) (k : ℕ) → a ≡ Opens f k → Filmed f) →
+    Filmed (nextTitle t τ a .film)
+unfolding changedTitle closedTitle doorsTitle
+next-filmed t τ (Opens f k) ready own = own f k refl
+next-filmed t τ (Changes k) ready own = rw (turned-film t τ k openMode k (t .mark) τ) (ready .owing .film)
+next-filmed t τ Closes ready own = rw (turned-film t τ 0 closingMode (t .count) clearMark (t .tuned)) (ready .owing .film)
+next-filmed t τ (Doors b) ready own = ready .owing .film

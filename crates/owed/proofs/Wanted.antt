@@ -10,7 +10,7 @@ use lib.ListN.{getD}
 use borrow.Author.Tests.{eqb-true, ltb-true, lt-ltb}
 use Rattle.rules.specs.Limits.{both}
 use Rattle.rules.specs.Search.{some}
-use Rattle.rules.proofs.Tests.{both-l, both-r}
+use Rattle.rules.proofs.Tests.{both-l, both-r, both-true}
 use Rattle.grid.specs.Ticks.{slot}
 use Rattle.grid.specs.Channels.{channelCell}
 use Rattle.grid.specs.Lanes.{isInG, laneCell}
@@ -21,10 +21,6 @@ use Rattle.scheme.specs.Scheme.{Scheme, padded, steadyKind}
 use Rattle.scheme.proofs.Which.{padded-scheme}
 use Rattle.story.specs.declared.Title.{Title}
 use Rattle.story.specs.Kept.{schemeIn, wantsFrom, wants}
-
-both-true : (b : Bool) → both b true ≡ b
-both-true true = refl
-both-true false = refl
 
 module _ (A K c end x u : ℕ) where
   wants-carried : (d : ℕ) → Carrier K c x d
@@ -57,10 +53,10 @@ module _ (A K c end x u : ℕ) where
         (both-true (ltb (u + slot K c) (end + slot K c * 2 ^ d))))
 
 -- of a count of a title on the padded grid
-pub padded-wants : (t : Title) (x u c : ℕ) → (t .kind ≡ steadyKind → ⊥)
-    → wants (padded (t .floor) (t .cap)) (getD (t .ends) c 0) x u c ≡ wants (schemeIn t) (getD (t .ends) c 0) x u c
+pub padded-wants : (t : Title) (x u c : ℕ) → (t .film .kind ≡ steadyKind → ⊥)
+    → wants (padded (t .film .floor) (t .film .cap)) (getD (t .ends) c 0) x u c ≡ wants (schemeIn t) (getD (t .ends) c 0) x u c
 padded-wants t x u c off =
-    ap (λ (S : Scheme). wants S (getD (t .ends) c 0) x u c) (sym (padded-scheme (t .kind) (t .floor) (t .cap) off))
+    ap (λ (S : Scheme). wants S (getD (t .ends) c 0) x u c) (sym (padded-scheme (t .film .kind) (t .film .floor) (t .film .cap) off))
 
 -- and of the counts that have lane l, which all have its cell
 pub own-cell : (A K l k u x : ℕ) → k ≤ K → l < k → x ≡ laneCell A K l u → A ≤ k → isInG A K k u x ≡ true

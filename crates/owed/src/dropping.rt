@@ -22,7 +22,7 @@ ghost use Rattle.owed.specs.Owing.{Owing, Changeable};
 // A lane is dropped at a tick, and how many cells it owes is counted once, here.
 fn drop_lane(t: Title, tick: u64, lane: u64) -> Title
     requires { ⌜ Owing t ⌝ }
-    requires { ⌜ (lane < t .cap) × (tick ≤ askedMax) ⌝ }
+    requires { ⌜ (lane < t .film .cap) × (tick ≤ askedMax) ⌝ }
     ensures { λ r. ⌜ r ≡ dropLane t tick lane ⌝ }
 {
     let n = owed_within(t, lane, tick, reach(t));
@@ -35,7 +35,7 @@ fn drop_lane(t: Title, tick: u64, lane: u64) -> Title
 // A lane from the new count up is dropped, one below it stays as it is.
 fn drop_above(t: Title, tick: u64, count: u64, lane: u64) -> Title
     requires { ⌜ Owing t ⌝ }
-    requires { ⌜ (lane < t .cap) × (tick ≤ askedMax) ⌝ }
+    requires { ⌜ (lane < t .film .cap) × (tick ≤ askedMax) ⌝ }
     ensures { λ r. ⌜ r ≡ pick (leb count lane) (dropLane t tick lane) t ⌝ }
 {
     if count <= lane {
@@ -47,7 +47,7 @@ fn drop_above(t: Title, tick: u64, count: u64, lane: u64) -> Title
 // The lanes from the new count up to the old are dropped at a tick.
 fn drop_lanes(t: Title, tick: u64, count: u64) -> Title
     requires { ⌜ Owing t ⌝ }
-    requires { ⌜ (t .count ≤ t .cap) × (tick ≤ askedMax) ⌝ }
+    requires { ⌜ (t .count ≤ t .film .cap) × (tick ≤ askedMax) ⌝ }
     ensures { λ r. ⌜ r ≡ dropLanes t tick count (t .count) ⌝ }
 {
     let old = t.count;

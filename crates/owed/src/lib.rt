@@ -4,3 +4,4 @@
 pub mod dropping;
 pub mod owing;
 pub mod sending;
+pub mod turning;

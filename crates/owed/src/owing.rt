@@ -44,12 +44,12 @@ fn owed_to(floor: u64, cap: u64, count: u64, end: u64, cell: u64, tick: u64) -> 
 // count has that cell on a channel then, so that no other cell is asked for.
 fn awaited_by_some(t: Title, lane: u64, cell: u64, tick: u64) -> bool
     requires { ⌜ Owing t ⌝ }
-    requires { ⌜ (lane < t .cap) × (tick ≤ tickMax) ⌝ }
-    requires { ⌜ (IsCell (t .cap) (laneCell (t .floor) (t .cap) lane tick) cell) × (t .kind ≡ steadyKind → ⊥) ⌝ }
+    requires { ⌜ (lane < t .film .cap) × (tick ≤ tickMax) ⌝ }
+    requires { ⌜ (IsCell (t .film .cap) (laneCell (t .film .floor) (t .film .cap) lane tick) cell) × (t .film .kind ≡ steadyKind → ⊥) ⌝ }
     ensures { λ r. ⌜ r ≡ keptAwaited t lane cell tick ⌝ }
 {
-    let cap = t.cap;
-    let floor = t.floor;
+    let cap = t.film.cap;
+    let floor = t.film.floor;
     let mut found = false;
     let mut count = lane + 1;
     while count <= cap {
@@ -75,12 +75,12 @@ fn awaited_on(lane: u64, end: u64, tick: u64) -> bool
 // The lane's cell is still awaited at a tick. The boxes of a skip-forward title all began under its one count.
 pub fn is_awaited(t: Title, lane: u64, cell: u64, tick: u64) -> bool
     requires { ⌜ Owing t ⌝ }
-    requires { ⌜ (lane < t .cap) × (tick ≤ tickMax) ⌝ }
-    requires { ⌜ IsCell (t .cap) (schemeIn t .onLane lane tick) cell ⌝ }
+    requires { ⌜ (lane < t .film .cap) × (tick ≤ tickMax) ⌝ }
+    requires { ⌜ IsCell (t .film .cap) (schemeIn t .onLane lane tick) cell ⌝ }
     ensures { λ r. ⌜ r ≡ keptAwaited t lane cell tick ⌝ }
 {
-    if t.kind == STEADY {
-        let count = t.cap;
+    if t.film.kind == STEADY {
+        let count = t.film.cap;
         let end = t.ends[count as usize];
         return awaited_on(lane, end, tick);
     }
@@ -90,11 +90,11 @@ pub fn is_awaited(t: Title, lane: u64, cell: u64, tick: u64) -> bool
 // Of a dropped lane a tick is owed: its cell is no padding, and is still awaited.
 pub fn is_owed(t: Title, lane: u64, tick: u64) -> bool
     requires { ⌜ Owing t ⌝ }
-    requires { ⌜ (lane < t .cap) × (tick ≤ tickMax) ⌝ }
+    requires { ⌜ (lane < t .film .cap) × (tick ≤ tickMax) ⌝ }
     ensures { λ r. ⌜ r ≡ keptOwed t lane tick ⌝ }
 {
-    let cell = lane_cell(t.kind, t.floor, t.cap, lane, tick);
-    if holds_film(t.kind, t.length, t.floor, t.cap, cell) {
+    let cell = lane_cell(t.film.kind, t.film.floor, t.film.cap, lane, tick);
+    if holds_film(t.film.kind, t.film.length, t.film.floor, t.film.cap, cell) {
         return is_awaited(t, lane, cell, tick);
     }
     false
@@ -103,7 +103,7 @@ pub fn is_owed(t: Title, lane: u64, tick: u64) -> bool
 // How many of the n ticks from a tick on a lane owes.
 pub fn owed_within(t: Title, lane: u64, from: u64, n: u64) -> u64
     requires { ⌜ Owing t ⌝ }
-    requires { ⌜ (lane < t .cap) × (from + n ≤ tickMax) ⌝ }
+    requires { ⌜ (lane < t .film .cap) × (from + n ≤ tickMax) ⌝ }
     ensures { λ r. ⌜ Exactly (keptWithin t lane from n) 0 n r ⌝ }
 {
     let mut owed = 0;

@@ -18,16 +18,16 @@ ghost use Rattle.owed.specs.Owing.{Owing, Sending};
 // How far from its drop the last tick lies that a lane may owe.
 pub fn reach(t: Title) -> u64
     requires { ⌜ Owing t ⌝ }
-    ensures { λ r. ⌜ Exactly (reachOf (t .cap)) 1 (2 ^ countMax) r ⌝ }
+    ensures { λ r. ⌜ Exactly (reachOf (t .film .cap)) 1 (2 ^ countMax) r ⌝ }
 {
-    pow2(t.cap - 1)
+    pow2(t.film.cap - 1)
 }
 
 // How far from a tick lies the owed tick that has `nth` owed ticks before it; the reach where there is none.
 fn nth_owed(t: Title, lane: u64, from: u64, nth: u64) -> u64
     requires { ⌜ Owing t ⌝ }
-    requires { ⌜ (lane < t .cap) × (from ≤ askedMax) ⌝ }
-    ensures { λ r. ⌜ Exactly (first (keptNth t lane from nth) (reachOf (t .cap))) 0 (2 ^ countMax) r ⌝ }
+    requires { ⌜ (lane < t .film .cap) × (from ≤ askedMax) ⌝ }
+    ensures { λ r. ⌜ Exactly (first (keptNth t lane from nth) (reachOf (t .film .cap))) 0 (2 ^ countMax) r ⌝ }
 {
     let end = reach(t);
     let mut owed = 0;
@@ -47,7 +47,7 @@ fn nth_owed(t: Title, lane: u64, from: u64, nth: u64) -> u64
 // The tick whose cell a sending lane shows at a tick.
 fn sending_tick(t: Title, lane: u64, tick: u64) -> u64
     requires { ⌜ Sending t ⌝ }
-    requires { ⌜ lane < t .cap ⌝ }
+    requires { ⌜ lane < t .film .cap ⌝ }
     ensures { λ r. ⌜ Exactly (sendingTick t lane tick) 0 tickMax r ⌝ }
 {
     let from = t.dropped[lane as usize];
@@ -57,11 +57,17 @@ fn sending_tick(t: Title, lane: u64, tick: u64) -> u64
 // The cell that a held lane shows at a tick.
 pub fn shows(t: Title, lane: u64, tick: u64) -> u64
     requires { ⌜ Sending t ⌝ }
-    requires { ⌜ (lane < t .cap) × (tick ≤ tickMax) ⌝ }
+    requires { ⌜ (lane < t .film .cap) × (tick ≤ tickMax) ⌝ }
     ensures { λ r. ⌜ r ≡ showsOf t lane tick ⌝ }
 {
     if lane < ruling(t) {
-        return lane_cell(t.kind, t.floor, t.cap, lane, tick);
+        return lane_cell(t.film.kind, t.film.floor, t.film.cap, lane, tick);
     }
-    lane_cell(t.kind, t.floor, t.cap, lane, sending_tick(t, lane, tick))
+    lane_cell(
+        t.film.kind,
+        t.film.floor,
+        t.film.cap,
+        lane,
+        sending_tick(t, lane, tick),
+    )
 }

@@ -15,7 +15,8 @@ use Rattle.story.specs.declared.Title.{Title}
 use Rattle.story.specs.declared.State.{State}
 use Rattle.story.specs.Orders.{Tests, changeOrder}
 use Rattle.story.specs.Kept.{absentMode, openMode, isSteadyTitle, titleAt, stateOk, orderOk, isThere}
-use Rattle.story.specs.Story.{event, changes}
+use Rattle.story.specs.declared.Act.the-variants.{Changes}
+use Rattle.story.specs.Story.{event}
 use Rattle.story.specs.Calls.{testsIn, callAnswer}
 use Rattle.story.specs.Runs.{answered}
 use Rattle.moments.specs.Moments.{isPermittedBy, isPermitted, hasLanes, isDue}
@@ -60,35 +61,35 @@ module _ (s : State) (i k : ℕ) (r : Ready s i k) where
   counted =
       let t = title-ok s (r .ok) i (r .an-id) in
       let o = order (titleAt s i) t present in
-      let floored : floorMin ≤ titleAt s i .floor = search (both-l, both-r, leb-true) depth 12 in
+      let floored : floorMin ≤ titleAt s i .film .floor = search (both-l, both-r, leb-true) depth 12 in
       let capped = readable (titleAt s i) t present .cut .high in
       both-in (leb countMin k) (leb k countMax) (le-leb countMin k (omega (arith, r .low))) (le-leb k countMax (omega (arith, r .high)))
 
   -- at a permitted time in the clock it is accepted, or gets 9 where lanes are short,
   pub by-lanes : (τ : ℕ) → s .last ≤ τ → τ ≤ eventTimeMax → isPermitted s i k τ ≡ true →
-      answered s (event i τ (changes k)) ≡ pick (testsIn s i τ (changes k) .full) noLanes 0
+      answered s (event i τ (Changes k)) ≡ pick (testsIn s i τ (Changes k) .full) noLanes 0
   unfolding callAnswer isPermitted
   by-lanes τ late clock p =
-      lanes-decide (testsIn s i τ (changes k))
+      lanes-decide (testsIn s i τ (Changes k))
       (rw (r .ok, le-leb i idMax (omega (arith, r .an-id)), le-leb τ eventTimeMax clock, counted) refl)
       (le-ltb τ (s .last) late)
       (there-open (titleAt s i) τ (r .is-open))
       (rw (r .is-open) refl)
       (r .padded)
-      (le-ltb k (titleAt s i .floor) (r .low))
-      (le-ltb (titleAt s i .cap) k (r .high))
+      (le-ltb k (titleAt s i .film .floor) (r .low))
+      (le-ltb (titleAt s i .film .cap) k (r .high))
       (ne-eqb k (titleAt s i .count) (r .other))
       p
 
   -- so with the lanes there it is accepted
   pub accepted-when : (τ : ℕ) → s .last ≤ τ → τ ≤ eventTimeMax → isPermitted s i k τ ≡ true →
-      testsIn s i τ (changes k) .full ≡ false → answered s (event i τ (changes k)) ≡ 0
-  accepted-when τ late clock p f = by-lanes τ late clock p ∙ pick-false (testsIn s i τ (changes k) .full) noLanes 0 f
+      testsIn s i τ (Changes k) .full ≡ false → answered s (event i τ (Changes k)) ≡ 0
+  accepted-when τ late clock p f = by-lanes τ late clock p ∙ pick-false (testsIn s i τ (Changes k) .full) noLanes 0 f
 
 -- a change that is accepted is due then
-pub due-when : (s : State) (i k τ : ℕ) → answered s (event i τ (changes k)) ≡ 0 → isDue s i k τ ≡ true
+pub due-when : (s : State) (i k τ : ℕ) → answered s (event i τ (Changes k)) ≡ 0 → isDue s i k τ ≡ true
 unfolding callAnswer isPermitted hasLanes isDue
 due-when s i k τ h =
-    both-in (isPermitted s i k τ) (hasLanes s i k τ) (clear-time (testsIn s i τ (changes k)) h)
-    (either-r (leb k (titleAt s i .count)) (not (testsIn s i τ (changes k) .full))
-    (not-in (testsIn s i τ (changes k) .full) (clear-lanes (testsIn s i τ (changes k)) h)))
+    both-in (isPermitted s i k τ) (hasLanes s i k τ) (clear-time (testsIn s i τ (Changes k)) h)
+    (either-r (leb k (titleAt s i .count)) (not (testsIn s i τ (Changes k) .full))
+    (not-in (testsIn s i τ (Changes k) .full) (clear-lanes (testsIn s i τ (Changes k)) h)))

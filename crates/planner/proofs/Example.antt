@@ -13,7 +13,7 @@ use Rattle.rules.specs.Search.{some, every, first, howMany, after, total}
 use Rattle.grid.specs.Ticks.{tickOf, roundedUp, slot, cellOf}
 use Rattle.grid.specs.Channels.{floorRem, shift, segment, channelCell}
 use Rattle.grid.specs.Lanes.{isInG, isAdded, addedChannel, laneCell}
-use Rattle.scheme.specs.Scheme.{paddedKind, schemeOf, starts, takes, takesFrom, tickFor, filmIn}
+use Rattle.scheme.specs.Scheme.{schemeOf, starts, takes, takesFrom, tickFor, filmIn}
 use Rattle.sharing.specs.Titles.{rowTotal}
 use Rattle.sharing.specs.Term.{term}
 use Rattle.sharing.specs.Choice.{sumOf, lessOr, atLeast, prefers, from, ways, better, bestOf, shared}
@@ -21,7 +21,8 @@ use Rattle.story.specs.declared.State.{State}
 use Rattle.story.specs.Kept.{numbersOk, orderOk, titleOk, stateOk, tickAt, atTickStart, settledAt, ruling, wantsFrom, wants}
 use Rattle.story.specs.Kept.{keptAwaited, keptOwed, keptWithin, keptHeld, titleHeld, lanesHeld, isThere}
 use Rattle.story.specs.Next.{dropLanes, changedTitle, changeNext}
-use Rattle.story.specs.Story.{opens, Event, event}
+use Rattle.story.specs.declared.Event.{Event}
+use Rattle.story.specs.Story.{opens, event}
 use Rattle.story.specs.Life.{reach}
 use Rattle.story.specs.Calls.{callAnswer, statusCount}
 use Rattle.story.specs.Runs.{stateAfter}
@@ -37,7 +38,7 @@ use Rattle.planner.proofs.Promise.{carried, brought}
 
 -- two films of 6 ms with floor 2 and cap 3, so a tick is 1 ms
 abbrev calls : List Event
-calls = event 1 0 (opens paddedKind 6 2 3 2) ∷ event 0 0 (opens paddedKind 6 2 3 3) ∷ []
+calls = event 1 0 (opens 6 2 3 2) ∷ event 0 0 (opens 6 2 3 3) ∷ []
 
 abbrev evening : State
 evening = stateAfter 5 calls

@@ -14,7 +14,7 @@ use Rattle.rules.specs.Search.{total}
 use Rattle.rules.proofs.Tests.{decide, either-l, either-r, either-false, pick-true}
 use Rattle.story.specs.declared.State.{State}
 use Rattle.story.specs.Kept.{titleAt, ruling}
-use Rattle.story.specs.Story.{Event}
+use Rattle.story.specs.declared.Event.{Event}
 use Rattle.story.specs.Runs.{answered, called, lanesOf, Reached}
 use Rattle.wishes.specs.Wishes.{Wish}
 use Rattle.wishes.proofs.Wished.{Each, each-none, each-more, Raises, DropsFirst, raises-only, drop-next}

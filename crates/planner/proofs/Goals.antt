@@ -47,7 +47,7 @@ rules-held t ok τ =
     let held : ℕ → Bool = λ l. keptHeld t l (tickAt t τ) in
     let rules : ruling t ≡ t .count = rw x refl in
     let active : howMany held (t .count) ≡ t .count = active-held t (tickAt t τ) (t .count) (omega arith) in
-    let more : howMany held (t .count) ≤ howMany held (t .cap) = howMany-mono held (t .count) (t .cap) (count-fit t ok there) in
+    let more : howMany held (t .count) ≤ howMany held (t .film .cap) = howMany-mono held (t .count) (t .film .cap) (count-fit t ok there) in
     rw (x, ne-eqb (t .mode) absentMode there) (omega arith))
     (λ x. rw x (omega arith))
     (decide (eqb (t .mode) openMode))

@@ -18,13 +18,14 @@ use Rattle.rules.specs.Search.{every}
 use Rattle.rules.proofs.Tests.{both-l, both-r, both-in, either-l, either-r, either-out}
 use Rattle.rules.proofs.Search.{every-in, every-out, howMany-le}
 use Rattle.scheme.specs.Scheme.{steadyKind}
+use Rattle.story.specs.declared.Film.{Film}
 use Rattle.story.specs.declared.Title.{Title}
 use Rattle.story.specs.declared.State.{State}
 use Rattle.story.specs.Life.{reach}
 use Rattle.story.specs.Kept.{absentMode, openMode, heldMark, noTitle, titleAt, rowOk, numbersOk, orderOk, titleOk, stateOk}
 use Rattle.story.specs.Kept.{isSteadyTitle, titleTick, tickAt, keptOwed, keptWithin}
 use Rattle.story.specs.Next.{ended, dropLane, dropLanes, changedTitle, changeNext}
-use Rattle.measures.specs.Film.{slotOk}
+use Rattle.measures.specs.Readable.{slotOk}
 use Rattle.measures.proofs.Within.{numbers, order, dropped-ok, title-ok}
 use Rattle.owed.proofs.Fixed.{Fixed, fixed-drops, stored, stored-row, ended-owing, owing}
 
@@ -37,15 +38,15 @@ pub record Dropping (t q : Title) : Type 0 where
   pub owed : rowOk (t .owed) lanePlaces ≡ true → rowOk (q .owed) lanePlaces ≡ true
 
 -- no lane owes more cells than its reach
-within-reach : (t : Title) (l n : ℕ) → t .cap ≤ countMax → keptWithin t l n (reach (t .cap)) ≤ askedMax
+within-reach : (t : Title) (l n : ℕ) → t .film .cap ≤ countMax → keptWithin t l n (reach (t .film .cap)) ≤ askedMax
 unfolding keptWithin reach
 within-reach t l n high =
-    let few : keptWithin t l n (2 ^ (t .cap - 1)) ≤ 2 ^ (t .cap - 1) =
-    howMany-le (λ o. keptOwed t l (n + o)) (2 ^ (t .cap - 1)) in
-    let small : 2 ^ (t .cap - 1) ≤ 2 ^ 12 = pow-mono {j = 12} (omega arith) in
+    let few : keptWithin t l n (2 ^ (t .film .cap - 1)) ≤ 2 ^ (t .film .cap - 1) =
+    howMany-le (λ o. keptOwed t l (n + o)) (2 ^ (t .film .cap - 1)) in
+    let small : 2 ^ (t .film .cap - 1) ≤ 2 ^ 12 = pow-mono {j = 12} (omega arith) in
     omega arith
 
-dropping : (t : Title) (n k i : ℕ) → n ≤ askedMax → t .cap ≤ countMax → Dropping t (dropLanes t n k i)
+dropping : (t : Title) (n k i : ℕ) → n ≤ askedMax → t .film .cap ≤ countMax → Dropping t (dropLanes t n k i)
 unfolding dropLanes
 dropping t n k zero l h = record { opened = refl; dropped = λ r. r; owed = λ r. r }
 dropping t n k (suc i) l h = go (both (leb k i) (ltb i (t .count))) (dropping t n k i l h) (fixed-drops t n k i)
@@ -58,8 +59,8 @@ dropping t n k (suc i) l h = go (both (leb k i) (ltb i (t .count))) (dropping t 
           opened = d .opened;
           dropped = λ r. stored-row (q .dropped) lanePlaces i n l (d .dropped r);
           owed = λ r.
-              stored-row (q .owed) lanePlaces i (keptWithin q i n (reach (q .cap)))
-              (within-reach q i n (omega (arith, f .cap))) (d .owed r);
+              stored-row (q .owed) lanePlaces i (keptWithin q i n (reach (q .film .cap)))
+              (within-reach q i n (rw (f .film) h)) (d .owed r);
         }
     go false d f = d
 
@@ -68,12 +69,12 @@ unfolding tickAt
 tick-high t τ l = le-trans (div-le-self (τ - t .opened) (titleTick t)) (omega arith)
 
 -- an open title that changes at τ to k, a count from its floor to its cap
-module _ (t : Title) (τ k : ℕ) (ok : titleOk t ≡ true) (is-open : t .mode ≡ openMode) (low : t .floor ≤ k)
-    (high : k ≤ t .cap) (early : τ ≤ askedMax) where
+module _ (t : Title) (τ k : ℕ) (ok : titleOk t ≡ true) (is-open : t .mode ≡ openMode) (low : t .film .floor ≤ k)
+    (high : k ≤ t .film .cap) (early : τ ≤ askedMax) where
   there : t .mode ≡ absentMode → ⊥
   there e = omega arith
 
-  cap-high : t .cap ≤ countMax
+  cap-high : t .film .cap ≤ countMax
   unfolding numbersOk
   cap-high = let n = numbers t ok in search (both-l, both-r, leb-true) depth 12
 
@@ -85,15 +86,12 @@ module _ (t : Title) (τ k : ℕ) (ok : titleOk t ≡ true) (is-open : t .mode �
       let f = fixed-drops u (tickAt t τ) k (t .count) in
       let d = dropping u (tickAt t τ) k (t .count) (tick-high t τ early) cap-high in
       let opening : leb (t .opened) askedMax ≡ true = search (both-l, both-r) depth 12 in
-      let sized : leb (t .length) lengthMax ≡ true = search (both-l, both-r) depth 12 in
-      let kinded : leb (t .kind) steadyKind ≡ true = search (both-l, both-r) depth 12 in
-      let floored : leb (t .floor) (pick (isSteadyTitle t) steadyMax floorMax) ≡ true = search (both-l, both-r) depth 12 in
+      let sized : leb (t .film .length) lengthMax ≡ true = search (both-l, both-r) depth 12 in
+      let kinded : leb (t .film .kind) steadyKind ≡ true = search (both-l, both-r) depth 12 in
+      let floored : leb (t .film .floor) (pick (isSteadyTitle t) steadyMax floorMax) ≡ true = search (both-l, both-r) depth 12 in
       let marked : leb (t .mark) heldMark ≡ true = search (both-l, both-r) depth 12 in
       rw (
-        f .kind,
-        f .length,
-        f .floor,
-        f .cap,
+        f .film,
         f .ends,
         d .opened,
         kinded,
@@ -101,7 +99,7 @@ module _ (t : Title) (τ k : ℕ) (ok : titleOk t ≡ true) (is-open : t .mode �
         sized,
         floored,
         marked,
-        le-leb (t .cap) countMax cap-high,
+        le-leb (t .film .cap) countMax cap-high,
         le-leb k countMax (omega (arith, cap-high)),
         le-leb τ askedMax early,
         ended-owing t (tickAt t τ) (tick-high t τ early) (owing t ok there) .ends,
@@ -115,11 +113,11 @@ module _ (t : Title) (τ k : ℕ) (ok : titleOk t ≡ true) (is-open : t .mode �
   changed-order =
       let o = order t ok there in
       let f = fixed-drops (ended t (tickAt t τ)) (tickAt t τ) k (t .count) in
-      let sized : leb lengthMin (t .length) ≡ true = search (both-l, both-r) depth 12 in
-      let floored : leb floorMin (t .floor) ≡ true = search (both-l, both-r) depth 12 in
-      let fitted : leb (t .floor) (t .cap) ≡ true = search (both-l, both-r) depth 12 in
-      let level : either (not (isSteadyTitle t)) (eqb (t .floor) (t .cap)) ≡ true = search (both-r) depth 12 in
-      rw (f .kind, f .length, f .floor, f .cap, le-leb (t .floor) k low, le-leb k (t .cap) high, sized, floored, fitted, level) refl
+      let sized : leb lengthMin (t .film .length) ≡ true = search (both-l, both-r) depth 12 in
+      let floored : leb floorMin (t .film .floor) ≡ true = search (both-l, both-r) depth 12 in
+      let fitted : leb (t .film .floor) (t .film .cap) ≡ true = search (both-l, both-r) depth 12 in
+      let level : either (not (isSteadyTitle t)) (eqb (t .film .floor) (t .film .cap)) ≡ true = search (both-r) depth 12 in
+      rw (f .film, le-leb (t .film .floor) k low, le-leb k (t .film .cap) high, sized, floored, fitted, level) refl
 
   pub changed-ok : titleOk (changedTitle t τ k) ≡ true
   unfolding titleOk
@@ -133,21 +131,19 @@ module _ (t : Title) (τ k : ℕ) (ok : titleOk t ≡ true) (is-open : t .mode �
 -- what a change of count leaves of a title
 pub record Frame : Type 0 where
   pub mode : ℕ
-  pub kind : ℕ
-  pub floor : ℕ
-  pub cap : ℕ
+  pub film : Film
 
 abbrev pub frameOf : Title → Frame
-frameOf t = record { mode = t .mode; kind = t .kind; floor = t .floor; cap = t .cap }
+frameOf t = record { mode = t .mode; film = t .film }
 
--- every title of one state has the mode, kind, floor and cap that it has in the other
+-- every title of one state has the mode and the film that it has in the other
 abbrev pub Framed : State → State → Type 0
 Framed s q = (i : ℕ) → frameOf (titleAt q i) ≡ frameOf (titleAt s i)
 
 changed-frame : (t : Title) (τ k : ℕ) → t .mode ≡ openMode → frameOf (changedTitle t τ k) ≡ frameOf t
 unfolding changedTitle
 changed-frame t τ k is-open =
-    let f = fixed-drops (ended t (tickAt t τ)) (tickAt t τ) k (t .count) in rw (f .kind, f .floor, f .cap, is-open) refl
+    let f = fixed-drops (ended t (tickAt t τ)) (tickAt t τ) k (t .count) in rw (f .film, is-open) refl
 
 -- what a stored value shows as the old one did, every place shows as before
 same-shown : {A B : Type 0} (f : A → B) (row : List A) (i j : ℕ) (v d : A) → f v ≡ f (getD row i d) →
@@ -175,7 +171,7 @@ funded pool t ok is-open =
 
 -- a state within its limits is so after a change of an open title to a count from its floor to its cap
 pub next-ok : (s : State) (i τ k : ℕ) → stateOk s ≡ true → i ≤ idMax → titleAt s i .mode ≡ openMode →
-    titleAt s i .floor ≤ k → k ≤ titleAt s i .cap → τ ≤ askedMax → stateOk (changeNext s i τ k) ≡ true
+    titleAt s i .film .floor ≤ k → k ≤ titleAt s i .film .cap → τ ≤ askedMax → stateOk (changeNext s i τ k) ≡ true
 unfolding stateOk
 next-ok s i τ k ok id is-open low high early =
     let t = titleAt s i in

@@ -14,7 +14,7 @@ use Rattle.rules.specs.Search.{total}
 use Rattle.rules.proofs.Tests.{decide}
 use Rattle.story.specs.declared.State.{State}
 use Rattle.story.specs.Kept.{titleAt, ruling}
-use Rattle.story.specs.Story.{Event}
+use Rattle.story.specs.declared.Event.{Event}
 use Rattle.story.specs.Calls.{statusCount}
 use Rattle.story.specs.Runs.{lanesOf, Reached}
 use Rattle.story.proofs.Demands.{sound}

@@ -38,8 +38,8 @@ still-fits s q w same f =
     record {
       an-id = f .an-id;
       is-open = ap (λ (x : Frame). x .mode) e ∙ f .is-open;
-      low = rw (ap (λ (x : Frame). x .floor) e) (f .low);
-      high = rw (ap (λ (x : Frame). x .cap) e) (f .high);
+      low = rw (ap (λ (x : Frame). x .film .floor) e) (f .low);
+      high = rw (ap (λ (x : Frame). x .film .cap) e) (f .high);
     }
 
 -- a title that a wish fits can change

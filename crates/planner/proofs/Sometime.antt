@@ -20,7 +20,7 @@ use Rattle.story.specs.declared.State.{State}
 use Rattle.story.specs.Kept.{absentMode, openMode, noTitle, titleTick, titleAt, titleOk, tickAt}
 use Rattle.story.specs.Kept.{ruling, keptHeld, titleHeld, lanesHeld, numbersOk}
 use Rattle.story.specs.Next.{ended, turned, changedTitle, changeNext}
-use Rattle.story.specs.Story.{changes}
+use Rattle.story.specs.declared.Act.the-variants.{Changes}
 use Rattle.story.specs.Calls.{testsIn}
 use Rattle.story.proofs.Clock.{begins}
 use Rattle.measures.proofs.Within.{title-ok, numbers, readable, in-row}
@@ -41,11 +41,11 @@ gone t ok there l υ below late =
     let many : getD (t .owed) l 0 ≤ askedMax = in-row (t .owed) lanePlaces l (search (both-l, both-r) depth 12) below in
     let opened : t .opened ≤ askedMax = search (both-l, both-r, borrow.Author.Tests.leb-true) depth 12 in
     let p : ℕ = titleTick t in
-    let long : 0 < t .length = omega (arith, film .sized .low) in
-    let short : p ≤ t .length = tick-high (t .kind) (t .length) (t .floor) (t .cap) long (film .cut .low) (film .cut .fit) in
+    let long : 0 < t .film .length = omega (arith, film .sized .low) in
+    let short : p ≤ t .film .length = tick-high (t .film .kind) (t .film .length) (t .film .floor) (t .film .cap) long (film .cut .low) (film .cut .fit) in
     let far : (getD (t .dropped) l 0 + getD (t .owed) l 0) * p ≤ (askedMax + askedMax) * lengthMax =
     mul-le-mul {n₁ = getD (t .dropped) l 0 + getD (t .owed) l 0} {m₁ = p} {n₂ = askedMax + askedMax} {m₂ = lengthMax} (omega arith) (omega (arith, film .sized .high)) in
-    begins (t .opened) p (tick-pos (t .kind) (t .length) (t .floor) (t .cap) long (film .cut .low) (film .cut .fit)) υ
+    begins (t .opened) p (tick-pos (t .film .kind) (t .film .length) (t .film .floor) (t .film .cap) long (film .cut .low) (film .cut .fit)) υ
     (getD (t .dropped) l 0 + getD (t .owed) l 0) (omega arith)
 
 -- a test that fails from r on passes at most r times
@@ -70,7 +70,7 @@ module _ (t : Title) (ok : titleOk t ≡ true) (υ : ℕ) (late : allGone ≤ υ
       (λ x.
       let there : t .mode ≡ absentMode → ⊥ = eqb-false (t .mode) absentMode x in
       rw x
-      (few (λ l. keptHeld t l (tickAt t υ)) (ruling t) (t .cap)
+      (few (λ l. keptHeld t l (tickAt t υ)) (ruling t) (t .film .cap)
       (λ l b above. unheld t l (tickAt t υ) above (gone t ok there l υ (omega (arith, readable t ok there .cut .high)) late))))
       (decide (eqb (t .mode) absentMode))
 
@@ -80,7 +80,7 @@ module _ (t : Title) (ok : titleOk t ≡ true) (υ : ℕ) (late : allGone ≤ υ
   unfolding titleHeld tickAt ruling
   turned-few there k =
       let q : Title = turned (ended t (tickAt t υ)) openMode k (t .mark) υ υ in
-      few (λ l. keptHeld q l (tickAt t υ)) k (t .cap)
+      few (λ l. keptHeld q l (tickAt t υ)) k (t .film .cap)
       (λ l b above. unheld q l (tickAt t υ) above (gone t ok there l υ (omega (arith, readable t ok there .cut .high)) late))
 
   raised-few : (t .mode ≡ absentMode → ⊥) → (k : ℕ) → t .count ≤ k → titleHeld (changedTitle t υ k) υ ≤ k
@@ -105,7 +105,7 @@ module _ (s : State) (i k : ℕ) (r : Ready s i k) (goal : ℕ → ℕ) (at-most
       (λ x. rw (getD-set-other (s .titles) i j t noTitle (eqb-false j i x)) before)
       (decide (eqb j i))
 
-  pub enough : (υ : ℕ) → allGone ≤ υ → testsIn s i υ (changes k) .full ≡ false
+  pub enough : (υ : ℕ) → allGone ≤ υ → testsIn s i υ (Changes k) .full ≡ false
   unfolding lanesHeld
   enough υ late =
       le-ltb (s .pool) (lanesHeld (changeNext s i υ k) υ)
@@ -113,18 +113,18 @@ module _ (s : State) (i k : ℕ) (r : Ready s i k) (goal : ℕ → ℕ) (at-most
 
 -- so a raise finds its lanes then, and a drop always does
 pub finds-sometime : (s : State) (i k : ℕ) →
-    (k ≤ titleAt s i .count) ⊎ ((υ : ℕ) → allGone ≤ υ → testsIn s i υ (changes k) .full ≡ false) → hasLanes s i k allGone ≡ true
+    (k ≤ titleAt s i .count) ⊎ ((υ : ℕ) → allGone ≤ υ → testsIn s i υ (Changes k) .full ≡ false) → hasLanes s i k allGone ≡ true
 unfolding hasLanes
 finds-sometime s i k lanes =
     let t : Title = titleAt s i in
-    let full = testsIn s i allGone (changes k) .full in
+    let full = testsIn s i allGone (Changes k) .full in
     ⊎-elim (λ d. either-l (leb k (t .count)) (not full) (le-leb k (t .count) d))
     (λ f. either-r (leb k (t .count)) (not full) (rw (f allGone (omega arith)) refl))
     lanes
 
 -- and a change that only its time and the lanes may refuse is due at a first time, over all times
 pub due-sometime : (s : State) (i k : ℕ) → Ready s i k → (τ : ℕ) →
-    (k ≤ titleAt s i .count) ⊎ ((υ : ℕ) → allGone ≤ υ → testsIn s i υ (changes k) .full ≡ false) →
+    (k ≤ titleAt s i .count) ⊎ ((υ : ℕ) → allGone ≤ υ → testsIn s i υ (Changes k) .full ≡ false) →
     (υ : ℕ) × FirstDue s i k τ υ
 due-sometime s i k r τ lanes =
     due-comes s i k

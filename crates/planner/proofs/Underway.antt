@@ -16,7 +16,9 @@ use Rattle.story.specs.declared.Title.{Title}
 use Rattle.story.specs.declared.State.{State}
 use Rattle.story.specs.Kept.{noTitle, titleAt, ruling, lanesHeld}
 use Rattle.story.specs.Next.{changedTitle, changeNext}
-use Rattle.story.specs.Story.{Event, event, changes, lifeOf, lastTime, countIn, heldOver}
+use Rattle.story.specs.declared.Act.the-variants.{Changes}
+use Rattle.story.specs.declared.Event.{Event}
+use Rattle.story.specs.Story.{event, lifeOf, lastTime, countIn, heldOver}
 use Rattle.story.specs.Calls.{testsIn, statusCount}
 use Rattle.story.specs.Runs.{answered, lanesOf, Reached}
 use Rattle.story.proofs.Pool.{takes-none, upTo-all}
@@ -79,32 +81,32 @@ module _ (pool : ℕ) (es : List Event) (s : State) (run : Reached pool es s) wh
 
   -- a drop needs no lanes: one that got 9 would hold more than the pool, and it holds no lane more than is held before it
   drop-fits : (i k τ : ℕ) → Ready s i k → s .last ≤ τ → τ ≤ eventTimeMax → isPermitted s i k τ ≡ true → k ≤ titleAt s i .count →
-      testsIn s i τ (changes k) .full ≡ false
+      testsIn s i τ (Changes k) .full ≡ false
   unfolding ruling
   drop-fits i k τ r late clock p down =
-      let e : Event = event i τ (changes k) in
+      let e : Event = event i τ (Changes k) in
       let after : lastTime es ≤ τ = omega (arith, run-told pool es s run .tells .last) in
       let count : statusCount s i ≡ countIn (lifeOf es i) τ = every-count pool es s run i τ (r .an-id) after in
       let rules : ruling (titleAt s i) ≡ titleAt s i .count = rw (r .is-open) refl in
       let no-more : heldOver (e ∷ es) τ ≤ heldOver es τ =
-      takes-none es i τ (changes k) (le-ltb (countIn (lifeOf es i) τ) k (omega arith)) in
-      fails (testsIn s i τ (changes k) .full)
+      takes-none es i τ (Changes k) (le-ltb (countIn (lifeOf es i) τ) k (omega arith)) in
+      fails (testsIn s i τ (Changes k) .full)
       (λ x.
-      let got : answered s e ≡ noLanes = by-lanes s i k r τ late clock p ∙ pick-true (testsIn s i τ (changes k) .full) noLanes 0 x in
+      let got : answered s e ≡ noLanes = by-lanes s i k r τ late clock p ∙ pick-true (testsIn s i τ (Changes k) .full) noLanes 0 x in
       let short : lanesOf pool < heldOver (e ∷ es) τ = nine pool es s run e (sym (every-answer pool es s run e) ∙ got) in
       omega (arith, held-fits τ late, pool-is, all-held pool es s run τ after))
 
   -- a change that is due in the clock is accepted
   pub due-accepted : (i k τ : ℕ) → Ready s i k → s .last ≤ τ → τ ≤ eventTimeMax → isDue s i k τ ≡ true →
-      answered s (event i τ (changes k)) ≡ 0
+      answered s (event i τ (Changes k)) ≡ 0
   unfolding isDue hasLanes
   due-accepted i k τ r late clock due =
       let p = both-l (isPermitted s i k τ) (hasLanes s i k τ) due in
       let lanes = both-r (isPermitted s i k τ) (hasLanes s i k τ) due in
       accepted-when s i k r τ late clock p
       (⊎-elim (λ x. drop-fits i k τ r late clock p (leb-true k (titleAt s i .count) x))
-      (λ x. not-true (testsIn s i τ (changes k) .full) x)
-      (either-out (leb k (titleAt s i .count)) (not (testsIn s i τ (changes k) .full)) lanes))
+      (λ x. not-true (testsIn s i τ (Changes k) .full) x)
+      (either-out (leb k (titleAt s i .count)) (not (testsIn s i τ (Changes k) .full)) lanes))
 
   -- the titles after a change
   pub own-title : (i k τ : ℕ) → i < titlesMax → titleAt (changeNext s i τ k) i ≡ changedTitle (titleAt s i) τ k
@@ -122,7 +124,7 @@ changed-rules t τ k = refl
 
 -- a wish as an event, and the state that it leaves
 abbrev pub wishEvent : Wish → ℕ → Event
-wishEvent w τ = event (w .title) τ (changes (w .count))
+wishEvent w τ = event (w .title) τ (Changes (w .count))
 
 abbrev pub wishNext : State → Wish → ℕ → State
 wishNext s w τ = changeNext s (w .title) τ (w .count)

@@ -8,7 +8,8 @@ use Rattle.rules.specs.Limits.{lengthMax, eventTimeMax, askedMax, titlesMax}
 use Rattle.rules.specs.Refusals.{pick}
 use Rattle.story.specs.declared.State.{State}
 use Rattle.story.specs.Kept.{openMode, isSteadyTitle, titleAt, stateOk, ruling}
-use Rattle.story.specs.Story.{event, changes}
+use Rattle.story.specs.declared.Act.the-variants.{Changes}
+use Rattle.story.specs.Story.{event}
 use Rattle.story.specs.Runs.{answered, called}
 use Rattle.wishes.specs.Wishes.{Wish, takesPart, shareOf}
 use Rattle.moments.specs.Moments.{isDue}
@@ -24,8 +25,8 @@ pub record Ready (s : State) (i k : ℕ) : Type 0 where
   pub an-id : i < titlesMax
   pub is-open : titleAt s i .mode ≡ openMode
   pub padded : isSteadyTitle (titleAt s i) ≡ false
-  pub low : titleAt s i .floor ≤ k
-  pub high : k ≤ titleAt s i .cap
+  pub low : titleAt s i .film .floor ≤ k
+  pub high : k ≤ titleAt s i .film .cap
   pub other : k ≡ titleAt s i .count → ⊥
 
 -- a moment by which every list has gone, in every state within its limits: no title is opened later than the last time
@@ -38,7 +39,7 @@ pub record Comes (s : State) (τ : ℕ) (m : Move) : Type 0 where
   pub after : τ ≤ m .time
   pub in-clock : m .time ≤ eventTimeMax
   pub accepted : answered s (asEvent m) ≡ 0
-  pub no-earlier : (υ : ℕ) → τ ≤ υ → υ < m .time → answered s (event (m .title) υ (changes (m .count))) ≡ 0 → ⊥
+  pub no-earlier : (υ : ℕ) → τ ≤ υ → υ < m .time → answered s (event (m .title) υ (Changes (m .count))) ≡ 0 → ⊥
 
 -- the events of a list come one behind the other, from the state s and the time τ on, and leave a state
 pub data Carried : State → ℕ → List Move → State → Type 0 where

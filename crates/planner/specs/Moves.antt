@@ -6,7 +6,9 @@ use mathlib.Core.List.{List, [], _∷_}
 use lib.Dec.{ltb}
 use Rattle.rules.specs.Limits.{either, eventTimeMax}
 use Rattle.story.specs.declared.State.{State}
-use Rattle.story.specs.Story.{Event, event, changes}
+use Rattle.story.specs.declared.Act.the-variants.{Changes}
+use Rattle.story.specs.declared.Event.{Event}
+use Rattle.story.specs.Story.{event}
 use Rattle.story.specs.Next.{changeNext}
 use Rattle.wishes.specs.Wishes.{Wish}
 use Rattle.moments.specs.Moments.{isDue, earliest}
@@ -19,7 +21,7 @@ pub record Move : Type 0 where
 
 -- the change as an event
 abbrev pub asEvent : Move → Event
-asEvent m = event (m .title) (m .time) (changes (m .count))
+asEvent m = event (m .title) (m .time) (Changes (m .count))
 
 -- the earliest time from τ on at which a wish may come true in a state
 abbrev pub momentFor : State → ℕ → Wish → ℕ

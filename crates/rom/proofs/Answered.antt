@@ -30,16 +30,16 @@ use Rattle.rom.proofs.Other.{own, own-numbers}
 
 own-title : (t : Title) → (t .mode ≡ absentMode → ⊥) → isForeign t ≡ false → Own t
 own-title t there h =
-    let e : either (isSteadyTitle t) (isOther (t .floor) (t .cap)) ≡ false = rw (ne-eqb (t .mode) absentMode there) at h in
-    let w = own-numbers (t .floor) (t .cap) (either-false-r (isSteadyTitle t) (isOther (t .floor) (t .cap)) e) in
+    let e : either (isSteadyTitle t) (isOther (t .film .floor) (t .film .cap)) ≡ false = rw (ne-eqb (t .mode) absentMode there) at h in
+    let w = own-numbers (t .film .floor) (t .film .cap) (either-false-r (isSteadyTitle t) (isOther (t .film .floor) (t .film .cap)) e) in
     record {
-      kind = eqb-false (t .kind) steadyKind (either-false-l (isSteadyTitle t) (isOther (t .floor) (t .cap)) e);
+      kind = eqb-false (t .film .kind) steadyKind (either-false-l (isSteadyTitle t) (isOther (t .film .floor) (t .film .cap)) e);
       floor = w .0;
       cap = w .1;
     }
 
 title-own : (t : Title) → Own t → isForeign t ≡ false
-title-own t o = rw (ne-eqb (t .kind) steadyKind (o .kind), own (t .floor) (t .cap) (o .floor) (o .cap)) (never-both (not (eqb (t .mode) absentMode)))
+title-own t o = rw (ne-eqb (t .film .kind) steadyKind (o .kind), own (t .film .floor) (t .film .cap) (o .floor) (o .cap)) (never-both (not (eqb (t .mode) absentMode)))
   where
     never-both : (b : Bool) → both b false ≡ false
     never-both true = refl
@@ -111,26 +111,26 @@ module _ (s : State) (i l τ : ℕ) where
 -- ---- what is looked up
 
 module _ (t : Title) (o : Own t) (l u x : ℕ) where
-  pub own-lane : IsCell romCap (laneCell romFloor romCap l u) x → IsCell (t .cap) (schemeIn t .onLane l u) x
-  own-lane h = rw (padded-scheme (t .kind) (t .floor) (t .cap) (o .kind), o .floor, o .cap) h
+  pub own-lane : IsCell romCap (laneCell romFloor romCap l u) x → IsCell (t .film .cap) (schemeIn t .onLane l u) x
+  own-lane h = rw (padded-scheme (t .film .kind) (t .film .floor) (t .film .cap) (o .kind), o .floor, o .cap) h
 
-  own-film : (b : Bool) → filmIn (t .length) (tickFor (t .kind) (t .length) romFloor romCap) x ≡ b → filmIn (t .length) (titleTick t) x ≡ b
+  own-film : (b : Bool) → filmIn (t .film .length) (tickFor (t .film .kind) (t .film .length) romFloor romCap) x ≡ b → filmIn (t .film .length) (titleTick t) x ≡ b
   own-film b h = rw (o .floor, o .cap) h
 
   module _ (cell : IsCell romCap (laneCell romFloor romCap l u) x) where
-    pub own-owed : (r : Bool) → filmIn (t .length) (tickFor (t .kind) (t .length) romFloor romCap) x ≡ true → r ≡ keptAwaited t l x u
+    pub own-owed : (r : Bool) → filmIn (t .film .length) (tickFor (t .film .kind) (t .film .length) romFloor romCap) x ≡ true → r ≡ keptAwaited t l x u
         → r ≡ keptOwed t l u
     unfolding keptOwed
     own-owed r h w = rw (← own-lane cell .is, own-film true h) w
 
-    pub own-padding : filmIn (t .length) (tickFor (t .kind) (t .length) romFloor romCap) x ≡ false → false ≡ keptOwed t l u
+    pub own-padding : filmIn (t .film .length) (tickFor (t .film .kind) (t .film .length) romFloor romCap) x ≡ false → false ≡ keptOwed t l u
     unfolding keptOwed
     own-padding h = rw (← own-lane cell .is, own-film false h) refl
 
-pub own-capped : (t : Title) → Own t → (l : ℕ) → l < t .cap → l < romCap
+pub own-capped : (t : Title) → Own t → (l : ℕ) → l < t .film .cap → l < romCap
 own-capped t o l h = omega (arith, o .cap)
 
-pub own-reach : (t : Title) → Own t → reach (t .cap) ≡ romPeriod
+pub own-reach : (t : Title) → Own t → reach (t .film .cap) ≡ romPeriod
 unfolding reach
 own-reach t o = rw (o .cap) refl
 

@@ -16,7 +16,7 @@ use Rattle.rom.specs.Table.{romFloor, romCap, isOther}
 
 -- a slot's title is sent by another scheme, or has another floor or cap; a slot never opened has none
 abbrev pub isForeign : Title → Bool
-isForeign t = both (not (eqb (t .mode) absentMode)) (either (isSteadyTitle t) (isOther (t .floor) (t .cap)))
+isForeign t = both (not (eqb (t .mode) absentMode)) (either (isSteadyTitle t) (isOther (t .film .floor) (t .film .cap)))
 
 abbrev pub romLaneRules : State → ℕ → ℕ → ℕ → List Rule
 romLaneRules s i l τ =
@@ -31,6 +31,6 @@ romLaneShows s i l τ = pick (eqb (romLaneAnswer s i l τ) 0) (laneShows s i l �
 
 -- what the functions ask of a title before its cells are looked up
 pub record Own (t : Title) : Type 0 where
-  pub kind : t .kind ≡ steadyKind → ⊥
-  pub floor : t .floor ≡ romFloor
-  pub cap : t .cap ≡ romCap
+  pub kind : t .film .kind ≡ steadyKind → ⊥
+  pub floor : t .film .floor ≡ romFloor
+  pub cap : t .film .cap ≡ romCap

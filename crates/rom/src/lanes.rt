@@ -40,7 +40,7 @@ fn is_owed(t: Title, lane: u64, tick: u64) -> bool
     ensures { λ r. ⌜ r ≡ keptOwed t lane tick ⌝ }
 {
     let cell = cell_at(lane, tick);
-    if holds_film(t.kind, t.length, FLOOR, CAP, cell) {
+    if holds_film(t.film.kind, t.film.length, FLOOR, CAP, cell) {
         return is_awaited(t, lane, cell, tick);
     }
     false
@@ -51,7 +51,7 @@ fn nth_owed(t: Title, lane: u64, from: u64, nth: u64) -> u64
     requires { ⌜ Owing t ⌝ }
     requires { ⌜ Own t ⌝ }
     requires { ⌜ (lane < romCap) × (from ≤ askedMax) ⌝ }
-    ensures { λ r. ⌜ Exactly (first (keptNth t lane from nth) (reach (t .cap))) 0 romPeriod r ⌝ }
+    ensures { λ r. ⌜ Exactly (first (keptNth t lane from nth) (reach (t .film .cap))) 0 romPeriod r ⌝ }
 {
     let mut owed = 0;
     let mut i = 0;
@@ -98,10 +98,10 @@ fn is_foreign(t: Title) -> bool
     if t.mode == ABSENT {
         return false;
     }
-    if t.kind == STEADY {
+    if t.film.kind == STEADY {
         return true;
     }
-    is_other(t.floor, t.cap)
+    is_other(t.film.floor, t.film.cap)
 }
 
 // Of a lane question: 1 for a title of another floor or cap and for a skip-forward title, then as the computing call.

@@ -106,15 +106,13 @@ none-first xs ys c none =
     ⊎-elim (λ t. eqb-true (firstHit xs) 0 t) (λ f. sym (rw f at (hit-append xs ys c)) ∙ none)
     (decide (eqb (firstHit xs) 0))
 
--- one rule that does not hit, then two parts: the first part answers where it has one that hits, else the second
-module _ (n : ℕ) (h : Bool) (xs ys : List Rule) (first : ℕ) (counts : numbered xs ≡ true) (passed : h ≡ false)
-    (is-first : first ≡ firstHit xs) where
-  pub in-two : firstHit (refuse n h ∷ (xs ++ ys)) ≡ pick (eqb first 0) (firstHit ys) first
-  unfolding firstHit
-  in-two = rw (passed, is-first) (hit-append xs ys counts)
+-- two parts, the first of which is known: it answers where it has a rule that hits, else the second does
+module _ (xs ys : List Rule) (first : ℕ) (counts : numbered xs ≡ true) (is-first : first ≡ firstHit xs) where
+  pub in-two : firstHit (xs ++ ys) ≡ pick (eqb first 0) (firstHit ys) first
+  in-two = rw is-first (hit-append xs ys counts)
 
-  pub then-late : (late : ℕ) → first ≡ 0 → late ≡ firstHit ys → late ≡ firstHit (refuse n h ∷ (xs ++ ys))
+  pub then-late : (late : ℕ) → first ≡ 0 → late ≡ firstHit ys → late ≡ firstHit (xs ++ ys)
   then-late late none is-late = is-late ∙ sym (rw (eq-eqb first 0 none) at in-two)
 
-  pub then-first : (first ≡ 0 → ⊥) → first ≡ firstHit (refuse n h ∷ (xs ++ ys))
+  pub then-first : (first ≡ 0 → ⊥) → first ≡ firstHit (xs ++ ys)
   then-first some = sym (rw (ne-eqb first 0 some) at in-two)

@@ -25,6 +25,11 @@ pub both-out : (a b : Bool) → both a b ≡ false → (a ≡ false) ⊎ (b ≡ 
 both-out true b h = inr h
 both-out false b h = inl refl
 
+-- a test joined with one that passes is itself
+pub both-true : (b : Bool) → both b true ≡ b
+both-true true = refl
+both-true false = refl
+
 pub either-l : (a b : Bool) → a ≡ true → either a b ≡ true
 either-l a b p = rw p refl
 

@@ -7,6 +7,8 @@ use Rattle.story.specs.declared.State.{State}
 use Rattle.scheduler.specs.declared.Outcome.{Outcome}
 use Rattle.scheduler.proofs.fresh.Kinds as fresh-kinds
 use Rattle.scheduler.proofs.fresh.Reads as fresh-call
+use Rattle.scheduler.proofs.call.Kinds as call-kinds
+use Rattle.scheduler.proofs.call.Reads as call-call
 use Rattle.scheduler.proofs.open.Kinds as open-kinds
 use Rattle.scheduler.proofs.open.Reads as open-call
 use Rattle.scheduler.proofs.skip.Kinds as skip-kinds
@@ -33,6 +35,9 @@ both-told : {n : ℕ} {s : State} (x y : Outcome) → (x .answer ≡ n) × (x .s
     x ≡ y
 both-told x y p q =
     ap₂ (λ (n : ℕ) (s : State). record { answer = n; state = s }) (p .0 ∙ sym (q .0)) (p .1 ∙ sym (q .1))
+
+pub call-one-outcome : OneOutcome 0 call-kinds.ps call-kinds.r call-call.Learnt
+call-one-outcome κs a x y e f p q = both-told x y p q
 
 pub open-one-outcome : OneOutcome 0 open-kinds.ps open-kinds.r open-call.Learnt
 open-one-outcome κs a x y e f p q = both-told x y p q

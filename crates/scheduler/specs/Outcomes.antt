@@ -1,17 +1,18 @@
 -- The last refusal of an event, and the lanes held of any state.
 use Prim.Native.Nat.{ℕ}
-use mathlib.Core.Bool.{true}
+use mathlib.Core.Bool.{Bool, true}
 use mathlib.Core.List.{[], _∷_}
 use lib.Dec.{eqb}
+use Rattle.rules.specs.Limits.{both}
 use Rattle.rules.specs.Refusals.{pick, refuse, firstHit, noLanes}
 use Rattle.story.specs.declared.State.{State}
 use Rattle.story.specs.Kept.{lanesHeld}
 use Rattle.story.specs.Calls.{tooMany}
 use Rattle.verdicts.specs.Asked.{askedAnswer}
 
--- 01, "Events": refused for want of lanes exactly when, with the event, more than the pool would be held
-unfoldable pub settledAnswer : State → ℕ → ℕ
-settledAnswer next τ = firstHit (refuse noLanes (tooMany next τ) ∷ [])
+-- 01, "Events": an event that asks for lanes is refused for want of them exactly when, with it, more than the pool would be held
+unfoldable pub settledAnswer : Bool → State → ℕ → ℕ
+settledAnswer asks next τ = firstHit (refuse noLanes (both asks (tooMany next τ)) ∷ [])
 
 -- lanes held at a time: a question of all titles, with no other number
 unfoldable pub heldAnswer : State → ℕ → ℕ

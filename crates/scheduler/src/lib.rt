@@ -5,10 +5,8 @@ use measures::lanes::lanes_held;
 use measures::slots::title_of;
 use measures::slots::with_title;
 use measures::ticks::tick_at;
-use owed::dropping::changed_title;
-use owed::dropping::closed_title;
-use owed::dropping::doors_title;
 use owed::sending::shows;
+use owed::turning::next_title;
 use rules::COUNT_PLACES;
 use rules::DONE;
 use rules::LANE_PLACES;
@@ -21,38 +19,24 @@ use rules::within;
 use scheme::PADDED;
 use scheme::STEADY;
 use story::ABSENT;
+use story::Act;
 use story::CLEAR;
-use story::OPEN;
+use story::Event;
+use story::Film;
 use story::State;
 use story::Title;
-use verdicts::events::change_verdict;
-use verdicts::events::close_verdict;
-use verdicts::events::doors_verdict;
-use verdicts::events::open_verdict;
+use verdicts::events::sets_count;
+use verdicts::events::verdict;
 use verdicts::questions::asked_verdict;
 use verdicts::questions::lane_verdict;
 ghost use mathlib.Core.Path.{_≡_};
-ghost use mathlib.Core.Bool.{true, false};
 ghost use lib.Dec.{eqb};
 ghost use Rattle.rules.specs.Refusals.{pick};
-ghost use Rattle.scheme.specs.Scheme.{paddedKind, steadyKind};
-ghost use Rattle.story.specs.Story.{skips};
-ghost use Rattle.story.specs.Next.{openedTitle, openNext, changeNext, closeNext, doorsNext};
-ghost use Rattle.story.specs.Calls.{
-  blankTitle,
-  emptyPool,
-  freshAnswer,
-  freshNext,
-  tooMany,
-  callAnswer,
-  openAnswer,
-  changeAnswer,
-  closeAnswer,
-  doorsAnswer,
-  laneAnswer,
-  laneShows,
-};
-ghost use Rattle.measures.specs.Film.{AllReadable};
+ghost use Rattle.story.specs.declared.Act.the-variants.{Opens, Changes, Closes};
+ghost use Rattle.story.specs.Story.{event, filmOf, opens, skips, holds, lifts};
+ghost use Rattle.story.specs.Calls.{blankTitle, emptyPool, freshAnswer, freshNext, laneAnswer, laneShows};
+ghost use Rattle.story.specs.Runs.{answered, called};
+ghost use Rattle.measures.specs.Readable.{AllReadable};
 ghost use Rattle.scheduler.specs.Outcomes.{settledAnswer, heldAnswer, heldShown};
 
 // What a fresh call gives back.
@@ -83,13 +67,16 @@ pub struct HeldLanes {
 fn blank_title() -> Title
     ensures { λ r. ⌜ r ≡ blankTitle ⌝ }
 {
-    Title {
-        mode: ABSENT,
+    let film = Film {
         kind: PADDED,
-        opened: 0,
         length: 0,
         floor: 0,
         cap: 0,
+    };
+    Title {
+        mode: ABSENT,
+        film: film,
+        opened: 0,
         count: 0,
         mark: CLEAR,
         last: 0,
@@ -131,39 +118,20 @@ pub fn fresh(pool: u64) -> Started
     }
 }
 
-// A title of a kind opened at a time: no count has ended and no lane was dropped.
-fn opened_title(kind: u64, time: u64, length: u64, floor: u64, cap: u64, count: u64) -> Title
-    ensures { λ r. ⌜ r ≡ openedTitle kind time length floor cap count ⌝ }
-{
-    Title {
-        mode: OPEN,
-        kind: kind,
-        opened: time,
-        length: length,
-        floor: floor,
-        cap: cap,
-        count: count,
-        mark: CLEAR,
-        last: time,
-        tuned: time,
-        ends: [0; COUNT_PLACES],
-        dropped: [0; LANE_PLACES],
-        owed: [0; LANE_PLACES],
-    }
-}
-
-// An event that only lanes may refuse: it is taken where the pool has as many as the next state would hold.
-fn settle(s: State, next: State, time: u64) -> Outcome
+// An event that only lanes may refuse: where it asks for them it is taken if the pool has as many as the next state would hold.
+fn settle(s: State, next: State, time: u64, asks: bool) -> Outcome
     requires { ⌜ AllReadable next ⌝ }
     requires { ⌜ next .pool ≡ s .pool ⌝ }
-    ensures { λ r. ⌜ (r .answer ≡ settledAnswer next time) × (r .state ≡ pick (eqb (settledAnswer next time) 0) next s) ⌝ }
+    ensures { λ r. ⌜ (r .answer ≡ settledAnswer asks next time) × (r .state ≡ pick (eqb (settledAnswer asks next time) 0) next s) ⌝ }
 {
-    if s.pool < lanes_held(next, time) {
-        let kept = s;
-        return Outcome {
-            answer: NO_LANES,
-            state: kept,
-        };
+    if asks {
+        if s.pool < lanes_held(next, time) {
+            let kept = s;
+            return Outcome {
+                answer: NO_LANES,
+                state: kept,
+            };
+        }
     }
     Outcome {
         answer: DONE,
@@ -171,120 +139,97 @@ fn settle(s: State, next: State, time: u64) -> Outcome
     }
 }
 
-// Opens a title of a kind.
-fn opening(
-    s: State,
-    id: u64,
-    time: u64,
-    kind: u64,
-    length: u64,
-    floor: u64,
-    cap: u64,
-    count: u64,
-) -> Outcome
-    ensures { λ r. ⌜ r .answer ≡ openAnswer s id time kind length floor cap count ⌝ }
-    ensures { λ r. ⌜ r .state ≡ pick (eqb (openAnswer s id time kind length floor cap count) 0) (openNext s id time kind length floor cap count) s ⌝ }
+// Puts an event to the scheduler.
+pub fn call(s: State, e: Event) -> Outcome
+    ensures { λ r. ⌜ (r .answer ≡ answered s e) × (r .state ≡ called s e) ⌝ }
 {
-    let first = open_verdict(s, id, time, kind, length, floor, cap, count);
+    let first = verdict(s, e);
     if first == DONE {
-        let next = with_title(
-            s,
-            id,
-            opened_title(kind, time, length, floor, cap, count),
-            time,
-        );
-        return settle(s, next, time);
+        let id = e.title;
+        let time = e.time;
+        let act = e.act;
+        let next = with_title(s, id, next_title(title_of(s, id), time, act), time);
+        return settle(s, next, time, sets_count(act));
     }
     Outcome {
         answer: first,
         state: s,
+    }
+}
+
+// An event of a title at a time.
+pub fn event_at(id: u64, time: u64, act: Act) -> Event
+    ensures { λ r. ⌜ r ≡ event id time act ⌝ }
+{
+    Event {
+        title: id,
+        time: time,
+        act: act,
+    }
+}
+
+// An opening as a film of some kind, with a count.
+pub fn opening(kind: u64, length: u64, floor: u64, cap: u64, count: u64) -> Act
+    ensures { λ r. ⌜ r ≡ Opens (filmOf kind length floor cap) count ⌝ }
+{
+    let film = Film {
+        kind: kind,
+        length: length,
+        floor: floor,
+        cap: cap,
+    };
+    Act::Opens {
+        film: film,
+        count: count,
     }
 }
 
 // Opens a title on the padded grid.
 pub fn open(s: State, id: u64, time: u64, length: u64, floor: u64, cap: u64, count: u64) -> Outcome
-    ensures { λ r. ⌜ r .answer ≡ openAnswer s id time paddedKind length floor cap count ⌝ }
-    ensures { λ r. ⌜ r .state ≡ pick (eqb (openAnswer s id time paddedKind length floor cap count) 0) (openNext s id time paddedKind length floor cap count) s ⌝ }
+    ensures { λ r. ⌜ (r .answer ≡ answered s (event id time (opens length floor cap count))) × (r .state ≡ called s (event id time (opens length floor cap count))) ⌝ }
 {
-    opening(s, id, time, PADDED, length, floor, cap, count)
+    call(
+        s,
+        event_at(id, time, opening(PADDED, length, floor, cap, count)),
+    )
 }
 
 // Opens a skip-forward title: its count is its floor and its cap.
 pub fn skip(s: State, id: u64, time: u64, length: u64, count: u64) -> Outcome
-    ensures { λ r. ⌜ r .answer ≡ callAnswer s id time (skips length count) ⌝ }
-    ensures { λ r. ⌜ r .state ≡ pick (eqb (callAnswer s id time (skips length count)) 0) (openNext s id time steadyKind length count count count) s ⌝ }
+    ensures { λ r. ⌜ (r .answer ≡ answered s (event id time (skips length count))) × (r .state ≡ called s (event id time (skips length count))) ⌝ }
 {
-    opening(s, id, time, STEADY, length, count, count, count)
+    call(
+        s,
+        event_at(id, time, opening(STEADY, length, count, count, count)),
+    )
 }
 
 // Changes the count of a title.
 pub fn change(s: State, id: u64, time: u64, count: u64) -> Outcome
-    ensures { λ r. ⌜ r .answer ≡ changeAnswer s id time count ⌝ }
-    ensures { λ r. ⌜ r .state ≡ pick (eqb (changeAnswer s id time count) 0) (changeNext s id time count) s ⌝ }
+    ensures { λ r. ⌜ (r .answer ≡ answered s (event id time (Changes count))) × (r .state ≡ called s (event id time (Changes count))) ⌝ }
 {
-    let first = change_verdict(s, id, time, count);
-    if first == DONE {
-        let next = with_title(s, id, changed_title(title_of(s, id), time, count), time);
-        return settle(s, next, time);
-    }
-    Outcome {
-        answer: first,
-        state: s,
-    }
+    call(s, event_at(id, time, Act::Changes { count: count }))
 }
 
 // Closes a title. It needs no lanes: a close only drops them.
 pub fn close(s: State, id: u64, time: u64) -> Outcome
-    ensures { λ r. ⌜ r .answer ≡ closeAnswer s id time ⌝ }
-    ensures { λ r. ⌜ r .state ≡ pick (eqb (closeAnswer s id time) 0) (closeNext s id time) s ⌝ }
+    ensures { λ r. ⌜ (r .answer ≡ answered s (event id time Closes)) × (r .state ≡ called s (event id time Closes)) ⌝ }
 {
-    let answer = close_verdict(s, id, time);
-    if answer == DONE {
-        let next = with_title(s, id, closed_title(title_of(s, id), time), time);
-        return Outcome {
-            answer: DONE,
-            state: next,
-        };
-    }
-    Outcome {
-        answer: answer,
-        state: s,
-    }
-}
-
-// Holds the doors of a title or lifts them. It needs no lanes.
-fn doors(s: State, id: u64, time: u64, held: bool) -> Outcome
-    ensures { λ r. ⌜ r .answer ≡ doorsAnswer s id time held ⌝ }
-    ensures { λ r. ⌜ r .state ≡ pick (eqb (doorsAnswer s id time held) 0) (doorsNext s id time held) s ⌝ }
-{
-    let answer = doors_verdict(s, id, time, held);
-    if answer == DONE {
-        let next = with_title(s, id, doors_title(title_of(s, id), time, held), time);
-        return Outcome {
-            answer: DONE,
-            state: next,
-        };
-    }
-    Outcome {
-        answer: answer,
-        state: s,
-    }
+    call(s, event_at(id, time, Act::Closes))
 }
 
 // Holds the doors of a title: no box may begin from that moment on.
 pub fn hold(s: State, id: u64, time: u64) -> Outcome
-    ensures { λ r. ⌜ r .answer ≡ doorsAnswer s id time true ⌝ }
-    ensures { λ r. ⌜ r .state ≡ pick (eqb (doorsAnswer s id time true) 0) (doorsNext s id time true) s ⌝ }
+    ensures { λ r. ⌜ (r .answer ≡ answered s (event id time holds)) × (r .state ≡ called s (event id time holds)) ⌝ }
 {
-    doors(s, id, time, true)
+    call(s, event_at(id, time, Act::Doors { held: true }))
 }
 
 // Lifts the hold: boxes may begin again, at that very moment for the first.
 pub fn lift(s: State, id: u64, time: u64) -> Outcome
-    ensures { λ r. ⌜ r .answer ≡ doorsAnswer s id time false ⌝ }
-    ensures { λ r. ⌜ r .state ≡ pick (eqb (doorsAnswer s id time false) 0) (doorsNext s id time false) s ⌝ }
+    ensures { λ r. ⌜ (r .answer ≡ answered s (event id time lifts)) × (r .state ≡ called s (event id time lifts)) ⌝ }
 {
-    doors(s, id, time, false)
+    call(s, event_at(id, time, Act::Doors { held: false }))
 }
 
 // Which cell goes out on a lane of a title in the tick that holds a time.

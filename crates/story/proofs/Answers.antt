@@ -17,18 +17,22 @@ use Rattle.rules.specs.Refusals.{pick, tooSoon, noLanes}
 use Rattle.rules.proofs.Tests.{decide, both-l, both-r}
 use Rattle.rules.proofs.Refusals.{hitsOf, numbered, cleared, hit-same}
 use Rattle.scheme.specs.Scheme.{starts}
+use Rattle.story.specs.declared.Film.{Film}
 use Rattle.story.specs.declared.Title.{Title}
 use Rattle.story.specs.declared.State.{State}
 use Rattle.story.specs.Kept.{openMode, closingMode, clearMark, heldMark, isShut, titleAt, stateOk}
 use Rattle.story.specs.Kept.{schemeIn, titleTick, tickAt, atTickStart, settledAt, lanesHeld, isThere}
-use Rattle.story.specs.Next.{openedTitle, withTitle, openNext, changedTitle, changeNext, closedTitle, closeNext}
-use Rattle.story.specs.Next.{ended, turned, turnedTitle, doorsTitle, doorsNext, callNext}
+use Rattle.story.specs.Next.{openedTitle, withTitle, changedTitle, closedTitle}
+use Rattle.story.specs.Next.{ended, turned, turnedTitle, doorsTitle, callNext}
 use Rattle.story.specs.Calls.{eventOk, tooMany, atSlotStart, testsIn, callAnswer}
 use Rattle.story.specs.Life.{Life, Course}
-use Rattle.story.specs.Story.{Act, opens, changes, closes, doors, Event, event, lifeAfter, lifeOf, latestOf}
+use Rattle.story.specs.declared.Act.{Act}
+use Rattle.story.specs.declared.Act.the-variants.{Opens, Changes, Closes, Doors}
+use Rattle.story.specs.declared.Event.{Event}
+use Rattle.story.specs.Story.{event, lifeAfter, lifeOf, latestOf}
 use Rattle.story.specs.Story.{lastTime}
-use Rattle.story.specs.Story.{tickIn, countIn, isSlotIn, isThereIn, withinLimits, kindLimits, overfull, orderOf}
-use Rattle.story.specs.Story.{settling, tunes, tunedOf, isShutIn, answerTo, turn}
+use Rattle.story.specs.Story.{tickIn, countIn, isSlotIn, isThereIn, withinLimits, filmLimits, overfull, orderOf}
+use Rattle.story.specs.Story.{settling, setsCount, tunedOf, isShutIn, answerTo, turn}
 use Rattle.story.proofs.Stored.{lifeIn}
 use Rattle.story.proofs.Kept.{Present, later}
 use Rattle.story.proofs.Turn.{Turning, turned-laid, turn-present, turn-before, turn-from, open-ruling}
@@ -137,21 +141,21 @@ module _ (lanes : ℕ) (es : List Event) (s : State) (w : Tells lanes es s) wher
     seen le = omega (arith, w .newest i)
 
     -- an opening within its limits, not too early, with a count from floor to cap
-    open-next : (m D A K k : ℕ) → i ≤ idMax → τ ≤ eventTimeMax → kindLimits m D A K k ≡ true → lastTime es ≤ τ →
-        ltb k A ≡ false → ltb K k ≡ false → Tells lanes (event i τ (opens m D A K k) ∷ es) (openNext s i τ m D A K k)
-    open-next m D A K k id limit nums late low high =
-        told-with lanes es s (event i τ (opens m D A K k)) (openedTitle m τ D A K k) w (omega arith) late limit
+    open-next : (f : Film) (k : ℕ) → i ≤ idMax → τ ≤ eventTimeMax → filmLimits f k ≡ true → lastTime es ≤ τ →
+        ltb k (f .floor) ≡ false → ltb (f .cap) k ≡ false → Tells lanes (event i τ (Opens f k) ∷ es) (callNext s i τ (Opens f k))
+    open-next f k id limit nums late low high =
+        told-with lanes es s (event i τ (Opens f k)) (openedTitle f τ k) w (omega arith) late limit
         (present (fromStart k) refl refl
-        (opened-present m τ D A K k limit (offered m D A K k nums) (ltb-false k A low) (ltb-false K k high)))
+        (opened-present f τ k limit (offered f k nums) (ltb-false k (f .floor) low) (ltb-false (f .cap) k high)))
         refl
 
-    open-told : (m D A K k : ℕ) →
-        callAnswer s i τ (opens m D A K k) ≡ answerTo lanes es (event i τ (opens m D A K k)) (lifeOf es i) (opens m D A K k)
+    open-told : (f : Film) (k : ℕ) →
+        callAnswer s i τ (Opens f k) ≡ answerTo lanes es (event i τ (Opens f k)) (lifeOf es i) (Opens f k)
     unfolding callAnswer answerTo
-    open-told m D A K k =
-        hit-same outsideLimits _ _ _ _ (limits-told (kindLimits m D A K k))
+    open-told f k =
+        hit-same outsideLimits _ _ _ _ (limits-told (filmLimits f k))
         (λ t1.
-        let n = limits-out (kindLimits m D A K k) t1 in
+        let n = limits-out (filmLimits f k) t1 in
         hit-same tooEarly _ _ _ _ (ap (λ x. ltb τ x) (w .last))
         (λ t2.
         hit-same idTaken _ _ _ _ (sym (there-told (lifeOf es i) (latestOf es i) (titleAt s i) τ (w .title i (omega (arith, n .0))) (seen (late-out t2))))
@@ -163,13 +167,13 @@ module _ (lanes : ℕ) (es : List Event) (s : State) (w : Tells lanes es s) wher
         hit-same aboveCap _ _ _ _ refl
         (λ t14.
         hit-same noLanes _ _ _ _
-        (full-told (event i τ (opens m D A K k)) (openNext s i τ m D A K k) (open-next m D A K k (n .0) (n .1) (n .2) (late-out t2) t13 t14))
+        (full-told (event i τ (Opens f k)) (callNext s i τ (Opens f k)) (open-next f k (n .0) (n .1) (n .2) (late-out t2) t13 t14))
         (λ t9. refl)))))))
 
     -- a turn of an open title
     turn-next : (t : Title) (r : Course) (q m c d v : ℕ) (a : Act) → (o : Open (lifeOf es i) (latestOf es i) t τ) →
         i ≤ idMax → τ ≤ eventTimeMax → lastTime es ≤ τ → Turning t (o .course) r τ q m c d v →
-        lifeAfter (lifeIn t (o .course)) τ a ≡ lifeIn t r → v ≡ pick (tunes a) τ (tunedOf es i) →
+        lifeAfter (lifeIn t (o .course)) τ a ≡ lifeIn t r → v ≡ pick (setsCount a) τ (tunedOf es i) →
         Tells lanes (event i τ a ∷ es) (withTitle s i (turnedTitle t τ q m c d v) τ)
     turn-next t r q m c d v a o id limit late turning same tuned =
         told-with lanes es s (event i τ a) (turnedTitle t τ q m c d v) w (omega arith) late limit
@@ -200,20 +204,20 @@ module _ (lanes : ℕ) (es : List Event) (s : State) (w : Tells lanes es s) wher
         )
 
     change-next : (k : ℕ) (o : Open (lifeOf es i) (latestOf es i) (titleAt s i) τ) → i ≤ idMax → τ ≤ eventTimeMax →
-        lastTime es ≤ τ → ltb k (titleAt s i .floor) ≡ false → ltb (titleAt s i .cap) k ≡ false →
+        lastTime es ≤ τ → ltb k (titleAt s i .film .floor) ≡ false → ltb (titleAt s i .film .cap) k ≡ false →
         eqb τ (titleAt s i .last) ≡ false →
         not (atSlotStart (titleAt s i) (min (titleAt s i .count) k) τ) ≡ false →
-        Tells lanes (event i τ (changes k) ∷ es) (changeNext s i τ k)
+        Tells lanes (event i τ (Changes k) ∷ es) (callNext s i τ (Changes k))
     unfolding changedTitle tickIn tickAt
     change-next k o id limit late t13 t14 t7 t8 =
         let t : Title = titleAt s i in
-        let low : t .floor ≤ k = ltb-false k (t .floor) t13 in
-        let high : k ≤ t .cap = ltb-false (t .cap) k t14 in
+        let low : t .film .floor ≤ k = ltb-false k (t .film .floor) t13 in
+        let high : k ≤ t .film .cap = ltb-false (t .film .cap) k t14 in
         let z = o .here .sized in
         let lt : t .last < τ = later-out t o late t7 in
         let n : ℕ = tickAt t τ in
         let r : Course = o .course in
-        turn-next t (record { rule = turn (r .rule) n k; shut = r .shut }) k openMode k (t .mark) τ (changes k) o id limit late
+        turn-next t (record { rule = turn (r .rule) n k; shut = r .shut }) k openMode k (t .mark) τ (Changes k) o id limit late
         (record {
           here = o .here;
           is-open = o .mode;
@@ -222,7 +226,7 @@ module _ (lanes : ℕ) (es : List Event) (s : State) (w : Tells lanes es s) wher
           on-tick = tick-out t (min (t .count) k) t8 .0;
           low = λ p. low;
           high = high;
-          at-slot = rw (change-slot (t .floor) (t .count) k (z .count-low) low) (tick-out t (min (t .count) k) t8 .1);
+          at-slot = rw (change-slot (t .film .floor) (t .count) k (z .count-low) low) (tick-out t (min (t .count) k) t8 .1);
           mode = inl refl;
           count-low = low;
           count-high = high;
@@ -237,24 +241,24 @@ module _ (lanes : ℕ) (es : List Event) (s : State) (w : Tells lanes es s) wher
 
     close-next : (o : Open (lifeOf es i) (latestOf es i) (titleAt s i) τ) → i ≤ idMax → τ ≤ eventTimeMax →
         lastTime es ≤ τ → eqb τ (titleAt s i .last) ≡ false →
-        not (atSlotStart (titleAt s i) (titleAt s i .floor) τ) ≡ false →
-        Tells lanes (event i τ closes ∷ es) (closeNext s i τ)
+        not (atSlotStart (titleAt s i) (titleAt s i .film .floor) τ) ≡ false →
+        Tells lanes (event i τ Closes ∷ es) (callNext s i τ Closes)
     unfolding closedTitle tickIn tickAt
     close-next o id limit late t7 t8 =
         let t : Title = titleAt s i in
         let z = o .here .sized in
         let n : ℕ = tickAt t τ in
         let r : Course = o .course in
-        turn-next t (record { rule = turn (r .rule) n 0; shut = r .shut }) 0 closingMode (t .count) clearMark (t .tuned) closes o id limit late
+        turn-next t (record { rule = turn (r .rule) n 0; shut = r .shut }) 0 closingMode (t .count) clearMark (t .tuned) Closes o id limit late
         (record {
           here = o .here;
           is-open = o .mode;
           later = later-out t o late t7;
           limit = limit;
-          on-tick = tick-out t (t .floor) t8 .0;
+          on-tick = tick-out t (t .film .floor) t8 .0;
           low = λ p. absurd (omega arith);
           high = omega arith;
-          at-slot = rw (close-slot (t .floor) (t .count)) (tick-out t (t .floor) t8 .1);
+          at-slot = rw (close-slot (t .film .floor) (t .count)) (tick-out t (t .film .floor) t8 .1);
           mode = inr refl;
           count-low = z .count-low;
           count-high = z .count-high;
@@ -270,7 +274,7 @@ module _ (lanes : ℕ) (es : List Event) (s : State) (w : Tells lanes es s) wher
     doors-next : (b : Bool) (o : Open (lifeOf es i) (latestOf es i) (titleAt s i) τ) → i ≤ idMax → τ ≤ eventTimeMax →
         lastTime es ≤ τ → eqb τ (titleAt s i .last) ≡ false →
         not (atSlotStart (titleAt s i) (titleAt s i .count) τ) ≡ false →
-        Tells lanes (event i τ (doors b) ∷ es) (doorsNext s i τ b)
+        Tells lanes (event i τ (Doors b) ∷ es) (callNext s i τ (Doors b))
     unfolding tickIn tickAt
     doors-next b o id limit late t7 t8 =
         let t : Title = titleAt s i in
@@ -279,7 +283,7 @@ module _ (lanes : ℕ) (es : List Event) (s : State) (w : Tells lanes es s) wher
         let n : ℕ = tickAt t τ in
         let r : Course = o .course in
         rw (← doors-turned t τ b)
-        (turn-next t (record { rule = r .rule; shut = turn (r .shut) n b }) (t .count) openMode (t .count) (pick b heldMark clearMark) (t .tuned) (doors b) o id limit late
+        (turn-next t (record { rule = r .rule; shut = turn (r .shut) n b }) (t .count) openMode (t .count) (pick b heldMark clearMark) (t .tuned) (Doors b) o id limit late
         (record {
           here = o .here;
           is-open = o .mode;
@@ -288,7 +292,7 @@ module _ (lanes : ℕ) (es : List Event) (s : State) (w : Tells lanes es s) wher
           on-tick = tick-out t (t .count) t8 .0;
           low = λ p. z .count-low;
           high = z .count-high;
-          at-slot = rw (doors-slot (t .floor) (t .count) (z .count-low)) (tick-out t (t .count) t8 .1);
+          at-slot = rw (doors-slot (t .film .floor) (t .count) (z .count-low)) (tick-out t (t .count) t8 .1);
           mode = inl refl;
           count-low = z .count-low;
           count-high = z .count-high;
@@ -333,17 +337,17 @@ module _ (lanes : ℕ) (es : List Event) (s : State) (w : Tells lanes es s) wher
     settled-told t id e o = rw (o .life, ← e, w .tuned i (omega arith)) refl
 
     change-told : (k : ℕ) →
-        callAnswer s i τ (changes k) ≡ answerTo lanes es (event i τ (changes k)) (lifeOf es i) (changes k)
+        callAnswer s i τ (Changes k) ≡ answerTo lanes es (event i τ (Changes k)) (lifeOf es i) (Changes k)
     unfolding callAnswer answerTo
     change-told k =
-        standing-told (both (eventOk s i τ) (within countMin countMax k)) (both (withinLimits (event i τ (changes k))) (within countMin countMax k)) _ _ (rw ok refl)
+        standing-told (both (eventOk s i τ) (within countMin countMax k)) (both (withinLimits (event i τ (Changes k))) (within countMin countMax k)) _ _ (rw ok refl)
         (λ x. event-out (both-l (eventOk s i τ) (within countMin countMax k) x))
         (λ id limit late o.
-        hit-same isSteady _ _ _ _ (rw (ap (λ (L : Life). L .kind) (o .life)) refl)
+        hit-same isSteady _ _ _ _ (rw (ap (λ (L : Life). L .film .kind) (o .life)) refl)
         (λ t19.
-        hit-same belowFloor _ _ _ _ (rw (ap (λ (L : Life). L .floor) (o .life)) refl)
+        hit-same belowFloor _ _ _ _ (rw (ap (λ (L : Life). L .film .floor) (o .life)) refl)
         (λ t13.
-        hit-same aboveCap _ _ _ _ (rw (ap (λ (L : Life). L .cap) (o .life)) refl)
+        hit-same aboveCap _ _ _ _ (rw (ap (λ (L : Life). L .film .cap) (o .life)) refl)
         (λ t14.
         hit-same unchanged _ _ _ _ (rw (o .count) refl)
         (λ t6.
@@ -355,27 +359,27 @@ module _ (lanes : ℕ) (es : List Event) (s : State) (w : Tells lanes es s) wher
         (rw (o .count) (ap not (slot-told (lifeOf es i) (latestOf es i) (titleAt s i) τ (min (titleAt s i .count) k) o)))
         (λ t8.
         hit-same noLanes _ _ _ _
-        (full-told (event i τ (changes k)) (changeNext s i τ k) (change-next k o id limit late t13 t14 t7 t8))
+        (full-told (event i τ (Changes k)) (callNext s i τ (Changes k)) (change-next k o id limit late t13 t14 t7 t8))
         (λ t9. refl)))))))))
 
-    close-told : callAnswer s i τ closes ≡ answerTo lanes es (event i τ closes) (lifeOf es i) closes
+    close-told : callAnswer s i τ Closes ≡ answerTo lanes es (event i τ Closes) (lifeOf es i) Closes
     unfolding callAnswer answerTo
     close-told =
-        standing-told (eventOk s i τ) (withinLimits (event i τ closes)) _ _ (rw ok refl) event-out
+        standing-told (eventOk s i τ) (withinLimits (event i τ Closes)) _ _ (rw ok refl) event-out
         (λ id limit late o.
         hit-same secondEvent _ _ _ _ (ap (λ x. eqb τ x) (sym (o .latest)))
         (λ t7.
         hit-same notAtSlot _ _ _ _
-        (ap not (slot-told (lifeOf es i) (latestOf es i) (titleAt s i) τ (titleAt s i .floor) o) ∙ rw (ap (λ (L : Life). L .floor) (o .life)) refl)
+        (ap not (slot-told (lifeOf es i) (latestOf es i) (titleAt s i) τ (titleAt s i .film .floor) o) ∙ rw (ap (λ (L : Life). L .film .floor) (o .life)) refl)
         (λ t8. refl)))
 
     doors-answered : (b : Bool) →
-        callAnswer s i τ (doors b) ≡ answerTo lanes es (event i τ (doors b)) (lifeOf es i) (doors b)
+        callAnswer s i τ (Doors b) ≡ answerTo lanes es (event i τ (Doors b)) (lifeOf es i) (Doors b)
     unfolding callAnswer answerTo
     doors-answered b =
-        standing-told (eventOk s i τ) (withinLimits (event i τ (doors b))) _ _ (rw ok refl) event-out
+        standing-told (eventOk s i τ) (withinLimits (event i τ (Doors b))) _ _ (rw ok refl) event-out
         (λ id limit late o.
-        hit-same isSteady _ _ _ _ (rw (ap (λ (L : Life). L .kind) (o .life)) refl)
+        hit-same isSteady _ _ _ _ (rw (ap (λ (L : Life). L .film .kind) (o .life)) refl)
         (λ t19.
         hit-same doorsUnchanged _ _ _ _ (ap (λ x. pick b x (not x)) (sym (o .doors)))
         (λ t17.
@@ -388,37 +392,37 @@ module _ (lanes : ℕ) (es : List Event) (s : State) (w : Tells lanes es s) wher
   module _ (ok : stateOk s ≡ true) where
     -- every event is answered as the sequence says
     pub answer-told : (i τ : ℕ) (a : Act) → callAnswer s i τ a ≡ answerTo lanes es (event i τ a) (lifeOf es i) a
-    answer-told i τ (opens m D A K k) = open-told ok i τ m D A K k
-    answer-told i τ (changes k) = change-told ok i τ k
-    answer-told i τ closes = close-told ok i τ
-    answer-told i τ (doors b) = doors-answered ok i τ b
+    answer-told i τ (Opens f k) = open-told ok i τ f k
+    answer-told i τ (Changes k) = change-told ok i τ k
+    answer-told i τ Closes = close-told ok i τ
+    answer-told i τ (Doors b) = doors-answered ok i τ b
 
     -- and an accepted one, which clears every refusal, leaves a state that tells the longer sequence
     clears : (i τ : ℕ) (a : Act) → callAnswer s i τ a ≡ 0 → (n : ℕ) → hitsOf n (orderOf a (testsIn s i τ a)) ≡ false
     unfolding callAnswer numbered
-    clears i τ (opens m D A K k) h = cleared (orderOf (opens m D A K k) (testsIn s i τ (opens m D A K k))) refl h
-    clears i τ (changes k) h = cleared (orderOf (changes k) (testsIn s i τ (changes k))) refl h
-    clears i τ closes h = cleared (orderOf closes (testsIn s i τ closes)) refl h
-    clears i τ (doors b) h = cleared (orderOf (doors b) (testsIn s i τ (doors b))) refl h
+    clears i τ (Opens f k) h = cleared (orderOf (Opens f k) (testsIn s i τ (Opens f k))) refl h
+    clears i τ (Changes k) h = cleared (orderOf (Changes k) (testsIn s i τ (Changes k))) refl h
+    clears i τ Closes h = cleared (orderOf Closes (testsIn s i τ Closes)) refl h
+    clears i τ (Doors b) h = cleared (orderOf (Doors b) (testsIn s i τ (Doors b))) refl h
 
     pub next-told : (i τ : ℕ) (a : Act) → callAnswer s i τ a ≡ 0 → Tells lanes (event i τ a ∷ es) (callNext s i τ a)
     unfolding hitsOf
-    next-told i τ (opens m D A K k) h =
-        let clear = clears i τ (opens m D A K k) h in
-        let n = limits-out ok i τ (kindLimits m D A K k) (clear outsideLimits) in
-        open-next ok i τ m D A K k (n .0) (n .1) (n .2) (late-out ok i τ (clear tooEarly)) (clear belowFloor) (clear aboveCap)
-    next-told i τ (changes k) h =
-        let clear = clears i τ (changes k) h in
+    next-told i τ (Opens f k) h =
+        let clear = clears i τ (Opens f k) h in
+        let n = limits-out ok i τ (filmLimits f k) (clear outsideLimits) in
+        open-next ok i τ f k (n .0) (n .1) (n .2) (late-out ok i τ (clear tooEarly)) (clear belowFloor) (clear aboveCap)
+    next-told i τ (Changes k) h =
+        let clear = clears i τ (Changes k) h in
         let n = limits-out ok i τ (within countMin countMax k) (clear outsideLimits) in
         let late = late-out ok i τ (clear tooEarly) in
         change-next ok i τ k (opened-told ok i τ (n .0) late (clear notThere) (clear isClosing)) (n .0) (n .1) late (clear belowFloor) (clear aboveCap) (clear secondEvent) (clear notAtSlot)
-    next-told i τ closes h =
-        let clear = clears i τ closes h in
+    next-told i τ Closes h =
+        let clear = clears i τ Closes h in
         let n = event-out ok i τ (not-false (eventOk s i τ) (clear outsideLimits)) in
         let late = late-out ok i τ (clear tooEarly) in
         close-next ok i τ (opened-told ok i τ (n .0) late (clear notThere) (clear isClosing)) (n .0) (n .1) late (clear secondEvent) (clear notAtSlot)
-    next-told i τ (doors b) h =
-        let clear = clears i τ (doors b) h in
+    next-told i τ (Doors b) h =
+        let clear = clears i τ (Doors b) h in
         let n = event-out ok i τ (not-false (eventOk s i τ) (clear outsideLimits)) in
         let late = late-out ok i τ (clear tooEarly) in
         doors-next ok i τ b (opened-told ok i τ (n .0) late (clear notThere) (clear isClosing)) (n .0) (n .1) late (clear secondEvent) (clear notAtSlot)

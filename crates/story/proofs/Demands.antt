@@ -21,7 +21,10 @@ use Rattle.story.specs.declared.State.{State}
 use Rattle.story.specs.Life.{Life, isFilm, isActive, isOwed, reach, owedWithin, owes, cell, isHeld}
 use Rattle.story.specs.Kept.{stateOk, lanesHeld}
 use Rattle.story.specs.Calls.{laneAnswer, laneShows, statusAnswer, statusCount, statusHeld, statusMark}
-use Rattle.story.specs.Story.{Act, opens, changes, closes, doors, Event, lifeOf, lastTime, upTo, countIn}
+use Rattle.story.specs.declared.Act.{Act}
+use Rattle.story.specs.declared.Act.the-variants.{Opens, Changes, Closes, Doors}
+use Rattle.story.specs.declared.Event.{Event}
+use Rattle.story.specs.Story.{lifeOf, lastTime, upTo, countIn}
 use Rattle.story.specs.Story.{isMarkedIn, isActiveIn, isHeldIn, airAt, heldIn, unopened, tickLength, momentOf}
 use Rattle.story.specs.Story.{heldOver, testsTo, orderOf, answerTo, answer, accepted, Accepted, more}
 use Rattle.story.specs.Story.{laneAnswerTo, statusAnswerTo, lifeAt, InTick, ReceivedBy, Received, Begins, Dropped, Quiet}
@@ -55,14 +58,14 @@ every-run pool cs = record { calls = cs; events = refl; state = refl }
 wanting : (lanes : ℕ) (es : List Event) (e : Event) (a : Act) → answerTo lanes es e (lifeOf es (e .title)) a ≡ noLanes →
     lanes < heldOver (e ∷ es) (e .time)
 unfolding answerTo distinct isListed hitsOf
-wanting lanes es e (opens m D A K k) h =
-    ltb-true lanes (heldOver (e ∷ es) (e .time)) (first-hit (orderOf (opens m D A K k) (testsTo lanes es e (lifeOf es (e .title)) (opens m D A K k))) refl noLanes (lit< tt) h .0)
-wanting lanes es e (changes k) h =
-    ltb-true lanes (heldOver (e ∷ es) (e .time)) (first-hit (orderOf (changes k) (testsTo lanes es e (lifeOf es (e .title)) (changes k))) refl noLanes (lit< tt) h .0)
-wanting lanes es e closes h =
-    absurd (false≢true (first-hit (orderOf closes (testsTo lanes es e (lifeOf es (e .title)) closes)) refl noLanes (lit< tt) h .0))
-wanting lanes es e (doors b) h =
-    absurd (false≢true (first-hit (orderOf (doors b) (testsTo lanes es e (lifeOf es (e .title)) (doors b))) refl noLanes (lit< tt) h .0))
+wanting lanes es e (Opens f k) h =
+    ltb-true lanes (heldOver (e ∷ es) (e .time)) (first-hit (orderOf (Opens f k) (testsTo lanes es e (lifeOf es (e .title)) (Opens f k))) refl noLanes (lit< tt) h .0)
+wanting lanes es e (Changes k) h =
+    ltb-true lanes (heldOver (e ∷ es) (e .time)) (first-hit (orderOf (Changes k) (testsTo lanes es e (lifeOf es (e .title)) (Changes k))) refl noLanes (lit< tt) h .0)
+wanting lanes es e Closes h =
+    absurd (false≢true (first-hit (orderOf Closes (testsTo lanes es e (lifeOf es (e .title)) Closes)) refl noLanes (lit< tt) h .0))
+wanting lanes es e (Doors b) h =
+    absurd (false≢true (first-hit (orderOf (Doors b) (testsTo lanes es e (lifeOf es (e .title)) (Doors b))) refl noLanes (lit< tt) h .0))
 
 module _ (pool : ℕ) (es : List Event) (s : State) (run : Reached pool es s) where
   -- 1. The state tells the story. The accepted events are an accepted sequence, and alone they leave the same state;
@@ -115,7 +118,7 @@ module _ (pool : ℕ) (es : List Event) (s : State) (run : Reached pool es s) wh
 
   -- of a skip-forward title (02, 12) it has the next block, if that has film, by the time the one before it plays: a viewer may
   -- skip forward;
-  pub ahead : (i τ a c : ℕ) → i < titlesMax → lifeAt es i τ .kind ≡ steadyKind → Begins es i τ a →
+  pub ahead : (i τ a c : ℕ) → i < titlesMax → lifeAt es i τ .film .kind ≡ steadyKind → Begins es i τ a →
       isFilm (lifeAt es i τ) (suc c) ≡ true → ReceivedBy es i (lifeAt es i τ) a (suc c) (a + c)
   ahead = next-ahead (lanesOf pool) es (lanes-limit pool) in-sequence
 
@@ -149,10 +152,10 @@ module _ (pool : ℕ) (es : List Event) (s : State) (run : Reached pool es s) wh
 
   -- 4. Held exactly. No tick is owed later than 2^(K-1) ticks after a drop, so what a lane owes is counted in full
   -- however many ticks are looked at;
-  pub owed-soon : (i l T t : ℕ) → i < titlesMax → isOwed (lifeOf es i) l T t ≡ true → t < T + reach (lifeOf es i .cap)
+  pub owed-soon : (i l T t : ℕ) → i < titlesMax → isOwed (lifeOf es i) l T t ≡ true → t < T + reach (lifeOf es i .film .cap)
   owed-soon i l T t id h = owed-reach (lifeOf es i) l T (ruled i id) t h
 
-  pub owed-in-all : (i l T n : ℕ) → i < titlesMax → reach (lifeOf es i .cap) ≤ n →
+  pub owed-in-all : (i l T n : ℕ) → i < titlesMax → reach (lifeOf es i .film .cap) ≤ n →
       owedWithin (lifeOf es i) l T n ≡ owes (lifeOf es i) l T
   owed-in-all i l T n id far = owes-all (lifeOf es i) l T (ruled i id) n far
 

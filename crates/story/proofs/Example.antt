@@ -15,10 +15,12 @@ use Rattle.rules.proofs.Search.{every-out}
 use Rattle.grid.specs.Ticks.{tickOf, roundedUp, slot, cellOf}
 use Rattle.grid.specs.Channels.{floorRem, shift, segment, channelCell}
 use Rattle.grid.specs.Lanes.{isInG, isAdded, addedChannel, laneCell}
-use Rattle.scheme.specs.Scheme.{paddedKind, schemeOf, starts, takes, takesFrom, tickFor, filmIn, steadyCell}
+use Rattle.scheme.specs.Scheme.{schemeOf, starts, takes, takesFrom, tickFor, filmIn, steadyCell}
 use Rattle.story.specs.Life.{Life, isAdmission, isActive, droppedAt, isAwaited, isOwed, reach, owedWithin, owes}
 use Rattle.story.specs.Life.{isNth, nthOwed, Air, nothing, cell, sends, onAir, isHeld}
-use Rattle.story.specs.Story.{opens, skips, changes, closes, holds, lifts, Event, event, settling, tickIn, lifeOf}
+use Rattle.story.specs.declared.Act.the-variants.{Changes, Closes}
+use Rattle.story.specs.declared.Event.{Event}
+use Rattle.story.specs.Story.{opens, skips, holds, lifts, event, settling, tickIn, lifeOf}
 use Rattle.story.specs.Story.{latestOf, tunedOf, upTo, heldIn, heldOver, answerTo, answer, accepted, Accepted}
 use Rattle.story.specs.Story.{lifeAt, isActiveIn, isHeldIn, airAt, InTick, Begins, Dropped, DropsAt, releaseOf}
 use Rattle.story.specs.Story.{Quiet, nothing-new, elsewhere, none-tunes, goes-by}
@@ -32,21 +34,21 @@ use Rattle.story.proofs.Demands.{exactly, throughout, held-exactly, hel
 -- newest first; the change to 2 at 2 comes half a floor slot after the opening
 abbrev calls : List Event
 calls =
-    event 0 16 (opens paddedKind 24 2 3 2)
-    ∷ event 0 12 closes
-    ∷ event 0 8 (changes 3)
-    ∷ event 0 4 (changes 4)
-    ∷ event 0 2 (changes 2)
-    ∷ event 0 0 (opens paddedKind 12 2 4 3)
+    event 0 16 (opens 24 2 3 2)
+    ∷ event 0 12 Closes
+    ∷ event 0 8 (Changes 3)
+    ∷ event 0 4 (Changes 4)
+    ∷ event 0 2 (Changes 2)
+    ∷ event 0 0 (opens 12 2 4 3)
     ∷ []
 
 abbrev taken : List Event
 taken =
-    event 0 16 (opens paddedKind 24 2 3 2)
-    ∷ event 0 12 closes
-    ∷ event 0 8 (changes 3)
-    ∷ event 0 4 (changes 4)
-    ∷ event 0 0 (opens paddedKind 12 2 4 3)
+    event 0 16 (opens 24 2 3 2)
+    ∷ event 0 12 Closes
+    ∷ event 0 8 (Changes 3)
+    ∷ event 0 4 (Changes 4)
+    ∷ event 0 0 (opens 12 2 4 3)
     ∷ []
 
 all-but-one : accepted 4 calls ≡ taken
@@ -145,7 +147,7 @@ held-once-then =
 
 -- opened with 5 lanes, dropped to 4 at 2 and raised again at 4, while lane 4 still owes a cell: held throughout
 abbrev raised : List Event
-raised = event 0 4 (changes 5) ∷ event 0 2 (changes 4) ∷ event 0 0 (opens paddedKind 30 4 5 5) ∷ []
+raised = event 0 4 (Changes 5) ∷ event 0 2 (Changes 4) ∷ event 0 0 (opens 30 4 5 5) ∷ []
 
 raised-accepted : accepted 5 raised ≡ raised
 unfolding accepted answerTo firstHit lifeOf latestOf tunedOf heldOver heldIn tickIn total howMany isHeld onAir isActive droppedAt after sends nthOwed isNth owedWithin isOwed isAwaited isAdmission reach some first takes takesFrom schemeOf laneCell addedChannel isAdded isInG channelCell segment shift floorRem cellOf slot starts tickFor tickOf filmIn roundedUp
@@ -195,14 +197,14 @@ held-on-then =
     (raised-then .0) (omega (arith, raised-then .1))
 
 -- until the close at 12 the events at 4 and 8 leave what the opening alone says of the ticks before 4
-quiet : Quiet 0 3 (event 0 8 (changes 3) ∷ event 0 4 (changes 4) ∷ [])
+quiet : Quiet 0 3 (event 0 8 (Changes 3) ∷ event 0 4 (Changes 4) ∷ [])
 quiet =
-    elsewhere {e = event 0 8 (changes 3)} (λ e. omega arith)
-    (elsewhere {e = event 0 4 (changes 4)} (λ e. omega arith) nothing-new)
+    elsewhere {e = event 0 8 (Changes 3)} (λ e. omega arith)
+    (elsewhere {e = event 0 4 (Changes 4)} (λ e. omega arith) nothing-new)
 
 -- a short film whose lanes carry padding when it closes at 2, in tick 1: nothing is owed, and the id is gone at once
 abbrev gone : List Event
-gone = event 0 2 closes ∷ event 0 0 (opens paddedKind 4 2 2 2) ∷ []
+gone = event 0 2 Closes ∷ event 0 0 (opens 4 2 2 2) ∷ []
 
 gone-accepted : accepted 4 gone ≡ gone
 unfolding accepted answerTo firstHit lifeOf latestOf tunedOf heldOver heldIn tickIn total howMany isHeld onAir isActive droppedAt after sends nthOwed isNth owedWithin isOwed isAwaited isAdmission reach some first takes takesFrom schemeOf laneCell addedChannel isAdded isInG channelCell segment shift floorRem cellOf slot starts tickFor tickOf filmIn roundedUp
@@ -213,23 +215,23 @@ none-sends : heldOver gone 2 ≡ 0
 unfolding lifeOf latestOf heldOver heldIn tickIn total howMany isHeld onAir isActive droppedAt after sends nthOwed isNth owedWithin isOwed isAwaited isAdmission reach some first takes takesFrom schemeOf laneCell addedChannel isAdded isInG channelCell segment shift floorRem cellOf slot starts tickFor tickOf filmIn roundedUp
 none-sends = refl
 
-second-close : answer 4 gone (event 0 2 closes) ≡ notThere
+second-close : answer 4 gone (event 0 2 Closes) ≡ notThere
 unfolding answerTo firstHit lifeOf latestOf tunedOf heldOver heldIn tickIn total howMany isHeld onAir isActive droppedAt after sends nthOwed isNth owedWithin isOwed isAwaited isAdmission reach some first takes takesFrom schemeOf laneCell addedChannel isAdded isInG channelCell segment shift floorRem cellOf slot starts tickFor tickOf filmIn roundedUp
 second-close = refl
 
-opens-at-once : answer 4 gone (event 0 2 (opens paddedKind 12 2 4 3)) ≡ done
+opens-at-once : answer 4 gone (event 0 2 (opens 12 2 4 3)) ≡ done
 unfolding answerTo firstHit lifeOf latestOf tunedOf heldOver heldIn tickIn total howMany isHeld onAir isActive droppedAt after sends nthOwed isNth owedWithin isOwed isAwaited isAdmission reach some first takes takesFrom schemeOf laneCell addedChannel isAdded isInG channelCell segment shift floorRem cellOf slot starts tickFor tickOf filmIn roundedUp
 opens-at-once = refl
 
 -- 01's case 5 in a pool of 4: lane 2 is released at 6, where it used to send padding, and another film opens then
 abbrev released : List Event
-released = event 0 4 (changes 2) ∷ event 0 0 (opens paddedKind 12 2 4 3) ∷ []
+released = event 0 4 (Changes 2) ∷ event 0 0 (opens 12 2 4 3) ∷ []
 
-passes-now : answer 4 released (event 1 6 (opens paddedKind 12 2 4 2)) ≡ done
+passes-now : answer 4 released (event 1 6 (opens 12 2 4 2)) ≡ done
 unfolding answerTo firstHit lifeOf latestOf tunedOf heldOver heldIn tickIn total howMany isHeld onAir isActive droppedAt after sends nthOwed isNth owedWithin isOwed isAwaited isAdmission reach some first takes takesFrom schemeOf laneCell addedChannel isAdded isInG channelCell segment shift floorRem cellOf slot starts tickFor tickOf filmIn roundedUp
 passes-now = refl
 
-got-nine : formerlyAnswer 4 released (event 1 6 (opens paddedKind 12 2 4 2)) ≡ noLanes
+got-nine : formerlyAnswer 4 released (event 1 6 (opens 12 2 4 2)) ≡ noLanes
 unfolding formerlyAnswerTo formerlyHeldOver formerlyHeldIn formerlyHeld formerlyOwes formerlyOwed firstHit lifeOf latestOf tunedOf heldOver heldIn tickIn total howMany isHeld onAir isActive droppedAt after sends nthOwed isNth owedWithin isOwed isAwaited isAdmission reach some first takes takesFrom schemeOf laneCell addedChannel isAdded isInG channelCell segment shift floorRem cellOf slot starts tickFor tickOf filmIn roundedUp
 got-nine = refl
 
@@ -237,7 +239,7 @@ got-nine = refl
 -- still sends what the boxes of count 4 await
 abbrev behind-doors : List Event
 behind-doors =
-    event 0 12 closes ∷ event 0 8 (changes 3) ∷ event 0 7 holds ∷ event 0 0 (opens paddedKind 12 2 4 4) ∷ []
+    event 0 12 Closes ∷ event 0 8 (Changes 3) ∷ event 0 7 holds ∷ event 0 0 (opens 12 2 4 4) ∷ []
 
 behind-doors-accepted : accepted 4 behind-doors ≡ behind-doors
 unfolding accepted answerTo firstHit lifeOf latestOf tunedOf heldOver heldIn tickIn total howMany isHeld onAir isActive droppedAt after sends nthOwed isNth owedWithin isOwed isAwaited isAdmission reach some first takes takesFrom schemeOf laneCell addedChannel isAdded isInG channelCell segment shift floorRem cellOf slot starts tickFor tickOf filmIn roundedUp
@@ -253,15 +255,15 @@ unfolding upTo lifeOf latestOf heldOver heldIn tickIn total howMany isHeld onAir
 sent-to-count-four = (refl, refl, refl)
 
 -- a second hold gets 17, and so does a lift of what is not held; a lift's own tick is an admission again
-held-twice : answer 4 (event 0 7 holds ∷ event 0 0 (opens paddedKind 12 2 4 4) ∷ []) (event 0 8 holds) ≡ doorsUnchanged
+held-twice : answer 4 (event 0 7 holds ∷ event 0 0 (opens 12 2 4 4) ∷ []) (event 0 8 holds) ≡ doorsUnchanged
 unfolding answerTo firstHit lifeOf latestOf tunedOf heldOver heldIn tickIn total howMany isHeld onAir isActive droppedAt after sends nthOwed isNth owedWithin isOwed isAwaited isAdmission reach some first takes takesFrom schemeOf laneCell addedChannel isAdded isInG channelCell segment shift floorRem cellOf slot starts tickFor tickOf filmIn roundedUp
 held-twice = refl
 
-never-held : answer 4 (event 0 0 (opens paddedKind 12 2 4 4) ∷ []) (event 0 8 lifts) ≡ doorsUnchanged
+never-held : answer 4 (event 0 0 (opens 12 2 4 4) ∷ []) (event 0 8 lifts) ≡ doorsUnchanged
 unfolding answerTo firstHit lifeOf latestOf tunedOf heldOver heldIn tickIn total howMany isHeld onAir isActive droppedAt after sends nthOwed isNth owedWithin isOwed isAwaited isAdmission reach some first takes takesFrom schemeOf laneCell addedChannel isAdded isInG channelCell segment shift floorRem cellOf slot starts tickFor tickOf filmIn roundedUp
 never-held = refl
 
-lifted : isAdmission (lifeOf (event 0 9 lifts ∷ event 0 7 holds ∷ event 0 0 (opens paddedKind 12 2 4 4) ∷ []) 0) 9 ≡ true
+lifted : isAdmission (lifeOf (event 0 9 lifts ∷ event 0 7 holds ∷ event 0 0 (opens 12 2 4 4) ∷ []) 0) 9 ≡ true
 unfolding lifeOf tickIn isAdmission starts schemeOf slot tickFor tickOf roundedUp
 lifted = refl
 
@@ -269,29 +271,29 @@ lifted = refl
 -- change is a second event, at 3 it comes too soon, whatever slot that is, at 4 it may; at 5 the card has settled, and the
 -- slot is asked
 abbrev held-early : List Event
-held-early = event 0 2 holds ∷ event 0 0 (opens paddedKind 12 2 4 4) ∷ []
+held-early = event 0 2 holds ∷ event 0 0 (opens 12 2 4 4) ∷ []
 
-at-two : answer 4 held-early (event 0 2 (changes 3)) ≡ secondEvent
+at-two : answer 4 held-early (event 0 2 (Changes 3)) ≡ secondEvent
 unfolding answerTo firstHit lifeOf latestOf tunedOf heldOver heldIn tickIn total howMany isHeld onAir isActive droppedAt after sends nthOwed isNth owedWithin isOwed isAwaited isAdmission reach some first takes takesFrom schemeOf laneCell addedChannel isAdded isInG channelCell segment shift floorRem cellOf slot starts tickFor tickOf filmIn roundedUp
 at-two = refl
 
-at-three : answer 4 held-early (event 0 3 (changes 3)) ≡ tooSoon
+at-three : answer 4 held-early (event 0 3 (Changes 3)) ≡ tooSoon
 unfolding answerTo firstHit lifeOf latestOf tunedOf heldOver heldIn tickIn total howMany isHeld onAir isActive droppedAt after sends nthOwed isNth owedWithin isOwed isAwaited isAdmission reach some first takes takesFrom schemeOf laneCell addedChannel isAdded isInG channelCell segment shift floorRem cellOf slot starts tickFor tickOf filmIn roundedUp
 at-three = refl
 
-at-four : answer 4 held-early (event 0 4 (changes 3)) ≡ done
+at-four : answer 4 held-early (event 0 4 (Changes 3)) ≡ done
 unfolding answerTo firstHit lifeOf latestOf tunedOf heldOver heldIn tickIn total howMany isHeld onAir isActive droppedAt after sends nthOwed isNth owedWithin isOwed isAwaited isAdmission reach some first takes takesFrom schemeOf laneCell addedChannel isAdded isInG channelCell segment shift floorRem cellOf slot starts tickFor tickOf filmIn roundedUp
 at-four = refl
 
-at-five : answer 4 held-early (event 0 5 (changes 3)) ≡ notAtSlot
+at-five : answer 4 held-early (event 0 5 (Changes 3)) ≡ notAtSlot
 unfolding answerTo firstHit lifeOf latestOf tunedOf heldOver heldIn tickIn total howMany isHeld onAir isActive droppedAt after sends nthOwed isNth owedWithin isOwed isAwaited isAdmission reach some first takes takesFrom schemeOf laneCell addedChannel isAdded isInG channelCell segment shift floorRem cellOf slot starts tickFor tickOf filmIn roundedUp
 at-five = refl
 
 -- a close and a hold are not concerned: both pass half a floor slot after a change
 abbrev changed-late : List Event
-changed-late = event 0 6 (changes 3) ∷ event 0 0 (opens paddedKind 12 2 4 4) ∷ []
+changed-late = event 0 6 (Changes 3) ∷ event 0 0 (opens 12 2 4 4) ∷ []
 
-closes-soon : answer 4 changed-late (event 0 8 closes) ≡ done
+closes-soon : answer 4 changed-late (event 0 8 Closes) ≡ done
 unfolding answerTo firstHit lifeOf latestOf tunedOf heldOver heldIn tickIn total howMany isHeld onAir isActive droppedAt after sends nthOwed isNth owedWithin isOwed isAwaited isAdmission reach some first takes takesFrom schemeOf laneCell addedChannel isAdded isInG channelCell segment shift floorRem cellOf slot starts tickFor tickOf filmIn roundedUp
 closes-soon = refl
 
@@ -299,20 +301,20 @@ holds-soon : answer 4 changed-late (event 0 8 holds) ≡ done
 unfolding answerTo firstHit lifeOf latestOf tunedOf heldOver heldIn tickIn total howMany isHeld onAir isActive droppedAt after sends nthOwed isNth owedWithin isOwed isAwaited isAdmission reach some first takes takesFrom schemeOf laneCell addedChannel isAdded isInG channelCell segment shift floorRem cellOf slot starts tickFor tickOf filmIn roundedUp
 holds-soon = refl
 
-changes-too-soon : answer 4 changed-late (event 0 8 (changes 4)) ≡ tooSoon
+changes-too-soon : answer 4 changed-late (event 0 8 (Changes 4)) ≡ tooSoon
 unfolding answerTo firstHit lifeOf latestOf tunedOf heldOver heldIn tickIn total howMany isHeld onAir isActive droppedAt after sends nthOwed isNth owedWithin isOwed isAwaited isAdmission reach some first takes takesFrom schemeOf laneCell addedChannel isAdded isInG channelCell segment shift floorRem cellOf slot starts tickFor tickOf filmIn roundedUp
 changes-too-soon = refl
 
 -- the opening and the change behind held doors lie a floor slot apart
-settled-then : 0 + settling (lifeOf (event 0 0 (opens paddedKind 12 2 4 4) ∷ []) 0) ≤ 8
+settled-then : 0 + settling (lifeOf (event 0 0 (opens 12 2 4 4) ∷ []) 0) ≤ 8
 settled-then =
-    far-apart 4 (event 0 12 closes ∷ []) (event 0 7 holds ∷ []) [] 0 0 8 3 (opens paddedKind 12 2 4 4) refl
+    far-apart 4 (event 0 12 Closes ∷ []) (event 0 7 holds ∷ []) [] 0 0 8 3 (opens 12 2 4 4) refl
     (goes-by {e = event 0 7 holds} (λ e. refl) none-tunes) (subst (Accepted 4) behind-doors-accepted (accepted-is 4 behind-doors))
 
 -- a skip-forward title of four lanes and eight blocks, each of 8 ms, that closes at 24, in tick 3: lane 3 still sends blocks 7, 4
 -- and 5 of those numbered from 0, lane 2 block 3, lanes 0 and 1 nothing; a change of it gets 19
 abbrev forward : List Event
-forward = event 0 24 closes ∷ event 0 0 (skips 64 4) ∷ []
+forward = event 0 24 Closes ∷ event 0 0 (skips 64 4) ∷ []
 
 forward-accepted : accepted 4 forward ≡ forward
 unfolding accepted answerTo firstHit lifeOf latestOf tunedOf heldOver heldIn tickIn total howMany isHeld onAir isActive droppedAt after sends nthOwed isNth owedWithin isOwed isAwaited isAdmission reach some first takes takesFrom schemeOf steadyCell starts tickFor filmIn roundedUp
@@ -327,6 +329,6 @@ forward-held : (heldOver forward 24 ≡ 2) × (heldOver forward 32 ≡ 1) × (he
 unfolding lifeOf heldOver heldIn tickIn total howMany isHeld onAir isActive droppedAt after sends nthOwed isNth owedWithin isOwed isAwaited isAdmission reach some first takes takesFrom schemeOf steadyCell starts tickFor filmIn roundedUp
 forward-held = (refl, refl, refl)
 
-stays-steady : answer 4 (event 0 0 (skips 64 4) ∷ []) (event 0 16 (changes 3)) ≡ isSteady
+stays-steady : answer 4 (event 0 0 (skips 64 4) ∷ []) (event 0 16 (Changes 3)) ≡ isSteady
 unfolding answerTo firstHit lifeOf latestOf tunedOf heldOver heldIn tickIn total howMany isHeld onAir isActive droppedAt after sends nthOwed isNth owedWithin isOwed isAwaited isAdmission reach some first takes takesFrom schemeOf steadyCell starts tickFor filmIn roundedUp
 stays-steady = refl

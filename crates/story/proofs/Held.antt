@@ -137,13 +137,13 @@ module _ (L : Life) (r : Course) (l : ℕ) where
 
   pub owes-local : (T : ℕ) → ((a : ℕ) → a < T → SameAt L r a) → owes (onCourse L r) l T ≡ owes L l T
   unfolding owes
-  owes-local T agree = within-local T (reach (L .cap)) agree
+  owes-local T agree = within-local T (reach (L .film .cap)) agree
 
   pub sends-local : (T i : ℕ) → ((a : ℕ) → a < T → SameAt L r a) → sends (onCourse L r) l T i ≡ sends L l T i
   unfolding sends nthOwed isNth
   sends-local T i agree =
       let e : nthOwed (onCourse L r) l T i ≡ nthOwed L l T i =
-      Search.first-ext (isNth (onCourse L r) l T i) (isNth L l T i) (reach (L .cap))
+      Search.first-ext (isNth (onCourse L r) l T i) (isNth L l T i) (reach (L .film .cap))
       (λ o b. rw (owed-local T (T + o) agree, within-local T o agree) refl) in
       rw e refl
 

@@ -53,7 +53,7 @@ module _ (L : Life) (ruled : Ruled L) where
       let eo : T + o ≡ u = omega arith in
       let owed : isOwed L l T (T + o) ≡ true =
       rw eo (owed-in L l T u film (awaited-in L T (usualCell L l u) u a late ad pl)) in
-      let near : o < reach (L .cap) = omega (arith, owed-reach L l T ruled (T + o) owed) in
+      let near : o < reach (L .film .cap) = omega (arith, owed-reach L l T ruled (T + o) owed) in
       let i : ℕ = owedWithin L l T o in
       let no-later : i ≤ o = rank-le L l T o in
       let t : ℕ = T + i in
@@ -67,10 +67,10 @@ module _ (L : Life) (ruled : Ruled L) where
   -- every cell with film in the plan of an admission is on air on a lane, from the start on and no later than its
   -- planned tick
   pub planned-in-time : (a c u : ℕ) → isAdmission L a ≡ true → isPlanned L a c u ≡ true → isFilm L c ≡ true →
-      (l : ℕ) × (l < L .cap) × (t : ℕ) × (a ≤ t) × (t ≤ u) × (onAir L l t ≡ cell c)
+      (l : ℕ) × (l < L .film .cap) × (t : ℕ) × (a ≤ t) × (t ≤ u) × (onAir L l t ≡ cell c)
   planned-in-time a c u ad pl film =
       let k : ℕ = L .rule a in
-      let high : k ≤ L .cap = ruled .high a in
+      let high : k ≤ L .film .cap = ruled .high a in
       let s = taken-out (scheme L) k a c u pl in
       let lane = ruled .laws .on-lane k (s .0) u (admitted L ruled a ad .low) high (s .1 .channel) in
       let l : ℕ = lane .0 in

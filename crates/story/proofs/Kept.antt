@@ -38,16 +38,16 @@ dropTick t l = getD (t .dropped) l 0
 
 -- the numbers that an accepted opening gives, and the rows' lengths
 pub record Sized (t : Title) : Type 0 where
-  pub kind-high : t .kind ≤ steadyKind
+  pub kind-high : t .film .kind ≤ steadyKind
   pub opened-high : t .opened ≤ eventTimeMax
-  pub length-low : lengthMin ≤ t .length
-  pub length-high : t .length ≤ lengthMax
-  pub floor-low : floorMin ≤ t .floor
-  pub floor-high : t .floor ≤ pick (isSteadyTitle t) steadyMax floorMax
-  pub flat : t .kind ≡ steadyKind → t .floor ≡ t .cap
-  pub cap-high : t .cap ≤ countMax
-  pub count-low : t .floor ≤ t .count
-  pub count-high : t .count ≤ t .cap
+  pub length-low : lengthMin ≤ t .film .length
+  pub length-high : t .film .length ≤ lengthMax
+  pub floor-low : floorMin ≤ t .film .floor
+  pub floor-high : t .film .floor ≤ pick (isSteadyTitle t) steadyMax floorMax
+  pub flat : t .film .kind ≡ steadyKind → t .film .floor ≡ t .film .cap
+  pub cap-high : t .film .cap ≤ countMax
+  pub count-low : t .film .floor ≤ t .count
+  pub count-high : t .count ≤ t .film .cap
   pub mark-high : t .mark ≤ heldMark
   pub last-high : t .last ≤ eventTimeMax
   pub tuned-high : t .tuned ≤ eventTimeMax
@@ -68,10 +68,10 @@ pub record Present (t : Title) (r : Course) : Type 0 where
   pub doors : t .mode ≡ 1 → (u : ℕ) → lastTick t ≤ u → r .shut u ≡ isShut t
   pub ruled : Ruled (lifeIn t r)
   pub legal : Legal (lifeIn t r)
-  pub ends : (c : ℕ) → t .floor ≤ c → c ≤ t .cap → getD (t .ends) c 0 ≡ lastEnd (lifeIn t r) c (lastTick t)
-  pub drops : (l : ℕ) → l < t .cap → ruling t ≤ l →
+  pub ends : (c : ℕ) → t .film .floor ≤ c → c ≤ t .film .cap → getD (t .ends) c 0 ≡ lastEnd (lifeIn t r) c (lastTick t)
+  pub drops : (l : ℕ) → l < t .film .cap → ruling t ≤ l →
       dropTick t l ≡ droppedAt (lifeIn t r) l (lastTick t)
-  pub owing : (l : ℕ) → l < t .cap → ruling t ≤ l →
+  pub owing : (l : ℕ) → l < t .film .cap → ruling t ≤ l →
       getD (t .owed) l 0 ≡ owes (lifeIn t r) l (dropTick t l)
 
 -- what a held lane that is not active shows
@@ -82,7 +82,7 @@ air-held L l n off held =
     let air : onAir L l n ≡ sends L l (droppedAt L l n) (n - droppedAt L l n) = air-sends L l n off in
     let i : ℕ = nthOwed L l (droppedAt L l n) (n - droppedAt L l n) in
     ⊎-elim (λ x. air ∙ rw x refl) (λ x. absurd (false≢true (rw x at (rw air at held))))
-    (decide (ltb i (reach (L .cap))))
+    (decide (ltb i (reach (L .film .cap))))
 
 module _ (t : Title) (r : Course) (here : Present t r) where
   pub active-kept : (l n : ℕ) → lastTick t ≤ n → isActive (lifeIn t r) l n ≡ ltb l (ruling t)
@@ -90,7 +90,7 @@ module _ (t : Title) (r : Course) (here : Present t r) where
   active-kept l n le = rw (here .steady n le) refl
 
   -- a lane that is not active was dropped at the stored tick
-  pub dropped-kept : (l n : ℕ) → l < t .cap → ruling t ≤ l → lastTick t ≤ n →
+  pub dropped-kept : (l n : ℕ) → l < t .film .cap → ruling t ≤ l → lastTick t ≤ n →
       droppedAt (lifeIn t r) l n ≡ dropTick t l
   unfolding droppedAt
   dropped-kept l n lane off le =
@@ -99,7 +99,7 @@ module _ (t : Title) (r : Course) (here : Present t r) where
       ∙ sym (here .drops l lane off)
 
   -- the lane was not active from its drop on
-  pub off-since : (l v : ℕ) → l < t .cap → ruling t ≤ l → dropTick t l ≤ v → r .rule v ≤ l
+  pub off-since : (l v : ℕ) → l < t .film .cap → ruling t ≤ l → dropTick t l ≤ v → r .rule v ≤ l
   unfolding droppedAt isActive
   off-since l v lane off le =
       ⊎-elim
@@ -110,7 +110,7 @@ module _ (t : Title) (r : Course) (here : Present t r) where
       (decide (ltb v (lastTick t)))
 
   -- the stored ends are those before the lane's drop: no count that has the lane has admitted a box since
-  pub ends-kept : (l : ℕ) → l < t .cap → ruling t ≤ l → EndsAt t r l (dropTick t l)
+  pub ends-kept : (l : ℕ) → l < t .film .cap → ruling t ≤ l → EndsAt t r l (dropTick t l)
   unfolding lastEnd
   ends-kept l lane off c had low high =
       here .ends c low high
@@ -119,13 +119,13 @@ module _ (t : Title) (r : Course) (here : Present t r) where
       (λ i lo hi. ne-eqb (admits (lifeIn t r) i) c (λ e. omega (arith, admits-le (lifeIn t r) i, off-since l i lane off lo)))
 
   -- the stored ends say which of its ticks are owed
-  pub owed-kept : (l u : ℕ) → l < t .cap → ruling t ≤ l → dropTick t l ≤ u →
+  pub owed-kept : (l u : ℕ) → l < t .film .cap → ruling t ≤ l → dropTick t l ≤ u →
       isOwed (lifeIn t r) l (dropTick t l) u ≡ keptOwed t l u
   owed-kept l u lane off le =
       kept-owed t r l (dropTick t l) u (here .ruled) (here .legal) lane
       (off-since l (dropTick t l) lane off (omega arith)) le (ends-kept l lane off)
 
-  pub within-kept : (l n : ℕ) → l < t .cap → ruling t ≤ l →
+  pub within-kept : (l n : ℕ) → l < t .film .cap → ruling t ≤ l →
       owedWithin (lifeIn t r) l (dropTick t l) n ≡ keptWithin t l (dropTick t l) n
   unfolding owedWithin keptWithin
   within-kept l n lane off =
@@ -133,7 +133,7 @@ module _ (t : Title) (r : Course) (here : Present t r) where
       (λ o. keptOwed t l (dropTick t l + o)) n (λ o b. owed-kept l (dropTick t l + o) lane off (omega arith))
 
   -- a lane is held, at any tick from the latest event on, as the stored numbers say
-  pub held-kept : (l n : ℕ) → l < t .cap → lastTick t ≤ n → isHeld (lifeIn t r) l n ≡ keptHeld t l n
+  pub held-kept : (l n : ℕ) → l < t .film .cap → lastTick t ≤ n → isHeld (lifeIn t r) l n ≡ keptHeld t l n
   unfolding keptHeld
   held-kept l n lane le = ⊎-elim on off (decide (ltb l (ruling t)))
     where
@@ -157,16 +157,16 @@ module _ (t : Title) (r : Course) (here : Present t r) where
           (λ h. lt-ltb (n - dropTick t l) m (omega (arith, ltb-true n (dropTick t l + m) h))))
 
   -- the tick whose cell goes out is found from the stored ends
-  pub nth-kept : (l i : ℕ) → l < t .cap → ruling t ≤ l →
+  pub nth-kept : (l i : ℕ) → l < t .film .cap → ruling t ≤ l →
       nthOwed (lifeIn t r) l (dropTick t l) i
-      ≡ first (keptNth t l (dropTick t l) i) (reach (t .cap))
+      ≡ first (keptNth t l (dropTick t l) i) (reach (t .film .cap))
   unfolding nthOwed isNth keptNth
   nth-kept l i lane off =
-      Search.first-ext (isNth (lifeIn t r) l (dropTick t l) i) (keptNth t l (dropTick t l) i) (reach (t .cap))
+      Search.first-ext (isNth (lifeIn t r) l (dropTick t l) i) (keptNth t l (dropTick t l) i) (reach (t .film .cap))
       (λ o b. rw (owed-kept l (dropTick t l + o) lane off (omega arith), within-kept l o lane off) refl)
 
   -- a held lane shows the cell that the stored numbers give
-  pub shows-kept : (l n : ℕ) → l < t .cap → lastTick t ≤ n → isHeld (lifeIn t r) l n ≡ true →
+  pub shows-kept : (l n : ℕ) → l < t .film .cap → lastTick t ≤ n → isHeld (lifeIn t r) l n ≡ true →
       onAir (lifeIn t r) l n ≡ cell (shows t l n)
   unfolding shows sendingTick
   shows-kept l n lane le held = ⊎-elim on off (decide (ltb l (ruling t)))
@@ -189,7 +189,7 @@ module _ (t : Title) (r : Course) (here : Present t r) where
   pub tick-some : 0 < titleTick t
   tick-some =
       let z = here .sized in
-      Clock.tick-pos (t .kind) (t .length) (t .floor) (t .cap) (omega (arith, z .length-low)) (omega (arith, z .floor-low))
+      Clock.tick-pos (t .film .kind) (t .film .length) (t .film .floor) (t .film .cap) (omega (arith, z .length-low)) (omega (arith, z .floor-low))
       (omega (arith, z .count-low, z .count-high))
 
   pub later : (τ : ℕ) → t .last ≤ τ → lastTick t ≤ tickAt t τ
@@ -203,6 +203,6 @@ module _ (t : Title) (r : Course) (here : Present t r) where
   pub title-held-kept : (τ : ℕ) → t .last ≤ τ → heldIn (lifeIn t r) τ ≡ titleHeld t τ
   unfolding heldIn titleHeld tickIn tickAt
   title-held-kept τ le =
-      Search.howMany-ext (λ l. isHeld (lifeIn t r) l (tickAt t τ)) (λ l. keptHeld t l (tickAt t τ)) (t .cap)
+      Search.howMany-ext (λ l. isHeld (lifeIn t r) l (tickAt t τ)) (λ l. keptHeld t l (tickAt t τ)) (t .film .cap)
       (λ l b. held-kept l (tickAt t τ) b (later τ le))
       ∙ rw mode-some refl

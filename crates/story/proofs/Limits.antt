@@ -20,7 +20,8 @@ use Rattle.story.specs.declared.Title.{Title}
 use Rattle.story.specs.declared.State.{State}
 use Rattle.story.specs.Kept.{heldMark, titleAt, isSteadyTitle, rowOk, numbersOk, orderOk, titleOk, stateOk}
 use Rattle.story.specs.Life.{Life, Course}
-use Rattle.story.specs.Story.{Event, lifeOf, latestOf}
+use Rattle.story.specs.declared.Event.{Event}
+use Rattle.story.specs.Story.{lifeOf, latestOf}
 use Rattle.story.proofs.Kept.{Present}
 use Rattle.story.proofs.Tells.{TellsTitle, absent, present, Tells}
 
@@ -34,11 +35,11 @@ numbers-ok t r p =
     let m : t .mode ≤ 2 = ⊎-elim (λ e. omega arith) (λ e. omega arith) (p .mode) in
     rw (
       le-leb (t .mode) 2 m,
-      le-leb (t .kind) steadyKind (z .kind-high),
+      le-leb (t .film .kind) steadyKind (z .kind-high),
       le-leb (t .opened) askedMax (omega (arith, z .opened-high)),
-      le-leb (t .length) lengthMax (z .length-high),
-      le-leb (t .floor) (pick (isSteadyTitle t) steadyMax floorMax) (z .floor-high),
-      le-leb (t .cap) countMax (z .cap-high),
+      le-leb (t .film .length) lengthMax (z .length-high),
+      le-leb (t .film .floor) (pick (isSteadyTitle t) steadyMax floorMax) (z .floor-high),
+      le-leb (t .film .cap) countMax (z .cap-high),
       le-leb (t .count) countMax (omega (arith, z .count-high, z .cap-high)),
       le-leb (t .mark) heldMark (z .mark-high),
       le-leb (t .last) askedMax (omega (arith, z .last-high)),
@@ -50,9 +51,9 @@ numbers-ok t r p =
     refl
 
 -- of a skip-forward title floor and cap are one
-level : (t : Title) → (t .kind ≡ steadyKind → t .floor ≡ t .cap) → either (not (isSteadyTitle t)) (eqb (t .floor) (t .cap)) ≡ true
+level : (t : Title) → (t .film .kind ≡ steadyKind → t .film .floor ≡ t .film .cap) → either (not (isSteadyTitle t)) (eqb (t .film .floor) (t .film .cap)) ≡ true
 level t flat =
-    ⊎-elim (λ x. rw x (eq-eqb (t .floor) (t .cap) (flat (eqb-true (t .kind) steadyKind x)))) (λ x. rw x refl)
+    ⊎-elim (λ x. rw x (eq-eqb (t .film .floor) (t .film .cap) (flat (eqb-true (t .film .kind) steadyKind x)))) (λ x. rw x refl)
     (decide (isSteadyTitle t))
 
 order-ok : (t : Title) (r : Course) → Present t r → orderOk t ≡ true
@@ -60,11 +61,11 @@ unfolding orderOk
 order-ok t r p =
     let z = p .sized in
     rw (
-      le-leb lengthMin (t .length) (z .length-low),
-      le-leb floorMin (t .floor) (z .floor-low),
-      le-leb (t .floor) (t .cap) (omega (arith, z .count-low, z .count-high)),
-      le-leb (t .floor) (t .count) (z .count-low),
-      le-leb (t .count) (t .cap) (z .count-high),
+      le-leb lengthMin (t .film .length) (z .length-low),
+      le-leb floorMin (t .film .floor) (z .floor-low),
+      le-leb (t .film .floor) (t .film .cap) (omega (arith, z .count-low, z .count-high)),
+      le-leb (t .film .floor) (t .count) (z .count-low),
+      le-leb (t .count) (t .film .cap) (z .count-high),
       level t (z .flat),
     )
     refl
@@ -77,14 +78,14 @@ title-ok L m t (present r e f p) =
     (either-r (eqb (t .mode) 0) (orderOk t) (order-ok t r p))
 
 -- where nothing happened there is no title
-untold : (es : List Event) (i : ℕ) → es ≡ [] → lifeOf es i .floor ≡ 0
+untold : (es : List Event) (i : ℕ) → es ≡ [] → lifeOf es i .film .floor ≡ 0
 unfolding lifeOf
-untold es i e = ap (λ x. lifeOf x i .floor) e
+untold es i e = ap (λ x. lifeOf x i .film .floor) e
 
-nobody : (L : Life) (m : ℕ) (t : Title) → TellsTitle L m t → L .floor ≡ 0 → eqb (t .mode) 0 ≡ true
+nobody : (L : Life) (m : ℕ) (t : Title) → TellsTitle L m t → L .film .floor ≡ 0 → eqb (t .mode) 0 ≡ true
 nobody L m t (absent e f g) z = rw g refl
 nobody L m t (present r e f p) z =
-    let q : L .floor ≡ t .floor = ap (λ (x : Life). x .floor) e in
+    let q : L .film .floor ≡ t .film .floor = ap (λ (x : Life). x .film .floor) e in
     absurd (omega (arith, p .sized .floor-low))
 
 -- a pool of no lanes has accepted nothing

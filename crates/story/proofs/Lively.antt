@@ -13,7 +13,8 @@ use Rattle.story.specs.Kept.{titleAt, tickAt}
 use Rattle.story.specs.Calls.{emptyPool}
 use Rattle.story.specs.Next.{callNext}
 use Rattle.story.specs.Life.{Life, Course}
-use Rattle.story.specs.Story.{Event, unopened, tickLength, tickIn, lifeOf, latestOf, lastTime, Accepted, none}
+use Rattle.story.specs.declared.Event.{Event}
+use Rattle.story.specs.Story.{unopened, tickLength, tickIn, lifeOf, latestOf, lastTime, Accepted, none}
 use Rattle.story.specs.Story.{more}
 use Rattle.story.proofs.Stored.{lifeIn}
 use Rattle.story.proofs.Kept.{Present, tick-some}
@@ -23,8 +24,8 @@ use Rattle.story.proofs.Runs.{Told, told-more, fresh-tells}
 -- a life whose latest event was at m: its rule keeps to floor and cap and is steady from then on
 pub record Lively (L : Life) (m : ℕ) : Type 0 where
   pub ruled : Ruled L
-  pub floor-some : 0 < L .floor
-  pub cap-high : L .cap ≤ countMax
+  pub floor-some : 0 < L .film .floor
+  pub cap-high : L .film .cap ≤ countMax
   pub tick-some : 0 < tickLength L
   pub since : L .opened ≤ m
   pub steady : (u v : ℕ) → tickIn L m ≤ u → tickIn L m ≤ v → L .rule u ≡ L .rule v

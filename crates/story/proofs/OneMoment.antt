@@ -22,8 +22,11 @@ use Rattle.story.specs.declared.State.{State}
 use Rattle.story.specs.Life.{Life}
 use Rattle.story.specs.Orders.{Tests, openOrder, changeOrder}
 use Rattle.story.specs.Kept.{noTitle, titleAt}
-use Rattle.story.specs.Next.{openedTitle, changedTitle, closedTitle, doorsTitle, withTitle, callNext}
-use Rattle.story.specs.Story.{Act, opens, changes, closes, doors, Event, event, lifeAfter, lifeOf, latestOf, tunedOf}
+use Rattle.story.specs.Next.{nextTitle, withTitle, callNext}
+use Rattle.story.specs.declared.Act.{Act}
+use Rattle.story.specs.declared.Act.the-variants.{Opens, Changes, Closes, Doors}
+use Rattle.story.specs.declared.Event.{Event}
+use Rattle.story.specs.Story.{event, lifeAfter, lifeOf, latestOf, tunedOf}
 use Rattle.story.specs.Story.{lastTime, upTo, countIn, heldIn, heldOver, overfull, testsTo, orderOf, answerTo, answer}
 use Rattle.story.specs.Story.{takesLanes, Accepted, more, laneAnswerTo, statusAnswerTo}
 use Rattle.story.specs.Story.{OneMoment, BothAccepted, WantsLanes, NineAfter}
@@ -161,10 +164,10 @@ asked-last xs false c some h = inl (lastly xs false c some h)
 lanes-alone : (a : Act) (t : Tests) (b : Bool) → firstHit (orderOf a t) ≡ 0 →
     (firstHit (orderOf a (withLanes t b)) ≡ 0) ⊎ ((firstHit (orderOf a (withLanes t b)) ≡ noLanes) × (b ≡ true))
 unfolding numbered
-lanes-alone (opens m D A K k) t b h = asked-last (before noLanes (openOrder t)) b (t .full) refl h
-lanes-alone (changes k) t b h = asked-last (before noLanes (changeOrder t)) b (t .full) refl h
-lanes-alone closes t b h = inl h
-lanes-alone (doors d) t b h = inl h
+lanes-alone (Opens f k) t b h = asked-last (before noLanes (openOrder t)) b (t .full) refl h
+lanes-alone (Changes k) t b h = asked-last (before noLanes (changeOrder t)) b (t .full) refl h
+lanes-alone Closes t b h = inl h
+lanes-alone (Doors d) t b h = inl h
 
 -- an event accepted after fs, asked after es that say the same of its id, and no later than it
 module _ (lanes : ℕ) (es fs : List Event) (d : Event) (life : lifeOf es (d .title) ≡ lifeOf fs (d .title))
@@ -187,14 +190,14 @@ module _ (lanes : ℕ) (es fs : List Event) (d : Event) (life : lifeOf es (d .ti
 -- an accepted event that takes lanes leaves its title with no fewer
 taken-held : (lanes : ℕ) (es : List Event) (i τ : ℕ) (a : Act) → answerTo lanes es (event i τ a) (lifeOf es i) a ≡ 0 →
     takesLanes a (countIn (lifeOf es i) τ) ≡ true → heldIn (lifeOf es i) τ ≤ heldIn (lifeAfter (lifeOf es i) τ a) τ
-taken-held lanes es i τ (opens m D A K k) h x =
+taken-held lanes es i τ (Opens f k) h x =
     let L : Life = lifeOf es i in
-    let away : ltb 0 (heldIn L τ) ≡ false = either-false-r (ltb 0 (countIn L τ)) (ltb 0 (heldIn L τ)) (opening lanes es i τ m D A K k h .away) in
+    let away : ltb 0 (heldIn L τ) ≡ false = either-false-r (ltb 0 (countIn L τ)) (ltb 0 (heldIn L τ)) (opening lanes es i τ f k h .away) in
     omega (arith, ltb-false 0 (heldIn L τ) away)
-taken-held lanes es i τ (changes k) h x =
+taken-held lanes es i τ (Changes k) h x =
     more-held (lifeOf es i) τ k (omega (arith, ltb-true (countIn (lifeOf es i) τ) k x))
-taken-held lanes es i τ closes h x = absurd (false≢true x)
-taken-held lanes es i τ (doors b) h x = absurd (false≢true x)
+taken-held lanes es i τ Closes h x = absurd (false≢true x)
+taken-held lanes es i τ (Doors b) h x = absurd (false≢true x)
 
 -- e and then f are accepted: what the other order does
 module _ (lanes : ℕ) (high : lanes ≤ poolMax) (es : List Event) (acc : Accepted lanes es) (e f : Event) (at : OneMoment e f)
@@ -284,21 +287,7 @@ room-for-one-of-two lanes high es acc e f at one other not-both =
           (λ both. ⊎-elim not-both (λ w. absurd (omega (arith, w .nine, one))) (other-order lanes high es acc f e round both)),
     )
 
--- what an event makes of its title
-nextTitle : Title → ℕ → Act → Title
-nextTitle t τ (opens m D A K k) = openedTitle m τ D A K k
-nextTitle t τ (changes k) = changedTitle t τ k
-nextTitle t τ closes = closedTitle t τ
-nextTitle t τ (doors b) = doorsTitle t τ b
-
--- it reads and writes its own slot
-next-is : (s : State) (i τ : ℕ) (a : Act) → callNext s i τ a ≡ withTitle s i (nextTitle (titleAt s i) τ a) τ
-unfolding nextTitle
-next-is s i τ (opens m D A K k) = refl
-next-is s i τ (changes k) = refl
-next-is s i τ closes = refl
-next-is s i τ (doors b) = refl
-
+-- each event reads and writes its own slot
 in-turn : (s : State) (e f : Event) → (f .title ≡ e .title → ⊥) →
     callNext (callNext s (e .title) (e .time) (e .act)) (f .title) (f .time) (f .act)
     ≡ record {
@@ -309,9 +298,7 @@ in-turn : (s : State) (e f : Event) → (f .title ≡ e .title → ⊥) →
 in-turn s e f other =
     let t : Title = nextTitle (titleAt s (e .title)) (e .time) (e .act) in
     let u : State = withTitle s (e .title) t (e .time) in
-    ap (λ x. callNext x (f .title) (f .time) (f .act)) (next-is s (e .title) (e .time) (e .act))
-    ∙ next-is u (f .title) (f .time) (f .act)
-    ∙ ap (λ x. withTitle u (f .title) (nextTitle x (f .time) (f .act)) (f .time))
+    ap (λ x. withTitle u (f .title) (nextTitle x (f .time) (f .act)) (f .time))
     (getD-set-other (s .titles) (e .title) (f .title) t noTitle other)
 
 -- so the two orders leave the same state

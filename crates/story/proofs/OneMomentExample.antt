@@ -10,10 +10,12 @@ use Rattle.rules.specs.Search.{some, first, howMany, after, total}
 use Rattle.grid.specs.Ticks.{tickOf, roundedUp, slot, cellOf}
 use Rattle.grid.specs.Channels.{floorRem, shift, segment, channelCell}
 use Rattle.grid.specs.Lanes.{isInG, isAdded, addedChannel, laneCell}
-use Rattle.scheme.specs.Scheme.{paddedKind, schemeOf, starts, takes, takesFrom, tickFor, filmIn}
+use Rattle.scheme.specs.Scheme.{schemeOf, starts, takes, takesFrom, tickFor, filmIn}
 use Rattle.story.specs.Life.{isAdmission, isActive, droppedAt, isAwaited, isOwed, reach, owedWithin}
 use Rattle.story.specs.Life.{isNth, nthOwed, sends, onAir, isHeld}
-use Rattle.story.specs.Story.{opens, changes, holds, Event, event, tickIn, lifeOf, latestOf, tunedOf}
+use Rattle.story.specs.declared.Act.the-variants.{Changes}
+use Rattle.story.specs.declared.Event.{Event}
+use Rattle.story.specs.Story.{opens, holds, event, tickIn, lifeOf, latestOf, tunedOf}
 use Rattle.story.specs.Story.{heldIn, heldOver, answerTo, answer, accepted, OneMoment, BothAccepted, WantsLanes}
 use Rattle.story.specs.Story.{NineAfter}
 use Rattle.story.specs.declared.State.{State}
@@ -22,13 +24,13 @@ use Rattle.story.proofs.Demands.{orders, room-for-one, both-answered, a
 
 -- a film of 2 lanes in a pool of 5; at 8 it gains a lane, and another film opens with 2
 abbrev pub quiet-evening : List Event
-quiet-evening = event 0 0 (opens paddedKind 12 2 4 2) ∷ []
+quiet-evening = event 0 0 (opens 12 2 4 2) ∷ []
 
 abbrev pub raise : Event
-raise = event 0 8 (changes 3)
+raise = event 0 8 (Changes 3)
 
 abbrev pub joins : Event
-joins = event 1 8 (opens paddedKind 12 2 4 2)
+joins = event 1 8 (opens 12 2 4 2)
 
 quiet-accepted : accepted 5 quiet-evening ≡ quiet-evening
 unfolding accepted answerTo firstHit lifeOf latestOf tunedOf heldOver heldIn tickIn total howMany isHeld onAir isActive droppedAt after sends nthOwed isNth owedWithin isOwed isAwaited isAdmission reach some first takes takesFrom schemeOf laneCell addedChannel isAdded isInG channelCell segment shift floorRem cellOf slot starts tickFor tickOf filmIn roundedUp
@@ -50,11 +52,11 @@ all-held-either-way : (heldOver (joins ∷ raise ∷ quiet-evening) 8 ≡ 5) × 
 unfolding lifeOf latestOf tunedOf heldOver heldIn tickIn total howMany isHeld onAir isActive droppedAt after sends nthOwed isNth owedWithin isOwed isAwaited isAdmission reach some first takes takesFrom schemeOf laneCell addedChannel isAdded isInG channelCell segment shift floorRem cellOf slot starts tickFor tickOf filmIn roundedUp
 all-held-either-way = (refl, refl)
 
-third-refused : answer 5 (joins ∷ raise ∷ quiet-evening) (event 2 9 (opens paddedKind 12 2 4 2)) ≡ noLanes
+third-refused : answer 5 (joins ∷ raise ∷ quiet-evening) (event 2 9 (opens 12 2 4 2)) ≡ noLanes
 unfolding answerTo firstHit lifeOf latestOf tunedOf heldOver heldIn tickIn total howMany isHeld onAir isActive droppedAt after sends nthOwed isNth owedWithin isOwed isAwaited isAdmission reach some first takes takesFrom schemeOf laneCell addedChannel isAdded isInG channelCell segment shift floorRem cellOf slot starts tickFor tickOf filmIn roundedUp
 third-refused = refl
 
-as-well : answer 5 (raise ∷ joins ∷ quiet-evening) (event 2 9 (opens paddedKind 12 2 4 2)) ≡ noLanes
+as-well : answer 5 (raise ∷ joins ∷ quiet-evening) (event 2 9 (opens 12 2 4 2)) ≡ noLanes
 unfolding answerTo firstHit lifeOf latestOf tunedOf heldOver heldIn tickIn total howMany isHeld onAir isActive droppedAt after sends nthOwed isNth owedWithin isOwed isAwaited isAdmission reach some first takes takesFrom schemeOf laneCell addedChannel isAdded isInG channelCell segment shift floorRem cellOf slot starts tickFor tickOf filmIn roundedUp
 as-well = refl
 
@@ -74,13 +76,13 @@ second-nine = refl
 -- a film of 3 lanes in a pool of 4, whose doors were held at 2: at 16 its only box is done, and lane 2, dropped then, owes
 -- nothing; another film opens with 2 lanes
 abbrev pub full-evening : List Event
-full-evening = event 0 2 holds ∷ event 0 0 (opens paddedKind 12 2 4 3) ∷ []
+full-evening = event 0 2 holds ∷ event 0 0 (opens 12 2 4 3) ∷ []
 
 abbrev pub drop : Event
-drop = event 0 16 (changes 2)
+drop = event 0 16 (Changes 2)
 
 abbrev pub needs : Event
-needs = event 1 16 (opens paddedKind 12 2 4 2)
+needs = event 1 16 (opens 12 2 4 2)
 
 pub full-accepted : accepted 4 full-evening ≡ full-evening
 unfolding accepted answerTo firstHit lifeOf latestOf tunedOf heldOver heldIn tickIn total howMany isHeld onAir isActive droppedAt after sends nthOwed isNth owedWithin isOwed isAwaited isAdmission reach some first takes takesFrom schemeOf laneCell addedChannel isAdded isInG channelCell segment shift floorRem cellOf slot starts tickFor tickOf filmIn roundedUp

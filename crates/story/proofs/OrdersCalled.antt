@@ -13,7 +13,8 @@ use Rattle.rules.proofs.Tests.{pick-false}
 use Rattle.story.specs.declared.State.{State}
 use Rattle.story.specs.Next.{callNext}
 use Rattle.story.specs.Calls.{statusCount}
-use Rattle.story.specs.Story.{Event, lifeOf, lastTime, countIn, answer, taking, Accepted, takesLanes}
+use Rattle.story.specs.declared.Event.{Event}
+use Rattle.story.specs.Story.{lifeOf, lastTime, countIn, answer, taking, Accepted, takesLanes}
 use Rattle.story.specs.Story.{OneMoment, BothAccepted, NineAfter}
 use Rattle.story.specs.Runs.{answered, called, lanesOf, Reached, BothCalled, CallWantsLanes, CallNineAfter}
 use Rattle.story.proofs.Runs.{lanes-limit, told-answer, told-call}

@@ -63,29 +63,29 @@ module _ (L : Life) (l T : ℕ) where
   owed-out t h = both-r (isFilm L (usualCell L l t)) (isAwaited L T (usualCell L l t) t) h
 
   -- no tick is owed as far from the drop as 2^(K-1) ticks: no channel is taken for longer
-  pub owed-reach : Ruled L → (t : ℕ) → isOwed L l T t ≡ true → t < T + reach (L .cap)
+  pub owed-reach : Ruled L → (t : ℕ) → isOwed L l T t ≡ true → t < T + reach (L .film .cap)
   unfolding reach
   owed-reach ruled t h =
       let s = awaited-out L T (usualCell L l t) t (owed-out t h) in
       let a : ℕ = s .0 in
       let k : ℕ = L .rule a in
-      omega (arith, s .1, window-end (scheme L) (L .cap) k a (usualCell L l t) t (λ d. ruled .laws .spans k d (ruled .high a)) (s .3))
+      omega (arith, s .1, window-end (scheme L) (L .film .cap) k a (usualCell L l t) t (λ d. ruled .laws .spans k d (ruled .high a)) (s .3))
 
   -- so however many ticks are looked at, no more are owed than within that reach
-  pub owes-all : Ruled L → (n : ℕ) → reach (L .cap) ≤ n → owedWithin L l T n ≡ owes L l T
+  pub owes-all : Ruled L → (n : ℕ) → reach (L .film .cap) ≤ n → owedWithin L l T n ≡ owes L l T
   unfolding owes owedWithin
   owes-all ruled n far =
-      let e : n ≡ reach (L .cap) + (n - reach (L .cap)) = omega arith in
+      let e : n ≡ reach (L .film .cap) + (n - reach (L .film .cap)) = omega arith in
       rw e
-      (Search.howMany-flat (λ o. isOwed L l T (T + o)) (reach (L .cap)) (n - reach (L .cap))
+      (Search.howMany-flat (λ o. isOwed L l T (T + o)) (reach (L .film .cap)) (n - reach (L .film .cap))
       (λ o lo. fails (isOwed L l T (T + o)) (λ h. omega (arith, owed-reach ruled (T + o) h))))
 
   -- an owed tick has its rank, and no other has it
-  pub nth-is : (o : ℕ) → o < reach (L .cap) → isOwed L l T (T + o) ≡ true → nthOwed L l T (owedWithin L l T o) ≡ o
+  pub nth-is : (o : ℕ) → o < reach (L .film .cap) → isOwed L l T (T + o) ≡ true → nthOwed L l T (owedWithin L l T o) ≡ o
   unfolding nthOwed owedWithin isNth
   nth-is o b h =
       le-antisymm
-      (Search.first-least nth (reach (L .cap)) o
+      (Search.first-least nth (reach (L .film .cap)) o
       (both-in (own o) (ranked o) h (eq-eqb (howMany own o) (howMany own o) refl)))
       (⊎-elim (λ t. absurd (late (ltb-true f o t))) (λ t. ltb-false f o t) (decide (ltb f o)))
     where
@@ -99,11 +99,11 @@ module _ (L : Life) (l T : ℕ) where
       nth x = both (own x) (ranked x)
 
       f : ℕ
-      f = first nth (reach (L .cap))
+      f = first nth (reach (L .film .cap))
 
       late : f < o → ⊥
       late c =
-          let hit : nth f ≡ true = Search.first-hit nth (reach (L .cap)) (omega arith) in
+          let hit : nth f ≡ true = Search.first-hit nth (reach (L .film .cap)) (omega arith) in
           let e : howMany own f ≡ howMany own o =
           eqb-true (howMany own f) (howMany own o) (both-r (own f) (ranked f) hit) in
           let more : howMany own (suc f) ≡ suc (howMany own f) =
@@ -116,7 +116,7 @@ module _ (L : Life) (l T : ℕ) where
   sends-while i b =
       let own : ℕ → Bool = λ o. isOwed L l T (T + o) in
       let nth : ℕ → Bool = λ o. both (own o) (eqb (howMany own o) i) in
-      let n : ℕ = reach (L .cap) in
+      let n : ℕ = reach (L .film .cap) in
       let u = Search.howMany-at own n i b in
       let g : first nth n ≤ u .0 =
       Search.first-least nth n (u .0)
@@ -128,15 +128,15 @@ module _ (L : Life) (l T : ℕ) where
   sends-until i h =
       ⊎-elim
       (λ t.
-      let hit : nth f ≡ true = Search.first-hit nth (reach (L .cap)) (ltb-true f (reach (L .cap)) t) in
+      let hit : nth f ≡ true = Search.first-hit nth (reach (L .film .cap)) (ltb-true f (reach (L .film .cap)) t) in
       let e : howMany own f ≡ i = eqb-true (howMany own f) i (both-r (own f) (eqb (howMany own f) i) hit) in
       omega (
         arith,
         Search.howMany-hit own f (both-l (own f) (eqb (howMany own f) i) hit),
-        Search.howMany-mono own (suc f) (reach (L .cap)) (ltb-true f (reach (L .cap)) t),
+        Search.howMany-mono own (suc f) (reach (L .film .cap)) (ltb-true f (reach (L .film .cap)) t),
       ))
       (λ t. absurd (false≢true (rw t at h)))
-      (decide (ltb f (reach (L .cap))))
+      (decide (ltb f (reach (L .film .cap))))
     where
       own : ℕ → Bool
       own x = isOwed L l T (T + x)
@@ -145,13 +145,13 @@ module _ (L : Life) (l T : ℕ) where
       nth x = both (own x) (eqb (howMany own x) i)
 
       f : ℕ
-      f = first nth (reach (L .cap))
+      f = first nth (reach (L .film .cap))
 
   -- the cell of an owed tick goes out at the drop plus its rank, which is no later
-  pub sends-owed : (o : ℕ) → o < reach (L .cap) → isOwed L l T (T + o) ≡ true →
+  pub sends-owed : (o : ℕ) → o < reach (L .film .cap) → isOwed L l T (T + o) ≡ true →
       sends L l T (owedWithin L l T o) ≡ cell (usualCell L l (T + o))
   unfolding sends
-  sends-owed o b h = rw (nth-is o b h, lt-ltb o (reach (L .cap)) b) refl
+  sends-owed o b h = rw (nth-is o b h, lt-ltb o (reach (L .film .cap)) b) refl
 
   pub rank-le : (o : ℕ) → owedWithin L l T o ≤ o
   unfolding owedWithin

@@ -15,7 +15,10 @@ use Rattle.rules.specs.Search.{howMany, total}
 use Rattle.rules.proofs.Tests.{decide}
 use Rattle.rules.proofs.Search
 use Rattle.story.specs.Life.{Life, Course, onCourse, isActive, droppedAt, owes, isHeld}
-use Rattle.story.specs.Story.{Act, opens, changes, closes, doors, Event, event, unopened, tickLength, tickIn}
+use Rattle.story.specs.declared.Act.{Act}
+use Rattle.story.specs.declared.Act.the-variants.{Opens, Changes, Closes, Doors}
+use Rattle.story.specs.declared.Event.{Event}
+use Rattle.story.specs.Story.{event, unopened, tickLength, tickIn}
 use Rattle.story.specs.Story.{turn, ruledFrom, doorsFrom}
 use Rattle.story.specs.Story.{lifeAfter, lifeOf, latestOf, lastTime, upTo, countIn, isHeldIn, heldIn, heldOver}
 use Rattle.story.specs.Story.{takesLanes, answerTo}
@@ -34,7 +37,7 @@ falls L m τ υ w from le =
     let n : ℕ = tickIn L τ in
     let now : tickIn L m ≤ n = tick-mono (L .opened) (tickLength L) (w .tick-some) m τ from in
     let on : n ≤ tickIn L υ = tick-mono (L .opened) (tickLength L) (w .tick-some) τ υ le in
-    Search.howMany-wider (λ l. isHeldIn L l υ) (λ l. isHeldIn L l τ) (L .cap)
+    Search.howMany-wider (λ l. isHeldIn L l υ) (λ l. isHeldIn L l τ) (L .film .cap)
     (λ l b held.
     ⊎-elim (λ x. held-active L l n x)
     (λ x.
@@ -112,20 +115,20 @@ doors-lane L b l n held =
 fewer-held : (L : Life) (τ k : ℕ) → k ≤ countIn L τ → heldIn (ruledFrom L (tickIn L τ) k) τ ≤ heldIn L τ
 unfolding heldIn tickIn
 fewer-held L τ k fewer =
-    Search.howMany-wider (λ l. isHeldIn (ruledFrom L (tickIn L τ) k) l τ) (λ l. isHeldIn L l τ) (L .cap)
+    Search.howMany-wider (λ l. isHeldIn (ruledFrom L (tickIn L τ) k) l τ) (λ l. isHeldIn L l τ) (L .film .cap)
     (λ l b. fewer-lane L l (tickIn L τ) k fewer)
 
 doors-held : (L : Life) (τ : ℕ) (b : Bool) → heldIn (doorsFrom L (tickIn L τ) b) τ ≤ heldIn L τ
 unfolding heldIn tickIn
 doors-held L τ b =
-    Search.howMany-wider (λ l. isHeldIn (doorsFrom L (tickIn L τ) b) l τ) (λ l. isHeldIn L l τ) (L .cap)
+    Search.howMany-wider (λ l. isHeldIn (doorsFrom L (tickIn L τ) b) l τ) (λ l. isHeldIn L l τ) (L .film .cap)
     (λ l c. doors-lane L b l (tickIn L τ))
 
 -- and no lane less after a turn to no fewer
 pub more-held : (L : Life) (τ k : ℕ) → countIn L τ ≤ k → heldIn L τ ≤ heldIn (ruledFrom L (tickIn L τ) k) τ
 unfolding heldIn tickIn
 more-held L τ k larger =
-    Search.howMany-wider (λ l. isHeldIn L l τ) (λ l. isHeldIn (ruledFrom L (tickIn L τ) k) l τ) (L .cap)
+    Search.howMany-wider (λ l. isHeldIn L l τ) (λ l. isHeldIn (ruledFrom L (tickIn L τ) k) l τ) (L .film .cap)
     (λ l b. more-lane L l (tickIn L τ) k larger)
 
 -- an event moves the lanes of its own title alone
@@ -146,11 +149,11 @@ raises es i τ a own =
 -- an event that takes no lanes holds no lane more
 pub takes-none : (es : List Event) (i τ : ℕ) (a : Act) → takesLanes a (countIn (lifeOf es i) τ) ≡ false →
     heldOver (event i τ a ∷ es) τ ≤ heldOver es τ
-takes-none es i τ (opens m D A K k) h = absurd (false≢true (sym h))
-takes-none es i τ (changes k) h =
-    lowers es i τ (changes k) (fewer-held (lifeOf es i) τ k (ltb-false (countIn (lifeOf es i) τ) k h))
-takes-none es i τ closes h = lowers es i τ closes (fewer-held (lifeOf es i) τ 0 (omega arith))
-takes-none es i τ (doors b) h = lowers es i τ (doors b) (doors-held (lifeOf es i) τ b)
+takes-none es i τ (Opens f k) h = absurd (false≢true (sym h))
+takes-none es i τ (Changes k) h =
+    lowers es i τ (Changes k) (fewer-held (lifeOf es i) τ k (ltb-false (countIn (lifeOf es i) τ) k h))
+takes-none es i τ Closes h = lowers es i τ Closes (fewer-held (lifeOf es i) τ 0 (omega arith))
+takes-none es i τ (Doors b) h = lowers es i τ (Doors b) (doors-held (lifeOf es i) τ b)
 
 -- all events are up to the moment of the last one
 pub upTo-all : (τ : ℕ) (es : List Event) → lastTime es ≤ τ → upTo τ es ≡ es
@@ -161,10 +164,10 @@ upTo-all τ (e ∷ es) le = rw (le-leb (e .time) τ le) refl
 -- at the moment of an accepted event the pool is large enough, if it was before
 at-event : (lanes : ℕ) (es : List Event) (i τ : ℕ) (a : Act) → answerTo lanes es (event i τ a) (lifeOf es i) a ≡ 0 →
     heldOver es τ ≤ lanes → heldOver (event i τ a ∷ es) τ ≤ lanes
-at-event lanes es i τ (opens m D A K k) h before = opening lanes es i τ m D A K k h .room
-at-event lanes es i τ (changes k) h before = changing lanes es i τ k h .1
-at-event lanes es i τ closes h before = omega (arith, takes-none es i τ closes refl)
-at-event lanes es i τ (doors b) h before = omega (arith, takes-none es i τ (doors b) refl)
+at-event lanes es i τ (Opens f k) h before = opening lanes es i τ f k h .room
+at-event lanes es i τ (Changes k) h before = changing lanes es i τ k h .1
+at-event lanes es i τ Closes h before = omega (arith, takes-none es i τ Closes refl)
+at-event lanes es i τ (Doors b) h before = omega (arith, takes-none es i τ (Doors b) refl)
 
 -- demand 3: at every moment the lanes held, counted from the sequence, are at most the pool
 pub never-exceeded : (lanes : ℕ) (es : List Event) → lanes ≤ poolMax → Accepted lanes es → (τ : ℕ) →

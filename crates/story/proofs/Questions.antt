@@ -20,7 +20,8 @@ use Rattle.story.specs.Life.{Life, isActive, droppedAt, reach, owes, cel
 use Rattle.story.specs.Kept.{clearMark, heldMark, titleAt, stateOk, tickAt, ruling, shows}
 use Rattle.story.specs.Calls.{laneHeld, laneAnswer, laneShows, statusAnswer, statusCount, statusHeld}
 use Rattle.story.specs.Calls.{statusMark}
-use Rattle.story.specs.Story.{Event, unopened, lifeOf, latestOf, lastTime, tickIn, countIn, airIn, isHeldIn}
+use Rattle.story.specs.declared.Event.{Event}
+use Rattle.story.specs.Story.{unopened, lifeOf, latestOf, lastTime, tickIn, countIn, airIn, isHeldIn}
 use Rattle.story.specs.Story.{heldIn, isMarkedIn, laneRulesTo, laneAnswerTo, statusAnswerTo}
 use Rattle.story.proofs.Held.{held-sending}
 use Rattle.story.proofs.Stored.{lifeIn}
@@ -35,7 +36,7 @@ unfolding droppedAt isActive owes after
 no-lane L l n off =
     let quiet : (u : ℕ) → u ≤ n → isActive L l u ≡ false = λ u b. le-ltb l (L .rule u) (off u b) in
     let d : droppedAt L l n ≡ 0 = Search.after-flat (isActive L l) 0 n (omega arith) (λ u lo hi. quiet u (omega arith)) in
-    held-sending L l n (quiet n (omega arith)) ∙ rw (d, owes-none L l (reach (L .cap))) (le-ltb (n - 0) 0 (omega arith))
+    held-sending L l n (quiet n (omega arith)) ∙ rw (d, owes-none L l (reach (L .film .cap))) (le-ltb (n - 0) 0 (omega arith))
 
 -- the latest event of a title
 pub last-told : (L : Life) (m : ℕ) (t : Title) → TellsTitle L m t → t .last ≡ m
@@ -51,11 +52,11 @@ lane-held-told L m t l τ (absent e f g) le =
 lane-held-told L m t l τ (present r e f p) le =
     rw (mode-some t r p, e)
     (⊎-elim
-    (λ x. rw x (sym (held-kept t r p l (tickAt t τ) (ltb-true l (t .cap) x) (later t r p τ (omega arith)))))
+    (λ x. rw x (sym (held-kept t r p l (tickAt t τ) (ltb-true l (t .film .cap) x) (later t r p τ (omega arith)))))
     (λ x.
     rw x
-    (sym (no-lane (lifeIn t r) l (tickAt t τ) (λ u b. omega (arith, ltb-false l (t .cap) x, p .ruled .high u)))))
-    (decide (ltb l (t .cap))))
+    (sym (no-lane (lifeIn t r) l (tickAt t τ) (λ u b. omega (arith, ltb-false l (t .film .cap) x, p .ruled .high u)))))
+    (decide (ltb l (t .film .cap))))
 
 -- what it shows
 pub lane-shows-told : (L : Life) (m : ℕ) (t : Title) (l τ : ℕ) → TellsTitle L m t → m ≤ τ → isHeldIn L l τ ≡ true →
@@ -67,12 +68,12 @@ lane-shows-told L m t l τ (present r e f p) le h =
     let held : isHeld (lifeIn t r) l (tickAt t τ) ≡ true = rw e at h in
     rw e
     (shows-kept t r p l (tickAt t τ)
-    (⊎-elim (λ x. ltb-true l (t .cap) x)
+    (⊎-elim (λ x. ltb-true l (t .film .cap) x)
     (λ x.
     let free : isHeld (lifeIn t r) l (tickAt t τ) ≡ false =
-    no-lane (lifeIn t r) l (tickAt t τ) (λ u b. omega (arith, ltb-false l (t .cap) x, p .ruled .high u)) in
+    no-lane (lifeIn t r) l (tickAt t τ) (λ u b. omega (arith, ltb-false l (t .film .cap) x, p .ruled .high u)) in
     absurd (false≢true (sym free ∙ held)))
-    (decide (ltb l (t .cap))))
+    (decide (ltb l (t .film .cap))))
     (later t r p τ (omega arith)) held)
 
 -- a mark within its limit is the number of its test

@@ -16,7 +16,8 @@ use Rattle.story.specs.declared.State.{State}
 use Rattle.story.specs.Life.{Life, Air, cell, isCell, isHeld}
 use Rattle.story.specs.Next.{callNext}
 use Rattle.story.specs.Calls.{laneAnswer, laneShows}
-use Rattle.story.specs.Story.{Event, lifeOf, latestOf, lastTime, upTo, answer, taking, accepted, Accepted, none}
+use Rattle.story.specs.declared.Event.{Event}
+use Rattle.story.specs.Story.{lifeOf, latestOf, lastTime, upTo, answer, taking, accepted, Accepted, none}
 use Rattle.story.specs.Story.{more, laneAnswerTo, lifeAt, airAt, Quiet, elsewhere}
 use Rattle.story.specs.Runs.{answered, called, stateAfter, lanesOf, Reached}
 use Rattle.story.proofs.Runs.{Told, lanes-limit, told, told-answer}
@@ -144,9 +145,9 @@ module _ (pool : ℕ) (es : List Event) (acc : Accepted (lanesOf pool) es) (i l 
 
 -- a lane below the cap of an accepted life is one that may be asked for
 pub lane-limit : (lanes : ℕ) (es : List Event) → lanes ≤ poolMax → Accepted lanes es → (i l : ℕ) → i < titlesMax →
-    l < lifeOf es i .cap → l ≤ laneMax
+    l < lifeOf es i .film .cap → l ≤ laneMax
 lane-limit lanes es high acc i l id b =
-    ⊎-elim (λ e. let z : lifeOf es i .cap ≡ 0 = ap (λ (L : Life). L .cap) e in absurd (omega arith))
+    ⊎-elim (λ e. let z : lifeOf es i .film .cap ≡ 0 = ap (λ (L : Life). L .film .cap) e in absurd (omega arith))
     (λ w. omega (arith, w .cap-high))
     (lively lanes es high acc i id)
 

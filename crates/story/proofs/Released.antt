@@ -16,7 +16,10 @@ use Rattle.rules.specs.Search.{howMany}
 use Rattle.rules.proofs.Tests.{decide, either-false-l, either-false-r}
 use Rattle.rules.proofs.Search
 use Rattle.story.specs.Life.{Life, Course, onCourse, isActive, owes, isHeld}
-use Rattle.story.specs.Story.{Act, opens, changes, closes, doors, Event, event, tickLength, tickIn, momentOf}
+use Rattle.story.specs.declared.Act.{Act}
+use Rattle.story.specs.declared.Act.the-variants.{Opens, Changes, Closes, Doors}
+use Rattle.story.specs.declared.Event.{Event}
+use Rattle.story.specs.Story.{event, tickLength, tickIn, momentOf}
 use Rattle.story.specs.Story.{lifeAfter, lifeOf, latestOf, lastTime, upTo, countIn, isActiveIn, isHeldIn, heldIn, isThereIn}
 use Rattle.story.specs.Story.{answerTo, answer, Accepted, none, more, lifeAt, InTick, releaseOf, DropsAt}
 use Rattle.story.proofs.Ruled.{SameAt}
@@ -150,8 +153,8 @@ away-released lanes es high acc i id L l s τ B d w lt off away =
     (λ y. let e : t ≡ n = omega (arith, ltb-false t n y) in rw e (le-ltb l (X .rule n) (omega arith)))
     (decide (ltb t n)) in
     let held : isHeldIn X l B ≡ ltb B (releaseOf L l (suc s)) = standing X L l s τ w d (alive .tick-some) B (omega arith) idle in
-    let lane : l < X .cap = omega (arith, ltb-true l (X .rule s) was, alive .ruled .high s) in
-    ⊎-elim (λ x. absurd (omega (arith, Search.howMany-some (λ l. isHeldIn X l B) (X .cap) l lane (held ∙ x))))
+    let lane : l < X .film .cap = omega (arith, ltb-true l (X .rule s) was, alive .ruled .high s) in
+    ⊎-elim (λ x. absurd (omega (arith, Search.howMany-some (λ l. isHeldIn X l B) (X .film .cap) l lane (held ∙ x))))
     (λ x. ltb-false B (releaseOf L l (suc s)) x)
     (decide (ltb B (releaseOf L l (suc s))))
 
@@ -162,8 +165,8 @@ released-own : (lanes : ℕ) (es : List Event) → lanes ≤ poolMax → Accepte
     Off es i l τ (lifeAfter (lifeOf es i) B a .opened) →
     (τ < lifeOf es i .opened → Off es i l τ (lifeOf es i .opened) → releaseOf L l (suc s) ≤ lifeOf es i .opened) →
     releaseOf L l (suc s) ≤ lifeAfter (lifeOf es i) B a .opened
-released-own lanes es high acc i id L l s τ d is B (opens m D A K k) h lt off before =
-    let o = opening lanes es i B m D A K k h in
+released-own lanes es high acc i id L l s τ d is B (Opens f k) h lt off before =
+    let o = opening lanes es i B f k h in
     let by : lifeOf es i .opened ≤ B = omega (arith, opened-by lanes es high acc i id, o .timely .late) in
     ⊎-elim
     (λ x.
@@ -173,9 +176,9 @@ released-own lanes es high acc i id L l s τ d is B (opens m D A K k) h lt off b
     let later : τ < lifeOf es i .opened = leb-false (lifeOf es i .opened) τ x in
     omega (arith, before later (λ υ lo hi. off υ lo (omega arith))))
     (decide (leb (lifeOf es i .opened) τ))
-released-own lanes es high acc i id L l s τ d is B (changes k) h lt off before = before lt off
-released-own lanes es high acc i id L l s τ d is B closes h lt off before = before lt off
-released-own lanes es high acc i id L l s τ d is B (doors b) h lt off before = before lt off
+released-own lanes es high acc i id L l s τ d is B (Changes k) h lt off before = before lt off
+released-own lanes es high acc i id L l s τ d is B Closes h lt off before = before lt off
+released-own lanes es high acc i id L l s τ d is B (Doors b) h lt off before = before lt off
 
 -- one event of any title
 released-more : (lanes : ℕ) (e : Event) (es : List Event) → lanes ≤ poolMax → Accepted lanes es → answer lanes es e ≡ 0 →
@@ -341,14 +344,14 @@ pub event-drops : (lanes : ℕ) (es : List Event) → lanes ≤ poolMax → Acce
     answerTo lanes es (event i τ a) (lifeOf es i) a ≡ 0 → (l : ℕ) → isActiveIn (lifeOf es i) l τ ≡ true →
     isActiveIn (lifeOf (event i τ a ∷ es) i) l τ ≡ false → (s : ℕ) × DropsAt (event i τ a ∷ es) i l s τ (suc τ)
 unfolding isActive
-event-drops lanes es high acc i τ (opens m D A K k) h l on off =
+event-drops lanes es high acc i τ (Opens f k) h l on off =
     let X : Life = lifeOf es i in
     let none-rules : countIn X τ ≤ 0 =
-    ltb-false 0 (countIn X τ) (either-false-l (ltb 0 (countIn X τ)) (ltb 0 (heldIn X τ)) (opening lanes es i τ m D A K k h .away)) in
+    ltb-false 0 (countIn X τ) (either-false-l (ltb 0 (countIn X τ)) (ltb 0 (heldIn X τ)) (opening lanes es i τ f k h .away)) in
     absurd (omega (arith, ltb-true l (countIn X τ) on))
-event-drops lanes es high acc i τ (changes k) h l on off =
-    turned-drops lanes es high acc i τ (changing lanes es i τ k h .0) (changes k) (λ X. refl) l on off
-event-drops lanes es high acc i τ closes h l on off =
-    turned-drops lanes es high acc i τ (closing lanes es i τ h) closes (λ X. refl) l on off
-event-drops lanes es high acc i τ (doors b) h l on off =
-    turned-drops lanes es high acc i τ (doored lanes es i τ b h) (doors b) (λ X. refl) l on off
+event-drops lanes es high acc i τ (Changes k) h l on off =
+    turned-drops lanes es high acc i τ (changing lanes es i τ k h .0) (Changes k) (λ X. refl) l on off
+event-drops lanes es high acc i τ Closes h l on off =
+    turned-drops lanes es high acc i τ (closing lanes es i τ h) Closes (λ X. refl) l on off
+event-drops lanes es high acc i τ (Doors b) h l on off =
+    turned-drops lanes es high acc i τ (doored lanes es i τ b h) (Doors b) (λ X. refl) l on off

@@ -13,44 +13,47 @@ use Rattle.rules.specs.Refusals.{tooSoon}
 use Rattle.rules.proofs.Tests.{decide}
 use Rattle.rules.proofs.Refusals.{hitsOf, numbered, distinct, isListed, cleared, first-hit}
 use Rattle.story.specs.Life.{Life}
-use Rattle.story.specs.Story.{Act, opens, changes, closes, doors, Event, event, settling, lifeAfter, lifeOf}
-use Rattle.story.specs.Story.{tunes, tunedOf, testsTo, orderOf, answerTo, answer, Accepted, more, Untuned}
+use Rattle.story.specs.declared.Act.{Act}
+use Rattle.story.specs.declared.Act.the-variants.{Opens, Changes, Closes, Doors}
+use Rattle.story.specs.declared.Event.{Event}
+use Rattle.story.specs.Story.{event, settling, lifeAfter, lifeOf}
+use Rattle.story.specs.Story.{setsCount, tunedOf, testsTo, orderOf, answerTo, answer, Accepted, more, Untuned}
 use Rattle.story.specs.Story.{goes-by}
 
 -- an accepted change comes a floor slot after the last opening or change of its title, or later
-pub settled : (lanes : ℕ) (es : List Event) (i τ k : ℕ) → answer lanes es (event i τ (changes k)) ≡ 0 →
+pub settled : (lanes : ℕ) (es : List Event) (i τ k : ℕ) → answer lanes es (event i τ (Changes k)) ≡ 0 →
     tunedOf es i + settling (lifeOf es i) ≤ τ
 unfolding answerTo numbered hitsOf
 settled lanes es i τ k h =
-    let e : Event = event i τ (changes k) in
+    let e : Event = event i τ (Changes k) in
     ltb-false τ (tunedOf es i + settling (lifeOf es i))
-    (cleared (orderOf (changes k) (testsTo lanes es e (lifeOf es i) (changes k))) refl h tooSoon)
+    (cleared (orderOf (Changes k) (testsTo lanes es e (lifeOf es i) (Changes k))) refl h tooSoon)
 
 -- what gets 16 is a change that comes sooner
 sooner : (lanes : ℕ) (es : List Event) (e : Event) (a : Act) → answerTo lanes es e (lifeOf es (e .title)) a ≡ tooSoon →
-    (e .time < tunedOf es (e .title) + settling (lifeOf es (e .title))) × (tunes a ≡ true)
+    (e .time < tunedOf es (e .title) + settling (lifeOf es (e .title))) × (setsCount a ≡ true)
 unfolding answerTo distinct isListed hitsOf
-sooner lanes es e (opens m D A K k) h =
-    absurd (false≢true (first-hit (orderOf (opens m D A K k) (testsTo lanes es e (lifeOf es (e .title)) (opens m D A K k))) refl tooSoon (lit< tt) h .0))
-sooner lanes es e (changes k) h = (
-  ltb-true (e .time) (tunedOf es (e .title) + settling (lifeOf es (e .title))) (first-hit (orderOf (changes k) (testsTo lanes es e (lifeOf es (e .title)) (changes k))) refl tooSoon (lit< tt) h .0),
+sooner lanes es e (Opens f k) h =
+    absurd (false≢true (first-hit (orderOf (Opens f k) (testsTo lanes es e (lifeOf es (e .title)) (Opens f k))) refl tooSoon (lit< tt) h .0))
+sooner lanes es e (Changes k) h = (
+  ltb-true (e .time) (tunedOf es (e .title) + settling (lifeOf es (e .title))) (first-hit (orderOf (Changes k) (testsTo lanes es e (lifeOf es (e .title)) (Changes k))) refl tooSoon (lit< tt) h .0),
   refl,
 )
-sooner lanes es e closes h =
-    absurd (false≢true (first-hit (orderOf closes (testsTo lanes es e (lifeOf es (e .title)) closes)) refl tooSoon (lit< tt) h .0))
-sooner lanes es e (doors b) h =
-    absurd (false≢true (first-hit (orderOf (doors b) (testsTo lanes es e (lifeOf es (e .title)) (doors b))) refl tooSoon (lit< tt) h .0))
+sooner lanes es e Closes h =
+    absurd (false≢true (first-hit (orderOf Closes (testsTo lanes es e (lifeOf es (e .title)) Closes)) refl tooSoon (lit< tt) h .0))
+sooner lanes es e (Doors b) h =
+    absurd (false≢true (first-hit (orderOf (Doors b) (testsTo lanes es e (lifeOf es (e .title)) (Doors b))) refl tooSoon (lit< tt) h .0))
 
 pub sixteen : (lanes : ℕ) (es : List Event) (e : Event) → answer lanes es e ≡ tooSoon →
-    (e .time < tunedOf es (e .title) + settling (lifeOf es (e .title))) × (tunes (e .act) ≡ true)
+    (e .time < tunedOf es (e .title) + settling (lifeOf es (e .title))) × (setsCount (e .act) ≡ true)
 sixteen lanes es e = sooner lanes es e (e .act)
 
 -- events that neither open nor change a title leave it as long a time to settle, from the same moment on
-as-long : (L : Life) (τ : ℕ) (a : Act) → tunes a ≡ false → settling (lifeAfter L τ a) ≡ settling L
-as-long L τ (opens m D A K k) h = absurd (false≢true (sym h))
-as-long L τ (changes k) h = absurd (false≢true (sym h))
-as-long L τ closes h = refl
-as-long L τ (doors b) h = refl
+as-long : (L : Life) (τ : ℕ) (a : Act) → setsCount a ≡ false → settling (lifeAfter L τ a) ≡ settling L
+as-long L τ (Opens f k) h = absurd (false≢true (sym h))
+as-long L τ (Changes k) h = absurd (false≢true (sym h))
+as-long L τ Closes h = refl
+as-long L τ (Doors b) h = refl
 
 since : (i : ℕ) (between es : List Event) → Untuned i between →
     (tunedOf (between ++ es) i ≡ tunedOf es i) × (settling (lifeOf (between ++ es) i) ≡ settling (lifeOf es i))
@@ -60,13 +63,13 @@ since i (e ∷ between) es (goes-by f u) =
     let rest = since i between es u in
     ⊎-elim
     (λ x.
-    let quiet : tunes (e .act) ≡ false = f (eqb-true (e .title) i x) in
+    let quiet : setsCount (e .act) ≡ false = f (eqb-true (e .title) i x) in
     rw (x, quiet) (rest .0, as-long (lifeOf (between ++ es) i) (e .time) (e .act) quiet ∙ rest .1))
     (λ x. rw x rest)
     (decide (eqb (e .title) i))
 
 -- the last opening or change is the event itself
-own : (i τ : ℕ) (a : Act) (es : List Event) → tunes a ≡ true → tunedOf (event i τ a ∷ es) i ≡ τ
+own : (i τ : ℕ) (a : Act) (es : List Event) → setsCount a ≡ true → tunedOf (event i τ a ∷ es) i ≡ τ
 unfolding tunedOf
 own i τ a es h = rw (eq-eqb i i refl, h) refl
 
@@ -78,11 +81,11 @@ older lanes (e ∷ new) es (more acc h) = older lanes new es acc
 latest : (lanes : ℕ) (e : Event) (es : List Event) → Accepted lanes (e ∷ es) → answer lanes es e ≡ 0
 latest lanes e es (more acc h) = h
 
-pub far-apart : (lanes : ℕ) (new between es : List Event) (i τ υ k : ℕ) (a : Act) → tunes a ≡ true →
-    Untuned i between → Accepted lanes (new ++ (event i υ (changes k) ∷ (between ++ (event i τ a ∷ es)))) →
+pub far-apart : (lanes : ℕ) (new between es : List Event) (i τ υ k : ℕ) (a : Act) → setsCount a ≡ true →
+    Untuned i between → Accepted lanes (new ++ (event i υ (Changes k) ∷ (between ++ (event i τ a ∷ es)))) →
     τ + settling (lifeOf (event i τ a ∷ es) i) ≤ υ
 far-apart lanes new between es i τ υ k a h u acc =
     let old : List Event = event i τ a ∷ es in
-    let taken = latest lanes (event i υ (changes k)) (between ++ old) (older lanes new (event i υ (changes k) ∷ (between ++ old)) acc) in
+    let taken = latest lanes (event i υ (Changes k)) (between ++ old) (older lanes new (event i υ (Changes k) ∷ (between ++ old)) acc) in
     let same = since i between old u in
     omega (arith, same .0, own i τ a es h, same .1, settled lanes (between ++ old) i υ k taken)

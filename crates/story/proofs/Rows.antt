@@ -16,7 +16,7 @@ use Rattle.rules.proofs.Tests.{decide}
 use Rattle.story.specs.declared.Title.{Title}
 use Rattle.story.specs.Life.{reach}
 use Rattle.story.specs.Kept.{keptWithin, keptOwed, keptAwaited, wants, wantsFrom}
-use Rattle.story.specs.Next.{dropLanes, dropLane}
+use Rattle.story.specs.Next.{dropLanes, dropLane, withRows}
 
 -- the row with f j at each place j below i that p picks
 unfoldable pub filled : (ℕ → Bool) → (ℕ → ℕ) → List ℕ → ℕ → List ℕ
@@ -74,12 +74,6 @@ module _ (p : ℕ → Bool) (f : ℕ → ℕ) (row : List ℕ) where
       (λ y. rw y (filled-out i j x))
       (decide (p i))
 
--- a title with other rows for its lanes
-abbrev pub withRows : Title → List ℕ → List ℕ → Title
-withRows t d o =
-    record
-    { mode = t .mode; kind = t .kind; opened = t .opened; length = t .length; floor = t .floor; cap = t .cap; count = t .count; mark = t .mark; last = t .last; tuned = t .tuned; ends = t .ends; dropped = d; owed = o }
-
 -- a lane from k up to the count
 abbrev pub isDropped : Title → ℕ → ℕ → Bool
 isDropped t k l = both (leb k l) (ltb l (t .count))
@@ -93,7 +87,7 @@ drop-none t n k (suc i) le = rw (lt-leb k i (omega arith)) (drop-none t n k i (o
 -- one lane's turn
 drop-step : (t s : Title) (n i : ℕ) (d o : List ℕ) (b : Bool) → s ≡ withRows t d o →
     pick b (dropLane s n i) s
-    ≡ withRows t (pick b (set d i n) d) (pick b (set o i (keptWithin t i n (reach (t .cap)))) o)
+    ≡ withRows t (pick b (set d i n) d) (pick b (set o i (keptWithin t i n (reach (t .film .cap)))) o)
 unfolding keptWithin keptOwed keptAwaited wants wantsFrom
 drop-step t s n i d o true e = ap (λ x. dropLane x n i) e
 drop-step t s n i d o false e = e
@@ -101,9 +95,9 @@ drop-step t s n i d o false e = e
 -- dropping lanes changes the two rows alone, each at the dropped lanes
 pub drop-rows : (t : Title) (n k i : ℕ) →
     dropLanes t n k i
-    ≡ withRows t (filled (isDropped t k) (λ l. n) (t .dropped) i) (filled (isDropped t k) (λ l. keptWithin t l n (reach (t .cap))) (t .owed) i)
+    ≡ withRows t (filled (isDropped t k) (λ l. n) (t .dropped) i) (filled (isDropped t k) (λ l. keptWithin t l n (reach (t .film .cap))) (t .owed) i)
 unfolding dropLanes filled
 drop-rows t n k zero = refl
 drop-rows t n k (suc i) =
     drop-step t (dropLanes t n k i) n i (filled (isDropped t k) (λ l. n) (t .dropped) i)
-    (filled (isDropped t k) (λ l. keptWithin t l n (reach (t .cap))) (t .owed) i) (isDropped t k i) (drop-rows t n k i)
+    (filled (isDropped t k) (λ l. keptWithin t l n (reach (t .film .cap))) (t .owed) i) (isDropped t k i) (drop-rows t n k i)

@@ -35,7 +35,7 @@ lastEnd L c T = after (isAdmitting L c) T
 -- the ruling count at an admission, that it is a slot start, and that this count admits
 pub record Admitted (L : Life) (a : ℕ) : Type 0 where
   pub some : 0 < L .rule a
-  pub low : L .floor ≤ L .rule a
+  pub low : L .film .floor ≤ L .rule a
   pub start : starts (scheme L) (L .rule a) a ≡ true
   pub unheld : L .shut a ≡ false
 

@@ -14,12 +14,16 @@ use Rattle.rules.specs.Refusals.{pick}
 use Rattle.rules.specs.Search.{howMany}
 use Rattle.rules.proofs.Tests.{decide, both-r}
 use Rattle.rules.proofs.Search
+use Rattle.story.specs.declared.Film.{Film}
 use Rattle.story.specs.declared.Title.{Title}
 use Rattle.story.specs.declared.State.{State}
 use Rattle.story.specs.Life.{Life, isActive}
 use Rattle.story.specs.Kept.{noTitle, stateOk}
 use Rattle.story.specs.Calls.{blankTitle, emptyPool}
-use Rattle.story.specs.Story.{Act, opens, changes, closes, doors, Event, event, unopened, lifeOf, latestOf}
+use Rattle.story.specs.declared.Act.{Act}
+use Rattle.story.specs.declared.Act.the-variants.{Opens, Changes, Closes, Doors}
+use Rattle.story.specs.declared.Event.{Event}
+use Rattle.story.specs.Story.{event, unopened, lifeOf, latestOf}
 use Rattle.story.specs.Story.{isHeldIn}
 use Rattle.story.specs.Story.{tunedOf, heldIn, heldOver, isThereIn, answerTo, answer, taking, accepted}
 use Rattle.story.specs.Next.{callNext}
@@ -55,14 +59,14 @@ unfolding heldIn howMany
 away τ = refl
 
 -- an opening holds a lane at its moment
-opened-holds : (es : List Event) (i τ m D A K k : ℕ) → i < titlesMax → 0 < k → k ≤ K →
-    0 < heldOver (event i τ (opens m D A K k) ∷ es) τ
+opened-holds : (es : List Event) (i τ : ℕ) (f : Film) (k : ℕ) → i < titlesMax → 0 < k → k ≤ f .cap →
+    0 < heldOver (event i τ (Opens f k) ∷ es) τ
 unfolding heldOver lifeOf heldIn isActive
-opened-holds es i τ m D A K k id pos high =
-    let e : Event = event i τ (opens m D A K k) in
-    let L : Life = record { kind = m; opened = τ; length = D; floor = A; cap = K; rule = λ t. k; shut = λ t. false } in
+opened-holds es i τ f k id pos high =
+    let e : Event = event i τ (Opens f k) in
+    let L : Life = record { film = f; opened = τ; rule = λ t. k; shut = λ t. false } in
     let same : lifeOf (e ∷ es) i ≡ L = rw (eq-eqb i i refl) refl in
-    let one : 0 < heldIn L τ = Search.howMany-some (λ l. isHeldIn L l τ) K 0 (omega arith) (held-active L 0 (Rattle.story.specs.Story.tickIn L τ) (lt-ltb 0 k pos)) in
+    let one : 0 < heldIn L τ = Search.howMany-some (λ l. isHeldIn L l τ) (f .cap) 0 (omega arith) (held-active L 0 (Rattle.story.specs.Story.tickIn L τ) (lt-ltb 0 k pos)) in
     let part : heldIn (lifeOf (e ∷ es) i) τ ≤ heldOver (e ∷ es) τ = Search.total-at (λ j. heldIn (lifeOf (e ∷ es) j) τ) titlesMax i id in
     omega (arith, ap (λ x. heldIn x τ) same)
 
@@ -74,12 +78,12 @@ nobody-there es i τ e h = false≢true (sym (away τ) ∙ sym (ap (λ x. isTher
 funded-next : (lanes : ℕ) (es : List Event) (i τ : ℕ) (a : Act) → Funded lanes es →
     answerTo lanes es (event i τ a) (lifeOf es i) a ≡ 0 → 0 < lanes
 funded-next lanes es i τ a (inl p) h = p
-funded-next lanes es i τ (opens m D A K k) (inr e) h =
-    let o = opening lanes es i τ m D A K k h in
-    omega (arith, opened-holds es i τ m D A K k (omega (arith, o .timely .id)) (o .some) (o .high), o .room)
-funded-next lanes es i τ (changes k) (inr e) h = absurd (nobody-there es i τ e (changing lanes es i τ k h .0 .there))
-funded-next lanes es i τ closes (inr e) h = absurd (nobody-there es i τ e (closing lanes es i τ h .there))
-funded-next lanes es i τ (doors b) (inr e) h = absurd (nobody-there es i τ e (doored lanes es i τ b h .there))
+funded-next lanes es i τ (Opens f k) (inr e) h =
+    let o = opening lanes es i τ f k h in
+    omega (arith, opened-holds es i τ f k (omega (arith, o .timely .id)) (o .some) (o .high), o .room)
+funded-next lanes es i τ (Changes k) (inr e) h = absurd (nobody-there es i τ e (changing lanes es i τ k h .0 .there))
+funded-next lanes es i τ Closes (inr e) h = absurd (nobody-there es i τ e (closing lanes es i τ h .there))
+funded-next lanes es i τ (Doors b) (inr e) h = absurd (nobody-there es i τ e (doored lanes es i τ b h .there))
 
 -- one more call: its answer is the sequence's, and what it leaves tells what is accepted then
 pub record Told (lanes : ℕ) (es : List Event) (s : State) : Type 0 where

@@ -20,19 +20,20 @@ use Rattle.scheme.proofs.SteadyLanes.{one-lane}
 use Rattle.scheme.proofs.Which.{steady-scheme}
 use Rattle.scheme.proofs.Turns.{ahead}
 use Rattle.story.specs.Life.{Life, scheme, isFilm, usualCell, isPlanned, isAdmission, isAwaited, isOwed, reach, owedWithin, owes}
-use Rattle.story.specs.Story.{Event, Accepted, lifeAt, ReceivedBy, Begins}
+use Rattle.story.specs.declared.Event.{Event}
+use Rattle.story.specs.Story.{Accepted, lifeAt, ReceivedBy, Begins}
 use Rattle.story.specs.Ruled.{Ruled}
 use Rattle.story.proofs.Ruled.{admitted}
 use Rattle.story.proofs.Owed.{awaited-in, awaited-out, owed-out}
 use Rattle.story.proofs.World.{planned-received, begun-lively}
 
-module _ (L : Life) (kind : L .kind ≡ steadyKind) where
+module _ (L : Life) (kind : L .film .kind ≡ steadyKind) where
   -- its scheme is the steady one,
   pub is-steady : scheme L ≡ steady
-  is-steady = steady-scheme (L .kind) (L .floor) (L .cap) kind
+  is-steady = steady-scheme (L .film .kind) (L .film .floor) (L .film .cap) kind
 
   -- and one count rules while boxes may begin
-  pub one-count : Ruled L → (a : ℕ) → isAdmission L a ≡ true → L .rule a ≡ L .cap
+  pub one-count : Ruled L → (a : ℕ) → isAdmission L a ≡ true → L .rule a ≡ L .film .cap
   one-count ruled a ad =
       let k = admitted L ruled a ad in
       le-antisymm (ruled .high a) (omega (arith, k .low, ruled .flat kind))
@@ -48,16 +49,16 @@ module _ (L : Life) (kind : L .kind ≡ steadyKind) where
 -- while block c plays, block c + 1, if it has film, has been taken or is on air: a lane has it on air by then, whatever accepted
 -- events follow, a close included
 pub next-ahead : (lanes : ℕ) (es : List Event) → lanes ≤ poolMax → Accepted lanes es → (i τ a c : ℕ) → i < titlesMax →
-    lifeAt es i τ .kind ≡ steadyKind → Begins es i τ a → isFilm (lifeAt es i τ) (suc c) ≡ true →
+    lifeAt es i τ .film .kind ≡ steadyKind → Begins es i τ a → isFilm (lifeAt es i τ) (suc c) ≡ true →
     ReceivedBy es i (lifeAt es i τ) a (suc c) (a + c)
 unfolding tickFor
 next-ahead lanes es high acc i τ a c id kind b film =
     let L : Life = lifeAt es i τ in
     let ruled = begun-lively lanes es high acc i τ a id b .ruled in
-    let block = film-within (L .length) (2 ^ (L .cap - 1)) (suc c) (pow-pos (L .cap - 1)) (rw (eq-eqb (L .kind) steadyKind kind) at film) in
-    let n = ahead (L .cap) a c block in
+    let block = film-within (L .film .length) (2 ^ (L .film .cap - 1)) (suc c) (pow-pos (L .film .cap - 1)) (rw (eq-eqb (L .film .kind) steadyKind kind) at film) in
+    let n = ahead (L .film .cap) a c block in
     let planned : isPlanned L a (suc c) (n .0) ≡ true =
-    ap (λ k. takes (scheme L) k a (suc c) (n .0)) (one-count L kind ruled a (b .admission)) ∙ planned-is L kind (L .cap) a (suc c) (n .0) ∙ n .2 in
+    ap (λ k. takes (scheme L) k a (suc c) (n .0)) (one-count L kind ruled a (b .admission)) ∙ planned-is L kind (L .film .cap) a (suc c) (n .0) ∙ n .2 in
     let r = planned-received lanes es high acc i τ a (suc c) (n .0) id b film planned in
     record {
       lane = r .lane;
@@ -72,7 +73,7 @@ next-ahead lanes es high acc i τ a c id kind b film =
 -- ---- what is owed at a close
 
 -- of a life that ends at tick a + 1 the boxes of tick a were the last
-module _ (L : Life) (kind : L .kind ≡ steadyKind) (ruled : Ruled L) (a : ℕ) (last : isAdmission L a ≡ true) (l : ℕ) (lane : l < L .cap) where
+module _ (L : Life) (kind : L .film .kind ≡ steadyKind) (ruled : Ruled L) (a : ℕ) (last : isAdmission L a ≡ true) (l : ℕ) (lane : l < L .film .cap) where
   -- they await the lane's cell for one period, and no box before them does for longer
   awaits : (t : ℕ) → suc a ≤ t → isAwaited L (suc a) (usualCell L l t) t ≡ ltb t (a + period l)
   awaits t from = same (isAwaited L (suc a) (usualCell L l t) t) (ltb t (a + period l)) there back
@@ -101,9 +102,9 @@ module _ (L : Life) (kind : L .kind ≡ steadyKind) (ruled : Ruled L) (a : ℕ) 
   pub owes-nothing : period l ≡ 1 → owes L l (suc a) ≡ 0
   unfolding owes owedWithin howMany
   owes-nothing one =
-      let e : reach (L .cap) ≡ 0 + reach (L .cap) = omega arith in
+      let e : reach (L .film .cap) ≡ 0 + reach (L .film .cap) = omega arith in
       let p : ℕ → Bool = λ o. isOwed L l (suc a) (suc a + o) in
       ap (howMany p) e
-      ∙ howMany-flat p 0 (reach (L .cap))
+      ∙ howMany-flat p 0 (reach (L .film .cap))
       (λ o b. fails (p o)
       (λ h. omega (arith, one, ltb-true (suc a + o) (a + period l) (sym (awaits (suc a + o) (omega arith)) ∙ owed-out L l (suc a) (suc a + o) h))))

@@ -22,7 +22,10 @@ use Rattle.rules.proofs.Refusals.{hitsOf, numbered, cleared}
 use Rattle.grid.proofs.Numbers.{ne-zero-pos}
 use Rattle.story.specs.Life.{Life, isActive, droppedAt, isOwed, reach, owedWithin, owes}
 use Rattle.story.specs.Life.{isHeld}
-use Rattle.story.specs.Story.{Act, opens, changes, closes, doors, Event, tickIn, lifeOf, countIn, isHeldIn}
+use Rattle.story.specs.declared.Act.{Act}
+use Rattle.story.specs.declared.Act.the-variants.{Opens, Changes, Closes, Doors}
+use Rattle.story.specs.declared.Event.{Event}
+use Rattle.story.specs.Story.{tickIn, lifeOf, countIn, isHeldIn}
 use Rattle.story.specs.Story.{heldIn}
 use Rattle.story.specs.Story.{heldOver}
 use Rattle.story.specs.Story.{isThereIn, orderOf, answerTo, answer}
@@ -40,7 +43,7 @@ module _ (L : Life) (l : ℕ) where
   pub owes-no-more : (T : ℕ) → owes L l T ≤ formerlyOwes L l T
   unfolding owes owedWithin formerlyOwes
   owes-no-more T =
-      Search.howMany-wider (λ o. isOwed L l T (T + o)) (λ o. formerlyOwed L l T (T + o)) (reach (L .cap))
+      Search.howMany-wider (λ o. isOwed L l T (T + o)) (λ o. formerlyOwed L l T (T + o)) (reach (L .film .cap))
       (λ o b. owed-before T (T + o))
 
   -- a lane that is held at a tick was held then
@@ -68,7 +71,7 @@ module _ (L : Life) (l : ℕ) where
 pub title-holds-no-more : (L : Life) (τ : ℕ) → heldIn L τ ≤ formerlyHeldIn L τ
 unfolding heldIn formerlyHeldIn
 title-holds-no-more L τ =
-    Search.howMany-wider (λ l. isHeldIn L l τ) (λ l. formerlyHeld L l (tickIn L τ)) (L .cap)
+    Search.howMany-wider (λ l. isHeldIn L l τ) (λ l. formerlyHeld L l (tickIn L τ)) (L .film .cap)
     (λ l b. held-before L l (tickIn L τ))
 
 pub no-more-held : (es : List Event) (τ : ℕ) → heldOver es τ ≤ formerlyHeldOver es τ
@@ -103,15 +106,15 @@ module _ (pool : ℕ) (es : List Event) (e : Event) (L : Life) where
   clears : (a : Act) → formerlyAnswerTo pool es e L a ≡ 0 → (n : ℕ) →
       hitsOf n (orderOf a (formerlyTests pool es e L a)) ≡ false
   unfolding formerlyAnswerTo numbered
-  clears (opens m D A K k) h = cleared (orderOf (opens m D A K k) (formerlyTests pool es e L (opens m D A K k))) refl h
-  clears (changes k) h = cleared (orderOf (changes k) (formerlyTests pool es e L (changes k))) refl h
-  clears closes h = cleared (orderOf closes (formerlyTests pool es e L closes)) refl h
-  clears (doors b) h = cleared (orderOf (doors b) (formerlyTests pool es e L (doors b))) refl h
+  clears (Opens f k) h = cleared (orderOf (Opens f k) (formerlyTests pool es e L (Opens f k))) refl h
+  clears (Changes k) h = cleared (orderOf (Changes k) (formerlyTests pool es e L (Changes k))) refl h
+  clears Closes h = cleared (orderOf Closes (formerlyTests pool es e L Closes)) refl h
+  clears (Doors b) h = cleared (orderOf (Doors b) (formerlyTests pool es e L (Doors b))) refl h
 
   still : (a : Act) → formerlyAnswerTo pool es e L a ≡ 0 → answerTo pool es e L a ≡ 0
   unfolding answerTo firstHit hitsOf
-  still (opens m D A K k) h =
-      let clear = clears (opens m D A K k) h in
+  still (Opens f k) h =
+      let clear = clears (Opens f k) h in
       rw (
         clear outsideLimits,
         clear tooEarly,
@@ -122,8 +125,8 @@ module _ (pool : ℕ) (es : List Event) (e : Event) (L : Life) where
         still-room pool (e ∷ es) (e .time) (clear noLanes),
       )
       refl
-  still (changes k) h =
-      let clear = clears (changes k) h in
+  still (Changes k) h =
+      let clear = clears (Changes k) h in
       rw (
         clear outsideLimits,
         clear tooEarly,
@@ -139,8 +142,8 @@ module _ (pool : ℕ) (es : List Event) (e : Event) (L : Life) where
         still-room pool (e ∷ es) (e .time) (clear noLanes),
       )
       refl
-  still (doors b) h =
-      let clear = clears (doors b) h in
+  still (Doors b) h =
+      let clear = clears (Doors b) h in
       rw (
         clear outsideLimits,
         clear tooEarly,
@@ -152,8 +155,8 @@ module _ (pool : ℕ) (es : List Event) (e : Event) (L : Life) where
         clear notAtSlot,
       )
       refl
-  still closes h =
-      let clear = clears closes h in
+  still Closes h =
+      let clear = clears Closes h in
       rw (
         clear outsideLimits,
         clear tooEarly,

@@ -122,7 +122,7 @@ rules-unheld L t c pos h =
     (decide (L .shut t))
 
 -- a lane l that is not active at T, the tick of its drop
-module _ (L : Life) (ruled : Ruled L) (legal : Legal L) (l T u : ℕ) (lane : l < L .cap) (off : L .rule T ≤ l)
+module _ (L : Life) (ruled : Ruled L) (legal : Legal L) (l T u : ℕ) (lane : l < L .film .cap) (off : L .rule T ≤ l)
     (from : T ≤ u) where
   -- an admission that awaits the lane's cell had the lane, and its slot ends by where its count last stopped
   pub awaited-end : (a : ℕ) → a < T → isAdmission L a ≡ true → isPlanned L a (usualCell L l u) u ≡ true →
@@ -146,7 +146,7 @@ module _ (L : Life) (ruled : Ruled L) (legal : Legal L) (l T u : ℕ) (lane : l 
       (had, multiples w a e (ruled .laws .slot-pos c) (slot-start-zero (scheme L) c a (k .start)) ze above)
 
   -- the other way round, a slot before a count last stopped there is an admission
-  pub end-admission : (c : ℕ) → l < c → L .floor ≤ c → 0 < lastEnd L c T →
+  pub end-admission : (c : ℕ) → l < c → L .film .floor ≤ c → 0 < lastEnd L c T →
       (a : ℕ) × (a < T) × (a + scheme L .slotOf c ≡ lastEnd L c T) × (L .rule a ≡ c) × (isAdmission L a ≡ true)
   unfolding isAdmission
   end-admission c had low some =
@@ -176,16 +176,15 @@ module _ (L : Life) (ruled : Ruled L) (legal : Legal L) (l T u : ℕ) (lane : l 
 
 -- the life that a stored title tells, on a course
 abbrev pub lifeIn : Title → Course → Life
-lifeIn t r =
-    record { kind = t .kind; opened = t .opened; length = t .length; floor = t .floor; cap = t .cap; rule = r .rule; shut = r .shut }
+lifeIn t r = record { film = t .film; opened = t .opened; rule = r .rule; shut = r .shut }
 
 -- the stored ends, of the counts that had lane l, are where those counts last stopped before its drop at T
 abbrev pub EndsAt : Title → Course → ℕ → ℕ → Type 0
-EndsAt t r l T = (c : ℕ) → l < c → t .floor ≤ c → c ≤ t .cap → getD (t .ends) c 0 ≡ lastEnd (lifeIn t r) c T
+EndsAt t r l T = (c : ℕ) → l < c → t .film .floor ≤ c → c ≤ t .film .cap → getD (t .ends) c 0 ≡ lastEnd (lifeIn t r) c T
 
 -- what the stored ends say is awaited of a lane is what the admissions await
 pub kept-awaited : (t : Title) (r : Course) (l T u : ℕ) → Ruled (lifeIn t r) → Legal (lifeIn t r) →
-    l < t .cap → r .rule T ≤ l → T ≤ u → EndsAt t r l T →
+    l < t .film .cap → r .rule T ≤ l → T ≤ u → EndsAt t r l T →
     isAwaited (lifeIn t r) T (usualCell (lifeIn t r) l u) u ≡ keptAwaited t l (usualCell (lifeIn t r) l u) u
 unfolding keptAwaited wants wantsFrom
 kept-awaited t r l T u ruled legal lane off from ends = same (isAwaited L T x u) (some test (suc K)) there back
@@ -194,10 +193,10 @@ kept-awaited t r l T u ruled legal lane off from ends = same (isAwaited L T x u)
     L = lifeIn t r
 
     A : ℕ
-    A = t .floor
+    A = t .film .floor
 
     K : ℕ
-    K = t .cap
+    K = t .film .cap
 
     S : Scheme
     S = schemeIn t
@@ -270,7 +269,7 @@ kept-awaited t r l T u ruled legal lane off from ends = same (isAwaited L T x u)
 
 -- so what they say is owed is what the documents say is owed
 pub kept-owed : (t : Title) (r : Course) (l T u : ℕ) → Ruled (lifeIn t r) → Legal (lifeIn t r) →
-    l < t .cap → r .rule T ≤ l → T ≤ u → EndsAt t r l T → isOwed (lifeIn t r) l T u ≡ keptOwed t l u
+    l < t .film .cap → r .rule T ≤ l → T ≤ u → EndsAt t r l T → isOwed (lifeIn t r) l T u ≡ keptOwed t l u
 unfolding isOwed keptOwed
 kept-owed t r l T u ruled legal lane off from ends =
     ap (both (isFilm (lifeIn t r) (usualCell (lifeIn t r) l u)))

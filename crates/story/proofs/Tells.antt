@@ -17,17 +17,18 @@ use Rattle.rules.specs.Refusals.{pick}
 use Rattle.rules.specs.Search.{howMany, after}
 use Rattle.rules.proofs.Tests.{decide, fails}
 use Rattle.rules.proofs.Search
-use Rattle.scheme.specs.Scheme.{tickFor}
 use Rattle.scheme.proofs.Both.{lawful}
+use Rattle.story.specs.declared.Film.{Film}
 use Rattle.story.specs.declared.Title.{Title}
 use Rattle.story.specs.declared.State.{State}
-use Rattle.story.specs.Life.{Life, Course, usualCell, droppedAt, isOwed, reach, owedWithin, owes}
+use Rattle.story.specs.Life.{Life, Course, tickBy, usualCell, droppedAt, isOwed, reach, owedWithin, owes}
 use Rattle.story.proofs.Ruled.{lastEnd}
 use Rattle.story.specs.Kept.{titleAt, isShut, tickAt, ruling, titleHeld, lanesHeld, isThere}
 use Rattle.story.specs.Next.{openedTitle, withTitle}
 use Rattle.story.specs.Calls.{blankTitle}
-use Rattle.story.specs.Story.{Event, unopened, lifeAfter, lifeOf, latestOf, lastTime, tickIn, countIn, heldIn}
-use Rattle.story.specs.Story.{tunes, tunedOf, isShutIn, heldOver, isThereIn}
+use Rattle.story.specs.declared.Event.{Event}
+use Rattle.story.specs.Story.{unopened, lifeAfter, lifeOf, latestOf, lastTime, tickIn, countIn, heldIn}
+use Rattle.story.specs.Story.{setsCount, tunedOf, isShutIn, heldOver, isThereIn}
 use Rattle.story.proofs.Owed.{awaited-out, owed-out}
 use Rattle.story.proofs.Stored.{lifeIn}
 use Rattle.story.proofs.Passed.{Offered}
@@ -55,11 +56,11 @@ abbrev pub fromStart : ℕ → Course
 fromStart k = record { rule = λ t. k; shut = λ t. false }
 
 -- a title just opened
-pub opened-present : (m τ D A K k : ℕ) → τ ≤ eventTimeMax → Offered m D A K k → A ≤ k → k ≤ K →
-    Present (openedTitle m τ D A K k) (fromStart k)
+pub opened-present : (f : Film) (τ k : ℕ) → τ ≤ eventTimeMax → Offered f k → f .floor ≤ k → k ≤ f .cap →
+    Present (openedTitle f τ k) (fromStart k)
 unfolding tickAt ruling lastEnd after droppedAt owes
-opened-present m τ D A K k late o low high =
-    let start : (τ - τ) / tickFor m D A K ≡ 0 = rw sub-self (zero-div (tickFor m D A K)) in
+opened-present f τ k late o low high =
+    let start : (τ - τ) / tickBy f ≡ 0 = rw sub-self (zero-div (tickBy f)) in
     record {
       mode = inl refl;
       sized =
@@ -85,14 +86,14 @@ opened-present m τ D A K k late o low high =
             owed-high = λ j. rw (zeros lanePlaces j) (omega arith);
           };
       since = omega arith;
-      on-tick = rw sub-self (zero-mod (tickFor m D A K));
+      on-tick = rw sub-self (zero-mod (tickBy f));
       steady = λ u le. refl;
       doors = λ e u le. refl;
-      ruled = record { laws = lawful m D A K (omega (arith, o .floor-low)) (omega arith) (o .flat); flat = o .flat; low = λ u p. low; high = λ u. high };
+      ruled = record { laws = lawful (f .kind) (f .length) (f .floor) (f .cap) (omega (arith, o .floor-low)) (omega arith) (o .flat); flat = o .flat; low = λ u p. low; high = λ u. high };
       legal = record { ends = λ u p f. absurd (f refl); begins = λ u p f. absurd (f refl) };
       ends = λ c lo hi. zeros countPlaces c ∙ rw start refl;
       drops = λ l lane off. zeros lanePlaces l ∙ rw start refl;
-      owing = λ l lane off. zeros lanePlaces l ∙ rw (zeros lanePlaces l) (sym (owes-none (lifeIn (openedTitle m τ D A K k) (fromStart k)) l (reach K)));
+      owing = λ l lane off. zeros lanePlaces l ∙ rw (zeros lanePlaces l) (sym (owes-none (lifeIn (openedTitle f τ k) (fromStart k)) l (reach (f .cap))));
     }
 
 -- what a slot keeps of an id: nothing, where no event has named it, or the course of its life
@@ -181,7 +182,7 @@ lanes-told pool es s τ w le =
 pub told-with : (pool : ℕ) (es : List Event) (s : State) (e : Event) (t : Title) → Tells pool es s →
     e .title < titlesMax → lastTime es ≤ e .time → e .time ≤ eventTimeMax →
     TellsTitle (lifeAfter (lifeOf es (e .title)) (e .time) (e .act)) (e .time) t →
-    t .tuned ≡ pick (tunes (e .act)) (e .time) (tunedOf es (e .title)) →
+    t .tuned ≡ pick (setsCount (e .act)) (e .time) (tunedOf es (e .title)) →
     Tells pool (e ∷ es) (withTitle s (e .title) t (e .time))
 unfolding lifeOf latestOf tunedOf
 told-with pool es s e t w fits le limit tells tuned =
@@ -211,7 +212,7 @@ told-with pool es s e t w fits le limit tells tuned =
         rw (x, getD-set-other (s .titles) i₀ i t Rattle.story.specs.Kept.noTitle (λ q. eqb-false i₀ i x (sym q))) (w .title i b)
 
     Tuned : ℕ → Type 0
-    Tuned i = getD (set (s .titles) i₀ t) i Rattle.story.specs.Kept.noTitle .tuned ≡ pick (both (eqb i₀ i) (tunes (e .act))) (e .time) (tunedOf es i)
+    Tuned i = getD (set (s .titles) i₀ t) i Rattle.story.specs.Kept.noTitle .tuned ≡ pick (both (eqb i₀ i) (setsCount (e .act))) (e .time) (tunedOf es i)
 
     tuned-at : (i : ℕ) → eqb i₀ i ≡ true → Tuned i
     tuned-at i x =

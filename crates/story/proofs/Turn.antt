@@ -24,13 +24,13 @@ use Rattle.story.specs.Ruled.{Ruled}
 use Rattle.story.proofs.Ruled.{Legal, admits, isAdmitting, lastEnd, SameAt}
 use Rattle.story.specs.Kept.{openMode, closingMode, heldMark, isShut, tickAt, ruling, keptOwed}
 use Rattle.story.specs.Kept.{keptWithin, schemeIn, titleTick}
-use Rattle.story.specs.Next.{ended, turned, turnedTitle}
+use Rattle.story.specs.Next.{ended, withRows, turned, turnedTitle}
 use Rattle.story.specs.Story.{turn}
 use Rattle.story.proofs.Clock.{later-tick}
 use Rattle.story.proofs.Held.{dropped-le, owes-local}
 use Rattle.story.proofs.Stored.{lifeIn, kept-owed, EndsAt}
 use Rattle.story.proofs.Kept.{lastTick, dropTick, Sized, Present, tick-some}
-use Rattle.story.proofs.Rows.{filled, set-high, filled-length, filled-high, filled-in, filled-out, withRows}
+use Rattle.story.proofs.Rows.{filled, set-high, filled-length, filled-high, filled-in, filled-out}
 use Rattle.story.proofs.Rows.{isDropped, drop-rows}
 
 -- ---- a turn, and the rows that it leaves
@@ -43,12 +43,12 @@ pub record Turning (t : Title) (r r′ : Course) (τ q m c d v : ℕ) : Type 0 w
   pub later : t .last < τ
   pub limit : τ ≤ eventTimeMax
   pub on-tick : (τ - t .opened) % titleTick t ≡ 0
-  pub low : 0 < q → t .floor ≤ q
-  pub high : q ≤ t .cap
-  pub at-slot : starts (schemeIn t) (max (t .floor) (min (t .count) q)) (tickAt t τ) ≡ true
+  pub low : 0 < q → t .film .floor ≤ q
+  pub high : q ≤ t .film .cap
+  pub at-slot : starts (schemeIn t) (max (t .film .floor) (min (t .count) q)) (tickAt t τ) ≡ true
   pub mode : (m ≡ openMode) ⊎ (m ≡ closingMode)
-  pub count-low : t .floor ≤ c
-  pub count-high : c ≤ t .cap
+  pub count-low : t .film .floor ≤ c
+  pub count-high : c ≤ t .film .cap
   pub mark-high : d ≤ heldMark
   pub tuned-high : v ≤ eventTimeMax
   pub rules : pick (eqb m openMode) c 0 ≡ q
@@ -61,7 +61,7 @@ abbrev pub droppedRow : Title → ℕ → ℕ → List ℕ
 droppedRow t n q = filled (isDropped t q) (λ l. n) (t .dropped) (t .count)
 
 abbrev pub owedRow : Title → ℕ → ℕ → List ℕ
-owedRow t n q = filled (isDropped t q) (λ l. keptWithin (ended t n) l n (reach (t .cap))) (t .owed) (t .count)
+owedRow t n q = filled (isDropped t q) (λ l. keptWithin (ended t n) l n (reach (t .film .cap))) (t .owed) (t .count)
 
 -- the same title, its rows laid open
 abbrev pub laid : Title → ℕ → ℕ → ℕ → ℕ → ℕ → ℕ → Title
@@ -71,11 +71,11 @@ pub turned-laid : (t : Title) (τ q m c d v : ℕ) → turnedTitle t τ q m c d 
 turned-laid t τ q m c d v = ap (λ x. turned x m c d τ v) (drop-rows (ended t (tickAt t τ)) (tickAt t τ) q (t .count))
 
 -- a lane owes at most half as many cells as the film has, and so few enough to be stored
-within-high : (t : Title) (l n : ℕ) → t .cap ≤ 42 → keptWithin t l n (reach (t .cap)) ≤ askedMax
+within-high : (t : Title) (l n : ℕ) → t .film .cap ≤ 42 → keptWithin t l n (reach (t .film .cap)) ≤ askedMax
 unfolding keptWithin reach
 within-high t l n small =
-    let p : 2 ^ (t .cap - 1) ≤ 2 ^ 41 = pow-mono {i = t .cap - 1} {j = 41} (omega arith) in
-    omega (arith, Search.howMany-le (λ o. keptOwed t l (n + o)) (2 ^ (t .cap - 1)))
+    let p : 2 ^ (t .film .cap - 1) ≤ 2 ^ 41 = pow-mono {i = t .film .cap - 1} {j = 41} (omega arith) in
+    omega (arith, Search.howMany-le (λ o. keptOwed t l (n + o)) (2 ^ (t .film .cap - 1)))
 
 -- an open title's count rules
 pub open-ruling : (t : Title) → t .mode ≡ 1 → ruling t ≡ t .count
@@ -148,12 +148,12 @@ module _ (t : Title) (r r′ : Course) (τ q m c d v : ℕ) (h : Turning t r r�
   -- the turn's own tick is a slot start of the old count and of the new one
   old-slot : starts (schemeIn t) (t .count) (tickAt t τ) ≡ true
   old-slot =
-      h .here .ruled .laws .slots-nest (max (t .floor) (min (t .count) q)) (t .count) (tickAt t τ)
+      h .here .ruled .laws .slots-nest (max (t .film .floor) (min (t .count) q)) (t .count) (tickAt t τ)
       (omega (arith, h .here .sized .count-low)) (h .at-slot)
 
   new-slot : 0 < q → starts (schemeIn t) q (tickAt t τ) ≡ true
   new-slot p =
-      h .here .ruled .laws .slots-nest (max (t .floor) (min (t .count) q)) q (tickAt t τ) (omega (arith, h .low p)) (h .at-slot)
+      h .here .ruled .laws .slots-nest (max (t .film .floor) (min (t .count) q)) q (tickAt t τ) (omega (arith, h .low p)) (h .at-slot)
 
   turn-legal : Legal (lifeIn t r′)
   turn-legal =
@@ -213,7 +213,7 @@ module _ (t : Title) (r r′ : Course) (τ q m c d v : ℕ) (h : Turning t r r�
           (decide (ltb s n))
 
   -- of every count the stored end is where it last stopped to admit boxes
-  turn-ends : (k : ℕ) → t .floor ≤ k → k ≤ t .cap →
+  turn-ends : (k : ℕ) → t .film .floor ≤ k → k ≤ t .film .cap →
       getD (ended t (tickAt t τ) .ends) k 0 ≡ lastEnd (lifeIn t r′) k (tickAt t τ)
   unfolding lastEnd
   turn-ends k lo hi = ⊎-elim held (λ x. ⊎-elim (old x) (another x) (decide (eqb k (t .count)))) (decide (isShut t))
@@ -267,7 +267,7 @@ module _ (t : Title) (r r′ : Course) (τ q m c d v : ℕ) (h : Turning t r r�
       (λ x. inr (ltb-false l (t .count) x, rw (x, le-leb q l off) refl))
       (decide (ltb l (t .count)))
 
-  turn-drops : (l : ℕ) → l < t .cap → q ≤ l →
+  turn-drops : (l : ℕ) → l < t .film .cap → q ≤ l →
       getD (droppedRow t (tickAt t τ) q) l 0 ≡ droppedAt (lifeIn t r′) l (tickAt t τ)
   unfolding droppedAt isActive
   turn-drops l lane off = ⊎-elim now before (lane-cases l off)
@@ -296,7 +296,7 @@ module _ (t : Title) (r r′ : Course) (τ q m c d v : ℕ) (h : Turning t r r�
           ∙ Search.after-ext (isActive (lifeIn t r) l) p n (λ i b. ap (λ x. ltb l x) (sym (h .before i b .rule)))
 
   -- the number owed is counted at the drop, from the ends stored then
-  turn-owing : (l : ℕ) → l < t .cap → q ≤ l →
+  turn-owing : (l : ℕ) → l < t .film .cap → q ≤ l →
       getD (owedRow t (tickAt t τ) q) l 0
       ≡ owes (lifeIn t r′) l (getD (droppedRow t (tickAt t τ) q) l 0)
   unfolding owes owedWithin keptWithin
@@ -309,7 +309,7 @@ module _ (t : Title) (r r′ : Course) (τ q m c d v : ℕ) (h : Turning t r r�
       L′ = lifeIn t r′
 
       count : ℕ → ℕ
-      count l = keptWithin (ended t n) l n (reach (t .cap))
+      count l = keptWithin (ended t n) l n (reach (t .film .cap))
 
       long : l < length (t .dropped)
       long = omega (arith, h .here .sized .dropped-long, h .here .sized .cap-high)
@@ -325,7 +325,7 @@ module _ (t : Title) (r r′ : Course) (τ q m c d v : ℕ) (h : Turning t r r�
       now w =
           filled-in (isDropped t q) count (t .owed) (t .count) l (w .0) long′ (w .1)
           ∙ rw (filled-in (isDropped t q) (λ l. n) (t .dropped) (t .count) l (w .0) long (w .1))
-          (Search.howMany-ext (λ o. keptOwed (ended t n) l (n + o)) (λ o. isOwed L′ l n (n + o)) (reach (t .cap))
+          (Search.howMany-ext (λ o. keptOwed (ended t n) l (n + o)) (λ o. isOwed L′ l n (n + o)) (reach (t .film .cap))
           (λ o b. sym (kept-owed (ended t n) r′ l n (n + o) turn-ruled turn-legal lane (rw (h .from n (omega arith)) off) (omega arith) ends)))
 
       before : (t .count ≤ l) × (isDropped t q l ≡ false) →
@@ -363,10 +363,10 @@ module _ (t : Title) (r r′ : Course) (τ q m c d v : ℕ) (h : Turning t r r�
         tuned-high = h .tuned-high;
         ends-long = elim (isShut t) as (λ b. length (pick b (t .ends) (set (t .ends) (t .count) n)) ≡ countPlaces) [ true ↦ z .ends-long | false ↦ length-set (t .ends) (t .count) n ∙ z .ends-long ];
         dropped-long = filled-length (isDropped t q) (λ l. n) (t .dropped) (t .count) ∙ z .dropped-long;
-        owed-long = filled-length (isDropped t q) (λ l. keptWithin (ended t n) l n (reach (t .cap))) (t .owed) (t .count) ∙ z .owed-long;
+        owed-long = filled-length (isDropped t q) (λ l. keptWithin (ended t n) l n (reach (t .film .cap))) (t .owed) (t .count) ∙ z .owed-long;
         ends-high = λ j. elim (isShut t) as (λ b. getD (pick b (t .ends) (set (t .ends) (t .count) n)) j 0 ≤ askedMax) [ true ↦ z .ends-high j | false ↦ set-high (t .ends) (t .count) n askedMax small (z .ends-high) j ];
         dropped-high = filled-high (isDropped t q) (λ l. n) (t .dropped) askedMax (λ l. small) (z .dropped-high) (t .count);
-        owed-high = filled-high (isDropped t q) (λ l. keptWithin (ended t n) l n (reach (t .cap))) (t .owed) askedMax (λ l. within-high (ended t n) l n (omega (arith, z .cap-high))) (z .owed-high) (t .count);
+        owed-high = filled-high (isDropped t q) (λ l. keptWithin (ended t n) l n (reach (t .film .cap))) (t .owed) askedMax (λ l. within-high (ended t n) l n (omega (arith, z .cap-high))) (z .owed-high) (t .count);
       }
 
   -- after the turn the stored numbers tell the turned course

@@ -13,7 +13,9 @@ use Rattle.rules.proofs.Refusals.{hit-same}
 use Rattle.rules.proofs.Former.{formerly, formerly-done, renumbered, former-hit, joined, outside}
 use Rattle.story.specs.declared.State.{State}
 use Rattle.story.specs.Orders.{Tests, openOrder, changeOrder, closeOrder, doorsOrder}
-use Rattle.story.specs.Story.{Act, opens, changes, closes, doors, Event}
+use Rattle.story.specs.declared.Act.{Act}
+use Rattle.story.specs.declared.Act.the-variants.{Opens, Changes, Closes, Doors}
+use Rattle.story.specs.declared.Event.{Event}
 use Rattle.story.specs.Kept.{titleAt}
 use Rattle.story.specs.Next.{callNext}
 use Rattle.story.specs.Calls.{testsIn, callAnswer}
@@ -59,13 +61,13 @@ change-place t wrong e =
 
 pub same-place : (s : State) (i τ : ℕ) (a : Act) → formerly (callAnswer s i τ a) ≡ formerAnswer s i τ a
 unfolding callAnswer formerAnswer renumbered
-same-place s i τ (opens m D A K k) =
-    open-place (testsIn s i τ (opens m D A K k)) _ (ap (either (ltb K A)) (outside A K k))
-same-place s i τ (changes k) =
+same-place s i τ (Opens f k) =
+    open-place (testsIn s i τ (Opens f k)) _ (ap (either (ltb (f .cap) (f .floor))) (outside (f .floor) (f .cap) k))
+same-place s i τ (Changes k) =
     let t = titleAt s i in
-    change-place (testsIn s i τ (changes k)) _ (ap (λ b. either b (eqb k (t .count))) (outside (t .floor) (t .cap) k))
-same-place s i τ closes = former-hit (closeOrder (testsIn s i τ closes))
-same-place s i τ (doors b) = former-hit (doorsOrder (testsIn s i τ (doors b)))
+    change-place (testsIn s i τ (Changes k)) _ (ap (λ b. either b (eqb k (t .count))) (outside (t .film .floor) (t .film .cap) k))
+same-place s i τ Closes = former-hit (closeOrder (testsIn s i τ Closes))
+same-place s i τ (Doors b) = former-hit (doorsOrder (testsIn s i τ (Doors b)))
 
 -- what was accepted is accepted, what was refused is refused
 pub same-calls : (s : State) (i τ : ℕ) (a : Act) → eqb (formerAnswer s i τ a) done ≡ eqb (callAnswer s i τ a) done

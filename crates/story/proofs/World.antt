@@ -16,7 +16,10 @@ use Rattle.rules.proofs.Tests.{decide, both-l, either-false-l, either-false-r}
 use Rattle.rules.proofs.Search
 use Rattle.scheme.specs.Scheme.{starts}
 use Rattle.story.specs.Life.{Life, Course, onCourse, scheme, isFilm, isPlanned, isAdmission, isActive, cell, onAir, isHeld}
-use Rattle.story.specs.Story.{Act, opens, changes, closes, doors, Event, event, tickLength, tickIn}
+use Rattle.story.specs.declared.Act.{Act}
+use Rattle.story.specs.declared.Act.the-variants.{Opens, Changes, Closes, Doors}
+use Rattle.story.specs.declared.Event.{Event}
+use Rattle.story.specs.Story.{event, tickLength, tickIn}
 use Rattle.story.specs.Story.{momentOf, turn}
 use Rattle.story.specs.Story.{lifeAfter, lifeOf, latestOf, lastTime, upTo, countIn, isHeldIn, heldIn, isThereIn}
 use Rattle.story.specs.Story.{answerTo, answer, Accepted, none, more, lifeAt, airAt, InTick, ReceivedBy, Received, Begins}
@@ -72,16 +75,16 @@ turn-stood L M r τ υ pos since on lt before w =
 
 -- the course that a title takes by an event other than an opening, and that it turns no earlier tick
 abbrev pub courseAfter : Life → ℕ → Act → Course
-courseAfter L n (opens m D A K k) = record { rule = L .rule; shut = L .shut }
-courseAfter L n (changes k) = record { rule = turn (L .rule) n k; shut = L .shut }
-courseAfter L n closes = record { rule = turn (L .rule) n 0; shut = L .shut }
-courseAfter L n (doors b) = record { rule = L .rule; shut = turn (L .shut) n b }
+courseAfter L n (Opens f k) = record { rule = L .rule; shut = L .shut }
+courseAfter L n (Changes k) = record { rule = turn (L .rule) n k; shut = L .shut }
+courseAfter L n Closes = record { rule = turn (L .rule) n 0; shut = L .shut }
+courseAfter L n (Doors b) = record { rule = L .rule; shut = turn (L .shut) n b }
 
 pub same-before : (L : Life) (n : ℕ) (a : Act) (u : ℕ) → u < n → SameAt L (courseAfter L n a) u
-same-before L n (opens m D A K k) u b = record { rule = refl; shut = refl }
-same-before L n (changes k) u b = record { rule = turn-before (L .rule) n k u b; shut = refl }
-same-before L n closes u b = record { rule = turn-before (L .rule) n 0 u b; shut = refl }
-same-before L n (doors d) u b = record { rule = refl; shut = turn-before (L .shut) n d u b }
+same-before L n (Opens f k) u b = record { rule = refl; shut = refl }
+same-before L n (Changes k) u b = record { rule = turn-before (L .rule) n k u b; shut = refl }
+same-before L n Closes u b = record { rule = turn-before (L .rule) n 0 u b; shut = refl }
+same-before L n (Doors d) u b = record { rule = refl; shut = turn-before (L .shut) n d u b }
 
 turned-stood : (lanes : ℕ) (es : List Event) → lanes ≤ poolMax → Accepted lanes es → (i υ : ℕ) → Turned es i υ →
     (a : Act) (M : Life) (τ : ℕ) → τ < υ → lifeOf es i .opened ≤ τ → Stood (lifeOf es i) M τ →
@@ -97,13 +100,13 @@ event-stood : (lanes : ℕ) (es : List Event) → lanes ≤ poolMax → Accepted
     answerTo lanes es (event i υ a) (lifeOf es i) a ≡ 0 → (M : Life) (τ : ℕ) → τ < υ →
     lifeAfter (lifeOf es i) υ a .opened ≤ τ → (lifeOf es i .opened ≤ τ → Stood (lifeOf es i) M τ) →
     Stood (lifeAfter (lifeOf es i) υ a) M τ
-event-stood lanes es high acc i υ (opens m D A K k) h M τ lt since w = absurd (omega arith)
-event-stood lanes es high acc i υ (changes k) h M τ lt since w =
-    turned-stood lanes es high acc i υ (changing lanes es i υ k h .0) (changes k) M τ lt since (w since)
-event-stood lanes es high acc i υ closes h M τ lt since w =
-    turned-stood lanes es high acc i υ (closing lanes es i υ h) closes M τ lt since (w since)
-event-stood lanes es high acc i υ (doors b) h M τ lt since w =
-    turned-stood lanes es high acc i υ (doored lanes es i υ b h) (doors b) M τ lt since (w since)
+event-stood lanes es high acc i υ (Opens f k) h M τ lt since w = absurd (omega arith)
+event-stood lanes es high acc i υ (Changes k) h M τ lt since w =
+    turned-stood lanes es high acc i υ (changing lanes es i υ k h .0) (Changes k) M τ lt since (w since)
+event-stood lanes es high acc i υ Closes h M τ lt since w =
+    turned-stood lanes es high acc i υ (closing lanes es i υ h) Closes M τ lt since (w since)
+event-stood lanes es high acc i υ (Doors b) h M τ lt since w =
+    turned-stood lanes es high acc i υ (doored lanes es i υ b h) (Doors b) M τ lt since (w since)
 
 -- a life stands as it does
 itself : (L : Life) (τ : ℕ) → Stood L L τ
@@ -186,7 +189,7 @@ received-skip e es i L a c n f le =
 record Sight (L : Life) (a c n : ℕ) : Type 0 where
   lane : ℕ
   tick : ℕ
-  lane-low : lane < L .cap
+  lane-low : lane < L .film .cap
   from-start : a ≤ tick
   by-then : tick ≤ n
   carries : onAir L lane tick ≡ cell c
@@ -258,7 +261,7 @@ module _ (lanes : ℕ) (es : List Event) (high : lanes ≤ poolMax) (acc : Accep
       let held : isHeldIn X (g .lane) τ ≡ true =
       held-falls X (g .lane) n (g .tick) (ltb-false (g .tick) n x)
       (λ v lo hi. le-ltb (g .lane) (r .rule v) (omega (arith, alive .steady v n (omega arith) now))) then in
-      absurd (omega (arith, Search.howMany-some (λ l. isHeldIn X l τ) (L .cap) (g .lane) (g .lane-low) held)))
+      absurd (omega (arith, Search.howMany-some (λ l. isHeldIn X l τ) (L .film .cap) (g .lane) (g .lane-low) held)))
       (decide (ltb (g .tick) n))
 
 -- ---- one more event
@@ -289,20 +292,20 @@ own-event : (lanes : ℕ) (es : List Event) → lanes ≤ poolMax → Accepted l
     momentOf L a < τ → (r : Course) → lifeOf es i ≡ onCourse L r → ((u : ℕ) → u ≤ a → SameAt L r u) →
     Watched (event i τ b ∷ es) i L a
 unfolding lifeOf sight-received received-skip
-own-event lanes es high acc i τ (opens m D A K k) h L a adm lt r life agree =
-    let o = opening lanes es i τ m D A K k h in
+own-event lanes es high acc i τ (Opens f k) h L a adm lt r life agree =
+    let o = opening lanes es i τ f k h in
     let id : i < titlesMax = omega (arith, o .timely .id) in
     over
     (λ c n film planned.
     let g = sight lanes es high acc i id L a adm r life agree c n film planned in
     let before : momentOf L (suc (g .tick)) ≤ τ = seen-before lanes es high acc i id L a adm r life agree c n τ (o .timely .late) (o .away) g in
-    (received-skip (event i τ (opens m D A K k)) es i L a c n (sight-received lanes es high acc i id L a adm r life agree c n g) before, before))
-own-event lanes es high acc i τ (changes k) h L a adm lt r life agree =
-    own-turn lanes es high acc i τ (changing lanes es i τ k h .0) L a lt r life agree (changes k) (λ X. refl)
-own-event lanes es high acc i τ closes h L a adm lt r life agree =
-    own-turn lanes es high acc i τ (closing lanes es i τ h) L a lt r life agree closes (λ X. refl)
-own-event lanes es high acc i τ (doors b) h L a adm lt r life agree =
-    own-turn lanes es high acc i τ (doored lanes es i τ b h) L a lt r life agree (doors b) (λ X. refl)
+    (received-skip (event i τ (Opens f k)) es i L a c n (sight-received lanes es high acc i id L a adm r life agree c n g) before, before))
+own-event lanes es high acc i τ (Changes k) h L a adm lt r life agree =
+    own-turn lanes es high acc i τ (changing lanes es i τ k h .0) L a lt r life agree (Changes k) (λ X. refl)
+own-event lanes es high acc i τ Closes h L a adm lt r life agree =
+    own-turn lanes es high acc i τ (closing lanes es i τ h) L a lt r life agree Closes (λ X. refl)
+own-event lanes es high acc i τ (Doors b) h L a adm lt r life agree =
+    own-turn lanes es high acc i τ (doored lanes es i τ b h) L a lt r life agree (Doors b) (λ X. refl)
 
 -- one more event of any title, after the box's start
 follow-more : (lanes : ℕ) (e : Event) (es : List Event) → lanes ≤ poolMax → Accepted lanes es → answer lanes es e ≡ 0 →

@@ -8,13 +8,14 @@ use Rattle.rules.specs.Limits.{both, within, poolMin, poolMax, idMax, eventTime
 use Rattle.rules.specs.Limits.{lanePlaces, titlesMax}
 use Rattle.rules.specs.Refusals.{pick, Rule, refuse, firstHit, outsideLimits}
 use Rattle.rules.specs.Search.{every}
-use Rattle.scheme.specs.Scheme.{paddedKind, starts}
+use Rattle.scheme.specs.Scheme.{starts}
 use Rattle.story.specs.declared.Title.{Title}
 use Rattle.story.specs.declared.State.{State}
 use Rattle.story.specs.Orders.{Tests, laneOrder, statusOrder}
-use Rattle.story.specs.Story.{Act, opens, changes, closes, doors, actLimits, permitted, orderOf}
+use Rattle.story.specs.declared.Act.{Act}
+use Rattle.story.specs.Story.{actLimits, permitted, orderOf}
 use Rattle.story.specs.Story.{isCrossed, isBelow, isAbove, isSame, isSameDoors}
-use Rattle.story.specs.Kept.{absentMode, closingMode, clearMark, titleAt, isShut, isSteadyTitle, schemeIn, stateOk, tickAt, atTickStart}
+use Rattle.story.specs.Kept.{absentMode, closingMode, clearMark, noFilm, titleAt, isShut, isSteadyTitle, schemeIn, stateOk, tickAt, atTickStart}
 use Rattle.story.specs.Kept.{ruling, keptHeld}
 use Rattle.story.specs.Kept.{settledAt, titleHeld, lanesHeld, isThere, shows}
 use Rattle.story.specs.Next.{callNext}
@@ -23,7 +24,7 @@ use Rattle.story.specs.Next.{callNext}
 abbrev pub blankTitle : Title
 blankTitle =
     record
-    { mode = absentMode; kind = paddedKind; opened = 0; length = 0; floor = 0; cap = 0; count = 0; mark = clearMark; last = 0; tuned = 0; ends = replicate countPlaces 0; dropped = replicate lanePlaces 0; owed = replicate lanePlaces 0 }
+    { mode = absentMode; film = noFilm; opened = 0; count = 0; mark = clearMark; last = 0; tuned = 0; ends = replicate countPlaces 0; dropped = replicate lanePlaces 0; owed = replicate lanePlaces 0 }
 
 -- a pool without titles
 abbrev pub emptyPool : ℕ → State
@@ -58,13 +59,13 @@ testsIn s i τ a =
       closing = eqb (titleAt s i .mode) closingMode;
       steady = isSteadyTitle (titleAt s i);
       crossed = isCrossed a;
-      below = isBelow a (titleAt s i .floor);
-      above = isAbove a (titleAt s i .cap);
+      below = isBelow a (titleAt s i .film .floor);
+      above = isAbove a (titleAt s i .film .cap);
       same = isSame a (titleAt s i .count);
       sameDoors = isSameDoors a (isShut (titleAt s i));
       second = eqb τ (titleAt s i .last);
       soon = ltb τ (settledAt (titleAt s i));
-      off = not (atSlotStart (titleAt s i) (permitted a (titleAt s i .floor) (titleAt s i .count)) τ);
+      off = not (atSlotStart (titleAt s i) (permitted a (titleAt s i .film .floor) (titleAt s i .count)) τ);
       full = tooMany (callNext s i τ a) τ;
     }
 
@@ -72,22 +73,9 @@ testsIn s i τ a =
 unfoldable pub callAnswer : State → ℕ → ℕ → Act → ℕ
 callAnswer s i τ a = firstHit (orderOf a (testsIn s i τ a))
 
--- of an opening of a kind: 02, 12 has a call for each
-abbrev pub openAnswer : State → ℕ → ℕ → ℕ → ℕ → ℕ → ℕ → ℕ → ℕ
-openAnswer s i τ m D A K k = callAnswer s i τ (opens m D A K k)
-
-abbrev pub changeAnswer : State → ℕ → ℕ → ℕ → ℕ
-changeAnswer s i τ k = callAnswer s i τ (changes k)
-
-abbrev pub closeAnswer : State → ℕ → ℕ → ℕ
-closeAnswer s i τ = callAnswer s i τ closes
-
-abbrev pub doorsAnswer : State → ℕ → ℕ → Bool → ℕ
-doorsAnswer s i τ b = callAnswer s i τ (doors b)
-
 -- lane l of a title is held at a time
 abbrev pub laneHeld : Title → ℕ → ℕ → Bool
-laneHeld t l τ = both (not (eqb (t .mode) absentMode)) (both (ltb l (t .cap)) (keptHeld t l (tickAt t τ)))
+laneHeld t l τ = both (not (eqb (t .mode) absentMode)) (both (ltb l (t .film .cap)) (keptHeld t l (tickAt t τ)))
 
 abbrev pub laneRules : State → ℕ → ℕ → ℕ → List Rule
 laneRules s i l τ =

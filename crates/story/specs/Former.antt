@@ -8,7 +8,9 @@ use Rattle.rules.specs.Refusals.{pick, Rule, refuse, firstHit, done, outsideLim
 use Rattle.rules.specs.Refusals.{isClosing, isSteady, secondEvent, tooSoon, notAtSlot, noLanes}
 use Rattle.story.specs.declared.State.{State}
 use Rattle.story.specs.Orders.{Tests, closeOrder, doorsOrder}
-use Rattle.story.specs.Story.{Act, opens, changes, closes, doors, Event}
+use Rattle.story.specs.declared.Act.{Act}
+use Rattle.story.specs.declared.Act.the-variants.{Opens, Changes, Closes, Doors}
+use Rattle.story.specs.declared.Event.{Event}
 use Rattle.story.specs.Kept.{titleAt}
 use Rattle.story.specs.Next.{callNext}
 use Rattle.story.specs.Calls.{testsIn, freshNext}
@@ -18,10 +20,10 @@ abbrev pub wrongCount : ℕ
 wrongCount = 6
 
 abbrev pub countWrong : Act → ℕ → ℕ → ℕ → Bool
-countWrong (opens m D A K k) _ _ _ = either (ltb K A) (not (within A K k))
-countWrong (changes n) A K k = either (not (within A K n)) (eqb n k)
-countWrong closes A K k = false
-countWrong (doors b) A K k = false
+countWrong (Opens f k) _ _ _ = either (ltb (f .cap) (f .floor)) (not (within (f .floor) (f .cap) k))
+countWrong (Changes n) A K k = either (not (within A K n)) (eqb n k)
+countWrong Closes A K k = false
+countWrong (Doors b) A K k = false
 
 -- the orders as they stood, 1 2 4 6 9 and 1 2 3 5 6 7 8 9, of a count that is wrong or not; 16 and 19, which came later,
 -- have their places
@@ -49,16 +51,16 @@ formerChange t wrong =
     ∷ []
 
 abbrev pub formerOrder : Act → Tests → Bool → List Rule
-formerOrder (opens m D A K k) = formerOpen
-formerOrder (changes k) = formerChange
-formerOrder closes = λ t wrong. closeOrder t
-formerOrder (doors b) = λ t wrong. doorsOrder t
+formerOrder (Opens f k) = formerOpen
+formerOrder (Changes k) = formerChange
+formerOrder Closes = λ t wrong. closeOrder t
+formerOrder (Doors b) = λ t wrong. doorsOrder t
 
 -- what a call answered
 unfoldable pub formerAnswer : State → ℕ → ℕ → Act → ℕ
 formerAnswer s i τ a =
     firstHit
-    (formerOrder a (testsIn s i τ a) (countWrong a (titleAt s i .floor) (titleAt s i .cap) (titleAt s i .count)))
+    (formerOrder a (testsIn s i τ a) (countWrong a (titleAt s i .film .floor) (titleAt s i .film .cap) (titleAt s i .count)))
 
 -- the state that a call left, and that any run of them left
 abbrev pub formerCalled : State → Event → State

@@ -8,14 +8,16 @@ use Rattle.rules.specs.Refusals.{firstHit}
 use Rattle.rules.specs.Search.{howMany, total}
 use Rattle.story.specs.Life.{Life, usualCell, isActive, droppedAt, isAwaited, reach}
 use Rattle.story.specs.Orders.{Tests}
-use Rattle.story.specs.Story.{Act, Event, tickIn, lifeOf, countIn, testsTo, orderOf}
+use Rattle.story.specs.declared.Act.{Act}
+use Rattle.story.specs.declared.Event.{Event}
+use Rattle.story.specs.Story.{tickIn, lifeOf, countIn, testsTo, orderOf}
 
 -- the rule before: a tick was owed whether or not its cell holds film
 unfoldable pub formerlyOwed : Life → ℕ → ℕ → ℕ → Bool
 formerlyOwed L l T t = isAwaited L T (usualCell L l t) t
 
 unfoldable pub formerlyOwes : Life → ℕ → ℕ → ℕ
-formerlyOwes L l T = howMany (λ o. formerlyOwed L l T (T + o)) (reach (L .cap))
+formerlyOwes L l T = howMany (λ o. formerlyOwed L l T (T + o)) (reach (L .film .cap))
 
 -- a lane was held while it was active, and from its drop on for as many ticks as it owed cells
 unfoldable pub formerlyHeld : Life → ℕ → ℕ → Bool
@@ -23,7 +25,7 @@ formerlyHeld L l t = either (isActive L l t) (ltb (t - droppedAt L l t) (formerl
 
 -- the lanes of a title that were held at a moment, and those over all titles
 unfoldable pub formerlyHeldIn : Life → ℕ → ℕ
-formerlyHeldIn L τ = howMany (λ l. formerlyHeld L l (tickIn L τ)) (L .cap)
+formerlyHeldIn L τ = howMany (λ l. formerlyHeld L l (tickIn L τ)) (L .film .cap)
 
 unfoldable pub formerlyHeldOver : List Event → ℕ → ℕ
 formerlyHeldOver es τ = total (λ i. formerlyHeldIn (lifeOf es i) τ) titlesMax

@@ -9,10 +9,11 @@ use Rattle.rules.specs.Limits.{both, either, within, poolMin, poolMax, floorMin
 use Rattle.rules.specs.Limits.{lengthMax, askedMax, titlesMax, countPlaces, lanePlaces}
 use Rattle.rules.specs.Refusals.{pick}
 use Rattle.rules.specs.Search.{some, every, first, howMany, total}
-use Rattle.scheme.specs.Scheme.{Scheme, steadyKind, schemeOf, tickFor, filmIn}
+use Rattle.scheme.specs.Scheme.{Scheme, paddedKind, steadyKind, filmIn}
+use Rattle.story.specs.declared.Film.{Film}
 use Rattle.story.specs.declared.Title.{Title}
 use Rattle.story.specs.declared.State.{State}
-use Rattle.story.specs.Life.{reach, floorSlot}
+use Rattle.story.specs.Life.{schemeBy, tickBy, reach, floorSlot}
 
 -- whether a slot has a title: none, one that is open, one that is closing
 abbrev pub absentMode : ℕ
@@ -34,10 +35,13 @@ heldMark = 1
 abbrev pub isShut : Title → Bool
 isShut t = eqb (t .mark) heldMark
 
+abbrev pub noFilm : Film
+noFilm = record { kind = paddedKind; length = 0; floor = 0; cap = 0 }
+
 abbrev pub noTitle : Title
 noTitle =
     record
-    { mode = absentMode; kind = 0; opened = 0; length = 0; floor = 0; cap = 0; count = 0; mark = clearMark; last = 0; tuned = 0; ends = []; dropped = []; owed = [] }
+    { mode = absentMode; film = noFilm; opened = 0; count = 0; mark = clearMark; last = 0; tuned = 0; ends = []; dropped = []; owed = [] }
 
 -- the slot of an id
 abbrev pub titleAt : State → ℕ → Title
@@ -49,25 +53,25 @@ rowOk row n = every (λ j. leb (getD row j 0) askedMax) n
 
 -- a skip-forward title
 abbrev pub isSteadyTitle : Title → Bool
-isSteadyTitle t = eqb (t .kind) steadyKind
+isSteadyTitle t = eqb (t .film .kind) steadyKind
 
 -- its scheme
 abbrev pub schemeIn : Title → Scheme
-schemeIn t = schemeOf (t .kind) (t .floor) (t .cap)
+schemeIn t = schemeBy (t .film)
 
 -- and its tick in ms
 abbrev pub titleTick : Title → ℕ
-titleTick t = tickFor (t .kind) (t .length) (t .floor) (t .cap)
+titleTick t = tickBy (t .film)
 
 -- upper limits hold for every slot
 unfoldable pub numbersOk : Title → Bool
 numbersOk t =
     both (leb (t .mode) closingMode)
-    (both (leb (t .kind) steadyKind)
+    (both (leb (t .film .kind) steadyKind)
     (both (leb (t .opened) askedMax)
-    (both (leb (t .length) lengthMax)
-    (both (leb (t .floor) (pick (isSteadyTitle t) steadyMax floorMax))
-    (both (leb (t .cap) countMax)
+    (both (leb (t .film .length) lengthMax)
+    (both (leb (t .film .floor) (pick (isSteadyTitle t) steadyMax floorMax))
+    (both (leb (t .film .cap) countMax)
     (both (leb (t .count) countMax)
     (both (leb (t .mark) heldMark)
     (both (leb (t .last) askedMax)
@@ -78,10 +82,10 @@ numbersOk t =
 -- skip-forward title floor and cap are one
 unfoldable pub orderOk : Title → Bool
 orderOk t =
-    both (leb lengthMin (t .length))
-    (both (leb floorMin (t .floor))
-    (both (leb (t .floor) (t .cap))
-    (both (within (t .floor) (t .cap) (t .count)) (either (not (isSteadyTitle t)) (eqb (t .floor) (t .cap))))))
+    both (leb lengthMin (t .film .length))
+    (both (leb floorMin (t .film .floor))
+    (both (leb (t .film .floor) (t .film .cap))
+    (both (within (t .film .floor) (t .film .cap) (t .count)) (either (not (isSteadyTitle t)) (eqb (t .film .floor) (t .film .cap))))))
 
 unfoldable pub titleOk : Title → Bool
 titleOk t = both (numbersOk t) (either (eqb (t .mode) absentMode) (orderOk t))
@@ -103,7 +107,7 @@ atTickStart t τ = eqb ((τ - t .opened) % titleTick t) 0
 
 -- 02, 9: the moment from which on the title may change again: a floor slot after its latest opening or change
 unfoldable pub settledAt : Title → ℕ
-settledAt t = t .tuned + floorSlot (t .kind) (t .length) (t .floor) (t .cap)
+settledAt t = t .tuned + floorSlot (t .film)
 
 -- the ruling count, 0 where the title isn't open
 unfoldable pub ruling : Title → ℕ
@@ -120,12 +124,12 @@ wants S end x u c = both (ltb 0 end) (some (wantsFrom S end x u c) c)
 -- the boxes of some count that had lane l still take cell x at tick u
 unfoldable pub keptAwaited : Title → ℕ → ℕ → ℕ → Bool
 keptAwaited t l x u =
-    some (λ c. both (ltb l c) (both (leb (t .floor) c) (wants (schemeIn t) (getD (t .ends) c 0) x u c))) (suc (t .cap))
+    some (λ c. both (ltb l c) (both (leb (t .film .floor) c) (wants (schemeIn t) (getD (t .ends) c 0) x u c))) (suc (t .film .cap))
 
 -- of lane l tick u is owed: its cell holds film, and is still awaited
 unfoldable pub keptOwed : Title → ℕ → ℕ → Bool
 keptOwed t l u =
-    both (filmIn (t .length) (titleTick t) (schemeIn t .onLane l u)) (keptAwaited t l (schemeIn t .onLane l u) u)
+    both (filmIn (t .film .length) (titleTick t) (schemeIn t .onLane l u)) (keptAwaited t l (schemeIn t .onLane l u) u)
 
 -- how many of the n ticks from T on lane l owes
 unfoldable pub keptWithin : Title → ℕ → ℕ → ℕ → ℕ
@@ -137,7 +141,7 @@ keptHeld t l n = either (ltb l (ruling t)) (ltb n (getD (t .dropped) l 0 + getD 
 
 -- how many lanes a title holds at a time
 unfoldable pub titleHeld : Title → ℕ → ℕ
-titleHeld t τ = pick (eqb (t .mode) absentMode) 0 (howMany (λ l. keptHeld t l (tickAt t τ)) (t .cap))
+titleHeld t τ = pick (eqb (t .mode) absentMode) 0 (howMany (λ l. keptHeld t l (tickAt t τ)) (t .film .cap))
 
 -- how many lanes are held over all titles at a time
 unfoldable pub lanesHeld : State → ℕ → ℕ
@@ -153,7 +157,7 @@ keptNth t l T i o = both (keptOwed t l (T + o)) (eqb (keptWithin t l T o) i)
 
 -- the tick whose cell a sending lane l shows at tick n
 unfoldable pub sendingTick : Title → ℕ → ℕ → ℕ
-sendingTick t l n = getD (t .dropped) l 0 + first (keptNth t l (getD (t .dropped) l 0) (n - getD (t .dropped) l 0)) (reach (t .cap))
+sendingTick t l n = getD (t .dropped) l 0 + first (keptNth t l (getD (t .dropped) l 0) (n - getD (t .dropped) l 0)) (reach (t .film .cap))
 
 -- the cell that a held lane shows at tick n
 unfoldable pub shows : Title → ℕ → ℕ → ℕ

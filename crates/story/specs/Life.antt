@@ -8,16 +8,13 @@ use Rattle.rules.specs.Limits.{both}
 use Rattle.rules.specs.Refusals.{pick}
 use Rattle.rules.specs.Search.{some, first, howMany, after}
 use Rattle.scheme.specs.Scheme.{Scheme, schemeOf, tickFor, filmIn, starts, takes}
+use Rattle.story.specs.declared.Film.{Film}
 
 -- a title since its latest opening; its rule gives the ruling count at a tick, 0 once the title is closing: a close is
 -- a change to no lanes
 pub record Life : Type 0 where
-  -- which scheme it is sent by
-  pub kind : ℕ
+  pub film : Film
   pub opened : ℕ
-  pub length : ℕ
-  pub floor : ℕ
-  pub cap : ℕ
   pub rule : ℕ → ℕ
   -- the doors are held at a tick: no box may begin then
   pub shut : ℕ → Bool
@@ -30,19 +27,26 @@ pub record Course : Type 0 where
 -- the same title on another course
 abbrev pub onCourse : Life → Course → Life
 onCourse L r =
-    record { kind = L .kind; opened = L .opened; length = L .length; floor = L .floor; cap = L .cap; rule = r .rule; shut = r .shut }
+    record { film = L .film; opened = L .opened; rule = r .rule; shut = r .shut }
+
+-- the scheme that a film is sent by, and its tick in ms
+abbrev pub schemeBy : Film → Scheme
+schemeBy f = schemeOf (f .kind) (f .floor) (f .cap)
+
+abbrev pub tickBy : Film → ℕ
+tickBy f = tickFor (f .kind) (f .length) (f .floor) (f .cap)
 
 -- 02, 9: one slot of the floor, in ms, for which a modulator card settles
-abbrev pub floorSlot : ℕ → ℕ → ℕ → ℕ → ℕ
-floorSlot kind D A K = schemeOf kind A K .slotOf A * tickFor kind D A K
+abbrev pub floorSlot : Film → ℕ
+floorSlot f = schemeBy f .slotOf (f .floor) * tickBy f
 
 -- the title's scheme
 abbrev pub scheme : Life → Scheme
-scheme L = schemeOf (L .kind) (L .floor) (L .cap)
+scheme L = schemeBy (L .film)
 
 -- what it says of the title: cell c holds film,
 abbrev pub isFilm : Life → ℕ → Bool
-isFilm L c = filmIn (L .length) (tickFor (L .kind) (L .length) (L .floor) (L .cap)) c
+isFilm L c = filmIn (L .film .length) (tickBy (L .film)) c
 
 -- the cell that lane l carries at tick t while it is active,
 abbrev pub usualCell : Life → ℕ → ℕ → ℕ
@@ -83,7 +87,7 @@ owedWithin L l T n = howMany (λ o. isOwed L l T (T + o)) n
 
 -- how many cells lane l owes when it is dropped at T
 unfoldable pub owes : Life → ℕ → ℕ → ℕ
-owes L l T = owedWithin L l T (reach (L .cap))
+owes L l T = owedWithin L l T (reach (L .film .cap))
 
 -- tick T + o is owed, with just i owed ticks before it
 unfoldable pub isNth : Life → ℕ → ℕ → ℕ → ℕ → Bool
@@ -91,7 +95,7 @@ isNth L l T i o = both (isOwed L l T (T + o)) (eqb (owedWithin L l T o) i)
 
 -- how far from T that owed tick is
 unfoldable pub nthOwed : Life → ℕ → ℕ → ℕ → ℕ
-nthOwed L l T i = first (isNth L l T i) (reach (L .cap))
+nthOwed L l T i = first (isNth L l T i) (reach (L .film .cap))
 
 -- what a lane shows in a tick
 pub data Air : Type 0 where
@@ -101,7 +105,7 @@ pub data Air : Type 0 where
 -- 01, "Events": the owed cells go out in order of their ticks, one per tick from T, without gaps
 unfoldable pub sends : Life → ℕ → ℕ → ℕ → Air
 sends L l T i =
-    pick (ltb (nthOwed L l T i) (reach (L .cap))) (cell (usualCell L l (T + nthOwed L l T i))) nothing
+    pick (ltb (nthOwed L l T i) (reach (L .film .cap))) (cell (usualCell L l (T + nthOwed L l T i))) nothing
 
 -- what is on air on lane l at tick t
 unfoldable pub onAir : Life → ℕ → ℕ → Air

@@ -9,7 +9,7 @@ use Rattle.story.specs.Story.{tickLength}
 
 -- a lawful scheme, one count alone for a skip-forward title, and a rule that keeps to floor and cap, closing apart
 pub record Ruled (L : Life) : Type 0 where
-  pub laws : Lawful (scheme L) (L .length) (tickLength L) (L .floor) (L .cap)
-  pub flat : L .kind ≡ steadyKind → L .floor ≡ L .cap
-  pub low : (t : ℕ) → 0 < L .rule t → L .floor ≤ L .rule t
-  pub high : (t : ℕ) → L .rule t ≤ L .cap
+  pub laws : Lawful (scheme L) (L .film .length) (tickLength L) (L .film .floor) (L .film .cap)
+  pub flat : L .film .kind ≡ steadyKind → L .film .floor ≡ L .film .cap
+  pub low : (t : ℕ) → 0 < L .rule t → L .film .floor ≤ L .rule t
+  pub high : (t : ℕ) → L .rule t ≤ L .film .cap

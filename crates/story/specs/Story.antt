@@ -10,49 +10,50 @@ use Rattle.rules.specs.Limits.{both, either, within, idMax, floorMin, floorMax,
 use Rattle.rules.specs.Limits.{lengthMax, eventTimeMax, askedMax, laneMax, titlesMax}
 use Rattle.rules.specs.Refusals.{pick, Rule, firstHit, noLanes}
 use Rattle.rules.specs.Search.{every, howMany, total}
-use Rattle.scheme.specs.Scheme.{paddedKind, steadyKind, tickFor, starts}
-use Rattle.story.specs.Life.{Life, onCourse, scheme, floorSlot, isAdmission, isActive, owes, Air, cell, onAir, isHeld}
+use Rattle.scheme.specs.Scheme.{paddedKind, steadyKind, starts}
+use Rattle.story.specs.declared.Film.{Film}
+use Rattle.story.specs.declared.Act.{Act}
+use Rattle.story.specs.declared.Act.the-variants.{Opens, Changes, Closes, Doors}
+use Rattle.story.specs.declared.Event.{Event}
+use Rattle.story.specs.Life.{Life, onCourse, tickBy, scheme, floorSlot, isAdmission, isActive, owes, Air, cell, onAir, isHeld}
 use Rattle.story.specs.Orders.{Tests, openOrder, changeOrder, closeOrder, doorsOrder}
 use Rattle.story.specs.Orders.{laneOrder, statusOrder}
 
--- 01, "Events", and 02, 7 and 12: what an event does: open a title of some kind with length, floor, cap and count; change to a
--- count; close; hold the doors, or lift them
-pub data Act : Type 0 where
-  opens : ℕ → ℕ → ℕ → ℕ → ℕ → Act
-  changes : ℕ → Act
-  closes : Act
-  doors : Bool → Act
+-- a film of some kind, with length, floor and cap
+abbrev pub filmOf : ℕ → ℕ → ℕ → ℕ → Film
+filmOf m D A K = record { kind = m; length = D; floor = A; cap = K }
+
+-- 01, "Events": open a title on the padded grid with length, floor, cap and count
+abbrev pub opens : ℕ → ℕ → ℕ → ℕ → Act
+opens D A K k = Opens (filmOf paddedKind D A K) k
 
 -- 02, 12: open a skip-forward title with length and count, which is its floor and its cap
 abbrev pub skips : ℕ → ℕ → Act
-skips D k = opens steadyKind D k k k
+skips D k = Opens (filmOf steadyKind D k k) k
+
+-- 02, 7: hold the doors, or lift them
 
 abbrev pub holds : Act
-holds = doors true
+holds = Doors true
 
 abbrev pub lifts : Act
-lifts = doors false
+lifts = Doors false
 
--- an event: its time, the title's id, what it does
-pub record Event : Type 0 where
-  pub time : ℕ
-  pub title : ℕ
-  pub act : Act
-
+-- an event of title i at τ
 abbrev pub event : ℕ → ℕ → Act → Event
-event i τ a = record { time = τ; title = i; act = a }
+event i τ a = record { title = i; time = τ; act = a }
 
 -- an id that was never opened: no cells, no lanes
 abbrev pub unopened : Life
-unopened = record { kind = paddedKind; opened = 0; length = 0; floor = 0; cap = 0; rule = λ t. 0; shut = λ t. false }
+unopened = record { film = filmOf paddedKind 0 0 0; opened = 0; rule = λ t. 0; shut = λ t. false }
 
 -- the title's tick in ms
 abbrev pub tickLength : Life → ℕ
-tickLength L = tickFor (L .kind) (L .length) (L .floor) (L .cap)
+tickLength L = tickBy (L .film)
 
 -- 02, 9: how long its card settles after an opening or a change, in ms
 abbrev pub settling : Life → ℕ
-settling L = floorSlot (L .kind) (L .length) (L .floor) (L .cap)
+settling L = floorSlot (L .film)
 
 -- the tick that holds a moment: tick t begins at the opening plus t ticks
 unfoldable pub tickIn : Life → ℕ → ℕ
@@ -75,11 +76,10 @@ doorsFrom L n b = onCourse L (record { rule = L .rule; shut = turn (L .shut) n b
 
 -- the title after an event of its own
 abbrev pub lifeAfter : Life → ℕ → Act → Life
-lifeAfter L τ (opens m D A K k) =
-    record { kind = m; opened = τ; length = D; floor = A; cap = K; rule = λ t. k; shut = λ t. false }
-lifeAfter L τ (changes k) = ruledFrom L (tickIn L τ) k
-lifeAfter L τ closes = ruledFrom L (tickIn L τ) 0
-lifeAfter L τ (doors b) = doorsFrom L (tickIn L τ) b
+lifeAfter L τ (Opens f k) = record { film = f; opened = τ; rule = λ t. k; shut = λ t. false }
+lifeAfter L τ (Changes k) = ruledFrom L (tickIn L τ) k
+lifeAfter L τ Closes = ruledFrom L (tickIn L τ) 0
+lifeAfter L τ (Doors b) = doorsFrom L (tickIn L τ) b
 
 -- the life of an id after a sequence of events
 unfoldable pub lifeOf : List Event → ℕ → Life
@@ -91,17 +91,17 @@ unfoldable pub latestOf : List Event → ℕ → ℕ
 latestOf [] i = 0
 latestOf (e ∷ es) i = pick (eqb (e .title) i) (e .time) (latestOf es i)
 
--- 02, 9: after an opening and a change a card retunes; closing, holding and lifting don't concern it
-abbrev pub tunes : Act → Bool
-tunes (opens m D A K k) = true
-tunes (changes k) = true
-tunes closes = false
-tunes (doors b) = false
+-- an opening and a change set the count: they may want lanes (01, "Events"), and a card retunes after them (02, 9)
+abbrev pub setsCount : Act → Bool
+setsCount (Opens f k) = true
+setsCount (Changes k) = true
+setsCount Closes = false
+setsCount (Doors b) = false
 
 -- the time of the last opening or change of an id, 0 where there is none
 unfoldable pub tunedOf : List Event → ℕ → ℕ
 tunedOf [] i = 0
-tunedOf (e ∷ es) i = pick (both (eqb (e .title) i) (tunes (e .act))) (e .time) (tunedOf es i)
+tunedOf (e ∷ es) i = pick (both (eqb (e .title) i) (setsCount (e .act))) (e .time) (tunedOf es i)
 
 -- the time of the last event of any title
 abbrev pub lastTime : List Event → ℕ
@@ -139,7 +139,7 @@ isHeldIn L l τ = isHeld L l (tickIn L τ)
 
 -- 01, "Events": the lanes of a title held at a moment, active ones and those still sending
 unfoldable pub heldIn : Life → ℕ → ℕ
-heldIn L τ = howMany (λ l. isHeldIn L l τ) (L .cap)
+heldIn L τ = howMany (λ l. isHeldIn L l τ) (L .film .cap)
 
 -- the lanes held over all titles
 unfoldable pub heldOver : List Event → ℕ → ℕ
@@ -157,66 +157,70 @@ isSlotIn L k τ = both (eqb ((τ - L .opened) % tickLength L) 0) (starts (scheme
 abbrev pub withinLimits : Event → Bool
 withinLimits e = both (leb (e .title) idMax) (leb (e .time) eventTimeMax)
 
-abbrev pub openLimits : ℕ → ℕ → ℕ → ℕ → Bool
-openLimits D A K k =
-    both (within lengthMin lengthMax D)
-    (both (within floorMin floorMax A) (both (within countMin countMax K) (within countMin countMax k)))
+-- of a film on the padded grid and the count it opens with,
+abbrev pub paddedLimits : Film → ℕ → Bool
+paddedLimits f k =
+    both (within lengthMin lengthMax (f .length))
+    (both (within floorMin floorMax (f .floor)) (both (within countMin countMax (f .cap)) (within countMin countMax k)))
 
--- of a skip-forward title, whose floor and cap are its count
-abbrev pub skipLimits : ℕ → ℕ → ℕ → ℕ → Bool
-skipLimits D A K k = both (within lengthMin lengthMax D) (both (within countMin steadyMax k) (both (eqb A k) (eqb K k)))
+-- of one that is sent as a skip-forward title, whose floor and cap are its count,
+abbrev pub steadyLimits : Film → ℕ → Bool
+steadyLimits f k =
+    both (within lengthMin lengthMax (f .length))
+    (both (within countMin steadyMax k) (both (eqb (f .floor) k) (eqb (f .cap) k)))
 
-abbrev pub kindLimits : ℕ → ℕ → ℕ → ℕ → ℕ → Bool
-kindLimits m D A K k =
-    both (leb m steadyKind) (pick (eqb m steadyKind) (skipLimits D A K k) (openLimits D A K k))
+-- and of one of either kind
+abbrev pub filmLimits : Film → ℕ → Bool
+filmLimits f k =
+    both (leb (f .kind) steadyKind) (pick (eqb (f .kind) steadyKind) (steadyLimits f k) (paddedLimits f k))
 
 -- all numbers of an event within their limits, where the test b says so of those that every event has
 abbrev pub actLimits : Act → Bool → Bool
-actLimits (opens m D A K k) b = both b (kindLimits m D A K k)
-actLimits (changes k) b = both b (within countMin countMax k)
-actLimits closes b = b
-actLimits (doors d) b = b
+actLimits (Opens f k) b = both b (filmLimits f k)
+actLimits (Changes k) b = both b (within countMin countMax k)
+actLimits Closes b = b
+actLimits (Doors d) b = b
 
 -- which way the count of an event is wrong, for a title with floor A, cap K and count k: an opening has its own floor
 -- and cap, whose order is asked besides
 abbrev pub isCrossed : Act → Bool
-isCrossed (opens m D A K n) = ltb K A
-isCrossed (changes n) = false
-isCrossed closes = false
-isCrossed (doors b) = false
+isCrossed (Opens f n) = ltb (f .cap) (f .floor)
+isCrossed (Changes n) = false
+isCrossed Closes = false
+isCrossed (Doors b) = false
 
 abbrev pub isBelow : Act → ℕ → Bool
-isBelow (opens m D A K n) _ = ltb n A
-isBelow (changes n) A = ltb n A
-isBelow closes A = false
-isBelow (doors b) A = false
+isBelow (Opens f n) _ = ltb n (f .floor)
+isBelow (Changes n) A = ltb n A
+isBelow Closes A = false
+isBelow (Doors b) A = false
 
 abbrev pub isAbove : Act → ℕ → Bool
-isAbove (opens m D A K n) _ = ltb K n
-isAbove (changes n) K = ltb K n
-isAbove closes K = false
-isAbove (doors b) K = false
+isAbove (Opens f n) _ = ltb (f .cap) n
+isAbove (Changes n) K = ltb K n
+isAbove Closes K = false
+isAbove (Doors b) K = false
 
 abbrev pub isSame : Act → ℕ → Bool
-isSame (opens m D A K n) k = false
-isSame (changes n) k = eqb n k
-isSame closes k = false
-isSame (doors b) k = false
+isSame (Opens f n) k = false
+isSame (Changes n) k = eqb n k
+isSame Closes k = false
+isSame (Doors b) k = false
 
 -- the doors of a title are held as the event wants them, or not
 abbrev pub isSameDoors : Act → Bool → Bool
-isSameDoors (opens m D A K n) s = false
-isSameDoors (changes n) s = false
-isSameDoors closes s = false
-isSameDoors (doors b) s = pick b s (not s)
+isSameDoors (Opens f n) s = false
+isSameDoors (Changes n) s = false
+isSameDoors Closes s = false
+isSameDoors (Doors b) s = pick b s (not s)
 
 -- the count at whose slot starts an event is permitted, for a title with floor A and count k: the smaller count of a
 -- change, the floor of a close, the ruling count of a hold and a lift; an opening may come at any time
 abbrev pub permitted : Act → ℕ → ℕ → ℕ
-permitted (opens m D A K n) _ k = n
-permitted (changes n) A k = min k n
-permitted closes A k = A
-permitted (doors b) A k = k
+permitted (Opens f n) _ k = n
+permitted (Changes n) A k = min k n
+permitted Closes A k = A
+permitted (Doors b) A k = k
 
 -- more than the pool is held after a sequence, at a moment
 abbrev pub overfull : ℕ → List Event → ℕ → Bool
@@ -230,24 +234,24 @@ testsTo pool es e L a =
       early = ltb (e .time) (lastTime es);
       there = isThereIn L (e .time);
       closing = eqb (countIn L (e .time)) 0;
-      steady = eqb (L .kind) steadyKind;
+      steady = eqb (L .film .kind) steadyKind;
       crossed = isCrossed a;
-      below = isBelow a (L .floor);
-      above = isAbove a (L .cap);
+      below = isBelow a (L .film .floor);
+      above = isAbove a (L .film .cap);
       same = isSame a (countIn L (e .time));
       sameDoors = isSameDoors a (isShutIn L (e .time));
       second = eqb (e .time) (latestOf es (e .title));
       soon = ltb (e .time) (tunedOf es (e .title) + settling L);
-      off = not (isSlotIn L (permitted a (L .floor) (countIn L (e .time))) (e .time));
+      off = not (isSlotIn L (permitted a (L .film .floor) (countIn L (e .time))) (e .time));
       full = overfull pool (e ∷ es) (e .time);
     }
 
 -- the order of refusals by what the event does
 abbrev pub orderOf : Act → Tests → List Rule
-orderOf (opens m D A K k) = openOrder
-orderOf (changes k) = changeOrder
-orderOf closes = closeOrder
-orderOf (doors b) = doorsOrder
+orderOf (Opens f k) = openOrder
+orderOf (Changes k) = changeOrder
+orderOf Closes = closeOrder
+orderOf (Doors b) = doorsOrder
 
 -- what an event is answered after the accepted events es
 unfoldable pub answerTo : ℕ → List Event → Event → Life → Act → ℕ
@@ -306,7 +310,7 @@ pub record InTick (L : Life) (t τ : ℕ) : Type 0 where
 pub record ReceivedBy (es : List Event) (i : ℕ) (L : Life) (a c n : ℕ) : Type 0 where
   pub lane : ℕ
   pub tick : ℕ
-  pub lane-low : lane < L .cap
+  pub lane-low : lane < L .film .cap
   pub from-start : a ≤ tick
   pub by-then : tick ≤ n
   pub same-opening : (τ : ℕ) → InTick L tick τ → lifeAt es i τ .opened ≡ L .opened
@@ -340,7 +344,7 @@ releaseOf L l T = momentOf L (T + owes L l T)
 -- none of these events opens or changes title i
 pub data Untuned (i : ℕ) : List Event → Type 0 where
   none-tunes : Untuned i []
-  goes-by : {e : Event} {es : List Event} → (e .title ≡ i → tunes (e .act) ≡ false) → Untuned i es → Untuned i (e ∷ es)
+  goes-by : {e : Event} {es : List Event} → (e .title ≡ i → setsCount (e .act) ≡ false) → Untuned i es → Untuned i (e ∷ es)
 
 -- none of these events is of title i at or before τ
 pub data Quiet (i τ : ℕ) : List Event → Type 0 where
@@ -349,10 +353,10 @@ pub data Quiet (i τ : ℕ) : List Event → Type 0 where
 
 -- 02, 14: an event takes lanes, of a title with count k: an opening of either kind, and a change to a larger count
 abbrev pub takesLanes : Act → ℕ → Bool
-takesLanes (opens m D A K n) k = true
-takesLanes (changes n) k = ltb k n
-takesLanes closes k = false
-takesLanes (doors b) k = false
+takesLanes (Opens f n) k = true
+takesLanes (Changes n) k = ltb k n
+takesLanes Closes k = false
+takesLanes (Doors b) k = false
 
 -- two events at one moment on titles of different ids
 pub record OneMoment (e f : Event) : Type 0 where

@@ -1,4 +1,4 @@
-// What the scheduler keeps, number by number. What the numbers mean is defined in specs/, and that they tell the story of
+// What happens to titles, and what the scheduler keeps of it, number by number. What the numbers mean is defined in specs/, and that they tell the story of
 // the accepted events is proved in proofs/. The calls stand in the crate above.
 
 use rules::COUNT_PLACES;
@@ -17,15 +17,36 @@ pub const CLEAR: u64 = 0;
 
 pub const HELD: u64 = 1;
 
+// What is sent as a title: the scheme that it is sent by, its length in ms, and the counts that it may have, from its floor
+// to its cap.
+pub struct Film {
+    pub kind: u64,
+    pub length: u64,
+    pub floor: u64,
+    pub cap: u64,
+}
+
+// What an event does to its title: opens it as a film with a count, changes the count, closes it, holds or lifts its doors.
+pub enum Act {
+    Opens { film: Film, count: u64 },
+    Changes { count: u64 },
+    Closes,
+    Doors { held: bool },
+}
+
+// An event: the title's id, its time in ms, and what it does.
+pub struct Event {
+    pub title: u64,
+    pub time: u64,
+    pub act: Act,
+}
+
 // One title. A tick is counted from the opening; a row of counts has a place for each count up to the largest, a row of
 // lanes one for each lane.
 pub struct Title {
     pub mode: u64,
-    pub kind: u64,
+    pub film: Film,
     pub opened: u64,
-    pub length: u64,
-    pub floor: u64,
-    pub cap: u64,
     pub count: u64,
     // whether its doors are held
     pub mark: u64,

@@ -1,33 +1,64 @@
 -- What an event's numbers and its standing give of the title: that it is there, within its limits.
 -- Rests on the laws of tests, of the refusals' order and of states within their limits.
-use mathlib.Core.Path.{_≡_, refl}
-use mathlib.Core.Bool.{Bool, true, false, not, false≢true}
+use mathlib.Core.Path.{_≡_, refl, sym, ap, subst, _∙_}
+use mathlib.Core.Bool.{Bool, true, false, not}
+use mathlib.Core.List.{_∷_}
 use Prim.Native.Nat.{ℕ, _≤_, _<_}
 use native.Mathlib.Omega.{arith}
 use borrow.Author.Tests.{leb-true, ltb-true, ltb-false, eqb-false, not-false, not-true}
-use lib.Dec.{leb, eqb}
-use Rattle.rules.specs.Limits.{both, within, idMax, laneMax, eventTimeMax, askedMax, countMin, countMax}
-use Rattle.rules.specs.Refusals.{firstHit, outsideLimits, notThere, floorAboveCap}
-use Rattle.rules.proofs.Tests.{both-l, both-r}
+use lib.Dec.{leb, ltb, eqb}
+use Rattle.rules.specs.Limits.{both, idMax, laneMax, eventTimeMax, askedMax}
+use Rattle.rules.specs.Refusals.{firstHit, refuse, hitsOf, numbered, outsideLimits, tooEarly, notThere, floorAboveCap}
+use Rattle.rules.proofs.Tests.{both-l, both-r, both-true}
+use Rattle.rules.proofs.Refusals.{cleared}
+use Rattle.story.specs.declared.Film.{Film}
 use Rattle.story.specs.declared.Title.{Title}
 use Rattle.story.specs.declared.State.{State}
-use Rattle.story.specs.Kept.{absentMode, titleAt, stateOk, titleOk, titleHeld, isThere}
-use Rattle.story.specs.Next.{openedTitle}
-use Rattle.story.specs.Orders.{doorsOrder}
-use Rattle.story.specs.Story.{kindLimits, doors}
-use Rattle.story.specs.Calls.{eventOk, testsIn, callAnswer, closeAnswer, doorsAnswer, laneHeld, laneRules, laneAnswer}
+use Rattle.story.specs.declared.Act.{Act}
+use Rattle.story.specs.declared.Act.the-variants.{Opens, Changes, Closes, Doors}
+use Rattle.story.specs.Kept.{absentMode, titleAt, stateOk, titleOk, isThere}
+use Rattle.story.specs.Next.{nextTitle}
+use Rattle.story.specs.Story.{event, filmLimits, actLimits}
+use Rattle.story.specs.Calls.{eventOk, laneHeld, laneRules, laneAnswer}
 use Rattle.story.proofs.Passed.{offered}
-use Rattle.measures.specs.Film.{Film, Readable}
-use Rattle.measures.proofs.Within.{title-ok, tuned-high, readable}
-use Rattle.owed.specs.Owing.{Sending, Changeable}
-use Rattle.owed.proofs.Fixed.{sending, changeable}
-use Rattle.verdicts.specs.Before.{openRules, openBefore, standingRules, changeRules, changeBefore, closeRules}
-use Rattle.rules.proofs.Refusals.{hitsOf, numbered, cleared}
+use Rattle.measures.specs.Readable.{Filmed}
+use Rattle.measures.proofs.Within.{title-ok, readable}
+use Rattle.owed.specs.Owing.{Sending, Changeable, Turnable}
+use Rattle.owed.proofs.Fixed.{sending, next-filmed}
+use Rattle.title_verdicts.specs.Titled.{titleRules}
+use Rattle.title_verdicts.proofs.Stands.{there-changeable}
+use Rattle.verdicts.specs.Before.{eventRules, firstAnswer}
 
--- a title that is there is in its slot
-pub in-slot : (t : Title) (τ : ℕ) → isThere t τ ≡ true → t .mode ≡ absentMode → ⊥
-unfolding isThere titleHeld
-in-slot t τ there none = false≢true (rw none at there)
+-- the order of an event: its numbers, the clock, and what its title decides
+pub in-order : (s : State) (i τ : ℕ) (a : Act) →
+    eventRules s (event i τ a)
+    ≡ refuse outsideLimits (not (actLimits a (eventOk s i τ))) ∷ refuse tooEarly (ltb τ (s .last)) ∷ titleRules (titleAt s i) τ a
+in-order s i τ (Opens f k) = refl
+in-order s i τ (Changes k) = refl
+in-order s i τ Closes = refl
+in-order s i τ (Doors b) = refl
+
+-- the numbers of an event are those that every event has, and those of what it does
+pub in-parts : (a : Act) (b : Bool) → actLimits a b ≡ both b (actLimits a true)
+in-parts (Opens f k) b = refl
+in-parts (Changes k) b = refl
+in-parts Closes b = sym (both-true b)
+in-parts (Doors d) b = sym (both-true b)
+
+-- the ways out of an event's verdict: its numbers, the clock, or what its title decides
+module _ (s : State) (i τ : ℕ) (a : Act) where
+  pub out-by-numbers : both (eventOk s i τ) (actLimits a true) ≡ false → 1 ≡ firstAnswer s (event i τ a)
+  unfolding firstAnswer firstHit
+  out-by-numbers out = rw (in-order s i τ a, in-parts a (eventOk s i τ), out) refl
+
+  pub out-by-clock : both (eventOk s i τ) (actLimits a true) ≡ true → ltb τ (s .last) ≡ true → 2 ≡ firstAnswer s (event i τ a)
+  unfolding firstAnswer firstHit
+  out-by-clock fits early = rw (in-order s i τ a, in-parts a (eventOk s i τ), fits, early) refl
+
+  pub out-by-title : both (eventOk s i τ) (actLimits a true) ≡ true → ltb τ (s .last) ≡ false →
+      firstHit (titleRules (titleAt s i) τ a) ≡ firstAnswer s (event i τ a)
+  unfolding firstAnswer firstHit
+  out-by-title fits late = rw (in-order s i τ a, in-parts a (eventOk s i τ), fits, late) refl
 
 module _ (s : State) (i τ : ℕ) (ok : eventOk s i τ ≡ true) where
   pub event-state : stateOk s ≡ true
@@ -42,73 +73,62 @@ module _ (s : State) (i τ : ℕ) (ok : eventOk s i τ ≡ true) where
   pub event-title : titleOk (titleAt s i) ≡ true
   event-title = let l = event-id in title-ok s event-state i (omega arith)
 
-  pub event-tuned : titleAt s i .tuned ≤ askedMax
-  event-tuned = tuned-high (titleAt s i) event-title
+-- an event that only lanes may refuse
+module _ (s : State) (i τ : ℕ) (a : Act) (none : firstAnswer s (event i τ a) ≡ 0) where
+  -- clears the rest of its order,
+  cleared-all : (n : ℕ) →
+      hitsOf n (refuse outsideLimits (not (actLimits a (eventOk s i τ))) ∷ refuse tooEarly (ltb τ (s .last)) ∷ titleRules (titleAt s i) τ a)
+      ≡ false
+  unfolding firstAnswer numbered
+  cleared-all n = cleared _ (numbered-order a) (sym (ap firstHit (in-order s i τ a)) ∙ none) n
+    where
+      numbered-order : (a : Act) →
+          numbered (refuse outsideLimits (not (actLimits a (eventOk s i τ))) ∷ refuse tooEarly (ltb τ (s .last)) ∷ titleRules (titleAt s i) τ a)
+          ≡ true
+      numbered-order (Opens f k) = refl
+      numbered-order (Changes k) = refl
+      numbered-order Closes = refl
+      numbered-order (Doors b) = refl
 
-  pub event-readable : Readable (titleAt s i)
-  event-readable = readable (titleAt s i) event-title
+  -- so its numbers are within their limits,
+  act-numbers : actLimits a (eventOk s i τ) ≡ true
+  unfolding hitsOf
+  act-numbers = not-false (actLimits a (eventOk s i τ)) (cleared-all outsideLimits)
 
-  pub there-changeable : not (isThere (titleAt s i) τ) ≡ false → Changeable (titleAt s i)
-  there-changeable there =
-      changeable (titleAt s i) event-title (in-slot (titleAt s i) τ (not-false (isThere (titleAt s i) τ) there))
+  pub taken-limits : actLimits a true ≡ true
+  taken-limits = both-r (eventOk s i τ) (actLimits a true) (sym (in-parts a (eventOk s i τ)) ∙ act-numbers)
 
-  pub standing-changeable : firstHit (standingRules s i τ) ≡ 0 → Changeable (titleAt s i)
-  unfolding hitsOf numbered
-  standing-changeable h = there-changeable (cleared (standingRules s i τ) refl h notThere)
+  pub taken-event : eventOk s i τ ≡ true
+  taken-event = both-l (eventOk s i τ) (actLimits a true) (sym (in-parts a (eventOk s i τ)) ∙ act-numbers)
 
--- an opening that only lanes may refuse
-module _ (s : State) (i τ m D A K k : ℕ) (none : openBefore s i τ m D A K k ≡ 0) where
-  open-numbers : both (eventOk s i τ) (kindLimits m D A K k) ≡ true
-  unfolding openBefore hitsOf numbered
-  open-numbers = not-false (both (eventOk s i τ) (kindLimits m D A K k)) (cleared (openRules s i τ m D A K k) refl none outsideLimits)
+  taken-changeable : not (isThere (titleAt s i) τ) ≡ false → Changeable (titleAt s i)
+  taken-changeable away = there-changeable (titleAt s i) τ (event-title s i τ taken-event) (not-false (isThere (titleAt s i) τ) away)
 
-  pub open-event : eventOk s i τ ≡ true
-  open-event = both-l (eventOk s i τ) (kindLimits m D A K k) open-numbers
+-- and its title can be turned
+pub taken-turnable : (s : State) (i τ : ℕ) (a : Act) → firstAnswer s (event i τ a) ≡ 0 → Turnable (titleAt s i) a
+unfolding hitsOf
+taken-turnable s i τ (Opens f k) none = tt
+taken-turnable s i τ (Changes k) none = taken-changeable s i τ (Changes k) none (cleared-all s i τ (Changes k) none notThere)
+taken-turnable s i τ Closes none = taken-changeable s i τ Closes none (cleared-all s i τ Closes none notThere)
+taken-turnable s i τ (Doors b) none = taken-changeable s i τ (Doors b) none (cleared-all s i τ (Doors b) none notThere)
 
-  open-fit : A ≤ K
-  unfolding openBefore hitsOf numbered
-  open-fit = ltb-false K A (cleared (openRules s i τ m D A K k) refl none floorAboveCap)
+opened-filmed : (s : State) (i τ : ℕ) (f : Film) (k : ℕ) → firstAnswer s (event i τ (Opens f k)) ≡ 0 → Filmed f
+unfolding hitsOf
+opened-filmed s i τ f k none =
+    let o = offered f k (taken-limits s i τ (Opens f k) none) in
+    let fit = ltb-false (f .cap) (f .floor) (cleared-all s i τ (Opens f k) none floorAboveCap) in
+    record {
+      sized = record { low = o .length-low; high = o .length-high };
+      cut = record { low = omega (arith, o .floor-low); fit = fit; high = o .cap-high };
+      flat = o .flat;
+    }
 
-  pub open-film : Film (openedTitle m τ D A K k)
-  open-film =
-      let o = offered m D A K k (both-r (eventOk s i τ) (kindLimits m D A K k) open-numbers) in
-      record {
-        sized = record { low = o .length-low; high = o .length-high };
-        cut = record { low = omega (arith, o .floor-low); fit = open-fit; high = o .cap-high };
-        flat = o .flat;
-      }
-
--- a change that only lanes may refuse
-module _ (s : State) (i τ k : ℕ) (none : changeBefore s i τ k ≡ 0) where
-  pub change-event : eventOk s i τ ≡ true
-  unfolding changeBefore hitsOf numbered
-  change-event =
-      both-l (eventOk s i τ) (within countMin countMax k)
-      (not-false (both (eventOk s i τ) (within countMin countMax k)) (cleared (changeRules s i τ k) refl none outsideLimits))
-
-  pub change-ready : Changeable (titleAt s i)
-  unfolding changeBefore hitsOf numbered
-  change-ready = there-changeable s i τ change-event (cleared (changeRules s i τ k) refl none notThere)
-
--- a close that is taken
-module _ (s : State) (i τ : ℕ) (none : closeAnswer s i τ ≡ 0) where
-  pub close-event : eventOk s i τ ≡ true
-  unfolding callAnswer hitsOf numbered
-  close-event = not-false (eventOk s i τ) (cleared (closeRules s i τ) refl none outsideLimits)
-
-  pub close-ready : Changeable (titleAt s i)
-  unfolding callAnswer hitsOf numbered
-  close-ready = there-changeable s i τ close-event (cleared (closeRules s i τ) refl none notThere)
-
--- a hold or a lift that is taken
-module _ (s : State) (i τ : ℕ) (b : Bool) (none : doorsAnswer s i τ b ≡ 0) where
-  pub doors-event : eventOk s i τ ≡ true
-  unfolding callAnswer hitsOf numbered
-  doors-event = not-false (eventOk s i τ) (cleared (doorsOrder (testsIn s i τ (doors b))) refl none outsideLimits)
-
-  pub doors-ready : Changeable (titleAt s i)
-  unfolding callAnswer hitsOf numbered
-  doors-ready = there-changeable s i τ doors-event (cleared (doorsOrder (testsIn s i τ (doors b))) refl none notThere)
+-- and it leaves a film within its limits
+pub taken-filmed : (s : State) (i τ : ℕ) (a : Act) → firstAnswer s (event i τ a) ≡ 0 → Filmed (nextTitle (titleAt s i) τ a .film)
+taken-filmed s i τ a none = next-filmed (titleAt s i) τ a (taken-turnable s i τ a none) own
+  where
+    own : (f : Film) (k : ℕ) → a ≡ Opens f k → Filmed f
+    own f k e = opened-filmed s i τ f k (subst (λ x. firstAnswer s (event i τ x) ≡ 0) e none)
 
 -- a lane question that is answered
 module _ (s : State) (i l τ : ℕ) (none : laneAnswer s i l τ ≡ 0) where
@@ -134,11 +154,11 @@ module _ (s : State) (i l τ : ℕ) (none : laneAnswer s i l τ ≡ 0) where
   lane-title : titleOk (titleAt s i) ≡ true
   lane-title = let l = lane-id in title-ok s (both-l _ _ lane-numbers) i (omega arith)
 
-  pub lane-film : Film (titleAt s i)
+  pub lane-film : Filmed (titleAt s i .film)
   lane-film = readable (titleAt s i) lane-title lane-slot
 
   pub lane-sending : Sending (titleAt s i)
   lane-sending = sending (titleAt s i) lane-title lane-slot
 
-  pub lane-capped : l < titleAt s i .cap
-  lane-capped = ltb-true l (titleAt s i .cap) (both-l _ _ (both-r (not (eqb (titleAt s i .mode) absentMode)) _ lane-there))
+  pub lane-capped : l < titleAt s i .film .cap
+  lane-capped = ltb-true l (titleAt s i .film .cap) (both-l _ _ (both-r (not (eqb (titleAt s i .mode) absentMode)) _ lane-there))

@@ -21,7 +21,7 @@ ghost use lib.Dec.{leb};
 ghost use Rattle.rules.specs.Limits.{both, idMax, laneMax, askedMax};
 ghost use Rattle.story.specs.Kept.{stateOk};
 ghost use Rattle.story.specs.Calls.{laneHeld, laneAnswer};
-ghost use Rattle.measures.specs.Film.{Readable};
+ghost use Rattle.measures.specs.Readable.{Readable};
 ghost use Rattle.verdicts.specs.Asked.{askedAnswer, settledIn};
 
 // Whether a lane of a title is held at a time.
@@ -32,7 +32,7 @@ fn lane_held(t: Title, lane: u64, time: u64) -> bool
     if t.mode == ABSENT {
         return false;
     }
-    if t.cap <= lane {
+    if t.film.cap <= lane {
         return false;
     }
     is_held(t, lane, tick_at(t, time))

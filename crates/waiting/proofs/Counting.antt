@@ -20,7 +20,10 @@ use Rattle.scheme.specs.Scheme.{paddedKind, steadyKind}
 use Rattle.story.specs.declared.State.{State}
 use Rattle.story.specs.Kept.{titleAt}
 use Rattle.story.specs.Life.{Life, onCourse}
-use Rattle.story.specs.Story.{Act, changes, closes, holds, lifts, Event, event, unopened, lifeAfter, lifeOf, latestOf}
+use Rattle.story.specs.declared.Act.{Act}
+use Rattle.story.specs.declared.Act.the-variants.{Changes, Closes}
+use Rattle.story.specs.declared.Event.{Event}
+use Rattle.story.specs.Story.{holds, lifts, event, unopened, lifeAfter, lifeOf, latestOf}
 use Rattle.story.specs.Story.{lastTime}
 use Rattle.story.specs.Story.{tickIn, answer}
 use Rattle.story.proofs.Passed.{Turned, changing, closing, doored, in-order}
@@ -63,8 +66,8 @@ module _ (lanes : ℕ) (es : List Event) (s : State) (i : ℕ) (xs : List ℕ) (
   event-counted τ (Open d a p n) ok =
       let L : Life = record { kind = paddedKind; opened = τ; length = d; floor = a; cap = p; rule = λ t. n; shut = λ t. false } in
       rw (sub-self τ, zero-div) (opened-counted L xs)
-  event-counted τ (Change n) ok = turns τ (changes n) (changing lanes es i τ n ok .0)
-  event-counted τ Close ok = turns τ closes (closing lanes es i τ ok)
+  event-counted τ (Change n) ok = turns τ (Changes n) (changing lanes es i τ n ok .0)
+  event-counted τ Close ok = turns τ Closes (closing lanes es i τ ok)
   event-counted τ Hold ok = turns τ holds (doored lanes es i τ true ok)
   event-counted τ Lift ok = turns τ lifts (doored lanes es i τ false ok)
   event-counted τ (Skip d n) ok =

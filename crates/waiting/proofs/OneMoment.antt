@@ -7,7 +7,8 @@ use Prim.Native.Nat.{ℕ, _^_, _<_}
 use lib.ListN.{length}
 use Rattle.notice.specs.Log.{isWholeLog}
 use Rattle.story.specs.Life.{Life}
-use Rattle.story.specs.Story.{Event, Accepted, OneMoment}
+use Rattle.story.specs.declared.Event.{Event}
+use Rattle.story.specs.Story.{Accepted, OneMoment}
 use Rattle.story.specs.Runs.{lanesOf}
 use Rattle.agent.specs.Series.{logKept}
 use Rattle.agent.specs.Played.{lifeIn}

@@ -52,8 +52,8 @@ pub record Wished (s : State) (rates : List ℕ) (w : Wish) : Type 0 where
   pub an-id : w .title < titlesMax
   pub is-open : titleAt s (w .title) .mode ≡ openMode
   pub padded : isSteadyTitle (titleAt s (w .title)) ≡ false
-  pub low : titleAt s (w .title) .floor ≤ w .count
-  pub high : w .count ≤ titleAt s (w .title) .cap
+  pub low : titleAt s (w .title) .film .floor ≤ w .count
+  pub high : w .count ≤ titleAt s (w .title) .film .cap
   pub is-share : w .count ≡ shareOf s rates (w .title)
   pub other : w .count ≡ titleAt s (w .title) .count → ⊥
 

@@ -23,9 +23,9 @@ joined q t rate =
     record {
       many = q .many + 1;
       rates = set (q .rates) (q .many) rate;
-      lengths = set (q .lengths) (q .many) (t .length);
-      floors = set (q .floors) (q .many) (t .floor);
-      caps = set (q .caps) (q .many) (t .cap);
+      lengths = set (q .lengths) (q .many) (t .film .length);
+      floors = set (q .floors) (q .many) (t .film .floor);
+      caps = set (q .caps) (q .many) (t .film .cap);
     }
 
 -- those of the ids below n that take part have joined

@@ -47,14 +47,14 @@ sharers s = idsWhere (takesPart s) titlesMax
 -- what the sharing knows of a title, with its rate
 abbrev pub ratedAt : State → List ℕ → ℕ → Rated
 ratedAt s rates i =
-    record { rate = getD rates i 0; length = titleAt s i .length; floor = titleAt s i .floor; cap = titleAt s i .cap }
+    record { rate = getD rates i 0; length = titleAt s i .film .length; floor = titleAt s i .film .floor; cap = titleAt s i .film .cap }
 
 unfoldable pub rated : State → List ℕ → List Rated
 rated s rates = map (ratedAt s rates) (sharers s)
 
 -- their floors together
 unfoldable pub floorsOf : State → ℕ
-floorsOf s = rowTotal (map (λ i. titleAt s i .floor) (sharers s))
+floorsOf s = rowTotal (map (λ i. titleAt s i .film .floor) (sharers s))
 
 -- what the sharing gives to a title that takes part
 unfoldable pub shareOf : State → List ℕ → ℕ → ℕ

@@ -30,15 +30,15 @@ pub struct Rows {
 pub fn takes_part(t: Title) -> bool
     ensures { λ r. ⌜ r ≡ isSharer t ⌝ }
 {
-    also(t.mode == OPEN, t.kind != STEADY)
+    also(t.mode == OPEN, t.film.kind != STEADY)
 }
 
 // The floor of a title that takes part, 0 of another.
 pub fn floor_of(t: Title) -> u64
     requires { ⌜ numbersOk t ≡ true ⌝ }
-    ensures { λ r. ⌜ (r ≡ pick (isSharer t) (t .floor) 0) × (r ≤ floorMax) ⌝ }
+    ensures { λ r. ⌜ (r ≡ pick (isSharer t) (t .film .floor) 0) × (r ≤ floorMax) ⌝ }
 {
-    if takes_part(t) { t.floor } else { 0 }
+    if takes_part(t) { t.film.floor } else { 0 }
 }
 
 // The lanes that a skip-forward title keeps to itself: its count until it closes.
@@ -46,7 +46,7 @@ pub fn kept_apart(t: Title) -> u64
     requires { ⌜ t .count ≤ countMax ⌝ }
     ensures { λ r. ⌜ (r ≡ keptApart t) × (r ≤ countMax) ⌝ }
 {
-    if t.kind == STEADY {
+    if t.film.kind == STEADY {
         return ruling(t);
     }
     0
@@ -61,9 +61,9 @@ fn joined(q: Rows, t: Title, rate: u32) -> Rows
     let mut r = q;
     r.many = at + 1;
     r.rates[at] = rate;
-    r.lengths[at] = t.length as u32;
-    r.floors[at] = t.floor as u32;
-    r.caps[at] = t.cap as u32;
+    r.lengths[at] = t.film.length as u32;
+    r.floors[at] = t.film.floor as u32;
+    r.caps[at] = t.film.cap as u32;
     r
 }
 

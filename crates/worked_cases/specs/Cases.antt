@@ -14,8 +14,11 @@ use Rattle.grid.specs.Ticks.{cells, tickOf}
 use Rattle.grid.specs.Lanes.{isInG, laneCell}
 use Rattle.plan.specs.Plan.{planAt, never}
 use Rattle.story.specs.Life.{Air, nothing, cell}
-use Rattle.scheme.specs.Scheme.{paddedKind, filmIn}
-use Rattle.story.specs.Story.{Act, opens, changes, Event, answer, accepted, airAt}
+use Rattle.scheme.specs.Scheme.{filmIn}
+use Rattle.story.specs.declared.Act.{Act}
+use Rattle.story.specs.declared.Act.the-variants.{Changes}
+use Rattle.story.specs.declared.Event.{Event}
+use Rattle.story.specs.Story.{opens, answer, accepted, airAt}
 use Rattle.sharing.specs.Verdict.{verdictOf, rowAfter}
 
 -- a case of 01 by its number: what the definitions give, and what is printed
@@ -69,11 +72,11 @@ event τ a = record { time = τ; title = 0; act = a }
 
 -- the film of the cases, opened with a count
 abbrev pub film : ℕ → Event
-film k = event 0 (opens paddedKind filmLength floor cap k)
+film k = event 0 (opens filmLength floor cap k)
 
 -- a film whose list outlives a floor slot of 2 ticks, opened with 5 lanes and dropped to 4
 abbrev pub dropsLong : List Event
-dropsLong = event 2 (changes 4) ∷ event 0 (opens paddedKind 30 4 5 5) ∷ []
+dropsLong = event 2 (Changes 4) ∷ event 0 (opens 30 4 5 5) ∷ []
 
 -- any pool that has the lanes of the cases
 abbrev pub pool : ℕ
@@ -107,23 +110,23 @@ table =
     ∷ case 3 (upFrom (laneCell floor cap 2) 8) (12 ∷ 13 ∷ 0 ∷ 1 ∷ 4 ∷ 5 ∷ 0 ∷ 1 ∷ [])
     ∷ case 4 (upFrom (planAt floor cap 4 0) filmCells)
     (0 ∷ 1 ∷ 0 ∷ 3 ∷ 0 ∷ 1 ∷ 2 ∷ 3 ∷ 4 ∷ 5 ∷ 6 ∷ 7 ∷ 0 ∷ 1 ∷ 2 ∷ never ∷ [])
-    ∷ case 5 (lane (event 4 (changes 2) ∷ film 3 ∷ []) 2 4 3) (4 ∷ 5 ∷ never ∷ [])
-    ∷ case 6 (lane (event 4 (changes 3) ∷ film 4 ∷ []) 3 4 3) (2 ∷ 6 ∷ never ∷ [])
-    ∷ case 6 (answerAfter (event 4 (changes 3) ∷ film 4 ∷ []) (event 6 (changes 4)) ∷ []) (tooSoon ∷ [])
+    ∷ case 5 (lane (event 4 (Changes 2) ∷ film 3 ∷ []) 2 4 3) (4 ∷ 5 ∷ never ∷ [])
+    ∷ case 6 (lane (event 4 (Changes 3) ∷ film 4 ∷ []) 3 4 3) (2 ∷ 6 ∷ never ∷ [])
+    ∷ case 6 (answerAfter (event 4 (Changes 3) ∷ film 4 ∷ []) (event 6 (Changes 4)) ∷ []) (tooSoon ∷ [])
     ∷ case 6 (lane dropsLong 4 2 4) (2 ∷ 6 ∷ 14 ∷ never ∷ [])
-    ∷ case 6 (lane (event 4 (changes 5) ∷ dropsLong) 4 4 5) (6 ∷ 0 ∷ 2 ∷ 0 ∷ 14 ∷ [])
-    ∷ case 7 (lane (event 8 (changes 3) ∷ film 4 ∷ []) 3 8 2) (2 ∷ never ∷ [])
+    ∷ case 6 (lane (event 4 (Changes 5) ∷ dropsLong) 4 4 5) (6 ∷ 0 ∷ 2 ∷ 0 ∷ 14 ∷ [])
+    ∷ case 7 (lane (event 8 (Changes 3) ∷ film 4 ∷ []) 3 8 2) (2 ∷ never ∷ [])
     ∷ case 8
-    (answerAfter (film 3 ∷ []) (event 2 (changes 2))
-    ∷ answerAfter (film 3 ∷ []) (event 4 (changes 2))
-    ∷ answerAfter (film 3 ∷ []) (event 6 (changes 2))
+    (answerAfter (film 3 ∷ []) (event 2 (Changes 2))
+    ∷ answerAfter (film 3 ∷ []) (event 4 (Changes 2))
+    ∷ answerAfter (film 3 ∷ []) (event 6 (Changes 2))
     ∷ [])
     (tooSoon ∷ done ∷ notAtSlot ∷ [])
     ∷ case 9
-    (answerAfter (film 4 ∷ []) (event 4 (changes 4))
-    ∷ answerAfter (film 4 ∷ []) (event 4 (changes 5))
-    ∷ answerAfter (film 4 ∷ []) (event 4 (changes 11))
-    ∷ answerAfter (film 4 ∷ []) (event 4 (changes 13))
+    (answerAfter (film 4 ∷ []) (event 4 (Changes 4))
+    ∷ answerAfter (film 4 ∷ []) (event 4 (Changes 5))
+    ∷ answerAfter (film 4 ∷ []) (event 4 (Changes 11))
+    ∷ answerAfter (film 4 ∷ []) (event 4 (Changes 13))
     ∷ [])
     (unchanged ∷ aboveCap ∷ aboveCap ∷ outsideLimits ∷ [])
     ∷ case 10 (tickOf 1 floor cap ∷ tickOf 13 floor cap ∷ []) (1 ∷ 2 ∷ [])

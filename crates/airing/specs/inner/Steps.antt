@@ -16,7 +16,7 @@ use Rattle.plan.specs.Row.{written}
 use Rattle.story.specs.declared.Title.{Title}
 use Rattle.story.specs.Kept.{openMode, titleAt, schemeIn, tickAt}
 use Rattle.story.specs.Life.{Life}
-use Rattle.measures.specs.Film.{Film}
+use Rattle.measures.specs.Readable.{Filmed}
 use Rattle.admissions.specs.Stretches.{admitting}
 use Rattle.agent.specs.declared.Agent.{Agent}
 use Rattle.agent.specs.Turns.{freshAgent, noticeAnswer, noticed}
@@ -41,8 +41,8 @@ markedTo t v row = markedFrom t (tickAt t (t .last)) row (min v (length row) - t
 
 -- a title whose ticks can be marked
 pub record Markable (t : Title) : Type 0 where
-  pub film : Film t
-  pub fit : t .count ≤ t .cap
+  pub film : Filmed (t .film)
+  pub fit : t .count ≤ t .film .cap
 
 -- an accepted event of an open title settles its ticks up to the event; one of a title that is not open is an opening, with
 -- which all ticks begin anew
@@ -66,11 +66,11 @@ pub record Hears (g : Agent) (i : ℕ) (n : Notice) (row : List ℕ) (h : Agent)
 
 -- a stored title has the numbers of a life that is sent by the padded grid
 pub record Standing (L : Life) (t : Title) : Type 0 where
-  pub film : Film t
-  pub same-kind : L .kind ≡ paddedKind
-  pub same-length : L .length ≡ t .length
-  pub same-floor : L .floor ≡ t .floor
-  pub same-cap : L .cap ≡ t .cap
+  pub film : Filmed (t .film)
+  pub same-kind : L .film .kind ≡ paddedKind
+  pub same-length : L .film .length ≡ t .film .length
+  pub same-floor : L .film .floor ≡ t .film .floor
+  pub same-cap : L .film .cap ≡ t .film .cap
 
 -- what the log answers; where it answers done, all of the row is marked
 unfoldable pub logAnswer : ℕ → List ℕ → ℕ → ℕ
@@ -79,7 +79,7 @@ logAnswer pool log title =
 
 -- a stored title was opened, and last as a film with floor and cap
 abbrev pub isFilmSlot : Title → Bool
-isFilmSlot t = both (ltb 0 (t .cap)) (eqb (t .kind) paddedKind)
+isFilmSlot t = both (ltb 0 (t .film .cap)) (eqb (t .film .kind) paddedKind)
 
 -- what the code answers of a title as it stands, where the reading of a log of some size stopped at a place
 unfoldable pub answerOf : ℕ → ℕ → Title → ℕ
@@ -87,7 +87,7 @@ answerOf place size t = pick (leb size place) (pick (isFilmSlot t) done notThere
 
 -- so it was opened, and last as a skip-forward title
 abbrev pub isSteadySlot : Title → Bool
-isSteadySlot t = both (ltb 0 (t .cap)) (eqb (t .kind) steadyKind)
+isSteadySlot t = both (ltb 0 (t .film .cap)) (eqb (t .film .kind) steadyKind)
 
 -- what a log that is followed to its end answers and leaves a title as
 pub record Ends (pool : ℕ) (log : List ℕ) (i : ℕ) (r : Ending) : Type 0 where

@@ -11,7 +11,7 @@ use Rattle.story.specs.declared.Title.{Title}
 use Rattle.story.specs.declared.State.{State}
 use Rattle.story.specs.Kept.{absentMode, schemeIn, titleTick, titleAt, rowOk, settledAt, lanesHeld}
 use Rattle.story.specs.Calls.{atSlotStart}
-use Rattle.measures.specs.Film.{Film}
+use Rattle.measures.specs.Readable.{Filmed}
 use Rattle.moments.specs.Moments.{hasLanes}
 
 -- a slot of a count of a title, in ms, and the longest that there is
@@ -34,7 +34,7 @@ permits t c τ = both (not (eqb τ (t .last))) (both (not (ltb τ (settledAt t))
 
 -- a title whose releases can be told: its film, its opening and what its lanes owe are within their limits
 pub record Timed (t : Title) : Type 0 where
-  pub film : Film t
+  pub film : Filmed (t .film)
   pub opened : t .opened ≤ askedMax
   pub dropped : rowOk (t .dropped) lanePlaces ≡ true
   pub owed : rowOk (t .owed) lanePlaces ≡ true
@@ -58,7 +58,7 @@ lanesRelease t τ a zero = a
 lanesRelease t τ a (suc n) = soonerOf τ (lanesRelease t τ a n) (releaseOf t n)
 
 unfoldable pub titleRelease : Title → ℕ → ℕ → ℕ
-titleRelease t τ a = pick (eqb (t .mode) absentMode) a (lanesRelease t τ a (t .cap))
+titleRelease t τ a = pick (eqb (t .mode) absentMode) a (lanesRelease t τ a (t .film .cap))
 
 -- the next release after τ in the slots below n, past the clock where there is none
 unfoldable pub releaseIn : State → ℕ → ℕ → ℕ

@@ -33,8 +33,8 @@ standingAnswer s τ rates = firstHit (standingRules s τ rates)
 pub record Fits (s : State) (w : Wish) : Type 0 where
   pub an-id : w .title ≤ idMax
   pub is-open : titleAt s (w .title) .mode ≡ openMode
-  pub low : titleAt s (w .title) .floor ≤ w .count
-  pub high : w .count ≤ titleAt s (w .title) .cap
+  pub low : titleAt s (w .title) .film .floor ≤ w .count
+  pub high : w .count ≤ titleAt s (w .title) .film .cap
 
 abbrev pub AllFit : State → Wishes → Type 0
 AllFit s w = (j : ℕ) → j < w .many → Fits s (wishAt (w .titles) (w .counts) j)

@@ -16,7 +16,7 @@ use Rattle.wishes.proofs.floors.Statement.{statement}
 use Rattle.wishes.proofs.floors.Tie as tie
 
 abbrev Inv-loop : tie.InvT-loop
-Inv-loop s sum₀ i₀ sum i = (i ≤ titlesMax) × (sum ≡ total (λ j. pick (takesPart s j) (titleAt s j .floor) 0) i) × (sum ≤ floorMax * i)
+Inv-loop s sum₀ i₀ sum i = (i ≤ titlesMax) × (sum ≡ total (λ j. pick (takesPart s j) (titleAt s j .film .floor) 0) i) × (sum ≤ floorMax * i)
 
 abbrev μ-loop : tie.MeasureT-loop
 μ-loop s sum₀ i₀ sum i = titlesMax - i
@@ -54,7 +54,7 @@ unfolding floorsOf sharers
 returns c =
     let s = c .before .before .args .t1 in
     let all = le-antisymm (c .before .loop .inv .0) (c .loop-test .left) in
-    cc (all, ids-total (takesPart s) (λ i. titleAt s i .floor) titlesMax)
+    cc (all, ids-total (takesPart s) (λ i. titleAt s i .film .floor) titlesMax)
 
 pub floors-spec : {M : Type 1} → statement M
 floors-spec =

@@ -34,23 +34,23 @@ module _ (t : Title) (part : isSharer t ≡ true) where
 
 -- what the rows take of a title is at most its limit
 module _ (t : Title) (ok : numbersOk t ≡ true) where
-  pub length-high : t .length ≤ lengthMax
+  pub length-high : t .film .length ≤ lengthMax
   unfolding numbersOk
   length-high = search (both-l, both-r, leb-true) depth 12
 
-  floor-cut : t .floor ≤ pick (isSteadyTitle t) steadyMax floorMax
+  floor-cut : t .film .floor ≤ pick (isSteadyTitle t) steadyMax floorMax
   unfolding numbersOk
   floor-cut = search (both-l, both-r, leb-true) depth 12
 
-  pub floor-small : t .floor ≤ steadyMax
+  pub floor-small : t .film .floor ≤ steadyMax
   floor-small =
-      ⊎-elim (λ x. rw x at floor-cut) (λ x. let h : t .floor ≤ floorMax = rw x at floor-cut in omega arith)
+      ⊎-elim (λ x. rw x at floor-cut) (λ x. let h : t .film .floor ≤ floorMax = rw x at floor-cut in omega arith)
       (decide (isSteadyTitle t))
 
-  pub floor-high : isSharer t ≡ true → t .floor ≤ floorMax
+  pub floor-high : isSharer t ≡ true → t .film .floor ≤ floorMax
   floor-high part = rw (sharer-padded t part) at floor-cut
 
-  pub cap-high : t .cap ≤ countMax
+  pub cap-high : t .film .cap ≤ countMax
   unfolding numbersOk
   cap-high = search (both-l, both-r, leb-true) depth 12
 
@@ -73,9 +73,9 @@ rowsBy p rate title n =
     record {
       many = howMany p n;
       rates = rowTo p rate noRow n;
-      lengths = rowTo p (λ i. title i .length) noRow n;
-      floors = rowTo p (λ i. title i .floor) noRow n;
-      caps = rowTo p (λ i. title i .cap) noRow n;
+      lengths = rowTo p (λ i. title i .film .length) noRow n;
+      floors = rowTo p (λ i. title i .film .floor) noRow n;
+      caps = rowTo p (λ i. title i .film .cap) noRow n;
     }
 
 rows-next : (p : ℕ → Bool) (rate : ℕ → ℕ) (title : ℕ → Title) (n : ℕ) →
@@ -102,7 +102,7 @@ rows-whole s rates =
     (record {
       few = howMany-le (takesPart s) titlesMax;
       rates = row-length (takesPart s) (λ i. getD rates i 0) noRow titlesMax;
-      lengths = row-length (takesPart s) (λ i. titleAt s i .length) noRow titlesMax;
-      floors = row-length (takesPart s) (λ i. titleAt s i .floor) noRow titlesMax;
-      caps = row-length (takesPart s) (λ i. titleAt s i .cap) noRow titlesMax;
+      lengths = row-length (takesPart s) (λ i. titleAt s i .film .length) noRow titlesMax;
+      floors = row-length (takesPart s) (λ i. titleAt s i .film .floor) noRow titlesMax;
+      caps = row-length (takesPart s) (λ i. titleAt s i .film .cap) noRow titlesMax;
     })

@@ -78,16 +78,16 @@ module _ (s : State) (rates : List ℕ) (ok : stateOk s ≡ true)
   rate i = getD rates i 0
 
   abbrev film : ℕ → ℕ
-  film i = titleAt s i .length
+  film i = titleAt s i .film .length
 
   abbrev floor : ℕ → ℕ
-  floor i = titleAt s i .floor
+  floor i = titleAt s i .film .floor
 
   abbrev cap : ℕ → ℕ
-  cap i = titleAt s i .cap
+  cap i = titleAt s i .film .cap
 
   -- such a title has a floor
-  part-floor : (i : ℕ) → i < titlesMax → takesPart s i ≡ true → floorMin ≤ titleAt s i .floor
+  part-floor : (i : ℕ) → i < titlesMax → takesPart s i ≡ true → floorMin ≤ titleAt s i .film .floor
   unfolding orderOk
   part-floor i l part =
       let o = order (titleAt s i) (title-ok s ok i l) (not-absent s i part) in search (both-l, both-r, leb-true) depth 12
@@ -105,7 +105,7 @@ module _ (s : State) (rates : List ℕ) (ok : stateOk s ≡ true)
       both-in _ _ rate
       (both-in _ _ (both-in _ _ (le-leb _ _ (inside .sized .low)) (le-leb _ _ (inside .sized .high)))
       (both-in _ _ (both-in _ _ (le-leb _ _ low) (le-leb _ _ (floor-high t n part)))
-      (both-in _ _ (le-leb countMin (t .cap) (omega (arith, inside .cut .fit))) (le-leb _ _ (inside .cut .high)))))
+      (both-in _ _ (le-leb countMin (t .film .cap) (omega (arith, inside .cut .fit))) (le-leb _ _ (inside .cut .high)))))
 
   part-ordered : (i : ℕ) → i < titlesMax → takesPart s i ≡ true → ordered (ratedAt s rates i) ≡ true
   unfolding ordered
@@ -150,7 +150,7 @@ module _ (s : State) (rates : List ℕ) (ok : stateOk s ≡ true)
 
     -- a share lies from the title's floor to its cap
     pub share-range : (i : ℕ) → i < titlesMax → takesPart s i ≡ true →
-        (titleAt s i .floor ≤ shareOf s rates i) × (shareOf s rates i ≤ titleAt s i .cap)
+        (titleAt s i .film .floor ≤ shareOf s rates i) × (shareOf s rates i ≤ titleAt s i .film .cap)
     unfolding shareOf rated sharers
     share-range i l part =
         let p = takesPart s in

@@ -1,18 +1,22 @@
 -- `console_acts::acts::event` meets its contract: the scheduler's next state beside the agent's own sequence.
+use Rattle.scheduler.proofs.Settled.{as-event}
 use Rattle.console_acts.proofs.Following.{moves}
 use borrow.Author.Needs.{needs}
 use Rattle.console_acts.proofs.acts.event.Statement.{statement}
 use Rattle.console_acts.proofs.acts.event.Tie as tie
 
-happen-requires : tie.Need-happen-requires
-happen-requires c κs = search needs
+event-in-requires : tie.Need-event-in-requires
+event-in-requires c κs = search needs
+
+call-requires : tie.Need-call-requires
+call-requires c κs = search needs
 
 returns : tie.Need-returns
-returns c = (
-  c .before .happen .ensures .0,
-  moves (c .before .before .before .args .agent)
-      (c .before .before .before .args .line) _ (c .before .happen .ensures .1),
-)
+returns c =
+    let called = c .before in
+    let a = called .before .before .before .args in
+    let told = as-event (a .agent .state) (called .call .result) _ _ (called .before .event-in .ensures) (called .call .ensures) in
+    (told .0, moves (a .agent) (a .line) _ (told .1))
 
 pub event-spec : {M : Type 1} → statement M
-event-spec = tie.close (tie.spec happen-requires returns)
+event-spec = tie.close (tie.spec event-in-requires call-requires returns)

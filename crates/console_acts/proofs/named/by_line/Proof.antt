@@ -1,5 +1,8 @@
 -- `console_acts::named::by_line` meets its contract: the sequence after 12, else what a notice or an event missed.
 use Rattle.console_acts.proofs.Missing.{names-sequence, names-notice, names-event}
+use mathlib.Core.Path.{ap, _∙_}
+use Rattle.story.specs.declared.Event.{Event}
+use Rattle.console_acts.specs.Named.{missedBy}
 use borrow.Author.Needs.{needs}
 use Rattle.console_acts.proofs.named.by_line.Statement.{statement}
 use Rattle.console_acts.proofs.named.by_line.Tie as tie
@@ -32,13 +35,18 @@ returns-2 c =
     names-notice _ _ _ _ _ _ (at-if2 .before .before .before .if1 .left) (at-if2 .if2 .taken)
     (at-reading .reading .ensures) (c .by-reading .ensures)
 
+event-in-requires : tie.Need-event-in-requires
+event-in-requires c κs = search needs
+
 by-event-requires : tie.Need-by-event-requires
 by-event-requires c κs = search needs
 
 returns-3 : tie.Need-returns-3
 returns-3 c =
-    let at-if2 = c .before in
-    names-event _ _ _ _ _ (at-if2 .before .before .before .if1 .left) (at-if2 .if2 .left) (c .by-event .ensures)
+    let at-if2 = c .before .before in
+    let a = at-if2 .before .before .before .before .before .args in
+    names-event _ _ _ _ _ (at-if2 .before .before .before .if1 .left) (at-if2 .if2 .left)
+    (c .by-event .ensures ∙ ap (λ (e : Event). missedBy (a .answer) (a .agent .state) e) (c .before .event-in .ensures))
 
 pub by-line-spec : {M : Type 1} → statement M
 by-line-spec =
@@ -52,5 +60,6 @@ by-line-spec =
     reading-requires
     by-reading-requires
     returns-2
+    event-in-requires
     by-event-requires
     returns-3)

@@ -1,4 +1,7 @@
--- `console_acts::named::by_reading` meets its contract: a notice's own, and nothing of other bytes.
+-- `console_acts::named::by_reading` meets its contract: a notice's own event, and nothing of other bytes.
+use mathlib.Core.Path.{ap, _∙_}
+use Rattle.story.specs.declared.Event.{Event}
+use Rattle.console_acts.specs.Named.{missedBy}
 use borrow.Author.Needs.{needs}
 use Rattle.console_acts.proofs.named.by_reading.Statement.{statement}
 use Rattle.console_acts.proofs.named.by_reading.Tie as tie
@@ -6,14 +9,21 @@ use Rattle.console_acts.proofs.named.by_reading.Tie as tie
 enum-known-reading : tie.Need-enum-known-reading
 enum-known-reading c = search needs
 
-by-notice-requires : tie.Need-by-notice-requires
-by-notice-requires c κs = search needs
+event-of-requires : tie.Need-event-of-requires
+event-of-requires c κs = search needs
+
+by-event-requires : tie.Need-by-event-requires
+by-event-requires c κs = search needs
 
 enum-told : tie.Need-enum-told
 enum-told c = search needs
 
 returns : tie.Need-returns
-returns c = rw (c .before .before .reading .given .1) (c .by-notice .ensures)
+returns c =
+    let told = c .before .before .before in
+    let a = told .before .before .args in
+    rw (told .reading .given .1)
+    (c .by-event .ensures ∙ ap (λ (e : Event). missedBy (a .answer) (a .s) e) (c .before .event-of .ensures))
 
 returns-2 : tie.Need-returns-2
 returns-2 c = rw (c .enum-told .given .1)
@@ -21,4 +31,4 @@ returns-2 c = rw (c .enum-told .given .1)
 pub by-reading-spec : {M : Type 1} → statement M
 by-reading-spec =
     tie.close
-    (tie.spec enum-known-reading by-notice-requires enum-told returns returns-2)
+    (tie.spec enum-known-reading event-of-requires by-event-requires enum-told returns returns-2)

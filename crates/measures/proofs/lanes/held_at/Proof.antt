@@ -13,11 +13,11 @@ use Rattle.measures.proofs.lanes.held_at.Tie as tie
 
 abbrev Inv-loop : tie.InvT-loop
 Inv-loop t tick cap active n₀ lane₀ n lane =
-    (lane ≤ t .cap)
+    (lane ≤ t .film .cap)
     × (n ≡ howMany (λ l. keptHeld t l tick) lane)
     × (n ≤ lane)
-    × (cap ≡ t .cap)
-    × (active ≡ min (ruling t) (t .cap))
+    × (cap ≡ t .film .cap)
+    × (active ≡ min (ruling t) (t .film .cap))
     × (active ≤ lane)
 
 abbrev μ-loop : tie.MeasureT-loop
@@ -33,8 +33,8 @@ loop-holds : tie.Need-loop-holds Inv-loop μ-loop
 loop-holds c =
     let t = c .before .before .args .t in
     let active = c .smaller .result in
-    let is : active ≡ min (ruling t) (t .cap) =
-    c .smaller .ensures ∙ ap (λ k. min k (t .cap)) (c .before .ruling .ensures) in
+    let is : active ≡ min (ruling t) (t .film .cap) =
+    c .smaller .ensures ∙ ap (λ k. min k (t .film .cap)) (c .before .ruling .ensures) in
     (omega arith, sym (active-held t (c .before .before .args .tick) active (omega arith)), omega arith, refl, is, omega arith)
 
 is-sending-requires : tie.Need-is-sending-requires Inv-loop μ-loop

@@ -5,7 +5,7 @@ use native.Mathlib.Omega.{arith}
 use native.Mathlib.Numerals.{add-one}
 use native.Mathlib.Nat.{le-antisymm}
 use Rattle.rules.specs.Search.{every}
-use Rattle.measures.specs.Film.{slotOk}
+use Rattle.measures.specs.Readable.{slotOk}
 use borrow.Author.Needs.{needs}
 use Rattle.measures.proofs.limits.slots_ok.Statement.{statement}
 use Rattle.measures.proofs.limits.slots_ok.Tie as tie

@@ -10,7 +10,7 @@ use Rattle.moments.proofs.releases.lanes_release.Statement.{statement}
 use Rattle.moments.proofs.releases.lanes_release.Tie as tie
 
 abbrev Inv-loop : tie.InvT-loop
-Inv-loop t time soonest cap tick r₀ lane₀ r lane = (lane ≤ t .cap) × (r ≡ lanesRelease t time soonest lane) × (cap ≡ t .cap)
+Inv-loop t time soonest cap tick r₀ lane₀ r lane = (lane ≤ t .film .cap) × (r ≡ lanesRelease t time soonest lane) × (cap ≡ t .film .cap)
 
 abbrev μ-loop : tie.MeasureT-loop
 μ-loop t time soonest cap tick r₀ lane₀ r lane = cap - lane

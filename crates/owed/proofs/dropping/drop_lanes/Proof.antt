@@ -25,7 +25,7 @@ drop-above-requires c κs =
     let a = c .before .before in
     let l = c .before .loop in
     let f = fixed-drops (a .args .t) (a .args .tick) (a .args .count) (l .lane) in
-    rw (l .inv .1) (fixed-owing (a .args .t) (dropLanes (a .args .t) (a .args .tick) (a .args .count) (l .lane)) f (a .pre .0), (omega (arith, f .cap), a .pre .1 .1))
+    rw (l .inv .1) (fixed-owing (a .args .t) (dropLanes (a .args .t) (a .args .tick) (a .args .count) (l .lane)) f (a .pre .0), (rw (f .film) (omega arith), a .pre .1 .1))
 
 add-lane : tie.Need-add-lane Inv-loop μ-loop
 add-lane c = search needs

@@ -20,8 +20,8 @@ use Rattle.owed.proofs.owing.awaited_by_some.Tie as tie
 
 abbrev Inv-loop : tie.InvT-loop
 Inv-loop lane cell tick t cap floor found₀ count₀ found count =
-    (count ≤ suc cap) × (cap ≡ t .cap) × (lane < count)
-    × (found ≡ some (λ c. both (ltb lane c) (both (leb (t .floor) c) (wants (schemeIn t) (getD (t .ends) c 0) cell tick c))) count)
+    (count ≤ suc cap) × (cap ≡ t .film .cap) × (lane < count)
+    × (found ≡ some (λ c. both (ltb lane c) (both (leb (t .film .floor) c) (wants (schemeIn t) (getD (t .ends) c 0) cell tick c))) count)
 
 abbrev μ-loop : tie.MeasureT-loop
 μ-loop lane cell tick t cap floor found₀ count₀ found count = suc cap - count
@@ -36,7 +36,7 @@ loop-holds c =
       omega arith,
       refl,
       omega arith,
-      sym (some-none (λ k. both (ltb (a .lane) k) (both (leb (a .t1 .floor) k) (wants (schemeIn (a .t1)) (getD (a .t1 .ends) k 0) x (a .tick) k)))
+      sym (some-none (λ k. both (ltb (a .lane) k) (both (leb (a .t1 .film .floor) k) (wants (schemeIn (a .t1)) (getD (a .t1 .ends) k 0) x (a .tick) k)))
           (a .lane + 1)
           (λ k l. rw (le-ltb (a .lane) k (omega arith)) refl)),
     )
@@ -58,7 +58,7 @@ owed-to-requires c κs =
       record { fit = low; high = film .high },
       (
         (in-row (a .t1 .ends) countPlaces k (s .pre .0 .ends) (omega (arith, low, film .high)), (s .pre .1 .1 .0 .within, s .pre .1 .0 .1)),
-        λ floor. own-cell (a .t1 .floor) (a .t1 .cap) (a .lane) k (a .tick) (a .cell) low has (s .pre .1 .1 .0 .is) floor,
+        λ floor. own-cell (a .t1 .film .floor) (a .t1 .film .cap) (a .lane) k (a .tick) (a .cell) low has (s .pre .1 .1 .0 .is) floor,
       ),
     )
 
@@ -79,8 +79,8 @@ loop-again c =
     let t = a .t1 in
     let k = at .loop .count in
     let x = a .cell in
-    let e : c .before .owed-to .result ≡ both (leb (t .floor) k) (wants (schemeIn t) (getD (t .ends) k 0) x (a .tick) k) =
-    c .before .owed-to .ensures ∙ ap (both (leb (t .floor) k)) (padded-wants t x (a .tick) k (at .before .pre .1 .1 .1)) in
+    let e : c .before .owed-to .result ≡ both (leb (t .film .floor) k) (wants (schemeIn t) (getD (t .ends) k 0) x (a .tick) k) =
+    c .before .owed-to .ensures ∙ ap (both (leb (t .film .floor) k)) (padded-wants t x (a .tick) k (at .before .pre .1 .1 .1)) in
     (omega arith, search needs, omega arith, rw add-one (simp (lt-ltb _ _ (at .loop .inv .2)) (cc e)))
 
 returns : tie.Need-returns Inv-loop μ-loop

@@ -20,7 +20,7 @@ awaited-on-requires : tie.Need-awaited-on-requires
 awaited-on-requires c κs =
     let s = c .before .before in
     let film = s .pre .0 .film .cut in
-    (omega arith, (in-row (s .args .t1 .ends) countPlaces (s .args .t1 .cap) (s .pre .0 .ends) (omega (arith, film .high)), s .pre .1 .0 .1))
+    (omega arith, (in-row (s .args .t1 .ends) countPlaces (s .args .t1 .film .cap) (s .pre .0 .ends) (omega (arith, film .high)), s .pre .1 .0 .1))
 
 returns : tie.Need-returns
 returns c =
@@ -33,7 +33,7 @@ awaited-by-some-requires : tie.Need-awaited-by-some-requires
 awaited-by-some-requires c κs =
     let s = c .before in
     let a = s .args in
-    (s .pre .0, (s .pre .1 .0, (rw (padded-scheme (a .t1 .kind) (a .t1 .floor) (a .t1 .cap) (c .if1 .left)) at (s .pre .1 .1), c .if1 .left)))
+    (s .pre .0, (s .pre .1 .0, (rw (padded-scheme (a .t1 .film .kind) (a .t1 .film .floor) (a .t1 .film .cap) (c .if1 .left)) at (s .pre .1 .1), c .if1 .left)))
 
 returns-2 : tie.Need-returns-2
 returns-2 c = search needs

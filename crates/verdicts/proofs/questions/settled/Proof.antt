@@ -9,7 +9,7 @@ use Rattle.rules.specs.Limits.{both, idMax, askedMax}
 use Rattle.rules.proofs.Tests.{both-l, both-r}
 use Rattle.story.specs.Kept.{stateOk}
 use Rattle.verdicts.specs.Asked.{settledIn}
-use Rattle.measures.specs.Film.{Readable}
+use Rattle.measures.specs.Readable.{Readable}
 use Rattle.measures.proofs.Within.{title-ok, tuned-high, readable}
 use borrow.Author.Needs.{needs}
 use Rattle.verdicts.proofs.questions.settled.Statement.{statement}

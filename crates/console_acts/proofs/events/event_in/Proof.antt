@@ -1,0 +1,61 @@
+-- `console_acts::events::event_in` meets its contract: the numbers of the line by their places.
+use Prim.Native.Nat.{ℕ}
+use mathlib.Core.Path.{ap, _∙_}
+use Rattle.story.specs.declared.Act.{Act}
+use Rattle.story.specs.Story.{event}
+use Rattle.console_lines.specs.Lines.{numberIn}
+use Rattle.console_acts.specs.Events.{actBy, eventIn}
+use borrow.Author.Needs.{needs}
+use Rattle.console_acts.proofs.events.event_in.Statement.{statement}
+use Rattle.console_acts.proofs.events.event_in.Tie as tie
+
+word-of-requires : tie.Need-word-of-requires
+word-of-requires c κs = search needs
+
+array-read-event-at : tie.Need-array-read-event-at
+array-read-event-at c = search needs
+
+array-read-event-at-2 : tie.Need-array-read-event-at-2
+array-read-event-at-2 c = search needs
+
+array-read-act-by : tie.Need-array-read-act-by
+array-read-act-by c = search needs
+
+array-read-act-by-2 : tie.Need-array-read-act-by-2
+array-read-act-by-2 c = search needs
+
+array-read-act-by-3 : tie.Need-array-read-act-by-3
+array-read-act-by-3 c = search needs
+
+array-read-act-by-4 : tie.Need-array-read-act-by-4
+array-read-act-by-4 c = search needs
+
+act-by-requires : tie.Need-act-by-requires
+act-by-requires c κs = search needs
+
+event-at-requires : tie.Need-event-at-requires
+event-at-requires c κs = search needs
+
+returns : tie.Need-returns
+unfolding eventIn
+returns c =
+    let l = c .before .before .before .before .args .line in
+    c .event-at .ensures
+    ∙ ap (λ (a : Act). event (numberIn l 0) (numberIn l 1) a)
+    (c .before .act-by .ensures
+    ∙ ap (λ (w : ℕ). actBy w (numberIn l 2) (numberIn l 3) (numberIn l 4) (numberIn l 5)) (c .before .before .word-of .ensures))
+
+pub event-in-spec : {M : Type 1} → statement M
+event-in-spec =
+    tie.close
+    (tie.spec
+    word-of-requires
+    array-read-event-at
+    array-read-event-at-2
+    array-read-act-by
+    array-read-act-by-2
+    array-read-act-by-3
+    array-read-act-by-4
+    act-by-requires
+    event-at-requires
+    returns)

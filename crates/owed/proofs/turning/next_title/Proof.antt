@@ -1,0 +1,58 @@
+-- `next_title` meets its contract: each act is the function of its name. An opening asks nothing of the title.
+use mathlib.Core.Path.{_≡_}
+use borrow.Author.Needs.{needs}
+use Rattle.owed.proofs.turning.next_title.Statement.{statement}
+use Rattle.owed.proofs.turning.next_title.Tie as tie
+
+enum-known-act : tie.Need-enum-known-act
+enum-known-act c = search needs
+
+opened-title-requires : tie.Need-opened-title-requires
+opened-title-requires c κs = search needs
+
+enum-known-act-2 : tie.Need-enum-known-act-2
+enum-known-act-2 c = search needs
+
+changed-title-requires : tie.Need-changed-title-requires
+changed-title-requires c κs = let s = c .before .before .before in (rw (c .before .act2 .given .1) at (s .pre .0), s .pre .1)
+
+enum-told : tie.Need-enum-told
+enum-told c = search needs
+
+closed-title-requires : tie.Need-closed-title-requires
+closed-title-requires c κs = let s = c .before .before in (rw (c .enum-told .given .1) at (s .pre .0), s .pre .1)
+
+enum-known-act-3 : tie.Need-enum-known-act-3
+enum-known-act-3 c = search needs
+
+doors-title-requires : tie.Need-doors-title-requires
+doors-title-requires c κs = let s = c .before .before .before in (rw (c .before .act3 .given .1) at (s .pre .0), s .pre .1)
+
+returns : tie.Need-returns
+returns c = rw (c .before .before .act .given .1) (c .opened-title .ensures)
+
+returns-2 : tie.Need-returns-2
+returns-2 c = rw (c .before .before .act2 .given .1) (c .changed-title .ensures)
+
+returns-3 : tie.Need-returns-3
+returns-3 c = rw (c .before .enum-told .given .1) (c .closed-title .ensures)
+
+returns-4 : tie.Need-returns-4
+returns-4 c = rw (c .before .before .act3 .given .1) (c .doors-title .ensures)
+
+pub next-title-spec : {M : Type 1} → statement M
+next-title-spec =
+    tie.close
+    (tie.spec
+    enum-known-act
+    opened-title-requires
+    enum-known-act-2
+    changed-title-requires
+    enum-told
+    closed-title-requires
+    enum-known-act-3
+    doors-title-requires
+    returns
+    returns-2
+    returns-3
+    returns-4)

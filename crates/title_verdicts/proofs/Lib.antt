@@ -1,0 +1,2 @@
+-- What a title within its limits has, and what its standing gives.
+pub mod Stands

@@ -1,0 +1,2 @@
+-- What a title alone answers to an event.
+pub mod Titled
