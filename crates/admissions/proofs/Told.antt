@@ -19,7 +19,7 @@ use Rattle.story.specs.declared.Title.{Title}
 use Rattle.story.specs.Life.{Life, Course, onCourse, isAdmission}
 use Rattle.story.specs.Kept.{isShut, titleTick, tickAt, ruling}
 use Rattle.story.specs.Story.{unopened, tickLength, tickIn, momentOf}
-use Rattle.story.proofs.Ruled.{SameAt}
+use Rattle.story.proofs.Admissions.{SameAt}
 use Rattle.story.proofs.Clock.{on-its-tick}
 use Rattle.story.specs.Calls.{blankTitle}
 use Rattle.story.proofs.Stored.{lifeIn}

@@ -9,7 +9,7 @@ use Rattle.story.specs.Calls.{laneAnswer, laneShows, statusAnswer, statusCount,
 use Rattle.story.specs.declared.Event.{Event}
 use Rattle.story.specs.Story.{accepted}
 use Rattle.story.specs.Runs.{stateAfter, lanesOf}
-use Rattle.story.proofs.Demands.{every-run, left-alone}
+use Rattle.story.proofs.Demands.{every-run, tells-the-story}
 use Rattle.agent.specs.Series.{agentAfter, eventsHeard}
 use Rattle.agent.proofs.Order.{state-heard}
 
@@ -17,7 +17,7 @@ module _ (pool : ℕ) (cs : List Event) (bss : List (List ℕ)) (same : accepted
   where
     pub alike : stateAfter pool cs ≡ agentAfter pool bss .state
     alike =
-        left-alone pool (accepted (lanesOf pool) cs) (stateAfter pool cs) (every-run pool cs)
+        tells-the-story pool (accepted (lanesOf pool) cs) (stateAfter pool cs) (every-run pool cs) .left-alone
         ∙ ap (stateAfter pool) same
         ∙ sym (state-heard pool bss)
 

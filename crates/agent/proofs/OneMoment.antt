@@ -23,7 +23,7 @@ use Rattle.story.specs.Story.{lifeOf, answer, Accepted, more, OneMoment, BothAc
 use Rattle.story.specs.Runs.{answered, stateAfter, lanesOf, Reached}
 use Rattle.story.proofs.Reached.{reached}
 use Rattle.story.proofs.OneMoment.{either-after}
-use Rattle.story.proofs.Demands.{every-answer, both-answered, all-one-later}
+use Rattle.story.proofs.Demands.{tells-the-story, orders-that-matter, order-is-all-one}
 use Rattle.agent.specs.Turns.{eventOf, noticeAnswer, noticed, Stops}
 use Rattle.agent.specs.Series.{agentAfter, hearing, heard, eventsHeard, noticeFor, numbered, sent, logKept}
 use Rattle.agent.specs.Played.{lifeIn}
@@ -45,8 +45,8 @@ module _ (pool : ℕ) (es : List Event) (acc : Accepted (lanesOf pool) es) (e f 
 
   same-state : stateAfter pool (f ∷ e ∷ es) ≡ stateAfter pool (e ∷ f ∷ es)
   same-state =
-      all-one-later pool es (stateAfter pool es) run e f at (both-answered pool es (stateAfter pool es) run e f one)
-      (both-answered pool es (stateAfter pool es) run f e other) []
+      let both = orders-that-matter pool es (stateAfter pool es) run .both-answered in
+      order-is-all-one pool es (stateAfter pool es) run .all-one-later e f at (both e f one) (both f e other) []
 
   pub orders-alike : agentAfter pool (sent (f ∷ e ∷ es)) ≡ agentAfter pool (sent (e ∷ f ∷ es))
   orders-alike =
@@ -98,7 +98,7 @@ module _ (pool : ℕ) (bss : List (List ℕ)) where
       answered (agentAfter pool bss .state) (eventOf (noticeFor q e)) ≡ answer (lanesOf pool) (eventsHeard pool bss) e
   next-says before e h q =
       ap (answered (agentAfter pool bss .state)) (same-event (lanesOf pool) before q e h)
-      ∙ every-answer pool (eventsHeard pool bss) (agentAfter pool bss .state) (follows pool bss .run) e
+      ∙ tells-the-story pool (eventsHeard pool bss) (agentAfter pool bss .state) (follows pool bss .run) .every-answer e
 
   -- its bytes read as that notice
   reads-next : (before : List Event) (e : Event) → answer (lanesOf pool) before e ≡ 0 → (q : ℕ) → q < 2 ^ 32 →

@@ -19,7 +19,7 @@ use Rattle.notice.specs.Decode.{readOf}
 use Rattle.story.specs.Story.{upTo, answer, none}
 use Rattle.story.specs.Runs.{answered, stateAfter, lanesOf}
 use Rattle.story.proofs.Reached.{reached, run-more, run-state}
-use Rattle.story.proofs.Demands.{every-answer}
+use Rattle.story.proofs.Demands.{tells-the-story}
 use Rattle.agent.specs.declared.Agent.{Agent}
 use Rattle.agent.specs.Turns.{eventOf, freshAgent, noticeAnswer, noticeNext, noticed}
 use Rattle.agent.specs.Series.{agentAfter, hearing, heard, eventsHeard, HeardBy, Hearing, start, next}
@@ -44,7 +44,7 @@ hear-notice pool ns g n w =
     rw (ap (λ k. eqb (n .sequence) (suc k)) (w .sequence))
     (both-ways pool (n ∷ ns) ns (noticeNext g (reading.Whole n)) g (eqb (n .sequence) (suc (length ns)))
     (answered (g .state) (eventOf n)) (answer (lanesOf pool) (map eventOf ns) (eventOf n))
-    (every-answer pool (map eventOf ns) (g .state) (w .run) (eventOf n))
+    (tells-the-story pool (map eventOf ns) (g .state) (w .run) .every-answer (eventOf n))
     (λ turn ok.
     record {
       sequence = eqb-true (n .sequence) (suc (length ns)) turn;

@@ -6,19 +6,12 @@ use lib.ListN.{length}
 use mathlib.Core.List.{List, [], _∷_}
 use Prim.Native.Nat.{ℕ, suc}
 use native.Mathlib.Omega.{arith}
-use Rattle.rules.specs.Refusals.{firstHit, outOfTurn}
-use Rattle.rules.specs.Search.{some, first, howMany, after, total}
-use Rattle.grid.specs.Ticks.{tickOf, roundedUp, slot, cellOf}
-use Rattle.grid.specs.Channels.{floorRem, shift, segment, channelCell}
-use Rattle.grid.specs.Lanes.{isInG, isAdded, addedChannel, laneCell}
-use Rattle.scheme.specs.Scheme.{schemeOf, starts, takes, takesFrom, tickFor, filmIn}
-use Rattle.story.specs.Life.{isAdmission, isActive, droppedAt, isAwaited, isOwed, reach, owedWithin, isNth, nthOwed}
-use Rattle.story.specs.Life.{sends, onAir, isHeld}
+use Rattle.rules.specs.Refusals.{outOfTurn}
 use Rattle.story.specs.declared.Act.the-variants.{Changes}
 use Rattle.story.specs.declared.Event.{Event}
-use Rattle.story.specs.Story.{opens, tickIn, lifeOf, latestOf, tunedOf, heldIn, heldOver, answerTo}
-use Rattle.story.specs.Story.{event, accepted}
+use Rattle.story.specs.Story.{opens, event, accepted}
 use Rattle.story.specs.Runs.{stateAfter}
+use Rattle.story.proofs.Computed.{computed}
 use Rattle.notice.specs.declared.Notice.{Notice}
 use Rattle.notice.specs.declared.Kind.the-variants.{Open, Change}
 use Rattle.notice.specs.declared.Reading.the-variants as reading
@@ -50,6 +43,15 @@ module _ (g : Agent) (raise drop : Notice) (waits : raise .sequence ≡ suc (g .
       ≡ noticed (noticed g (reading.Whole raise)) (reading.Whole drop)
   as-in-order = ap (λ h. noticed (noticed h (reading.Whole raise)) (reading.Whole drop)) stays-as-it-is
 
+-- what computing over bytes opens: the codec, and the story
+computedReading : Unit {0}
+unfolding readOf noticeIn kindIn valueAt standsTo rowStands headStands numberAt startOf spanOf table
+computedReading = tt
+
+computedBytes : Unit {0}
+unfolding heard bigEndian bytesOf bytesTo rowBytes fieldBytes computedReading computed
+computedBytes = tt
+
 abbrev pub opened : Notice
 opened = record { sequence = 1; title = 0; time = 0; kind = Open 12 2 4 3 }
 
@@ -64,7 +66,7 @@ abbrev pub overtaken : List (List ℕ)
 overtaken = bytesOf dropped ∷ bytesOf raised ∷ bytesOf dropped ∷ bytesOf opened ∷ []
 
 pub heard-in-turn : heard 8 overtaken ≡ dropped ∷ raised ∷ opened ∷ []
-unfolding heard answerTo firstHit lifeOf latestOf tunedOf heldOver heldIn tickIn total howMany isHeld onAir isActive droppedAt after sends nthOwed isNth owedWithin isOwed isAwaited isAdmission reach some first takes takesFrom schemeOf laneCell addedChannel isAdded isInG channelCell segment shift floorRem cellOf slot starts tickFor tickOf filmIn roundedUp readOf noticeIn kindIn valueAt standsTo rowStands headStands numberAt startOf spanOf table bigEndian bytesOf bytesTo rowBytes fieldBytes
+unfolding computedBytes
 heard-in-turn = refl
 
 -- the same notices in order, and that both series are of one log: no two of its notices share a sequence
@@ -72,7 +74,7 @@ abbrev pub in-order : List (List ℕ)
 in-order = bytesOf dropped ∷ bytesOf raised ∷ bytesOf opened ∷ []
 
 heard-in-order : heard 8 in-order ≡ dropped ∷ raised ∷ opened ∷ []
-unfolding heard answerTo firstHit lifeOf latestOf tunedOf heldOver heldIn tickIn total howMany isHeld onAir isActive droppedAt after sends nthOwed isNth owedWithin isOwed isAwaited isAdmission reach some first takes takesFrom schemeOf laneCell addedChannel isAdded isInG channelCell segment shift floorRem cellOf slot starts tickFor tickOf filmIn roundedUp readOf noticeIn kindIn valueAt standsTo rowStands headStands numberAt startOf spanOf table bigEndian bytesOf bytesTo rowBytes fieldBytes
+unfolding computedBytes
 heard-in-order = refl
 
 data Log : Notice → Type 0 where
@@ -92,15 +94,15 @@ one-each m n third-of second-of e = absurd (omega arith)
 one-each m n third-of third-of e = refl
 
 reads-opened : readOf (bytesOf opened) ≡ reading.Whole opened
-unfolding heard answerTo firstHit lifeOf latestOf tunedOf heldOver heldIn tickIn total howMany isHeld onAir isActive droppedAt after sends nthOwed isNth owedWithin isOwed isAwaited isAdmission reach some first takes takesFrom schemeOf laneCell addedChannel isAdded isInG channelCell segment shift floorRem cellOf slot starts tickFor tickOf filmIn roundedUp readOf noticeIn kindIn valueAt standsTo rowStands headStands numberAt startOf spanOf table bigEndian bytesOf bytesTo rowBytes fieldBytes
+unfolding computedBytes
 reads-opened = refl
 
 reads-raised : readOf (bytesOf raised) ≡ reading.Whole raised
-unfolding heard answerTo firstHit lifeOf latestOf tunedOf heldOver heldIn tickIn total howMany isHeld onAir isActive droppedAt after sends nthOwed isNth owedWithin isOwed isAwaited isAdmission reach some first takes takesFrom schemeOf laneCell addedChannel isAdded isInG channelCell segment shift floorRem cellOf slot starts tickFor tickOf filmIn roundedUp readOf noticeIn kindIn valueAt standsTo rowStands headStands numberAt startOf spanOf table bigEndian bytesOf bytesTo rowBytes fieldBytes
+unfolding computedBytes
 reads-raised = refl
 
 reads-dropped : readOf (bytesOf dropped) ≡ reading.Whole dropped
-unfolding heard answerTo firstHit lifeOf latestOf tunedOf heldOver heldIn tickIn total howMany isHeld onAir isActive droppedAt after sends nthOwed isNth owedWithin isOwed isAwaited isAdmission reach some first takes takesFrom schemeOf laneCell addedChannel isAdded isInG channelCell segment shift floorRem cellOf slot starts tickFor tickOf filmIn roundedUp readOf noticeIn kindIn valueAt standsTo rowStands headStands numberAt startOf spanOf table bigEndian bytesOf bytesTo rowBytes fieldBytes
+unfolding computedBytes
 reads-dropped = refl
 
 logged : (m n : Notice) → Log m → readOf (bytesOf m) ≡ reading.Whole m → readOf (bytesOf m) ≡ reading.Whole n → Log n
@@ -130,7 +132,7 @@ abbrev calls : List Event
 calls = event 0 8 (Changes 3) ∷ event 0 4 (Changes 4) ∷ event 0 0 (opens 12 2 4 3) ∷ []
 
 same-events : accepted 8 calls ≡ eventsHeard 8 overtaken
-unfolding accepted heard answerTo firstHit lifeOf latestOf tunedOf heldOver heldIn tickIn total howMany isHeld onAir isActive droppedAt after sends nthOwed isNth owedWithin isOwed isAwaited isAdmission reach some first takes takesFrom schemeOf laneCell addedChannel isAdded isInG channelCell segment shift floorRem cellOf slot starts tickFor tickOf filmIn roundedUp readOf noticeIn kindIn valueAt standsTo rowStands headStands numberAt startOf spanOf table bigEndian bytesOf bytesTo rowBytes fieldBytes
+unfolding computedBytes
 same-events = refl
 
 pub as-the-head-end : stateAfter 8 calls ≡ agentAfter 8 overtaken .state

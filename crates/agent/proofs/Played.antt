@@ -19,7 +19,7 @@ use Rattle.agent.specs.declared.Agent.{Agent}
 use Rattle.agent.specs.Turns.{eventOf, freshAgent, noticeAnswer, noticed}
 use Rattle.story.specs.Story.{answer}
 use Rattle.story.specs.Runs.{lanesOf, Reached}
-use Rattle.story.proofs.Demands.{every-answer}
+use Rattle.story.proofs.Demands.{tells-the-story}
 use Rattle.agent.specs.Series.{agentAfter, hearing, heard, eventsHeard, Hearing}
 use Rattle.agent.specs.Played.{agentTold, agentPlayed, heardOf, eventsPlayed, ReadAs, none-read, one-read}
 use Rattle.agent.proofs.Order.{follows}
@@ -90,5 +90,6 @@ unfolding noticeAnswer
 told-notice pool ns w n =
     rw (
       w .sequence,
-      every-answer pool (map eventOf (heardOf (lanesOf pool) ns)) (agentTold (freshAgent pool) ns .state) (w .run) (eventOf n),
+      tells-the-story pool (map eventOf (heardOf (lanesOf pool) ns)) (agentTold (freshAgent pool) ns .state) (w .run)
+          .every-answer (eventOf n),
     )

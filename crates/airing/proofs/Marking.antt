@@ -32,13 +32,13 @@ use Rattle.story.specs.declared.Event.{Event}
 use Rattle.story.specs.Story.{holds, lifts, event, unopened, lifeAfter, lifeOf, latestOf, lastTime}
 use Rattle.story.specs.Story.{tickLength, tickIn, answer}
 use Rattle.story.specs.Runs.{lanesOf}
-use Rattle.story.proofs.Ruled.{SameAt}
+use Rattle.story.proofs.Admissions.{SameAt}
 use Rattle.story.proofs.Stored.{lifeIn}
 use Rattle.story.proofs.Kept.{Present}
 use Rattle.story.proofs.Turn.{open-ruling}
 use Rattle.story.proofs.Tells.{TellsTitle, absent, present, count-told, closed-none, open-some}
 use Rattle.story.proofs.Passed.{Turned, changing, closing, doored}
-use Rattle.story.proofs.World.{courseAfter, same-before}
+use Rattle.story.proofs.Boxes.{courseAfter, same-before}
 use Rattle.story.proofs.Runs.{Told}
 use Rattle.story.proofs.Reached.{run-told}
 use Rattle.measures.specs.Readable.{Filmed}
@@ -177,7 +177,7 @@ module _ (lanes : ℕ) (es : List Event) (s : State) (i : ℕ) (row : List ℕ)
 
 module _ (L : Life) (m : ℕ) (t : Title) (told : TellsTitle L m t) (film : isFilmSlot t ≡ true) where
   never-blank : t ≡ blankTitle → ⊥
-  never-blank g = let none : 0 < 0 = subst (λ (z : Title). 0 < z .cap) g (ltb-true 0 (t .film .cap) (both-l _ _ film)) in omega arith
+  never-blank g = let none : 0 < 0 = subst (λ (z : Title). 0 < z .film .cap) g (ltb-true 0 (t .film .cap) (both-l _ _ film)) in omega arith
 
   film-markable : Markable t
   film-markable = go told

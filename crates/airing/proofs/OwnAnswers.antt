@@ -21,9 +21,10 @@ use Rattle.story.specs.Story.{lifeOf, lifeAt, latestOf, momentOf, tickLength, I
 use Rattle.story.specs.Runs.{lanesOf, Reached}
 use Rattle.story.proofs.Tells.{TellsTitle, absent, present}
 use Rattle.story.proofs.Runs.{lanes-limit}
-use Rattle.story.proofs.Lively.{witness}
-use Rattle.story.proofs.World.{stood}
-use Rattle.story.proofs.Demands.{in-sequence, boxes, by-the-calls}
+use Rattle.story.proofs.Lives.{witness}
+use Rattle.story.proofs.Boxes.{stood}
+use Rattle.story.proofs.Reached.{run-accepted as in-sequence}
+use Rattle.story.proofs.Demands.{no-box-runs-dry}
 use Rattle.judging.specs.Record.{ticksMax, ticksIn, seen, isShown, isInTime}
 use Rattle.airing.specs.Own.{OwnAnswers}
 
@@ -93,8 +94,8 @@ module _ (pool : ℕ) (es : List Event) (s : State) (run : Reached pool es s) (i
         let l : ℕ = f .lane in
         let υ : ℕ = own .moment (f .tick) l in
         let there : InTick (lifeAt es i (momentOf L a)) (f .tick) υ = subst (λ M. InTick M (f .tick) υ) (sym (w .life)) (record { from = own .within-tick (f .tick) l b .from; until = own .within-tick (f .tick) l b .until }) in
-        let told = by-the-calls pool es s run i (momentOf L a) a c id f υ there (asked-soon (f .tick) l b) in
-        let cap : lifeAt es i (momentOf L a) .cap ≡ L .film .cap = ap (λ (M : Life). M .film .cap) (w .life) in
+        let told = no-box-runs-dry pool es s run .by-the-calls i (momentOf L a) a c id f υ there (asked-soon (f .tick) l b) in
+        let cap : lifeAt es i (momentOf L a) .film .cap ≡ L .film .cap = ap (λ (M : Life). M .film .cap) (w .life) in
         let low : l < lanePlaces = omega (arith, f .lane-low, numbers pool es s run i id some .cap-high) in
         let is : seen r (f .tick) l ≡ c = own .answers (f .tick) l b low ∙ rw (told .0) (told .1) in
         some-in (λ l. eqb (seen r (f .tick) l) c) lanePlaces l low (eq-eqb _ _ is)
@@ -106,7 +107,8 @@ module _ (pool : ℕ) (es : List Event) (s : State) (run : Reached pool es s) (i
     own-in-time a c h b film =
         let L : Life = lifeOf es i in
         let w = stood (lanesOf pool) es (lanes-limit pool) (in-sequence pool es s run) i (momentOf L a) (omega arith) in
-        let f = boxes pool es s run i (momentOf L a) a c id (begins a h) (subst (λ M. isFilm M c ≡ true) (sym (w .life)) film) in
+        let shown = subst (λ M. isFilm M c ≡ true) (sym (w .life)) film in
+        let f = no-box-runs-dry pool es s run .boxes i (momentOf L a) a c id (begins a h) shown in
         let t : ℕ = f .tick in
         let far : a + (t - a) ≡ t = omega (arith, f .from-start) in
         some-in (λ j. isShown r c (a + j)) (suc c) (t - a) (omega (arith, f .by-then))

@@ -29,8 +29,8 @@ use Rattle.story.specs.Story.{lifeOf, lifeAt, latestOf, upTo}
 use Rattle.story.specs.Runs.{stateAfter, lanesOf, Reached}
 use Rattle.story.proofs.Tells.{TellsTitle, absent, present}
 use Rattle.story.proofs.Runs.{lanes-limit}
-use Rattle.story.proofs.World.{stood}
-use Rattle.story.proofs.Demands.{in-sequence}
+use Rattle.story.proofs.Boxes.{stood}
+use Rattle.story.proofs.Reached.{run-accepted as in-sequence}
 use Rattle.story.proofs.Reached.{upTo-accepted, reached, run-told}
 use Rattle.judging.specs.Record.{nothingSeen, ticksIn}
 use Rattle.judging.proofs.Walked.{getD-any}

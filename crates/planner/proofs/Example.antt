@@ -1,19 +1,15 @@
 -- An evening that meets the hypotheses of the planner's promise, computed from the definitions: two films share a pool of five lanes, three
 -- of them with the one that fewer watch. The list drops its third lane, and raises the other film once that lane has sent what it
 -- owes; both events come, and the counts are the sharing's.
--- Rests on the promise (`carried`, `brought`), and on what the earliest time is.
+-- Rests on the promise (`promised`), and on what the earliest time is.
 use mathlib.Core.Path.{_≡_, refl, sym, ap, subst, _∙_}
 use mathlib.Core.Bool.{true}
 use mathlib.Core.List.{List, [], _∷_, flatMap}
 use Prim.Native.Nat.{ℕ, _≤_}
 use native.Mathlib.Omega.{arith}
 use lib.ListN.{length}
-use Rattle.rules.specs.Refusals.{firstHit, done}
-use Rattle.rules.specs.Search.{some, every, first, howMany, after, total}
-use Rattle.grid.specs.Ticks.{tickOf, roundedUp, slot, cellOf}
-use Rattle.grid.specs.Channels.{floorRem, shift, segment, channelCell}
-use Rattle.grid.specs.Lanes.{isInG, isAdded, addedChannel, laneCell}
-use Rattle.scheme.specs.Scheme.{schemeOf, starts, takes, takesFrom, tickFor, filmIn}
+use Rattle.rules.specs.Refusals.{done}
+use Rattle.rules.specs.Search.{every}
 use Rattle.sharing.specs.Titles.{rowTotal}
 use Rattle.sharing.specs.Term.{term}
 use Rattle.sharing.specs.Choice.{sumOf, lessOr, atLeast, prefers, from, ways, better, bestOf, shared}
@@ -23,9 +19,9 @@ use Rattle.story.specs.Kept.{keptAwaited, keptOwed, keptWithin, keptHeld, title
 use Rattle.story.specs.Next.{dropLanes, changedTitle, changeNext}
 use Rattle.story.specs.declared.Event.{Event}
 use Rattle.story.specs.Story.{opens, event}
-use Rattle.story.specs.Life.{reach}
 use Rattle.story.specs.Calls.{callAnswer, statusCount}
 use Rattle.story.specs.Runs.{stateAfter}
+use Rattle.story.proofs.Computed.{computed}
 use Rattle.story.proofs.Demands.{every-run}
 use Rattle.wishes.specs.Wishes.{Wish, ratesOk, sharedPool, idsWhere, sharers, rated, floorsOf, shareOf, wishes}
 use Rattle.moments.specs.Moments.{isPermitted, hasLanes, isDue, earliest}
@@ -34,7 +30,7 @@ use Rattle.planner.specs.Moves.{Move, momentFor, listed, allMoved, falls
 use Rattle.planner.specs.Outcome.{moves, plannerAnswer, Standing}
 use Rattle.planner.specs.Carried.{Carried, goalOf}
 use Rattle.planner.proofs.Passed.{left-answer}
-use Rattle.planner.proofs.Promise.{carried, brought}
+use Rattle.planner.proofs.Promise.{promised}
 
 -- two films of 6 ms with floor 2 and cap 3, so a tick is 1 ms
 abbrev calls : List Event
@@ -53,16 +49,33 @@ wish i k = record { title = i; count = k }
 abbrev move : ℕ → ℕ → ℕ → Move
 move i τ k = record { title = i; time = τ; count = k }
 
+-- what computing opens: the state and its answers, when a change is due, and the shares
+computedState : Unit {0}
+unfolding stateAfter callAnswer stateOk titleOk numbersOk orderOk tickAt ruling isThere keptHeld titleHeld lanesHeld computed
+computedState = tt
+
+computedDue : Unit {0}
+unfolding isDue isPermitted hasLanes atTickStart settledAt changedTitle dropLanes keptWithin keptOwed keptAwaited wants wantsFrom computedState
+computedDue = tt
+
+computedChoice : Unit {0}
+unfolding shared bestOf better ways from prefers atLeast lessOr sumOf term rowTotal flatMap
+computedChoice = tt
+
+computedShares : Unit {0}
+unfolding wishes idsWhere sharers rated floorsOf sharedPool shareOf computedChoice computedState
+computedShares = tt
+
 -- a lane of the first is wished away, and one for the second
 asked-for : wishes evening rates ≡ wish 0 2 ∷ wish 1 3 ∷ []
-unfolding stateAfter callAnswer firstHit wishes idsWhere shareOf shared bestOf better ways from prefers atLeast lessOr sumOf term rowTotal flatMap rated sharers sharedPool howMany total tickOf roundedUp slot ruling isThere stateOk titleOk numbersOk orderOk every lanesHeld titleHeld keptHeld tickAt tickFor
+unfolding computedShares
 asked-for = refl
 
 -- ---- when each may come
 
 -- from 1 on the drop is permitted at 2, a floor slot after the opening
 drop-at : 2 ≡ earliest (isDue evening 0 2) 1
-unfolding stateAfter callAnswer firstHit isDue isPermitted hasLanes howMany total tickOf roundedUp slot starts schemeOf ruling isThere stateOk titleOk numbersOk orderOk every lanesHeld titleHeld keptHeld tickAt tickFor atTickStart settledAt changedTitle dropLanes keptWithin keptOwed keptAwaited wants wantsFrom takes takesFrom filmIn laneCell addedChannel isAdded isInG channelCell segment shift floorRem cellOf reach some first after
+unfolding computedDue
 drop-at = found-after (isDue evening 0 2) 1 1 (omega arith) refl refl
 
 abbrev dropped : State
@@ -70,7 +83,7 @@ dropped = changeNext evening 0 2 2
 
 -- the lane sends the one cell with film that it owes, so the raise waits for 4
 raise-at : 4 ≡ earliest (isDue dropped 1 3) 2
-unfolding stateAfter callAnswer firstHit isDue isPermitted hasLanes howMany total tickOf roundedUp slot starts schemeOf ruling isThere stateOk titleOk numbersOk orderOk every lanesHeld titleHeld keptHeld tickAt tickFor atTickStart settledAt changedTitle dropLanes keptWithin keptOwed keptAwaited wants wantsFrom takes takesFrom filmIn laneCell addedChannel isAdded isInG channelCell segment shift floorRem cellOf reach some first after
+unfolding computedDue
 raise-at = found-after (isDue dropped 1 3) 2 2 (omega arith) refl refl
 
 -- two wishes listed, once their moments are known
@@ -86,7 +99,7 @@ drop-then-raise = ap (listed evening 1) asked-for ∙ two-listed evening 1 2 4 (
 -- ---- the answer, and what is promised of it
 
 all-ok : stateOk evening ≡ true
-unfolding stateAfter callAnswer firstHit howMany total tickOf roundedUp slot ruling isThere stateOk titleOk numbersOk orderOk every lanesHeld titleHeld keptHeld tickAt tickFor
+unfolding computedState
 all-ok = refl
 
 rates-ok : ratesOk rates ≡ true
@@ -94,15 +107,15 @@ unfolding ratesOk every
 rates-ok = refl
 
 opened-at : evening .last ≡ 0
-unfolding stateAfter callAnswer firstHit howMany total tickOf roundedUp slot ruling isThere stateOk titleOk numbersOk orderOk every lanesHeld titleHeld keptHeld tickAt tickFor
+unfolding computedState
 opened-at = refl
 
 floors-are : floorsOf evening ≡ 4
-unfolding floorsOf rowTotal sharers idsWhere stateAfter callAnswer firstHit howMany total tickOf roundedUp slot ruling isThere stateOk titleOk numbersOk orderOk every lanesHeld titleHeld keptHeld tickAt tickFor
+unfolding computedShares
 floors-are = refl
 
 pool-is : sharedPool evening ≡ 5
-unfolding sharedPool stateAfter callAnswer firstHit howMany total tickOf roundedUp slot ruling isThere stateOk titleOk numbersOk orderOk every lanesHeld titleHeld keptHeld tickAt tickFor
+unfolding computedShares
 pool-is = refl
 
 standing : Standing evening 1 rates 2
@@ -124,15 +137,15 @@ listed-in-all = left-answer evening 1 rates 2 standing ∙ rw drop-then-raise re
 pub both-come : Carried evening 1 (move 0 2 2 ∷ move 1 4 3 ∷ []) (allMoved evening 1 (wishes evening rates))
 both-come =
     subst (λ (ms : List Move). Carried evening 1 ms (allMoved evening 1 (wishes evening rates))) drop-then-raise
-    (carried 5 _ evening (every-run 5 calls) rates 1 2 listed-in-all)
+    (promised 5 _ evening (every-run 5 calls) rates 1 2 .carried listed-in-all)
 
 shares-are : (goalOf evening rates 0 ≡ 2) × (goalOf evening rates 1 ≡ 3)
-unfolding stateAfter callAnswer firstHit shareOf shared bestOf better ways from prefers atLeast lessOr sumOf term rowTotal flatMap rated sharers idsWhere sharedPool howMany total tickOf roundedUp slot ruling isThere stateOk titleOk numbersOk orderOk every lanesHeld titleHeld keptHeld tickAt tickFor
+unfolding computedShares
 shares-are = (refl, refl)
 
 pub as-shared : (statusCount (allMoved evening 1 (wishes evening rates)) 0 ≡ 2)
     × (statusCount (allMoved evening 1 (wishes evening rates)) 1 ≡ 3)
 as-shared = (
-  brought 5 _ evening (every-run 5 calls) rates 1 2 listed-in-all 0 (omega arith) ∙ shares-are .0,
-  brought 5 _ evening (every-run 5 calls) rates 1 2 listed-in-all 1 (omega arith) ∙ shares-are .1,
+  promised 5 _ evening (every-run 5 calls) rates 1 2 .brought listed-in-all 0 (omega arith) ∙ shares-are .0,
+  promised 5 _ evening (every-run 5 calls) rates 1 2 .brought listed-in-all 1 (omega arith) ∙ shares-are .1,
 )

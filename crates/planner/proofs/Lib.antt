@@ -11,5 +11,6 @@ pub mod Underway
 pub mod Passed
 pub mod Fares
 pub mod Goals
+pub mod Started
 pub mod Promise
 pub mod Example

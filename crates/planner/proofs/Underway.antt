@@ -18,12 +18,12 @@ use Rattle.story.specs.Kept.{noTitle, titleAt, ruling, lanesHeld}
 use Rattle.story.specs.Next.{changedTitle, changeNext}
 use Rattle.story.specs.declared.Act.the-variants.{Changes}
 use Rattle.story.specs.declared.Event.{Event}
-use Rattle.story.specs.Story.{event, lifeOf, lastTime, countIn, heldOver}
+use Rattle.story.specs.Story.{event, lifeOf, lastTime, countIn, heldOver, answer}
 use Rattle.story.specs.Calls.{testsIn, statusCount}
 use Rattle.story.specs.Runs.{answered, lanesOf, Reached}
 use Rattle.story.proofs.Pool.{takes-none, upTo-all}
 use Rattle.story.proofs.Reached.{run-told, run-more}
-use Rattle.story.proofs.Demands.{sound, every-answer, every-count, all-held, the-pool, nine}
+use Rattle.story.proofs.Demands.{tells-the-story, the-pool, nine-is-exact}
 use Rattle.wishes.specs.Wishes.{Wish}
 use Rattle.wishes.proofs.Wished.{Each, each-none, each-more, Without, Apart, apart-more, DropsFirst, raises-only, drop-next}
 use Rattle.moments.specs.Moments.{isPermitted, hasLanes, isDue}
@@ -77,7 +77,7 @@ module _ (pool : ℕ) (es : List Event) (s : State) (run : Reached pool es s) wh
   held-fits τ late =
       let told = run-told pool es s run .tells in
       let after : lastTime es ≤ τ = omega (arith, told .last) in
-      omega (arith, pool-is, all-held pool es s run τ after, rw (upTo-all τ es after) at (the-pool pool es s run τ))
+      omega (arith, pool-is, tells-the-story pool es s run .all-held τ after, rw (upTo-all τ es after) at (the-pool pool es s run τ))
 
   -- a drop needs no lanes: one that got 9 would hold more than the pool, and it holds no lane more than is held before it
   drop-fits : (i k τ : ℕ) → Ready s i k → s .last ≤ τ → τ ≤ eventTimeMax → isPermitted s i k τ ≡ true → k ≤ titleAt s i .count →
@@ -86,15 +86,16 @@ module _ (pool : ℕ) (es : List Event) (s : State) (run : Reached pool es s) wh
   drop-fits i k τ r late clock p down =
       let e : Event = event i τ (Changes k) in
       let after : lastTime es ≤ τ = omega (arith, run-told pool es s run .tells .last) in
-      let count : statusCount s i ≡ countIn (lifeOf es i) τ = every-count pool es s run i τ (r .an-id) after in
+      let count : statusCount s i ≡ countIn (lifeOf es i) τ = tells-the-story pool es s run .every-count i τ (r .an-id) after in
       let rules : ruling (titleAt s i) ≡ titleAt s i .count = rw (r .is-open) refl in
       let no-more : heldOver (e ∷ es) τ ≤ heldOver es τ =
       takes-none es i τ (Changes k) (le-ltb (countIn (lifeOf es i) τ) k (omega arith)) in
       fails (testsIn s i τ (Changes k) .full)
       (λ x.
       let got : answered s e ≡ noLanes = by-lanes s i k r τ late clock p ∙ pick-true (testsIn s i τ (Changes k) .full) noLanes 0 x in
-      let short : lanesOf pool < heldOver (e ∷ es) τ = nine pool es s run e (sym (every-answer pool es s run e) ∙ got) in
-      omega (arith, held-fits τ late, pool-is, all-held pool es s run τ after))
+      let answers : answered s e ≡ answer (lanesOf pool) es e = tells-the-story pool es s run .every-answer e in
+      let short : lanesOf pool < heldOver (e ∷ es) τ = nine-is-exact pool es s run .nine e (sym answers ∙ got) in
+      omega (arith, held-fits τ late, pool-is, tells-the-story pool es s run .all-held τ after))
 
   -- a change that is due in the clock is accepted
   pub due-accepted : (i k τ : ℕ) → Ready s i k → s .last ≤ τ → τ ≤ eventTimeMax → isDue s i k τ ≡ true →
@@ -132,7 +133,7 @@ wishNext s w τ = changeNext s (w .title) τ (w .count)
 module _ (pool : ℕ) (goal : ℕ → ℕ) (es : List Event) (s : State) (w : Wish) (ws : List Wish) (τ : ℕ)
     (comes : answered s (wishEvent w τ) ≡ 0) where
   next-run : Reached pool es s → Reached pool (wishEvent w τ ∷ es) (wishNext s w τ)
-  next-run run = run-more pool es s run (wishEvent w τ) (sym (every-answer pool es s run (wishEvent w τ)) ∙ comes)
+  next-run run = run-more pool es s run (wishEvent w τ) (sym (tells-the-story pool es s run .every-answer (wishEvent w τ)) ∙ comes)
 
   -- a wish of another title is left as it was
   next-left : Reached pool es s → (v : Wish) → (v .title ≡ w .title → ⊥) → Left goal s v → Left goal (wishNext s w τ) v
@@ -141,7 +142,7 @@ module _ (pool : ℕ) (goal : ℕ → ℕ) (es : List Event) (s : State) (w : Wi
       let r = l .ready in
       record {
         ready = record {
-          ok = sound pool (wishEvent w τ ∷ es) (wishNext s w τ) (next-run run);
+          ok = tells-the-story pool (wishEvent w τ ∷ es) (wishNext s w τ) (next-run run) .sound;
           an-id = r .an-id;
           is-open = rw same (r .is-open);
           padded = rw same (r .padded);

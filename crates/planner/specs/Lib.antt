@@ -2,4 +2,5 @@
 pub mod Moves
 pub mod Outcome
 pub mod Carried
+pub mod Promise
 pub mod inner

@@ -158,7 +158,8 @@ module _ (lanes : ℕ) (es : List Event) (s : State) (w : Tells lanes es s) wher
         let n = limits-out (filmLimits f k) t1 in
         hit-same tooEarly _ _ _ _ (ap (λ x. ltb τ x) (w .last))
         (λ t2.
-        hit-same idTaken _ _ _ _ (sym (there-told (lifeOf es i) (latestOf es i) (titleAt s i) τ (w .title i (omega (arith, n .0))) (seen (late-out t2))))
+        hit-same idTaken _ _ _ _
+        (sym (there-told (lifeOf es i) (latestOf es i) (titleAt s i) τ (w .title i (omega (arith, n .0))) (seen (late-out t2))))
         (λ t4.
         hit-same floorAboveCap _ _ _ _ refl
         (λ t15.
@@ -249,7 +250,8 @@ module _ (lanes : ℕ) (es : List Event) (s : State) (w : Tells lanes es s) wher
         let z = o .here .sized in
         let n : ℕ = tickAt t τ in
         let r : Course = o .course in
-        turn-next t (record { rule = turn (r .rule) n 0; shut = r .shut }) 0 closingMode (t .count) clearMark (t .tuned) Closes o id limit late
+        turn-next t (record { rule = turn (r .rule) n 0; shut = r .shut }) 0 closingMode (t .count) clearMark (t .tuned) Closes
+        o id limit late
         (record {
           here = o .here;
           is-open = o .mode;
@@ -283,7 +285,8 @@ module _ (lanes : ℕ) (es : List Event) (s : State) (w : Tells lanes es s) wher
         let n : ℕ = tickAt t τ in
         let r : Course = o .course in
         rw (← doors-turned t τ b)
-        (turn-next t (record { rule = r .rule; shut = turn (r .shut) n b }) (t .count) openMode (t .count) (pick b heldMark clearMark) (t .tuned) (Doors b) o id limit late
+        (turn-next t (record { rule = r .rule; shut = turn (r .shut) n b }) (t .count) openMode (t .count)
+        (pick b heldMark clearMark) (t .tuned) (Doors b) o id limit late
         (record {
           here = o .here;
           is-open = o .mode;
@@ -315,8 +318,18 @@ module _ (lanes : ℕ) (es : List Event) (s : State) (w : Tells lanes es s) wher
     -- the rungs that all but openings climb alike: in order, there, and not closing; behind them the title is open
     standing-told : (x y : Bool) (rs qs : List Rule) → x ≡ y → (x ≡ true → (i ≤ idMax) × (τ ≤ eventTimeMax)) →
         (i ≤ idMax → τ ≤ eventTimeMax → lastTime es ≤ τ → Open (lifeOf es i) (latestOf es i) (titleAt s i) τ → firstHit rs ≡ firstHit qs) →
-        firstHit (refuse outsideLimits (not x) ∷ refuse tooEarly (ltb τ (s .last)) ∷ refuse notThere (not (isThere (titleAt s i) τ)) ∷ refuse isClosing (eqb (titleAt s i .mode) closingMode) ∷ rs)
-        ≡ firstHit (refuse outsideLimits (not y) ∷ refuse tooEarly (ltb τ (lastTime es)) ∷ refuse notThere (not (isThereIn (lifeOf es i) τ)) ∷ refuse isClosing (eqb (countIn (lifeOf es i) τ) 0) ∷ qs)
+        firstHit
+        (refuse outsideLimits (not x)
+        ∷ refuse tooEarly (ltb τ (s .last))
+        ∷ refuse notThere (not (isThere (titleAt s i) τ))
+        ∷ refuse isClosing (eqb (titleAt s i .mode) closingMode)
+        ∷ rs)
+        ≡ firstHit
+        (refuse outsideLimits (not y)
+        ∷ refuse tooEarly (ltb τ (lastTime es))
+        ∷ refuse notThere (not (isThereIn (lifeOf es i) τ))
+        ∷ refuse isClosing (eqb (countIn (lifeOf es i) τ) 0)
+        ∷ qs)
     standing-told x y rs qs same nums rest =
         hit-same outsideLimits _ _ _ _ (ap not same)
         (λ t1.
@@ -327,7 +340,8 @@ module _ (lanes : ℕ) (es : List Event) (s : State) (w : Tells lanes es s) wher
         let told = w .title i (omega (arith, n .0)) in
         hit-same notThere _ _ _ _ (ap not (sym (there-told (lifeOf es i) (latestOf es i) (titleAt s i) τ told (seen late))))
         (λ t3.
-        hit-same isClosing _ _ _ _ (closing-told (lifeOf es i) (latestOf es i) (titleAt s i) τ told (seen late) (not-false (isThere (titleAt s i) τ) t3))
+        hit-same isClosing _ _ _ _
+        (closing-told (lifeOf es i) (latestOf es i) (titleAt s i) τ told (seen late) (not-false (isThere (titleAt s i) τ) t3))
         (λ t5. rest (n .0) (n .1) late (opened-told (n .0) late t3 t5)))))
 
     -- the moment from which on 16 no longer stands
@@ -340,7 +354,8 @@ module _ (lanes : ℕ) (es : List Event) (s : State) (w : Tells lanes es s) wher
         callAnswer s i τ (Changes k) ≡ answerTo lanes es (event i τ (Changes k)) (lifeOf es i) (Changes k)
     unfolding callAnswer answerTo
     change-told k =
-        standing-told (both (eventOk s i τ) (within countMin countMax k)) (both (withinLimits (event i τ (Changes k))) (within countMin countMax k)) _ _ (rw ok refl)
+        standing-told (both (eventOk s i τ) (within countMin countMax k))
+        (both (withinLimits (event i τ (Changes k))) (within countMin countMax k)) _ _ (rw ok refl)
         (λ x. event-out (both-l (eventOk s i τ) (within countMin countMax k) x))
         (λ id limit late o.
         hit-same isSteady _ _ _ _ (rw (ap (λ (L : Life). L .film .kind) (o .life)) refl)
@@ -370,7 +385,8 @@ module _ (lanes : ℕ) (es : List Event) (s : State) (w : Tells lanes es s) wher
         hit-same secondEvent _ _ _ _ (ap (λ x. eqb τ x) (sym (o .latest)))
         (λ t7.
         hit-same notAtSlot _ _ _ _
-        (ap not (slot-told (lifeOf es i) (latestOf es i) (titleAt s i) τ (titleAt s i .film .floor) o) ∙ rw (ap (λ (L : Life). L .film .floor) (o .life)) refl)
+        (ap not (slot-told (lifeOf es i) (latestOf es i) (titleAt s i) τ (titleAt s i .film .floor) o)
+        ∙ rw (ap (λ (L : Life). L .film .floor) (o .life)) refl)
         (λ t8. refl)))
 
     doors-answered : (b : Bool) →
@@ -415,14 +431,17 @@ module _ (lanes : ℕ) (es : List Event) (s : State) (w : Tells lanes es s) wher
         let clear = clears i τ (Changes k) h in
         let n = limits-out ok i τ (within countMin countMax k) (clear outsideLimits) in
         let late = late-out ok i τ (clear tooEarly) in
-        change-next ok i τ k (opened-told ok i τ (n .0) late (clear notThere) (clear isClosing)) (n .0) (n .1) late (clear belowFloor) (clear aboveCap) (clear secondEvent) (clear notAtSlot)
+        change-next ok i τ k (opened-told ok i τ (n .0) late (clear notThere) (clear isClosing)) (n .0) (n .1) late
+        (clear belowFloor) (clear aboveCap) (clear secondEvent) (clear notAtSlot)
     next-told i τ Closes h =
         let clear = clears i τ Closes h in
         let n = event-out ok i τ (not-false (eventOk s i τ) (clear outsideLimits)) in
         let late = late-out ok i τ (clear tooEarly) in
-        close-next ok i τ (opened-told ok i τ (n .0) late (clear notThere) (clear isClosing)) (n .0) (n .1) late (clear secondEvent) (clear notAtSlot)
+        close-next ok i τ (opened-told ok i τ (n .0) late (clear notThere) (clear isClosing)) (n .0) (n .1) late
+        (clear secondEvent) (clear notAtSlot)
     next-told i τ (Doors b) h =
         let clear = clears i τ (Doors b) h in
         let n = event-out ok i τ (not-false (eventOk s i τ) (clear outsideLimits)) in
         let late = late-out ok i τ (clear tooEarly) in
-        doors-next ok i τ b (opened-told ok i τ (n .0) late (clear notThere) (clear isClosing)) (n .0) (n .1) late (clear secondEvent) (clear notAtSlot)
+        doors-next ok i τ b (opened-told ok i τ (n .0) late (clear notThere) (clear isClosing)) (n .0) (n .1) late
+        (clear secondEvent) (clear notAtSlot)

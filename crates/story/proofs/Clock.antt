@@ -5,7 +5,7 @@ use mathlib.Core.Logic.{⊎-elim}
 use Prim.Native.Nat.{ℕ, suc, _+_, _-_, _*_, _/_, _%_, _≤_, _<_}
 use native.Mathlib.Omega.{arith}
 use native.Mathlib.Nat.{le-antisymm, div-lt-iff-lt-mul, div-add-mod', div-mul-le-self, le-div-iff-mul-le}
-use native.Mathlib.Nat.{mul-div-cancel, mul-le-mul-right, mod-lt}
+use native.Mathlib.Nat.{mul-le-mul-right, mod-lt}
 use lib.Dec.{ltb}
 use borrow.Author.Tests.{ltb-true, ltb-false, lt-ltb}
 use Rattle.rules.proofs.Tests.{decide, same}
@@ -24,9 +24,6 @@ module _ (B p : ℕ) (pos : 0 < p) where
 
   pub begins : (x n : ℕ) → B + n * p ≤ x → n ≤ (x - B) / p
   begins x n le = le-div-iff-mul-le pos .1 (omega arith)
-
-  pub tick-of-moment : (n : ℕ) → (B + n * p - B) / p ≡ n
-  tick-of-moment n = let e : B + n * p - B ≡ n * p = omega arith in rw e (mul-div-cancel n pos)
 
   -- every moment from a tick's start up to the next is in that tick
   pub in-tick : (x n : ℕ) → B + n * p ≤ x → x < B + suc n * p → (x - B) / p ≡ n

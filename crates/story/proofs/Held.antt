@@ -16,7 +16,7 @@ use Rattle.story.specs.Life.{Life, Course, onCourse, isFilm, usualCell, 
 use Rattle.story.specs.Life.{droppedAt}
 use Rattle.story.specs.Life.{isAwaited, isOwed, reach, owedWithin, owes, isNth, nthOwed, sends, onAir, isCell}
 use Rattle.story.specs.Life.{isHeld}
-use Rattle.story.proofs.Ruled.{SameAt}
+use Rattle.story.proofs.Admissions.{SameAt}
 use Rattle.story.proofs.Owed.{after-between, sends-while, sends-until, air-sends, air-active}
 
 -- the numbers below k, all below m
@@ -159,7 +159,3 @@ module _ (L : Life) (r : Course) (l : ℕ) where
       let d : droppedAt (onCourse L r) l t ≡ T = dropped-local t (λ a b. agree a (omega arith)) in
       let le : T ≤ t = dropped-le L l t in
       rw (d, agree t (omega arith) .rule, sends-local T (t - T) (λ a b. agree a (omega arith))) refl
-
-  pub held-local : (t : ℕ) → ((a : ℕ) → a ≤ t → SameAt L r a) → isHeld (onCourse L r) l t ≡ isHeld L l t
-  unfolding isHeld
-  held-local t agree = ap isCell (air-local t agree)

@@ -16,7 +16,7 @@ use Rattle.scheme.proofs.Takes.{taken-out}
 use Rattle.story.specs.Life.{Life, scheme, isFilm, usualCell, isPlanned, isAdmission, isActive, droppedAt, isOwed, reach}
 use Rattle.story.specs.Life.{owedWithin, cell, onAir}
 use Rattle.story.specs.Ruled.{Ruled}
-use Rattle.story.proofs.Ruled.{admitted}
+use Rattle.story.proofs.Admissions.{admitted}
 use Rattle.story.proofs.Owed.{after-between, awaited-in, owed-in, owed-reach, sends-owed, rank-le, air-sends}
 use Rattle.story.proofs.Owed.{air-active}
 

@@ -20,8 +20,9 @@ use Rattle.story.specs.declared.Title.{Title}
 use Rattle.story.specs.Life.{Life, Course, usualCell, isActive, droppedAt, isOwed, reach, owedWithin, owes, isNth}
 use Rattle.story.specs.Life.{nthOwed, cell, sends, onAir, isHeld}
 use Rattle.story.specs.Ruled.{Ruled}
-use Rattle.story.proofs.Ruled.{Legal, admits, isAdmitting, lastEnd}
-use Rattle.story.specs.Kept.{heldMark, isShut, isSteadyTitle, schemeIn, titleTick, tickAt, ruling, keptOwed, keptWithin, keptHeld, titleHeld, keptNth}
+use Rattle.story.proofs.Admissions.{Legal, admits, isAdmitting, lastEnd}
+use Rattle.story.specs.Kept.{heldMark, isShut, isSteadyTitle, schemeIn, titleTick, tickAt, ruling}
+use Rattle.story.specs.Kept.{keptOwed, keptWithin, keptHeld, titleHeld, keptNth}
 use Rattle.story.specs.Kept.{sendingTick, shows}
 use Rattle.story.specs.Story.{tickIn, heldIn}
 use Rattle.story.proofs.Clock.{tick-mono}
@@ -189,7 +190,8 @@ module _ (t : Title) (r : Course) (here : Present t r) where
   pub tick-some : 0 < titleTick t
   tick-some =
       let z = here .sized in
-      Clock.tick-pos (t .film .kind) (t .film .length) (t .film .floor) (t .film .cap) (omega (arith, z .length-low)) (omega (arith, z .floor-low))
+      Clock.tick-pos (t .film .kind) (t .film .length) (t .film .floor) (t .film .cap)
+      (omega (arith, z .length-low)) (omega (arith, z .floor-low))
       (omega (arith, z .count-low, z .count-high))
 
   pub later : (τ : ℕ) → t .last ≤ τ → lastTick t ≤ tickAt t τ

@@ -1,5 +1,5 @@
 -- Laws and theorems of the story.
-pub mod Ruled
+pub mod Admissions
 pub mod Owed
 pub mod InTime
 pub mod Held
@@ -15,16 +15,17 @@ pub mod Answers
 pub mod WhichWay
 pub mod Runs
 pub mod Questions
-pub mod Lively
+pub mod Lives
 pub mod Pool
 pub mod Reached
-pub mod World
+pub mod Boxes
 pub mod Released
 pub mod SkipForward
-pub mod Sooner
+pub mod Formerly
 pub mod Retuned
 pub mod OneMoment
 pub mod OrdersCalled
 pub mod Demands
+pub mod Computed
 pub mod Example
 pub mod OneMomentExample

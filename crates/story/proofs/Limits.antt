@@ -51,7 +51,8 @@ numbers-ok t r p =
     refl
 
 -- of a skip-forward title floor and cap are one
-level : (t : Title) → (t .film .kind ≡ steadyKind → t .film .floor ≡ t .film .cap) → either (not (isSteadyTitle t)) (eqb (t .film .floor) (t .film .cap)) ≡ true
+level : (t : Title) → (t .film .kind ≡ steadyKind → t .film .floor ≡ t .film .cap) →
+    either (not (isSteadyTitle t)) (eqb (t .film .floor) (t .film .cap)) ≡ true
 level t flat =
     ⊎-elim (λ x. rw x (eq-eqb (t .film .floor) (t .film .cap) (flat (eqb-true (t .film .kind) steadyKind x)))) (λ x. rw x refl)
     (decide (isSteadyTitle t))

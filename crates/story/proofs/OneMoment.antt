@@ -28,9 +28,10 @@ use Rattle.story.specs.declared.Act.the-variants.{Opens, Changes, Closes
 use Rattle.story.specs.declared.Event.{Event}
 use Rattle.story.specs.Story.{event, lifeAfter, lifeOf, latestOf, tunedOf}
 use Rattle.story.specs.Story.{lastTime, upTo, countIn, heldIn, heldOver, overfull, testsTo, orderOf, answerTo, answer}
-use Rattle.story.specs.Story.{takesLanes, Accepted, more, laneAnswerTo, statusAnswerTo}
+use Rattle.story.specs.Story.{takesLanes, Accepted, more, laneAnswerTo, statusAnswerTo, airIn}
 use Rattle.story.specs.Story.{OneMoment, BothAccepted, WantsLanes, NineAfter}
 use Rattle.story.specs.Runs.{answered, called, BothCalled}
+use Rattle.story.specs.Demands.{EitherOrder}
 use Rattle.story.proofs.Passed.{opening, in-order}
 use Rattle.story.proofs.Pool.{more-held, raises, takes-none, upTo-all, never-exceeded}
 
@@ -69,24 +70,25 @@ alike-upTo τ (d ∷ new) es fs w v =
 
 -- what is told of two such sequences is the same
 module _ (es fs : List Event) (w : Alike es fs) where
-  pub alike-held : (τ : ℕ) → heldOver es τ ≡ heldOver fs τ
+  alike-held : (τ : ℕ) → heldOver es τ ≡ heldOver fs τ
   unfolding heldOver
   alike-held τ =
       Search.total-ext (λ i. heldIn (lifeOf es i) τ) (λ i. heldIn (lifeOf fs i) τ) titlesMax
       (λ i b. ap (λ L. heldIn L τ) (w .life i))
 
-  pub alike-lane : (i l τ : ℕ) → laneAnswerTo es i l τ ≡ laneAnswerTo fs i l τ
+  alike-lane : (i l τ : ℕ) → laneAnswerTo es i l τ ≡ laneAnswerTo fs i l τ
   unfolding laneAnswerTo
   alike-lane i l τ = rw (w .life i, w .latest i) refl
 
-  pub alike-status : (τ : ℕ) (ids : List ℕ) (m h d : ℕ) → statusAnswerTo es τ ids m h d ≡ statusAnswerTo fs τ ids m h d
+  alike-status : (τ : ℕ) (ids : List ℕ) (m h d : ℕ) → statusAnswerTo es τ ids m h d ≡ statusAnswerTo fs τ ids m h d
   unfolding statusAnswerTo
   alike-status τ ids m h d = rw (w .last) refl
 
-pub alike-answer : (lanes : ℕ) (es fs : List Event) → Alike es fs → (d : Event) → answer lanes es d ≡ answer lanes fs d
+alike-answer : (lanes : ℕ) (es fs : List Event) → Alike es fs → (d : Event) → answer lanes es d ≡ answer lanes fs d
 unfolding answerTo
 alike-answer lanes es fs w d =
-    rw (w .life (d .title), w .latest (d .title), w .tuned (d .title), w .last, alike-held (d ∷ es) (d ∷ fs) (alike-more d es fs w) (d .time)) refl
+    let held = alike-held (d ∷ es) (d ∷ fs) (alike-more d es fs w) (d .time) in
+    rw (w .life (d .title), w .latest (d .title), w .tuned (d .title), w .last, held) refl
 
 pub alike-accepted : (lanes : ℕ) (new es fs : List Event) → Alike es fs → Accepted lanes fs → Accepted lanes (new ++ es) →
     Accepted lanes (new ++ fs)
@@ -142,11 +144,40 @@ module _ (e f : Event) (es : List Event) (at : OneMoment e f) where
   pub either-then : (new : List Event) (τ : ℕ) → Alike (upTo τ (new ++ f ∷ e ∷ es)) (upTo τ (new ++ e ∷ f ∷ es))
   either-then new τ = alike-upTo τ new (f ∷ e ∷ es) (e ∷ f ∷ es) either-way (either-upTo τ)
 
+-- so every question of the sequence is answered alike, whatever follows the two
+pub told-alike : EitherOrder
+told-alike es e f at new =
+    let one : List Event = new ++ f ∷ e ∷ es in
+    let other : List Event = new ++ e ∷ f ∷ es in
+    let after : Alike one other = either-after e f es at new in
+    record {
+      later-answer = λ lanes. alike-answer lanes one other after;
+      later-lane = alike-lane one other after;
+      later-status = alike-status one other after;
+      later-held = λ τ. alike-held (upTo τ one) (upTo τ other) (either-then e f es at new τ) τ;
+      later-life = λ i τ. either-then e f es at new τ .life i;
+      later-air = λ i l τ. ap (λ L. airIn L l τ) (either-then e f es at new τ .life i);
+    }
+
 -- what the refusals ask, with another word on the lanes
 abbrev withLanes : Tests → Bool → Tests
 withLanes t b =
-    record
-    { outside = t .outside; early = t .early; there = t .there; closing = t .closing; steady = t .steady; crossed = t .crossed; below = t .below; above = t .above; same = t .same; sameDoors = t .sameDoors; second = t .second; soon = t .soon; off = t .off; full = b }
+    record {
+      outside = t .outside;
+      early = t .early;
+      there = t .there;
+      closing = t .closing;
+      steady = t .steady;
+      crossed = t .crossed;
+      below = t .below;
+      above = t .above;
+      same = t .same;
+      sameDoors = t .sameDoors;
+      second = t .second;
+      soon = t .soon;
+      off = t .off;
+      full = b;
+    }
 
 -- 9 is asked last
 lastly : (xs : List Rule) (b c : Bool) → numbered xs ≡ true → firstHit (xs ++ refuse noLanes c ∷ []) ≡ 0 →
@@ -176,7 +207,13 @@ module _ (lanes : ℕ) (es fs : List Event) (d : Event) (life : lifeOf es (d .ti
   tests-alone : testsTo lanes es d (lifeOf es (d .title)) (d .act)
       ≡ withLanes (testsTo lanes fs d (lifeOf fs (d .title)) (d .act)) (overfull lanes (d ∷ es) (d .time))
   tests-alone =
-      rw (life, latest, tuned, le-ltb (d .time) (lastTime es) late, le-ltb (d .time) (lastTime fs) (in-order lanes fs (d .title) (d .time) (d .act) was .late)) refl
+      rw (
+        life,
+        latest,
+        tuned,
+        le-ltb (d .time) (lastTime es) late,
+        le-ltb (d .time) (lastTime fs) (in-order lanes fs (d .title) (d .time) (d .act) was .late),
+      ) refl
 
   fits-or-nine : (answer lanes es d ≡ 0) ⊎ ((answer lanes es d ≡ noLanes) × (lanes < heldOver (d ∷ es) (d .time)))
   unfolding answerTo
@@ -246,7 +283,8 @@ module _ (lanes : ℕ) (high : lanes ≤ poolMax) (es : List Event) (acc : Accep
       (λ x.
       let own = taken-held lanes es (e .title) (e .time) (e .act) (both .first) x in
       let same = other-life f es (e .title) (λ y. at .other-title (sym y)) in
-      let rise : heldOver (f ∷ es) (e .time) ≤ heldOver (e ∷ f ∷ es) (e .time) = raises (f ∷ es) (e .title) (e .time) (e .act) (rw same own) in
+      let rise : heldOver (f ∷ es) (e .time) ≤ heldOver (e ∷ f ∷ es) (e .time) =
+      raises (f ∷ es) (e .title) (e .time) (e .act) (rw same own) in
       omega (arith, rise, both-fit, ap (heldOver (f ∷ es)) (at .same-time)))
 
   -- 02, 14: so the other order accepts both too, or it refuses only the event that takes lanes, and with 9
@@ -288,15 +326,18 @@ room-for-one-of-two lanes high es acc e f at one other not-both =
     )
 
 -- each event reads and writes its own slot
+abbrev afterIn : State → Event → Title
+afterIn s e = nextTitle (titleAt s (e .title)) (e .time) (e .act)
+
 in-turn : (s : State) (e f : Event) → (f .title ≡ e .title → ⊥) →
     callNext (callNext s (e .title) (e .time) (e .act)) (f .title) (f .time) (f .act)
     ≡ record {
       pool = s .pool;
       last = f .time;
-      titles = set (set (s .titles) (e .title) (nextTitle (titleAt s (e .title)) (e .time) (e .act))) (f .title) (nextTitle (titleAt s (f .title)) (f .time) (f .act));
+      titles = set (set (s .titles) (e .title) (afterIn s e)) (f .title) (afterIn s f);
     }
 in-turn s e f other =
-    let t : Title = nextTitle (titleAt s (e .title)) (e .time) (e .act) in
+    let t : Title = afterIn s e in
     let u : State = withTitle s (e .title) t (e .time) in
     ap (λ x. withTitle u (f .title) (nextTitle x (f .time) (f .act)) (f .time))
     (getD-set-other (s .titles) (e .title) (f .title) t noTitle other)
@@ -306,10 +347,9 @@ pub one-state : (s : State) (e f : Event) → OneMoment e f →
     callNext (callNext s (e .title) (e .time) (e .act)) (f .title) (f .time) (f .act)
     ≡ callNext (callNext s (f .title) (f .time) (f .act)) (e .title) (e .time) (e .act)
 one-state s e f at =
-    let t : Title = nextTitle (titleAt s (e .title)) (e .time) (e .act) in
-    let u : Title = nextTitle (titleAt s (f .title)) (f .time) (f .act) in
+    let swapped = set-comm (s .titles) (e .title) (f .title) (afterIn s e) (afterIn s f) (at .other-title) in
     in-turn s e f (λ x. at .other-title (sym x))
-    ∙ (λ j. record { pool = s .pool; last = sym (at .same-time) j; titles = set-comm (s .titles) (e .title) (f .title) t u (at .other-title) j })
+    ∙ (λ j. record { pool = s .pool; last = sym (at .same-time) j; titles = swapped j })
     ∙ sym (in-turn s f e (at .other-title))
 
 -- the state that two accepted calls leave

@@ -1,9 +1,10 @@
 -- Two events at one moment on titles of different ids, by the calls on a reached state (02, 14): they are answered as the sequence
--- says of the two orders, and the lanes that an event takes are counted from what status shows.
+-- says of the two orders, the lanes that an event takes are counted from what status shows, and where both orders are accepted they
+-- leave one state.
 -- Rests on `told`, and on what the sequence says of the two orders.
 use mathlib.Core.Path.{_≡_, sym, ap, _∙_}
 use mathlib.Core.Logic.{_⊎_, inl, inr, ⊎-elim}
-use mathlib.Core.List.{List, _∷_}
+use mathlib.Core.List.{List, [], _∷_, _++_}
 use Prim.Native.Nat.{ℕ, _≤_}
 use native.Mathlib.Omega.{arith}
 use lib.Dec.{eqb}
@@ -14,14 +15,14 @@ use Rattle.story.specs.declared.State.{State}
 use Rattle.story.specs.Next.{callNext}
 use Rattle.story.specs.Calls.{statusCount}
 use Rattle.story.specs.declared.Event.{Event}
-use Rattle.story.specs.Story.{lifeOf, lastTime, countIn, answer, taking, Accepted, takesLanes}
+use Rattle.story.specs.Story.{lifeOf, lastTime, countIn, answer, taking, Accepted, more, takesLanes}
 use Rattle.story.specs.Story.{OneMoment, BothAccepted, NineAfter}
-use Rattle.story.specs.Runs.{answered, called, lanesOf, Reached, BothCalled, CallWantsLanes, CallNineAfter}
+use Rattle.story.specs.Runs.{answered, called, stateAfter, lanesOf, Reached, BothCalled, CallWantsLanes, CallNineAfter}
 use Rattle.story.proofs.Runs.{lanes-limit, told-answer, told-call}
 use Rattle.story.proofs.Passed.{in-order}
 use Rattle.story.proofs.Questions.{status-count-told}
-use Rattle.story.proofs.Reached.{run-accepted, run-told}
-use Rattle.story.proofs.OneMoment.{other-order, room-for-one-of-two}
+use Rattle.story.proofs.Reached.{run-accepted, run-told, run-state}
+use Rattle.story.proofs.OneMoment.{other-order, room-for-one-of-two, alike-accepted, either-way, both-called, one-state}
 
 module _ (pool : ℕ) (es : List Event) (s : State) (run : Reached pool es s) where
   acc : Accepted (lanesOf pool) es
@@ -93,3 +94,25 @@ module _ (pool : ℕ) (es : List Event) (s : State) (run : Reached pool es s) wh
       let nines =
       room-for-one-of-two (lanesOf pool) (lanes-limit pool) es acc e f at e-alone f-alone (λ both. not-both (both-as-called e f both)) in
       (nine-called e f f-alone (nines .0), nine-called f e e-alone (nines .1))
+
+  -- where both are accepted in both orders the calls leave one state, and so do any that follow
+  pub one-state-called : (e f : Event) → OneMoment e f → BothCalled s e f → BothCalled s f e →
+      called (called s e) f ≡ called (called s f) e
+  one-state-called e f at one other = both-called s e f one ∙ one-state s e f at ∙ sym (both-called s f e other)
+
+  pub one-state-later : (e f : Event) → OneMoment e f → BothCalled s e f → BothCalled s f e → (cs : List Event) →
+      stateAfter pool (cs ++ f ∷ e ∷ es) ≡ stateAfter pool (cs ++ e ∷ f ∷ es)
+  unfolding stateAfter
+  one-state-later e f at one other [] =
+      let alone : s ≡ stateAfter pool es = run-state pool es s run in
+      ap (λ u. called (called u e) f) (sym alone)
+      ∙ one-state-called e f at one other
+      ∙ ap (λ u. called (called u f) e) alone
+  one-state-later e f at one other (c ∷ cs) = ap (λ u. called u c) (one-state-later e f at one other cs)
+
+  -- and the sequence accepts after one order what it accepts after the other
+  pub accepted-later : (e f : Event) → OneMoment e f → BothAccepted (lanesOf pool) es f e → (new : List Event) →
+      Accepted (lanesOf pool) (new ++ f ∷ e ∷ es) → Accepted (lanesOf pool) (new ++ e ∷ f ∷ es)
+  accepted-later e f at other new =
+      alike-accepted (lanesOf pool) new (f ∷ e ∷ es) (e ∷ f ∷ es) (either-way e f es at)
+      (more (more acc (other .first)) (other .second))

@@ -71,7 +71,8 @@ skip-offer f k kind x nums =
     let k-ok : Bool = within countMin steadyMax k in
     let D-ok : Bool = within lengthMin lengthMax (f .length) in
     let d : D-ok ≡ true = both-l D-ok (both k-ok (both (eqb (f .floor) k) (eqb (f .cap) k))) nums in
-    let rest : both k-ok (both (eqb (f .floor) k) (eqb (f .cap) k)) ≡ true = both-r D-ok (both k-ok (both (eqb (f .floor) k) (eqb (f .cap) k))) nums in
+    let rest : both k-ok (both (eqb (f .floor) k) (eqb (f .cap) k)) ≡ true =
+    both-r D-ok (both k-ok (both (eqb (f .floor) k) (eqb (f .cap) k))) nums in
     let count : k-ok ≡ true = both-l k-ok (both (eqb (f .floor) k) (eqb (f .cap) k)) rest in
     let ones : both (eqb (f .floor) k) (eqb (f .cap) k) ≡ true = both-r k-ok (both (eqb (f .floor) k) (eqb (f .cap) k)) rest in
     let floor : (f .floor) ≡ k = eqb-true (f .floor) k (both-l (eqb (f .floor) k) (eqb (f .cap) k) ones) in
@@ -91,7 +92,8 @@ skip-offer f k kind x nums =
 
 pub offered : (f : Film) (k : ℕ) → filmLimits f k ≡ true → Offered f k
 offered f k h =
-    let kind : (f .kind) ≤ steadyKind = leb-true (f .kind) steadyKind (both-l (leb (f .kind) steadyKind) (pick (eqb (f .kind) steadyKind) (steadyLimits f k) (paddedLimits f k)) h) in
+    let kind : (f .kind) ≤ steadyKind = leb-true (f .kind) steadyKind
+    (both-l (leb (f .kind) steadyKind) (pick (eqb (f .kind) steadyKind) (steadyLimits f k) (paddedLimits f k)) h) in
     let nums = both-r (leb (f .kind) steadyKind) (pick (eqb (f .kind) steadyKind) (steadyLimits f k) (paddedLimits f k)) h in
     ⊎-elim (λ x. skip-offer f k kind x (rw x at nums)) (λ x. padded-offer f k kind x (rw x at nums))
     (decide (eqb (f .kind) steadyKind))
@@ -190,7 +192,8 @@ module _ (lanes : ℕ) (es : List Event) (i τ : ℕ) where
       let e : Event = event i τ (Changes k) in
       let clear = clears (Changes k) h in
       let all : both (withinLimits e) (within countMin countMax k) ≡ true = in-limits (Changes k) h in (
-        turned (Changes k) (min (countIn (lifeOf es i) τ) k) (both-l (withinLimits e) (within countMin countMax k) all) (clear tooEarly) (clear notThere) (clear isClosing) (clear secondEvent) (clear notAtSlot),
+        turned (Changes k) (min (countIn (lifeOf es i) τ) k) (both-l (withinLimits e) (within countMin countMax k) all)
+            (clear tooEarly) (clear notThere) (clear isClosing) (clear secondEvent) (clear notAtSlot),
         ltb-false lanes (heldOver (e ∷ es) τ) (clear noLanes),
       )
 
@@ -198,13 +201,15 @@ module _ (lanes : ℕ) (es : List Event) (i τ : ℕ) where
   unfolding hitsOf
   closing h =
       let clear = clears Closes h in
-      turned Closes (lifeOf es i .film .floor) (in-limits Closes h) (clear tooEarly) (clear notThere) (clear isClosing) (clear secondEvent) (clear notAtSlot)
+      turned Closes (lifeOf es i .film .floor) (in-limits Closes h)
+      (clear tooEarly) (clear notThere) (clear isClosing) (clear secondEvent) (clear notAtSlot)
 
   pub doored : (b : Bool) → answerTo lanes es (event i τ (Doors b)) (lifeOf es i) (Doors b) ≡ 0 → Turned es i τ
   unfolding hitsOf
   doored b h =
       let clear = clears (Doors b) h in
-      turned (Doors b) (countIn (lifeOf es i) τ) (in-limits (Doors b) h) (clear tooEarly) (clear notThere) (clear isClosing) (clear secondEvent) (clear notAtSlot)
+      turned (Doors b) (countIn (lifeOf es i) τ) (in-limits (Doors b) h)
+      (clear tooEarly) (clear notThere) (clear isClosing) (clear secondEvent) (clear notAtSlot)
 
   -- whatever it does
   pub in-order : (a : Act) → answerTo lanes es (event i τ a) (lifeOf es i) a ≡ 0 → Timely es i τ

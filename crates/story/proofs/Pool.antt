@@ -2,16 +2,18 @@
 -- the pool. An opening or a change is accepted only so; an event that takes no lanes (a drop, a close, a hold, a lift) holds no
 -- lane more; between events lanes are only released.
 -- Rests on the laws of held lanes and on what accepted sequences keep true of a life.
-use mathlib.Core.Path.{_≡_, refl, sym, ap, _∙_}
+use mathlib.Core.Path.{_≡_, refl, sym, ap, subst, _∙_}
 use mathlib.Core.Bool.{Bool, true, false, false≢true}
 use mathlib.Core.Logic.{⊎-elim}
 use mathlib.Core.List.{List, [], _∷_}
 use Prim.Native.Nat.{ℕ, _≤_, _<_}
 use native.Mathlib.Omega.{arith}
-use lib.Dec.{ltb, leb, eqb}
-use borrow.Author.Tests.{le-ltb, ltb-false, leb-true, le-leb, eqb-true}
+use lib.Dec.{lit<, ltb, leb, eqb}
+use borrow.Author.Tests.{le-ltb, ltb-true, ltb-false, leb-true, le-leb, eqb-true, eq-eqb}
 use Rattle.rules.specs.Limits.{poolMax, titlesMax}
+use Rattle.rules.specs.Refusals.{firstHit, noLanes}
 use Rattle.rules.specs.Search.{howMany, total}
+use Rattle.rules.proofs.Refusals.{hitsOf, distinct, isListed, first-hit}
 use Rattle.rules.proofs.Tests.{decide}
 use Rattle.rules.proofs.Search
 use Rattle.story.specs.Life.{Life, Course, onCourse, isActive, droppedAt, owes, isHeld}
@@ -21,14 +23,15 @@ use Rattle.story.specs.declared.Event.{Event}
 use Rattle.story.specs.Story.{event, unopened, tickLength, tickIn}
 use Rattle.story.specs.Story.{turn, ruledFrom, doorsFrom}
 use Rattle.story.specs.Story.{lifeAfter, lifeOf, latestOf, lastTime, upTo, countIn, isHeldIn, heldIn, heldOver}
-use Rattle.story.specs.Story.{takesLanes, answerTo}
+use Rattle.story.specs.Orders.{Tests, openOrder, changeOrder, closeOrder, doorsOrder}
+use Rattle.story.specs.Story.{takesLanes, testsTo, orderOf, answerTo, answer}
 use Rattle.story.specs.Story.{Accepted, none, more}
-use Rattle.story.proofs.Ruled.{SameAt}
+use Rattle.story.proofs.Admissions.{SameAt}
 use Rattle.story.proofs.Clock.{tick-mono}
 use Rattle.story.proofs.Held.{dropped-le, held-active, held-sending, held-falls, owes-local, dropped-local}
 use Rattle.story.proofs.Turn.{turn-before, turn-from}
 use Rattle.story.proofs.Passed.{opening, changing, in-order}
-use Rattle.story.proofs.Lively.{Lively, lively, newest}
+use Rattle.story.proofs.Lives.{Lively, lively, newest}
 
 -- from its latest event on a title only releases lanes
 falls : (L : Life) (m τ υ : ℕ) → Lively L m → m ≤ τ → τ ≤ υ → heldIn L υ ≤ heldIn L τ
@@ -131,20 +134,26 @@ more-held L τ k larger =
     Search.howMany-wider (λ l. isHeldIn L l τ) (λ l. isHeldIn (ruledFrom L (tickIn L τ) k) l τ) (L .film .cap)
     (λ l b. more-lane L l (tickIn L τ) k larger)
 
--- an event moves the lanes of its own title alone
+-- where two counts over all titles differ at one id alone, they compare as they do there
+one-moves : (x y : ℕ → ℕ) (i : ℕ) → ((j : ℕ) → eqb i j ≡ false → x j ≡ y j) → x i ≤ y i → total x titlesMax ≤ total y titlesMax
+one-moves x y i same own =
+    Search.total-le x y titlesMax
+    (λ j b. ⊎-elim (λ e. subst (λ k. x k ≤ y k) (eqb-true i j e) own) (λ e. omega (arith, same j e)) (decide (eqb i j)))
+
+-- so an event moves the lanes of its own title alone
 lowers : (es : List Event) (i τ : ℕ) (a : Act) → heldIn (lifeAfter (lifeOf es i) τ a) τ ≤ heldIn (lifeOf es i) τ →
     heldOver (event i τ a ∷ es) τ ≤ heldOver es τ
 unfolding heldOver lifeOf
 lowers es i τ a own =
-    Search.total-le (λ j. heldIn (lifeOf (event i τ a ∷ es) j) τ) (λ j. heldIn (lifeOf es j) τ) titlesMax
-    (λ j b. ⊎-elim (λ x. rw x (rw (eqb-true i j x) at own)) (λ x. rw x (omega arith)) (decide (eqb i j)))
+    one-moves (λ j. heldIn (lifeOf (event i τ a ∷ es) j) τ) (λ j. heldIn (lifeOf es j) τ) i (λ j e. rw e refl)
+    (rw (eq-eqb i i refl) own)
 
 pub raises : (es : List Event) (i τ : ℕ) (a : Act) → heldIn (lifeOf es i) τ ≤ heldIn (lifeAfter (lifeOf es i) τ a) τ →
     heldOver es τ ≤ heldOver (event i τ a ∷ es) τ
 unfolding heldOver lifeOf
 raises es i τ a own =
-    Search.total-le (λ j. heldIn (lifeOf es j) τ) (λ j. heldIn (lifeOf (event i τ a ∷ es) j) τ) titlesMax
-    (λ j b. ⊎-elim (λ x. rw x (rw (eqb-true i j x) at own)) (λ x. rw x (omega arith)) (decide (eqb i j)))
+    one-moves (λ j. heldIn (lifeOf es j) τ) (λ j. heldIn (lifeOf (event i τ a ∷ es) j) τ) i (λ j e. rw e refl)
+    (rw (eq-eqb i i refl) own)
 
 -- an event that takes no lanes holds no lane more
 pub takes-none : (es : List Event) (i τ : ℕ) (a : Act) → takesLanes a (countIn (lifeOf es i) τ) ≡ false →
@@ -180,7 +189,28 @@ never-exceeded lanes es high (more {e = e} {es = es′} acc h) τ =
     (λ x.
     let before : heldOver es′ (e .time) ≤ lanes = rw (upTo-all (e .time) es′ late) at (never-exceeded lanes es′ high acc (e .time)) in
     let then : heldOver (e ∷ es′) (e .time) ≤ lanes = at-event lanes es′ (e .title) (e .time) (e .act) h before in
-    let since : heldOver (e ∷ es′) τ ≤ heldOver (e ∷ es′) (e .time) = over-falls lanes (e ∷ es′) high (more acc h) (e .time) τ (omega arith) (leb-true (e .time) τ x) in
+    let since : heldOver (e ∷ es′) τ ≤ heldOver (e ∷ es′) (e .time) =
+    over-falls lanes (e ∷ es′) high (more acc h) (e .time) τ (omega arith) (leb-true (e .time) τ x) in
     rw x (omega arith))
     (λ x. rw x (never-exceeded lanes es′ high acc τ))
     (decide (leb (e .time) τ))
+
+-- so an accepted event finds its lanes
+pub accepted-fits : (lanes : ℕ) (es : List Event) → lanes ≤ poolMax → Accepted lanes es → (e : Event) →
+    answer lanes es e ≡ 0 → heldOver (e ∷ es) (e .time) ≤ lanes
+accepted-fits lanes es high acc e h =
+    rw (upTo-all (e .time) (e ∷ es) (omega arith)) at (never-exceeded lanes (e ∷ es) high (more acc h) (e .time))
+
+-- and one that gets 9 does not: that refusal's test is that more than the pool would be held
+full-asked : (a : Act) (t : Tests) → firstHit (orderOf a t) ≡ noLanes → t .full ≡ true
+unfolding distinct isListed hitsOf
+full-asked (Opens f k) t h = first-hit (openOrder t) refl noLanes (lit< tt) h .0
+full-asked (Changes k) t h = first-hit (changeOrder t) refl noLanes (lit< tt) h .0
+full-asked Closes t h = absurd (false≢true (first-hit (closeOrder t) refl noLanes (lit< tt) h .0))
+full-asked (Doors b) t h = absurd (false≢true (first-hit (doorsOrder t) refl noLanes (lit< tt) h .0))
+
+pub nine-exceeds : (lanes : ℕ) (es : List Event) (e : Event) → answer lanes es e ≡ noLanes →
+    lanes < heldOver (e ∷ es) (e .time)
+unfolding answerTo
+nine-exceeds lanes es e h =
+    ltb-true lanes (heldOver (e ∷ es) (e .time)) (full-asked (e .act) (testsTo lanes es e (lifeOf es (e .title)) (e .act)) h)

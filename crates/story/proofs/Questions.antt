@@ -106,7 +106,8 @@ module _ (lanes : ℕ) (high : lanes ≤ poolMax) (es : List Event) (s : State) 
       hit-same outsideLimits _ _ _ _ (rw (sound-state lanes high es s w) refl)
       (λ t1.
       let rest : Bool = both (leb l laneMax) (leb τ askedMax) in
-      let nums : both (leb i idMax) rest ≡ true = both-r (stateOk s) (both (leb i idMax) rest) (not-false (both (stateOk s) (both (leb i idMax) rest)) t1) in
+      let nums : both (leb i idMax) rest ≡ true =
+      both-r (stateOk s) (both (leb i idMax) rest) (not-false (both (stateOk s) (both (leb i idMax) rest)) t1) in
       let told = w .tells .title i (omega (arith, leb-true i idMax (both-l (leb i idMax) rest nums))) in
       let last : titleAt s i .last ≡ latestOf es i = last-told (lifeOf es i) (latestOf es i) (titleAt s i) told in
       hit-same tooEarly _ _ _ _ (ap (λ x. ltb τ x) last)

@@ -13,17 +13,17 @@ use Rattle.rules.specs.Limits.{titlesMax, idMax, laneMax, askedMax, poolMax}
 use Rattle.rules.specs.Refusals.{pick, firstHit}
 use Rattle.rules.proofs.Tests.{decide, pick-false}
 use Rattle.story.specs.declared.State.{State}
-use Rattle.story.specs.Life.{Life, Air, cell, isCell, isHeld}
+use Rattle.story.specs.Life.{Life, cell, isHeld}
 use Rattle.story.specs.Next.{callNext}
-use Rattle.story.specs.Calls.{laneAnswer, laneShows}
+use Rattle.story.specs.Calls.{laneAnswer, laneShows, AnswersCell}
 use Rattle.story.specs.declared.Event.{Event}
 use Rattle.story.specs.Story.{lifeOf, latestOf, lastTime, upTo, answer, taking, accepted, Accepted, none}
-use Rattle.story.specs.Story.{more, laneAnswerTo, lifeAt, airAt, Quiet, elsewhere}
+use Rattle.story.specs.Story.{more, laneAnswerTo, lifeAt, airIn, airAt, InTick, Received, Quiet, elsewhere}
 use Rattle.story.specs.Runs.{answered, called, stateAfter, lanesOf, Reached}
 use Rattle.story.proofs.Runs.{Told, lanes-limit, told, told-answer}
-use Rattle.story.proofs.Questions.{lane-answer-told, lane-cell-told}
+use Rattle.story.proofs.Questions.{lane-answer-told, lane-late, lane-cell-told}
 use Rattle.story.proofs.Passed.{in-order}
-use Rattle.story.proofs.Lively.{lively, newest}
+use Rattle.story.proofs.Lives.{lively, newest}
 use Rattle.story.proofs.Pool.{upTo-all}
 
 -- what is accepted of a sequence of calls is an accepted sequence
@@ -106,10 +106,6 @@ module _ (pool : ℕ) (es : List Event) (s : State) (run : Reached pool es s) wh
         state = sym (ap (λ u. called u e) (sym run-state) ∙ rw (eq-eqb (answered s e) 0 says) refl);
       }
 
--- a cell on air is a lane held
-cell-held : (a : Air) (c : ℕ) → a ≡ cell c → isCell a ≡ true
-cell-held a c h = rw h refl
-
 same-cell : (a b : ℕ) → cell a ≡ cell b → a ≡ b
 same-cell a b e = cc
 
@@ -125,7 +121,7 @@ module _ (pool : ℕ) (es : List Event) (acc : Accepted (lanesOf pool) es) (i l 
   in-order-then : latestOf (upTo τ es) i ≤ τ
   in-order-then = omega (arith, newest (lanesOf pool) (upTo τ es) (lanes-limit pool) then-accepted i, upTo-late τ es)
 
-  pub asked-done : laneAnswer (stateAfter pool (upTo τ es)) i l τ ≡ 0
+  asked-done : laneAnswer (stateAfter pool (upTo τ es)) i l τ ≡ 0
   unfolding laneAnswerTo firstHit isHeld
   asked-done =
       lane-answer-told (lanesOf pool) (lanes-limit pool) (upTo τ es) (stateAfter pool (upTo τ es)) then-told i l τ
@@ -138,18 +134,30 @@ module _ (pool : ℕ) (es : List Event) (acc : Accepted (lanesOf pool) es) (i l 
       )
       refl
 
-  pub asked-cell : laneShows (stateAfter pool (upTo τ es)) i l τ ≡ c
+  asked-cell : laneShows (stateAfter pool (upTo τ es)) i l τ ≡ c
   asked-cell =
       same-cell (laneShows (stateAfter pool (upTo τ es)) i l τ) c
       (sym (lane-cell-told (lanesOf pool) (lanes-limit pool) (upTo τ es) (stateAfter pool (upTo τ es)) then-told i l τ asked-done) ∙ air)
 
+  pub asked-then : AnswersCell (stateAfter pool (upTo τ es)) i l τ c
+  asked-then = (asked-done, asked-cell)
+
 -- a lane below the cap of an accepted life is one that may be asked for
-pub lane-limit : (lanes : ℕ) (es : List Event) → lanes ≤ poolMax → Accepted lanes es → (i l : ℕ) → i < titlesMax →
+lane-limit : (lanes : ℕ) (es : List Event) → lanes ≤ poolMax → Accepted lanes es → (i l : ℕ) → i < titlesMax →
     l < lifeOf es i .film .cap → l ≤ laneMax
 lane-limit lanes es high acc i l id b =
     ⊎-elim (λ e. let z : lifeOf es i .film .cap ≡ 0 = ap (λ (L : Life). L .film .cap) e in absurd (omega arith))
     (λ w. omega (arith, w .cap-high))
     (lively lanes es high acc i id)
+
+-- so a box receives its cells by what the calls say
+pub received-asked : (pool : ℕ) (es : List Event) → Accepted (lanesOf pool) es → (i τ a c : ℕ) → i < titlesMax →
+    (r : Received es i (lifeAt es i τ) a c) → (υ : ℕ) → InTick (lifeAt es i τ) (r .tick) υ → υ ≤ askedMax →
+    AnswersCell (stateAfter pool (upTo υ es)) i (r .lane) υ c
+received-asked pool es acc i τ a c id r υ h time =
+    let then = upTo-accepted (lanesOf pool) τ es acc in
+    let lane = lane-limit (lanesOf pool) (upTo τ es) (lanes-limit pool) then i (r .lane) id (r .lane-low) in
+    asked-then pool es acc i (r .lane) υ c (omega arith) lane time (r .carries υ h)
 
 -- from the latest event of an id on its life stands as the whole sequence tells it: later events are of other ids
 pub as-it-stands : (es : List Event) (i τ : ℕ) → latestOf es i ≤ τ → lifeAt es i τ ≡ lifeOf es i
@@ -163,6 +171,15 @@ as-it-stands (e ∷ es) i τ le =
     rw x
     (⊎-elim (λ y. absurd (omega (arith, rw y at le))) (λ y. rw y (before (rw y at le))) (decide (eqb (e .title) i))))
     (decide (leb (e .time) τ))
+
+-- so what a lane question answers is on air, for any time that it takes
+pub answered-on-air : (pool : ℕ) (es : List Event) (s : State) → Reached pool es s → (i l τ : ℕ) → laneAnswer s i l τ ≡ 0 →
+    airAt es i l τ ≡ cell (laneShows s i l τ)
+answered-on-air pool es s run i l τ h =
+    let told = run-told pool es s run in
+    let late = lane-late (lanesOf pool) (lanes-limit pool) es s told i l τ h in
+    ap (λ L. airIn L l τ) (as-it-stands es i τ late)
+    ∙ lane-cell-told (lanesOf pool) (lanes-limit pool) es s told i l τ h
 
 -- one more event that is not of the title, or later
 stays-more : (lanes : ℕ) (e : Event) (es : List Event) → answer lanes es e ≡ 0 → (i τ : ℕ) →

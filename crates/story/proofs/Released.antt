@@ -22,15 +22,15 @@ use Rattle.story.specs.declared.Event.{Event}
 use Rattle.story.specs.Story.{event, tickLength, tickIn, momentOf}
 use Rattle.story.specs.Story.{lifeAfter, lifeOf, latestOf, lastTime, upTo, countIn, isActiveIn, isHeldIn, heldIn, isThereIn}
 use Rattle.story.specs.Story.{answerTo, answer, Accepted, none, more, lifeAt, InTick, releaseOf, DropsAt}
-use Rattle.story.proofs.Ruled.{SameAt}
+use Rattle.story.proofs.Admissions.{SameAt}
 use Rattle.story.proofs.Clock.{in-tick, begun, begins, ended, before-tick, on-its-tick, later-tick}
 use Rattle.story.proofs.Held.{count-below, held-active, held-after, owes-local}
 use Rattle.story.proofs.Passed.{Turned, opening, changing, closing, doored}
-use Rattle.story.proofs.Lively.{Lively, lively, newest}
+use Rattle.story.proofs.Lives.{Lively, lively, newest}
 use Rattle.story.proofs.Questions.{no-lane}
 use Rattle.story.proofs.Pool.{upTo-all}
 use Rattle.story.proofs.Reached.{upTo-accepted, upTo-late}
-use Rattle.story.proofs.World.{Stood, stood, turned-lively, courseAfter, same-before, upTo-skip}
+use Rattle.story.proofs.Boxes.{Stood, stood, turned-lively, courseAfter, same-before, upTo-skip}
 
 -- ---- what stood at a moment
 
@@ -78,7 +78,8 @@ module _ (X L : Life) (l s τ : ℕ) (w : Stood X L τ) (d : Drop L l s τ) wher
 
   agree-before : (a : ℕ) → a < suc s → SameAt X (w .course) a
   agree-before a b =
-      w .agree a (let m : a * tickLength X ≤ suc s * tickLength X = mul-le-mul-right (tickLength X) (omega arith) in omega (arith, start-seen))
+      w .agree a
+      (let m : a * tickLength X ≤ suc s * tickLength X = mul-le-mul-right (tickLength X) (omega arith) in omega (arith, start-seen))
 
   active-seen : isActive X l s ≡ true
   unfolding isActive
@@ -241,7 +242,8 @@ module _ (lanes : ℕ) (es : List Event) (high : lanes ≤ poolMax) (acc : Accep
       (λ t lo hi.
       let from : suc s * p ≤ t * p = mul-le-mul-right p lo in
       let by : X .opened + t * p ≤ υ = begun (X .opened) p (alive .tick-some) υ t opened-then hi in
-      off-tick lanes (upTo υ es) high then-accepted i l τ (suc υ) (off-then (suc υ) (omega arith)) (alive .tick-some) t (omega arith) (omega arith))
+      off-tick lanes (upTo υ es) high then-accepted i l τ (suc υ) (off-then (suc υ) (omega arith)) (alive .tick-some) t
+      (omega arith) (omega arith))
 
   -- under a later one no lane is held that was not active since
   held-anew : τ < lifeAt es i υ .opened → isHeldIn (lifeAt es i υ) l υ ≡ ltb υ (releaseOf (lifeAt es i τ) l (suc s))
@@ -251,7 +253,8 @@ module _ (lanes : ℕ) (es : List Event) (high : lanes ≤ poolMax) (acc : Accep
       let L : Life = lifeAt es i τ in
       let p : ℕ = tickLength X in
       let gone : releaseOf L l (suc s) ≤ X .opened =
-      released-by lanes (upTo υ es) high then-accepted i id L l s τ d (earlier-life τ le) later (off-then (X .opened) (omega (arith, opened-then))) in
+      released-by lanes (upTo υ es) high then-accepted i id L l s τ d (earlier-life τ le) later
+      (off-then (X .opened) (omega (arith, opened-then))) in
       let alive : Lively X (latestOf (upTo υ es) i) =
       ⊎-elim (λ e. let z : X .opened ≡ 0 = ap (λ (Y : Life). Y .opened) e in absurd (omega arith)) (λ w. w)
       (lively lanes (upTo υ es) high then-accepted i id) in
@@ -259,7 +262,8 @@ module _ (lanes : ℕ) (es : List Event) (high : lanes ≤ poolMax) (acc : Accep
       (λ u hi.
       let by : X .opened + u * p ≤ υ = begun (X .opened) p (alive .tick-some) υ u opened-then hi in
       ltb-false l (X .rule u)
-      (off-tick lanes (upTo υ es) high then-accepted i l τ (suc υ) (off-then (suc υ) (omega arith)) (alive .tick-some) u (omega arith) (omega arith)))
+      (off-tick lanes (upTo υ es) high then-accepted i l τ (suc υ) (off-then (suc υ) (omega arith)) (alive .tick-some) u
+      (omega arith) (omega arith)))
       ∙ sym (le-ltb υ (releaseOf L l (suc s)) (omega (arith, opened-then)))
 
   -- held up to its release, and no longer
@@ -303,7 +307,8 @@ as-many-ticks lanes es high acc i l s τ n id d enough seen within =
     Search.howMany-ext (λ j. isHeldIn (lifeAt es i (seen j)) l (seen j)) (λ j. ltb j (owes L l (suc s))) n
     (λ j b.
     let far : suc (suc s + j) * tickLength L ≤ (suc s + n) * tickLength L = mul-le-mul-right (tickLength L) (omega arith) in
-    in-its-ticks lanes es high acc i l s τ (momentOf L (suc s + n)) id d (alive .tick-some) j (seen j) (within j b) (omega (arith, within j b .until)))
+    in-its-ticks lanes es high acc i l s τ (momentOf L (suc s + n)) id d (alive .tick-some) j (seen j) (within j b)
+    (omega (arith, within j b .until)))
     ∙ count-below (owes L l (suc s)) n enough
 
 -- ---- every drop is one of these
@@ -322,7 +327,8 @@ turned-drops lanes es high acc i τ w a turns l on off =
     let by : latestOf es i ≤ τ = omega (arith, newest lanes es high acc i, w .timely .late) in
     let before : latestOf es i < τ =
     ⊎-elim (λ x. x) (λ x. absurd (w .fresh (sym x))) (Search.below-suc (latestOf es i) τ (omega arith)) in
-    let later : tickIn X (latestOf es i) < n = later-tick (X .opened) p (alive .tick-some) (latestOf es i) τ (alive .since) before (w .on-tick) in
+    let later : tickIn X (latestOf es i) < n =
+    later-tick (X .opened) p (alive .tick-some) (latestOf es i) τ (alive .since) before (w .on-tick) in
     let s : ℕ = n - 1 in
     let e : suc s ≡ n = omega arith in
     let r : Course = courseAfter X n a in

@@ -9,10 +9,11 @@ use Prim.Native.Nat.{ℕ, _+_, _≤_, _<_}
 use native.Mathlib.Omega.{arith}
 use lib.Dec.{lit<, eqb}
 use borrow.Author.Tests.{ltb-true, ltb-false, eqb-true, eq-eqb}
-use Rattle.rules.specs.Refusals.{tooSoon}
+use Rattle.rules.specs.Refusals.{firstHit, tooSoon}
 use Rattle.rules.proofs.Tests.{decide}
 use Rattle.rules.proofs.Refusals.{hitsOf, numbered, distinct, isListed, cleared, first-hit}
 use Rattle.story.specs.Life.{Life}
+use Rattle.story.specs.Orders.{Tests, openOrder, changeOrder, closeOrder, doorsOrder}
 use Rattle.story.specs.declared.Act.{Act}
 use Rattle.story.specs.declared.Act.the-variants.{Opens, Changes, Closes, Doors}
 use Rattle.story.specs.declared.Event.{Event}
@@ -30,23 +31,20 @@ settled lanes es i τ k h =
     (cleared (orderOf (Changes k) (testsTo lanes es e (lifeOf es i) (Changes k))) refl h tooSoon)
 
 -- what gets 16 is a change that comes sooner
-sooner : (lanes : ℕ) (es : List Event) (e : Event) (a : Act) → answerTo lanes es e (lifeOf es (e .title)) a ≡ tooSoon →
-    (e .time < tunedOf es (e .title) + settling (lifeOf es (e .title))) × (setsCount a ≡ true)
-unfolding answerTo distinct isListed hitsOf
-sooner lanes es e (Opens f k) h =
-    absurd (false≢true (first-hit (orderOf (Opens f k) (testsTo lanes es e (lifeOf es (e .title)) (Opens f k))) refl tooSoon (lit< tt) h .0))
-sooner lanes es e (Changes k) h = (
-  ltb-true (e .time) (tunedOf es (e .title) + settling (lifeOf es (e .title))) (first-hit (orderOf (Changes k) (testsTo lanes es e (lifeOf es (e .title)) (Changes k))) refl tooSoon (lit< tt) h .0),
-  refl,
-)
-sooner lanes es e Closes h =
-    absurd (false≢true (first-hit (orderOf Closes (testsTo lanes es e (lifeOf es (e .title)) Closes)) refl tooSoon (lit< tt) h .0))
-sooner lanes es e (Doors b) h =
-    absurd (false≢true (first-hit (orderOf (Doors b) (testsTo lanes es e (lifeOf es (e .title)) (Doors b))) refl tooSoon (lit< tt) h .0))
+soon-asked : (a : Act) (t : Tests) → firstHit (orderOf a t) ≡ tooSoon → (t .soon ≡ true) × (setsCount a ≡ true)
+unfolding distinct isListed hitsOf
+soon-asked (Opens f k) t h = absurd (false≢true (first-hit (openOrder t) refl tooSoon (lit< tt) h .0))
+soon-asked (Changes k) t h = (first-hit (changeOrder t) refl tooSoon (lit< tt) h .0, refl)
+soon-asked Closes t h = absurd (false≢true (first-hit (closeOrder t) refl tooSoon (lit< tt) h .0))
+soon-asked (Doors b) t h = absurd (false≢true (first-hit (doorsOrder t) refl tooSoon (lit< tt) h .0))
 
 pub sixteen : (lanes : ℕ) (es : List Event) (e : Event) → answer lanes es e ≡ tooSoon →
     (e .time < tunedOf es (e .title) + settling (lifeOf es (e .title))) × (setsCount (e .act) ≡ true)
-sixteen lanes es e = sooner lanes es e (e .act)
+unfolding answerTo
+sixteen lanes es e h =
+    let L : Life = lifeOf es (e .title) in
+    let x = soon-asked (e .act) (testsTo lanes es e L (e .act)) h in
+    (ltb-true (e .time) (tunedOf es (e .title) + settling L) (x .0), x .1)
 
 -- events that neither open nor change a title leave it as long a time to settle, from the same moment on
 as-long : (L : Life) (τ : ℕ) (a : Act) → setsCount a ≡ false → settling (lifeAfter L τ a) ≡ settling L

@@ -43,7 +43,8 @@ module _ (p : ℕ → Bool) (f : ℕ → ℕ) (row : List ℕ) where
   unfolding filled
   filled-high b hf hr zero j = hr j
   filled-high b hf hr (suc i) j =
-      ⊎-elim (λ x. rw x (set-high (filled p f row i) i (f i) b (hf i) (filled-high b hf hr i) j)) (λ x. rw x (filled-high b hf hr i j)) (decide (p i))
+      ⊎-elim (λ x. rw x (set-high (filled p f row i) i (f i) b (hf i) (filled-high b hf hr i) j))
+      (λ x. rw x (filled-high b hf hr i j)) (decide (p i))
 
   -- a picked place below i has its value
   pub filled-in : (i j : ℕ) → j < i → j < length row → p j ≡ true → getD (filled p f row i) j 0 ≡ f j
@@ -95,7 +96,8 @@ drop-step t s n i d o false e = e
 -- dropping lanes changes the two rows alone, each at the dropped lanes
 pub drop-rows : (t : Title) (n k i : ℕ) →
     dropLanes t n k i
-    ≡ withRows t (filled (isDropped t k) (λ l. n) (t .dropped) i) (filled (isDropped t k) (λ l. keptWithin t l n (reach (t .film .cap))) (t .owed) i)
+    ≡ withRows t (filled (isDropped t k) (λ l. n) (t .dropped) i)
+    (filled (isDropped t k) (λ l. keptWithin t l n (reach (t .film .cap))) (t .owed) i)
 unfolding dropLanes filled
 drop-rows t n k zero = refl
 drop-rows t n k (suc i) =

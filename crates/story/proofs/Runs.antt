@@ -23,8 +23,7 @@ use Rattle.story.specs.Calls.{blankTitle, emptyPool}
 use Rattle.story.specs.declared.Act.{Act}
 use Rattle.story.specs.declared.Act.the-variants.{Opens, Changes, Closes, Doors}
 use Rattle.story.specs.declared.Event.{Event}
-use Rattle.story.specs.Story.{event, unopened, lifeOf, latestOf}
-use Rattle.story.specs.Story.{isHeldIn}
+use Rattle.story.specs.Story.{event, unopened, tickIn, lifeOf, latestOf, isHeldIn}
 use Rattle.story.specs.Story.{tunedOf, heldIn, heldOver, isThereIn, answerTo, answer, taking, accepted}
 use Rattle.story.specs.Next.{callNext}
 use Rattle.story.specs.Runs.{answered, called, stateAfter, lanesOf}
@@ -66,8 +65,10 @@ opened-holds es i τ f k id pos high =
     let e : Event = event i τ (Opens f k) in
     let L : Life = record { film = f; opened = τ; rule = λ t. k; shut = λ t. false } in
     let same : lifeOf (e ∷ es) i ≡ L = rw (eq-eqb i i refl) refl in
-    let one : 0 < heldIn L τ = Search.howMany-some (λ l. isHeldIn L l τ) (f .cap) 0 (omega arith) (held-active L 0 (Rattle.story.specs.Story.tickIn L τ) (lt-ltb 0 k pos)) in
-    let part : heldIn (lifeOf (e ∷ es) i) τ ≤ heldOver (e ∷ es) τ = Search.total-at (λ j. heldIn (lifeOf (e ∷ es) j) τ) titlesMax i id in
+    let one : 0 < heldIn L τ =
+    Search.howMany-some (λ l. isHeldIn L l τ) (f .cap) 0 (omega arith) (held-active L 0 (tickIn L τ) (lt-ltb 0 k pos)) in
+    let part : heldIn (lifeOf (e ∷ es) i) τ ≤ heldOver (e ∷ es) τ =
+    Search.total-at (λ j. heldIn (lifeOf (e ∷ es) j) τ) titlesMax i id in
     omega (arith, ap (λ x. heldIn x τ) same)
 
 nobody-there : (es : List Event) (i τ : ℕ) → es ≡ [] → isThereIn (lifeOf es i) τ ≡ true → ⊥

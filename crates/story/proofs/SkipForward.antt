@@ -23,9 +23,9 @@ use Rattle.story.specs.Life.{Life, scheme, isFilm, usualCell, isPlanned,
 use Rattle.story.specs.declared.Event.{Event}
 use Rattle.story.specs.Story.{Accepted, lifeAt, ReceivedBy, Begins}
 use Rattle.story.specs.Ruled.{Ruled}
-use Rattle.story.proofs.Ruled.{admitted}
+use Rattle.story.proofs.Admissions.{admitted}
 use Rattle.story.proofs.Owed.{awaited-in, awaited-out, owed-out}
-use Rattle.story.proofs.World.{planned-received, begun-lively}
+use Rattle.story.proofs.Boxes.{planned-received, begun-lively}
 
 module _ (L : Life) (kind : L .film .kind ≡ steadyKind) where
   -- its scheme is the steady one,
@@ -55,10 +55,13 @@ unfolding tickFor
 next-ahead lanes es high acc i τ a c id kind b film =
     let L : Life = lifeAt es i τ in
     let ruled = begun-lively lanes es high acc i τ a id b .ruled in
-    let block = film-within (L .film .length) (2 ^ (L .film .cap - 1)) (suc c) (pow-pos (L .film .cap - 1)) (rw (eq-eqb (L .film .kind) steadyKind kind) at film) in
+    let block = film-within (L .film .length) (2 ^ (L .film .cap - 1)) (suc c) (pow-pos (L .film .cap - 1))
+    (rw (eq-eqb (L .film .kind) steadyKind kind) at film) in
     let n = ahead (L .film .cap) a c block in
     let planned : isPlanned L a (suc c) (n .0) ≡ true =
-    ap (λ k. takes (scheme L) k a (suc c) (n .0)) (one-count L kind ruled a (b .admission)) ∙ planned-is L kind (L .film .cap) a (suc c) (n .0) ∙ n .2 in
+    ap (λ k. takes (scheme L) k a (suc c) (n .0)) (one-count L kind ruled a (b .admission))
+    ∙ planned-is L kind (L .film .cap) a (suc c) (n .0)
+    ∙ n .2 in
     let r = planned-received lanes es high acc i τ a (suc c) (n .0) id b film planned in
     record {
       lane = r .lane;
@@ -73,7 +76,8 @@ next-ahead lanes es high acc i τ a c id kind b film =
 -- ---- what is owed at a close
 
 -- of a life that ends at tick a + 1 the boxes of tick a were the last
-module _ (L : Life) (kind : L .film .kind ≡ steadyKind) (ruled : Ruled L) (a : ℕ) (last : isAdmission L a ≡ true) (l : ℕ) (lane : l < L .film .cap) where
+module _ (L : Life) (kind : L .film .kind ≡ steadyKind) (ruled : Ruled L) (a : ℕ) (last : isAdmission L a ≡ true)
+    (l : ℕ) (lane : l < L .film .cap) where
   -- they await the lane's cell for one period, and no box before them does for longer
   awaits : (t : ℕ) → suc a ≤ t → isAwaited L (suc a) (usualCell L l t) t ≡ ltb t (a + period l)
   awaits t from = same (isAwaited L (suc a) (usualCell L l t) t) (ltb t (a + period l)) there back
@@ -81,7 +85,8 @@ module _ (L : Life) (kind : L .film .kind ≡ steadyKind) (ruled : Ruled L) (a :
       there : isAwaited L (suc a) (usualCell L l t) t ≡ true → ltb t (a + period l) ≡ true
       there h =
           let o = awaited-out L (suc a) (usualCell L l t) t h in
-          let n = taken-out steady (L .rule (o .0)) (o .0) (usualCell L l t) t (sym (planned-is L kind (L .rule (o .0)) (o .0) (usualCell L l t) t) ∙ o .3) in
+          let n = taken-out steady (L .rule (o .0)) (o .0) (usualCell L l t) t
+          (sym (planned-is L kind (L .rule (o .0)) (o .0) (usualCell L l t) t) ∙ o .3) in
           let e : n .0 ≡ l = one-lane (n .0) l t t (n .1 .carries ∙ cell-is L kind l t) in
           lt-ltb t (a + period l) (omega (arith, o .1, n .1 .before, ap period e))
 
@@ -107,4 +112,9 @@ module _ (L : Life) (kind : L .film .kind ≡ steadyKind) (ruled : Ruled L) (a :
       ap (howMany p) e
       ∙ howMany-flat p 0 (reach (L .film .cap))
       (λ o b. fails (p o)
-      (λ h. omega (arith, one, ltb-true (suc a + o) (a + period l) (sym (awaits (suc a + o) (omega arith)) ∙ owed-out L l (suc a) (suc a + o) h))))
+      (λ h. omega (
+        arith,
+        one,
+        ltb-true (suc a + o) (a + period l)
+            (sym (awaits (suc a + o) (omega arith)) ∙ owed-out L l (suc a) (suc a + o) h),
+      )))

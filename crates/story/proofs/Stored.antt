@@ -1,6 +1,6 @@
 -- Owed ticks need no history: of each count the end of its latest admission's slot decides. Shown for any life whose
--- counts begin and end to admit boxes only at slot starts of their own: the stored ends say of a lane's ticks what is defined over all admissions.
--- Rests on the laws of a scheme and on the laws of owed ticks.
+-- counts begin and end to admit boxes only at slot starts of their own: the stored ends say of a lane's ticks what is defined over
+-- all admissions. Rests on the laws of a scheme and on the laws of owed ticks.
 use mathlib.Core.Path.{_≡_, sym, ap, _∙_}
 use mathlib.Core.Bool.{Bool, true, false}
 use mathlib.Core.Logic.{⊎-elim}
@@ -21,7 +21,7 @@ use Rattle.scheme.proofs.Takes.{taken-in, taken-out}
 use Rattle.story.specs.declared.Title.{Title}
 use Rattle.story.specs.Life.{Life, Course, scheme, isFilm, usualCell, isPlanned, isAdmission, isAwaited, isOwed}
 use Rattle.story.specs.Ruled.{Ruled}
-use Rattle.story.proofs.Ruled.{Legal, admits, isAdmitting, lastEnd, admitted}
+use Rattle.story.proofs.Admissions.{Legal, admits, isAdmitting, lastEnd, admitted}
 use Rattle.story.specs.Kept.{schemeIn, wantsFrom, wants, keptAwaited, keptOwed}
 use Rattle.story.proofs.Owed.{awaited-in, awaited-out}
 

@@ -22,8 +22,8 @@ use Rattle.story.specs.declared.Film.{Film}
 use Rattle.story.specs.declared.Title.{Title}
 use Rattle.story.specs.declared.State.{State}
 use Rattle.story.specs.Life.{Life, Course, tickBy, usualCell, droppedAt, isOwed, reach, owedWithin, owes}
-use Rattle.story.proofs.Ruled.{lastEnd}
-use Rattle.story.specs.Kept.{titleAt, isShut, tickAt, ruling, titleHeld, lanesHeld, isThere}
+use Rattle.story.proofs.Admissions.{lastEnd}
+use Rattle.story.specs.Kept.{noTitle, titleAt, isShut, tickAt, ruling, titleHeld, lanesHeld, isThere}
 use Rattle.story.specs.Next.{openedTitle, withTitle}
 use Rattle.story.specs.Calls.{blankTitle}
 use Rattle.story.specs.declared.Event.{Event}
@@ -89,11 +89,18 @@ opened-present f τ k late o low high =
       on-tick = rw sub-self (zero-mod (tickBy f));
       steady = λ u le. refl;
       doors = λ e u le. refl;
-      ruled = record { laws = lawful (f .kind) (f .length) (f .floor) (f .cap) (omega (arith, o .floor-low)) (omega arith) (o .flat); flat = o .flat; low = λ u p. low; high = λ u. high };
+      ruled = record {
+        laws = lawful (f .kind) (f .length) (f .floor) (f .cap) (omega (arith, o .floor-low)) (omega arith) (o .flat);
+        flat = o .flat;
+        low = λ u p. low;
+        high = λ u. high;
+      };
       legal = record { ends = λ u p f. absurd (f refl); begins = λ u p f. absurd (f refl) };
       ends = λ c lo hi. zeros countPlaces c ∙ rw start refl;
       drops = λ l lane off. zeros lanePlaces l ∙ rw start refl;
-      owing = λ l lane off. zeros lanePlaces l ∙ rw (zeros lanePlaces l) (sym (owes-none (lifeIn (openedTitle f τ k) (fromStart k)) l (reach (f .cap))));
+      owing = λ l lane off.
+          zeros lanePlaces l
+          ∙ rw (zeros lanePlaces l) (sym (owes-none (lifeIn (openedTitle f τ k) (fromStart k)) l (reach (f .cap))));
     }
 
 -- what a slot keeps of an id: nothing, where no event has named it, or the course of its life
@@ -190,7 +197,7 @@ told-with pool es s e t w fits le limit tells tuned =
       pool = w .pool;
       last = refl;
       slots = length-set (s .titles) (e .title) t ∙ w .slots;
-      newest = λ i. elim (eqb (e .title) i) as (λ b. pick b (e .time) (latestOf es i) ≤ e .time) [ true ↦ omega arith | false ↦ omega (arith, w .newest i) ];
+      newest = λ i. ⊎-elim (λ x. rw x (omega arith)) (λ x. rw x (omega (arith, w .newest i))) (decide (eqb (e .title) i));
       limit = limit;
       title = λ i b. ⊎-elim (at i) (λ x. other i b x) (decide (eqb (e .title) i));
       tuned = λ i b. ⊎-elim (tuned-at i) (λ x. tuned-other i b x) (decide (eqb (e .title) i));
@@ -200,25 +207,30 @@ told-with pool es s e t w fits le limit tells tuned =
     i₀ = e .title
 
     Goal : ℕ → Type 0
-    Goal i = TellsTitle (pick (eqb i₀ i) (lifeAfter (lifeOf es i) (e .time) (e .act)) (lifeOf es i)) (pick (eqb i₀ i) (e .time) (latestOf es i)) (getD (set (s .titles) i₀ t) i Rattle.story.specs.Kept.noTitle)
+    Goal i =
+        TellsTitle (pick (eqb i₀ i) (lifeAfter (lifeOf es i) (e .time) (e .act)) (lifeOf es i))
+        (pick (eqb i₀ i) (e .time) (latestOf es i))
+        (getD (set (s .titles) i₀ t) i noTitle)
 
     at : (i : ℕ) → eqb i₀ i ≡ true → Goal i
     at i x =
         let q : i₀ ≡ i = eqb-true i₀ i x in
-        rw (x, ← q, getD-set-same (s .titles) i₀ t Rattle.story.specs.Kept.noTitle (omega (arith, w .slots))) tells
+        rw (x, ← q, getD-set-same (s .titles) i₀ t noTitle (omega (arith, w .slots))) tells
 
     other : (i : ℕ) → i < titlesMax → eqb i₀ i ≡ false → Goal i
     other i b x =
-        rw (x, getD-set-other (s .titles) i₀ i t Rattle.story.specs.Kept.noTitle (λ q. eqb-false i₀ i x (sym q))) (w .title i b)
+        rw (x, getD-set-other (s .titles) i₀ i t noTitle (λ q. eqb-false i₀ i x (sym q))) (w .title i b)
 
     Tuned : ℕ → Type 0
-    Tuned i = getD (set (s .titles) i₀ t) i Rattle.story.specs.Kept.noTitle .tuned ≡ pick (both (eqb i₀ i) (setsCount (e .act))) (e .time) (tunedOf es i)
+    Tuned i =
+        getD (set (s .titles) i₀ t) i noTitle .tuned
+        ≡ pick (both (eqb i₀ i) (setsCount (e .act))) (e .time) (tunedOf es i)
 
     tuned-at : (i : ℕ) → eqb i₀ i ≡ true → Tuned i
     tuned-at i x =
         let q : i₀ ≡ i = eqb-true i₀ i x in
-        rw (x, ← q, getD-set-same (s .titles) i₀ t Rattle.story.specs.Kept.noTitle (omega (arith, w .slots))) tuned
+        rw (x, ← q, getD-set-same (s .titles) i₀ t noTitle (omega (arith, w .slots))) tuned
 
     tuned-other : (i : ℕ) → i < titlesMax → eqb i₀ i ≡ false → Tuned i
     tuned-other i b x =
-        rw (x, getD-set-other (s .titles) i₀ i t Rattle.story.specs.Kept.noTitle (λ q. eqb-false i₀ i x (sym q))) (w .tuned i b)
+        rw (x, getD-set-other (s .titles) i₀ i t noTitle (λ q. eqb-false i₀ i x (sym q))) (w .tuned i b)

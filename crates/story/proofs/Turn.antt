@@ -1,5 +1,6 @@
 -- A change, a close, a hold and a lift keep the stored numbers true: after it they tell the turned course. A close is a turn
--- to no lanes, a hold and a lift are turns to the same lanes, so one law serves all. Rests on `kept-owed` and on the laws of rows, clock and drops.
+-- to no lanes, a hold and a lift are turns to the same lanes, so one law serves all. Rests on `kept-owed` and on the laws of rows,
+-- clock and drops.
 use mathlib.Core.Path.{_≡_, refl, sym, ap, _∙_}
 use mathlib.Core.Bool.{Bool, true, false}
 use mathlib.Core.Logic.{_⊎_, inl, inr, ⊎-elim}
@@ -12,7 +13,7 @@ use lib.ListN.{getD, set, length, length-set}
 use lib.Seq.{getD-set-same, getD-set-other}
 use lib.Pow.{pow-mono}
 use borrow.Author.Tests.{ltb-true, ltb-false, lt-ltb, le-ltb, le-leb, lt-leb, eqb-true, eqb-false, eq-eqb, ne-eqb}
-use Rattle.rules.specs.Limits.{askedMax, eventTimeMax, countPlaces}
+use Rattle.rules.specs.Limits.{askedMax, eventTimeMax}
 use Rattle.rules.specs.Refusals.{pick}
 use Rattle.rules.specs.Search.{after}
 use Rattle.rules.proofs.Tests.{decide, both-in, pick-true, pick-false}
@@ -21,7 +22,7 @@ use Rattle.scheme.specs.Scheme.{starts}
 use Rattle.story.specs.declared.Title.{Title}
 use Rattle.story.specs.Life.{Life, Course, isActive, droppedAt, isOwed, reach, owedWithin, owes}
 use Rattle.story.specs.Ruled.{Ruled}
-use Rattle.story.proofs.Ruled.{Legal, admits, isAdmitting, lastEnd, SameAt}
+use Rattle.story.proofs.Admissions.{Legal, admits, isAdmitting, lastEnd, SameAt}
 use Rattle.story.specs.Kept.{openMode, closingMode, heldMark, isShut, tickAt, ruling, keptOwed}
 use Rattle.story.specs.Kept.{keptWithin, schemeIn, titleTick}
 use Rattle.story.specs.Next.{ended, withRows, turned, turnedTitle}
@@ -158,8 +159,12 @@ module _ (t : Title) (r r′ : Course) (τ q m c d v : ℕ) (h : Turning t r r�
   turn-legal : Legal (lifeIn t r′)
   turn-legal =
       record {
-        ends = λ s p f. ⊎-elim (λ x. ends-below s p f (ltb-true (suc s) n x)) (λ x. ends-from s p f (ltb-false (suc s) n x)) (decide (ltb (suc s) n));
-        begins = λ s p f. ⊎-elim (λ x. begins-below s p f (ltb-true (suc s) n x)) (λ x. begins-from s p f (ltb-false (suc s) n x)) (decide (ltb (suc s) n));
+        ends = λ s p f.
+            ⊎-elim (λ x. ends-below s p f (ltb-true (suc s) n x)) (λ x. ends-from s p f (ltb-false (suc s) n x))
+            (decide (ltb (suc s) n));
+        begins = λ s p f.
+            ⊎-elim (λ x. begins-below s p f (ltb-true (suc s) n x)) (λ x. begins-from s p f (ltb-false (suc s) n x))
+            (decide (ltb (suc s) n));
       }
     where
       n : ℕ
@@ -246,7 +251,8 @@ module _ (t : Title) (r r′ : Course) (τ q m c d v : ℕ) (h : Turning t r r�
           let z = h .here .sized in
           let fits : t .count < length (t .ends) = omega (arith, z .ends-long, z .count-high, z .cap-high) in
           let b : n - 1 < n = omega (arith, after-now) in
-          let now : admits (lifeIn t r′) (n - 1) ≡ t .count = same-admits (n - 1) b ∙ old-admits (n - 1) (omega (arith, after-now)) ∙ pick-false (isShut t) 0 (t .count) y in
+          let now : admits (lifeIn t r′) (n - 1) ≡ t .count =
+          same-admits (n - 1) b ∙ old-admits (n - 1) (omega (arith, after-now)) ∙ pick-false (isShut t) 0 (t .count) y in
           let last : p (n - 1) ≡ true = eq-eqb (admits (lifeIn t r′) (n - 1)) k (now ∙ sym e) in
           let top : n ≤ after p n = omega (arith, after-now, Search.after-above p n (n - 1) b last) in
           rw y (rw e (getD-set-same (t .ends) (t .count) n 0 fits) ∙ le-antisymm top (Search.after-le p n))
@@ -283,7 +289,8 @@ module _ (t : Title) (r r′ : Course) (τ q m c d v : ℕ) (h : Turning t r r�
 
       now : (l < t .count) × (isDropped t q l ≡ true) → getD (droppedRow t n q) l 0 ≡ after p n
       now w =
-          let last : p (n - 1) ≡ true = lt-ltb l (r′ .rule (n - 1)) (rw (h .before (n - 1) (omega (arith, after-now)) .rule, old-rules (n - 1) (omega (arith, after-now))) (w .0)) in
+          let last : p (n - 1) ≡ true = lt-ltb l (r′ .rule (n - 1))
+          (rw (h .before (n - 1) (omega (arith, after-now)) .rule, old-rules (n - 1) (omega (arith, after-now))) (w .0)) in
           let top : n ≤ after p n = omega (arith, after-now, Search.after-above p n (n - 1) (omega (arith, after-now)) last) in
           filled-in (isDropped t q) (λ l. n) (t .dropped) (t .count) l (w .0) long (w .1) ∙ le-antisymm top (Search.after-le p n)
 
@@ -326,7 +333,9 @@ module _ (t : Title) (r r′ : Course) (τ q m c d v : ℕ) (h : Turning t r r�
           filled-in (isDropped t q) count (t .owed) (t .count) l (w .0) long′ (w .1)
           ∙ rw (filled-in (isDropped t q) (λ l. n) (t .dropped) (t .count) l (w .0) long (w .1))
           (Search.howMany-ext (λ o. keptOwed (ended t n) l (n + o)) (λ o. isOwed L′ l n (n + o)) (reach (t .film .cap))
-          (λ o b. sym (kept-owed (ended t n) r′ l n (n + o) turn-ruled turn-legal lane (rw (h .from n (omega arith)) off) (omega arith) ends)))
+          (λ o b.
+          let idle : r′ .rule n ≤ l = rw (h .from n (omega arith)) off in
+          sym (kept-owed (ended t n) r′ l n (n + o) turn-ruled turn-legal lane idle (omega arith) ends)))
 
       before : (t .count ≤ l) × (isDropped t q l ≡ false) →
           getD (owedRow t n q) l 0 ≡ owes L′ l (getD (droppedRow t n q) l 0)
@@ -345,6 +354,7 @@ module _ (t : Title) (r r′ : Course) (τ q m c d v : ℕ) (h : Turning t r r�
   turn-sized =
       let z = h .here .sized in
       let n : ℕ = tickAt t τ in
+      let count : ℕ → ℕ = λ l. keptWithin (ended t n) l n (reach (t .film .cap)) in
       let early : n ≤ eventTimeMax = omega (arith, div-le-self (τ - t .opened) (titleTick t), h .limit) in
       let small : n ≤ askedMax = omega arith in
       record {
@@ -361,12 +371,17 @@ module _ (t : Title) (r r′ : Course) (τ q m c d v : ℕ) (h : Turning t r r�
         mark-high = h .mark-high;
         last-high = h .limit;
         tuned-high = h .tuned-high;
-        ends-long = elim (isShut t) as (λ b. length (pick b (t .ends) (set (t .ends) (t .count) n)) ≡ countPlaces) [ true ↦ z .ends-long | false ↦ length-set (t .ends) (t .count) n ∙ z .ends-long ];
+        ends-long =
+            ⊎-elim (λ x. rw x (z .ends-long)) (λ x. rw x (length-set (t .ends) (t .count) n ∙ z .ends-long)) (decide (isShut t));
         dropped-long = filled-length (isDropped t q) (λ l. n) (t .dropped) (t .count) ∙ z .dropped-long;
-        owed-long = filled-length (isDropped t q) (λ l. keptWithin (ended t n) l n (reach (t .film .cap))) (t .owed) (t .count) ∙ z .owed-long;
-        ends-high = λ j. elim (isShut t) as (λ b. getD (pick b (t .ends) (set (t .ends) (t .count) n)) j 0 ≤ askedMax) [ true ↦ z .ends-high j | false ↦ set-high (t .ends) (t .count) n askedMax small (z .ends-high) j ];
+        owed-long = filled-length (isDropped t q) count (t .owed) (t .count) ∙ z .owed-long;
+        ends-high = λ j.
+            ⊎-elim (λ x. rw x (z .ends-high j)) (λ x. rw x (set-high (t .ends) (t .count) n askedMax small (z .ends-high) j))
+            (decide (isShut t));
         dropped-high = filled-high (isDropped t q) (λ l. n) (t .dropped) askedMax (λ l. small) (z .dropped-high) (t .count);
-        owed-high = filled-high (isDropped t q) (λ l. keptWithin (ended t n) l n (reach (t .film .cap))) (t .owed) askedMax (λ l. within-high (ended t n) l n (omega (arith, z .cap-high))) (z .owed-high) (t .count);
+        owed-high =
+            filled-high (isDropped t q) count (t .owed) askedMax (λ l. within-high (ended t n) l n (omega (arith, z .cap-high)))
+            (z .owed-high) (t .count);
       }
 
   -- after the turn the stored numbers tell the turned course

@@ -43,7 +43,8 @@ change-place : (t : Tests) (wrong : Bool) → wrong ≡ either (either (t .below
     → formerly (firstHit (changeOrder t)) ≡ firstHit (formerChange t wrong)
 unfolding renumbered
 change-place t wrong e =
-    let rest : List Rule = refuse secondEvent (t .second) ∷ refuse tooSoon (t .soon) ∷ refuse notAtSlot (t .off) ∷ refuse noLanes (t .full) ∷ [] in
+    let rest : List Rule =
+    refuse secondEvent (t .second) ∷ refuse tooSoon (t .soon) ∷ refuse notAtSlot (t .off) ∷ refuse noLanes (t .full) ∷ [] in
     rw e
     (former-hit (changeOrder t)
     ∙ hit-same outsideLimits _ _ _ _ refl

@@ -1,5 +1,6 @@
 -- What each call answers, in 01's order of refusals, read off the state as it stands (01, "Numbers that calls give back").
 use Prim.Native.Nat.{ℕ}
+use mathlib.Core.Path.{_≡_}
 use mathlib.Core.Bool.{Bool, not}
 use mathlib.Core.List.{List, [], _∷_}
 use lib.Dec.{leb, ltb, eqb}
@@ -15,16 +16,25 @@ use Rattle.story.specs.Orders.{Tests, laneOrder, statusOrder}
 use Rattle.story.specs.declared.Act.{Act}
 use Rattle.story.specs.Story.{actLimits, permitted, orderOf}
 use Rattle.story.specs.Story.{isCrossed, isBelow, isAbove, isSame, isSameDoors}
-use Rattle.story.specs.Kept.{absentMode, closingMode, clearMark, noFilm, titleAt, isShut, isSteadyTitle, schemeIn, stateOk, tickAt, atTickStart}
-use Rattle.story.specs.Kept.{ruling, keptHeld}
-use Rattle.story.specs.Kept.{settledAt, titleHeld, lanesHeld, isThere, shows}
+use Rattle.story.specs.Kept.{absentMode, closingMode, clearMark, noFilm, titleAt, isShut, isSteadyTitle, schemeIn, stateOk}
+use Rattle.story.specs.Kept.{tickAt, atTickStart, ruling, keptHeld, settledAt, titleHeld, lanesHeld, isThere, shows}
 use Rattle.story.specs.Next.{callNext}
 
 -- the slot of an id that no event has named
 abbrev pub blankTitle : Title
 blankTitle =
-    record
-    { mode = absentMode; film = noFilm; opened = 0; count = 0; mark = clearMark; last = 0; tuned = 0; ends = replicate countPlaces 0; dropped = replicate lanePlaces 0; owed = replicate lanePlaces 0 }
+    record {
+      mode = absentMode;
+      film = noFilm;
+      opened = 0;
+      count = 0;
+      mark = clearMark;
+      last = 0;
+      tuned = 0;
+      ends = replicate countPlaces 0;
+      dropped = replicate lanePlaces 0;
+      owed = replicate lanePlaces 0;
+    }
 
 -- a pool without titles
 abbrev pub emptyPool : ℕ → State
@@ -89,6 +99,10 @@ laneAnswer s i l τ = firstHit (laneRules s i l τ)
 -- the cell that goes out; 0 beside a refusal
 unfoldable pub laneShows : State → ℕ → ℕ → ℕ → ℕ
 laneShows s i l τ = pick (eqb (laneAnswer s i l τ) 0) (shows (titleAt s i) l (tickAt (titleAt s i) τ)) 0
+
+-- the lane question is answered 0 and cell c
+abbrev pub AnswersCell : State → (i l τ c : ℕ) → Type 0
+AnswersCell s i l τ c = (laneAnswer s i l τ ≡ 0) × (laneShows s i l τ ≡ c)
 
 -- status over a row of ids, with rows of m counts, h numbers of lanes held and d marks
 abbrev pub statusRules : State → ℕ → List ℕ → ℕ → ℕ → ℕ → List Rule

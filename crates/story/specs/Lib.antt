@@ -7,5 +7,6 @@ pub mod Kept
 pub mod Next
 pub mod Calls
 pub mod Runs
+pub mod Demands
 pub mod Former
 pub mod Formerly

@@ -1,5 +1,5 @@
 -- A life as the events allow it: what statements ask of any life (01, "Events"; 02, 12). Every accepted sequence gives such lives
--- (proofs/Lively).
+-- (proofs/Lives).
 use mathlib.Core.Path.{_≡_}
 use Prim.Native.Nat.{ℕ, _≤_, _<_}
 use Rattle.scheme.specs.Scheme.{steadyKind}

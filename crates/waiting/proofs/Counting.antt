@@ -27,7 +27,7 @@ use Rattle.story.specs.Story.{holds, lifts, event, unopened, lifeAfter, lifeOf,
 use Rattle.story.specs.Story.{lastTime}
 use Rattle.story.specs.Story.{tickIn, answer}
 use Rattle.story.proofs.Passed.{Turned, changing, closing, doored, in-order}
-use Rattle.story.proofs.World.{courseAfter, same-before}
+use Rattle.story.proofs.Boxes.{courseAfter, same-before}
 use Rattle.story.proofs.Tells.{TellsTitle}
 use Rattle.story.specs.Runs.{lanesOf}
 use Rattle.story.proofs.Runs.{Told}

@@ -1,5 +1,5 @@
--- What proofs ask of a life beside its being ruled: the count that admits boxes turns only at its own slot starts; and what an
--- admission has then. Rests on the definition of an admission.
+-- The count that admits boxes, which turns only at its own slot starts, and what an admission has: asked of a life beside its being
+-- ruled (specs/Ruled). Rests on the definition of an admission.
 use mathlib.Core.Path.{_≡_}
 use mathlib.Core.Bool.{Bool, true, false, not}
 use Prim.Native.Nat.{ℕ, suc, _≤_, _<_}

@@ -23,14 +23,14 @@ use Rattle.story.specs.Story.{event, tickLength, tickIn}
 use Rattle.story.specs.Story.{momentOf, turn}
 use Rattle.story.specs.Story.{lifeAfter, lifeOf, latestOf, lastTime, upTo, countIn, isHeldIn, heldIn, isThereIn}
 use Rattle.story.specs.Story.{answerTo, answer, Accepted, none, more, lifeAt, airAt, InTick, ReceivedBy, Received, Begins}
-use Rattle.story.proofs.Ruled.{SameAt, admitted}
+use Rattle.story.proofs.Admissions.{SameAt, admitted}
 use Rattle.story.proofs.Clock.{tick-mono, in-tick, begun, on-its-tick}
 use Rattle.story.proofs.InTime.{planned-in-time}
 use Rattle.story.proofs.Reached.{upTo-accepted}
 use Rattle.story.proofs.Held.{air-local, held-falls}
 use Rattle.story.proofs.Turn.{turn-before}
 use Rattle.story.proofs.Passed.{Turned, opening, changing, closing, doored, in-order}
-use Rattle.story.proofs.Lively.{Lively, lively, newest}
+use Rattle.story.proofs.Lives.{Lively, lively, newest}
 
 -- ---- what stood at a moment
 
@@ -226,7 +226,8 @@ module _ (lanes : ℕ) (es : List Event) (high : lanes ≤ poolMax) (acc : Accep
   sight-received : (c n : ℕ) → Sight (onCourse L r) a c n → ReceivedBy es i L a c n
   sight-received c n g =
       let pos : 0 < tickLength (lifeOf es i) = rw life (alive .tick-some) in
-      let then : (τ : ℕ) → InTick L (g .tick) τ → InTick (lifeOf es i) (g .tick) τ = λ τ h. rw life (record { from = h .from; until = h .until }) in
+      let then : (τ : ℕ) → InTick L (g .tick) τ → InTick (lifeOf es i) (g .tick) τ =
+      λ τ h. rw life (record { from = h .from; until = h .until }) in
       record {
         lane = g .lane;
         tick = g .tick;
@@ -282,7 +283,8 @@ own-turn lanes es high acc i τ w L a lt r life agree b turns =
     (rw (eq-eqb i i refl) (turns (lifeOf es i) ∙ ap (λ Y. onCourse Y (courseAfter Y (tickIn Y τ) b)) life))
     (λ u le.
     let below : u < tickIn X τ =
-    earlier-tick X (momentOf L a) τ u pos since on lt (let m : u * tickLength L ≤ a * tickLength L = mul-le-mul-right (tickLength L) le in omega arith) in
+    earlier-tick X (momentOf L a) τ u pos since on lt
+    (let m : u * tickLength L ≤ a * tickLength L = mul-le-mul-right (tickLength L) le in omega arith) in
     let s = same-before X (tickIn X τ) b u below in
     record { rule = s .rule ∙ agree u le .rule; shut = s .shut ∙ agree u le .shut })
 
@@ -298,7 +300,8 @@ own-event lanes es high acc i τ (Opens f k) h L a adm lt r life agree =
     over
     (λ c n film planned.
     let g = sight lanes es high acc i id L a adm r life agree c n film planned in
-    let before : momentOf L (suc (g .tick)) ≤ τ = seen-before lanes es high acc i id L a adm r life agree c n τ (o .timely .late) (o .away) g in
+    let before : momentOf L (suc (g .tick)) ≤ τ =
+    seen-before lanes es high acc i id L a adm r life agree c n τ (o .timely .late) (o .away) g in
     (received-skip (event i τ (Opens f k)) es i L a c n (sight-received lanes es high acc i id L a adm r life agree c n g) before, before))
 own-event lanes es high acc i τ (Changes k) h L a adm lt r life agree =
     own-turn lanes es high acc i τ (changing lanes es i τ k h .0) L a lt r life agree (Changes k) (λ X. refl)
@@ -332,7 +335,8 @@ begun-or-more : (lanes : ℕ) (e : Event) (es : List Event) → lanes ≤ poolMa
 unfolding upTo
 begun-or-more lanes e es high acc h i τ a b was =
     ⊎-elim
-    (λ x. let L : Life = lifeOf (e ∷ es) i in rw x (current (record { rule = L .rule; shut = L .shut }) refl (λ u le. record { rule = refl; shut = refl })))
+    (λ x. let L : Life = lifeOf (e ∷ es) i in
+    rw x (current (record { rule = L .rule; shut = L .shut }) refl (λ u le. record { rule = refl; shut = refl })))
     (λ x.
     let lt : τ < e .time = leb-false (e .time) τ x in
     let q : upTo τ (e ∷ es) ≡ upTo τ es = upTo-skip τ e es lt in
@@ -347,7 +351,8 @@ follows : (lanes : ℕ) (es : List Event) → lanes ≤ poolMax → Accepted lan
 unfolding upTo lifeOf
 follows lanes es high none i τ a b =
     current (record { rule = λ u. 0; shut = λ u. false }) refl (λ u le. record { rule = refl; shut = refl })
-follows lanes es high (more {e = e} {es = es′} acc h) i τ a b = begun-or-more lanes e es′ high acc h i τ a b (follows lanes es′ high acc i τ a)
+follows lanes es high (more {e = e} {es = es′} acc h) i τ a b =
+    begun-or-more lanes e es′ high acc h i τ a b (follows lanes es′ high acc i τ a)
 
 -- ---- the demand
 
@@ -376,9 +381,9 @@ begun-lively lanes es high acc i τ a id b =
     (lively lanes (upTo τ es) high (upTo-accepted lanes τ es acc) i id)
 
 -- demand 3: so no later than the cell's turn, since the plan has it by then
-pub no-box-runs-dry : (lanes : ℕ) (es : List Event) → lanes ≤ poolMax → Accepted lanes es → (i τ a c : ℕ) →
+pub film-comes : (lanes : ℕ) (es : List Event) → lanes ≤ poolMax → Accepted lanes es → (i τ a c : ℕ) →
     i < titlesMax → Begins es i τ a → isFilm (lifeAt es i τ) c ≡ true → Received es i (lifeAt es i τ) a c
-no-box-runs-dry lanes es high acc i τ a c id b film =
+film-comes lanes es high acc i τ a c id b film =
     let L : Life = lifeAt es i τ in
     let ruled = begun-lively lanes es high acc i τ a id b .ruled in
     let at = admitted L ruled a (b .admission) in

@@ -1,11 +1,13 @@
 -- What every accepted sequence keeps true of a life, in the sequence's own terms. The stored state serves as the witness:
 -- it tells the sequence, and what it keeps of a title are facts about the title's rule.
 use mathlib.Core.Path.{_≡_, refl, sym, _∙_}
-use mathlib.Core.Logic.{_⊎_, inl, inr}
+use mathlib.Core.Logic.{_⊎_, inl, inr, ⊎-elim}
 use mathlib.Core.List.{List}
 use Prim.Native.Nat.{ℕ, _≤_, _<_}
 use native.Mathlib.Omega.{arith}
 use Rattle.rules.specs.Limits.{poolMax, titlesMax, countMax}
+use Rattle.scheme.specs.Scheme.{schemeOf}
+use Rattle.scheme.proofs.Padded.{nothing-lawful}
 use Rattle.story.specs.declared.Title.{Title}
 use Rattle.story.specs.declared.State.{State}
 use Rattle.story.specs.Ruled.{Ruled}
@@ -62,3 +64,17 @@ lively lanes es high acc i id =
 -- no event of a title is later than the last of all
 pub newest : (lanes : ℕ) (es : List Event) → lanes ≤ poolMax → Accepted lanes es → (i : ℕ) → latestOf es i ≤ lastTime es
 newest lanes es high acc i = let w = witness lanes es high acc in w .1 .tells .newest i
+
+-- so every life is ruled, one that was never opened too
+unopened-ruled : Ruled unopened
+unfolding schemeOf
+unopened-ruled =
+    record {
+      laws = nothing-lawful (tickLength unopened);
+      flat = λ e. absurd (omega arith);
+      low = λ t p. absurd (omega arith);
+      high = λ t. omega arith;
+    }
+
+pub ruled-life : (lanes : ℕ) (es : List Event) → lanes ≤ poolMax → Accepted lanes es → (i : ℕ) → i < titlesMax → Ruled (lifeOf es i)
+ruled-life lanes es high acc i id = ⊎-elim (λ e. rw e unopened-ruled) (λ w. w .ruled) (lively lanes es high acc i id)
