@@ -16,13 +16,13 @@ use Rattle.rules.specs.Refusals.{pick}
 use Rattle.notice.specs.declared.Notice.{Notice}
 use Rattle.notice.specs.declared.Reading.the-variants as reading
 use Rattle.notice.specs.declared.Found.the-variants as found
-use Rattle.notice.specs.Fields.{sizeOf, isCarried, isKnown, startOf, lengthOf, rows}
-use Rattle.notice.specs.Numbers.{numberAt}
+use Rattle.notice_fields.specs.Fields.{sizeOf, isCarried, isKnown, startOf, lengthOf, rows}
+use Rattle.notice_fields.specs.Numbers.{numberAt}
 use Rattle.notice.specs.Encode.{kindOf, valuesIn}
 use Rattle.notice.specs.Decode.{headStands, rowStands, standsTo, valueAt, noticeIn, kindAt, isWhole}
 use Rattle.notice.specs.Decode.{readAt, further, readOf}
 use Rattle.rules.proofs.Tests.{both-l}
-use Rattle.notice.proofs.Table.{value-inside}
+use Rattle.notice_fields.proofs.Table.{value-inside}
 use Rattle.notice.proofs.Made.{Shows, notice-back, kind-same, values-same}
 use Rattle.notice.proofs.There.{there, inside}
 

@@ -1,71 +1,17 @@
--- The bytes of a notice as runs of stores: how long each row is, and that a row's stores follow those before it.
--- Rests on the field table's definitions and on runs of stores.
-use mathlib.Core.Path.{_≡_, refl, sym, ap, _∙_}
-use mathlib.Core.Bool.{Bool, true, false}
-use mathlib.Core.List.{List, [], _∷_, _++_}
-use Prim.Native.Nat.{ℕ, zero, suc, _+_, _≤_, _<_}
-use native.Mathlib.Nat.{add-zero, zero-add}
-use native.Mathlib.Omega.{arith}
-use lib.ListN.{length, set, getD, drop, length-append}
-use lib.Seq.{sets, sets-eq}
+-- How long a notice's bytes are, and what `write` promises on either side of its test.
+-- Rests on the lengths of rows and on runs of stores.
+use mathlib.Core.Path.{_≡_}
+use mathlib.Core.List.{List}
+use Prim.Native.Nat.{ℕ, _≤_, _<_}
+use lib.ListN.{length}
+use lib.Seq.{sets}
 use borrow.Author.Tests.{lt-ltb, le-ltb}
-use Rattle.rules.specs.Refusals.{pick, firstHit}
+use Rattle.rules.specs.Refusals.{firstHit}
+use Rattle.notice_fields.specs.Fields.{lengthOf, rows}
+use Rattle.notice_bytes.specs.Laying.{bytesTo}
+use Rattle.notice_bytes.proofs.Laid.{length-bytes, laid}
 use Rattle.notice.specs.declared.Notice.{Notice}
-use Rattle.notice.specs.Fields.{tagOf, sizeOf, isCarried, spanOf, startOf, lengthOf, rows}
-use Rattle.notice.specs.Numbers.{bigEndian}
-use Rattle.notice.specs.Encode.{kindOf, valuesIn, fieldBytes, rowBytes, bytesTo, bytesOf, Writes}
-
-pub sets-append : (xs l ys : List ℕ) (a : ℕ) → sets l a (xs ++ ys) ≡ sets (sets l a xs) (a + length xs) ys
-sets-append [] l ys a = rw add-zero
-sets-append (x ∷ xs) l ys a =
-    let e : suc a + length xs ≡ a + suc (length xs) = omega arith in
-    sets-append xs (set l a x) ys (suc a) ∙ rw e
-
-pub length-big : (n v : ℕ) → length (bigEndian n v) ≡ n
-unfolding bigEndian
-length-big zero v = refl
-length-big (suc n) v = ap suc (length-big n v)
-
-pub length-field : (i v : ℕ) → length (fieldBytes i v) ≡ 3 + sizeOf i
-unfolding fieldBytes
-length-field i v =
-    omega (arith, length-append (bigEndian 2 (sizeOf i)) (bigEndian (sizeOf i) v), length-big 2 (sizeOf i), length-big (sizeOf i) v)
-
-pub length-row : (k i v : ℕ) → length (rowBytes k i v) ≡ spanOf k i
-unfolding rowBytes spanOf
-length-row k i v = go (isCarried k i)
-  where
-    go : (b : Bool) → length (pick b (fieldBytes i v) []) ≡ pick b (3 + sizeOf i) 0
-    go true = length-field i v
-    go false = refl
-
-pub length-bytes : (k : ℕ) (vs : List ℕ) (i : ℕ) → length (bytesTo k vs i) ≡ startOf k i
-unfolding bytesTo startOf
-length-bytes k vs zero = refl
-length-bytes k vs (suc i) =
-    omega (arith, length-append (bytesTo k vs i) (rowBytes k i (getD vs i 0)), length-bytes k vs i, length-row k i (getD vs i 0))
-
--- tag, length and value stored one after the other are the field
-pub field-laid : (l : List ℕ) (at i v : ℕ)
-    → sets (sets (set l at (tagOf i)) (at + 1) (bigEndian 2 (sizeOf i))) (at + 3) (bigEndian (sizeOf i) v)
-    ≡ sets l at (fieldBytes i v)
-unfolding fieldBytes
-field-laid l at i v =
-    let e : suc at + length (bigEndian 2 (sizeOf i)) ≡ at + 3 = omega (arith, length-big 2 (sizeOf i)) in
-    let f : suc at ≡ at + 1 = omega arith in
-    sym (sets-append (bigEndian 2 (sizeOf i)) (set l at (tagOf i)) (bigEndian (sizeOf i) v) (suc at) ∙ rw (e, f))
-
--- a row stored after the rows before it is one row more
-pub row-laid : (l : List ℕ) (k : ℕ) (vs : List ℕ) (i : ℕ)
-    → sets (sets l 0 (bytesTo k vs i)) (startOf k i) (rowBytes k i (getD vs i 0)) ≡ sets l 0 (bytesTo k vs (suc i))
-unfolding bytesTo
-row-laid l k vs i =
-    let e : 0 + length (bytesTo k vs i) ≡ startOf k i = omega (arith, length-bytes k vs i) in
-    sym (sets-append (bytesTo k vs i) l (rowBytes k i (getD vs i 0)) 0 ∙ rw e)
-
--- a run of stores from the start is the bytes and what stood after them
-pub laid : (bs l : List ℕ) → length bs ≤ length l → sets l 0 bs ≡ bs ++ drop (length bs) l
-laid bs l h = sets-eq bs l 0 (rw zero-add h) ∙ rw zero-add
+use Rattle.notice.specs.Encode.{kindOf, valuesIn, bytesOf, Writes}
 
 -- a notice is as long as its kind says
 pub length-notice : (n : Notice) → length (bytesOf n) ≡ lengthOf (kindOf (n .kind))

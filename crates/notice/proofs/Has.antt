@@ -9,10 +9,10 @@ use native.Mathlib.Omega.{arith}
 use lib.Arith.{digits-div, digits-mod}
 use lib.ListN.{length, getD, take, drop, length-append, length-take, length-drop, List·getD-append}
 use lib.Seq.{getD-append-add, getD-take, getD-drop, ext-getD}
-use Rattle.notice.specs.Numbers.{bigEndian, numberAt}
+use Rattle.notice_fields.specs.Numbers.{bigEndian, numberAt}
 use Rattle.notice.specs.Log.{Bytes}
-use Rattle.notice.proofs.Each.{by-order}
-use Rattle.notice.proofs.Bytes.{length-big}
+use Rattle.notice_fields.proofs.Each.{by-order}
+use Rattle.notice_fields.proofs.Digits.{length-big}
 
 -- w stands in bs from place a on
 abbrev pub Has : List ℕ → ℕ → List ℕ → Type 0

@@ -3,7 +3,6 @@ pub mod Alike
 pub mod Answers
 pub mod Bytes
 pub mod Cases
-pub mod Digits
 pub mod Each
 pub mod Has
 pub mod Held

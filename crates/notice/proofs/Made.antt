@@ -12,13 +12,13 @@ use Rattle.rules.specs.Refusals.{pick}
 use Rattle.notice.specs.declared.Notice.{Notice}
 use Rattle.notice.specs.declared.Kind.{Kind}
 use Rattle.notice.specs.declared.Kind.the-variants.{Open, Change, Close, Hold, Lift, Skip}
-use Rattle.notice.specs.Fields.{table, sequenceRow, titleRow, timeRow, lengthRow, floorRow, capRow, countRow}
-use Rattle.notice.specs.Fields.{rows, isCarried, isKnown, startOf}
-use Rattle.notice.specs.Numbers.{numberAt}
+use Rattle.notice_fields.specs.Fields.{table, sequenceRow, titleRow, timeRow, lengthRow, floorRow, capRow, countRow}
+use Rattle.notice_fields.specs.Fields.{rows, isCarried, isKnown, startOf}
+use Rattle.notice_fields.specs.Numbers.{numberAt}
 use Rattle.notice.specs.Encode.{kindOf, dataIn, valuesIn}
 use Rattle.notice.specs.Decode.{valueAt, kindIn, noticeIn, kindAt}
-use Rattle.notice.proofs.Each.{each}
-use Rattle.notice.proofs.Table.{by-kind}
+use Rattle.notice_fields.proofs.Each.{each}
+use Rattle.notice_fields.proofs.Table.{by-kind}
 
 -- ---- case by case
 

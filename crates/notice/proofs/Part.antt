@@ -6,24 +6,18 @@ use mathlib.Core.List.{List, _++_}
 use Prim.Native.Nat.{ℕ, _+_, _-_, _≤_, _<_, _^_}
 use native.Mathlib.Nat.{add-assoc, add-zero, zero-add}
 use native.Mathlib.Omega.{arith}
-use borrow.Author.Tests.{le-leb, lt-leb}
-use lib.Dec.{leb}
 use lib.ListN.{length, getD, take, drop, length-append, length-drop, take-append-drop, List·getD-append}
 use lib.Seq.{getD-append-add, length-take-le}
 use Rattle.notice.specs.declared.Notice.{Notice}
 use Rattle.notice.specs.declared.Found.{Found}
 use Rattle.notice.specs.declared.Found.the-variants as found
-use Rattle.notice.specs.Fields.{table, spanOf, startOf, lengthOf, longestNotice}
+use Rattle.notice_fields.specs.Fields.{table, spanOf, startOf, lengthOf, longestNotice}
 use Rattle.notice.specs.Decode.{kindAt, readAt, placeAfter, further}
-use Rattle.notice.proofs.Each.{by-order}
-use Rattle.notice.proofs.Table.{longest-kind}
+use Rattle.notice_fields.proofs.Each.{by-order, same-order}
+use Rattle.notice_fields.proofs.Table.{longest-kind}
 use Rattle.notice.proofs.Cases.{at-end}
 use Rattle.notice.proofs.There.{there, inside}
 use Rattle.notice.proofs.Alike.{found-alike}
-
-pub same-order : (a b c d : ℕ) → (a ≤ b → c ≤ d) → (b < a → d < c) → leb a b ≡ leb c d
-same-order a b c d f g =
-    by-order b a (λ lt. lt-leb a b lt ∙ sym (lt-leb c d (g lt))) (λ le. le-leb a b le ∙ sym (le-leb c d (f le)))
 
 module _ (before bs : List ℕ) (p : ℕ) where
   -- where the longest notice would be there, bytes before and after change nothing

@@ -6,26 +6,29 @@ use mathlib.Core.List.{List, [], _∷_, _++_}
 use Prim.Native.Nat.{ℕ, zero, suc, _+_, _-_, _≤_}
 use native.Mathlib.Nat.{add-zero}
 use native.Mathlib.Omega.{arith}
-use lib.Dec.{eqb, leb}
+use lib.Dec.{eqb}
 use lib.ListN.{length, getD, take, drop}
 use lib.Seq.{take-all}
-use borrow.Author.Tests.{eqb-true, leb-true}
+use borrow.Author.Tests.{eqb-true}
 use Rattle.rules.specs.Refusals.{pick}
 use Rattle.notice.specs.declared.Notice.{Notice}
 use Rattle.notice.specs.declared.Reading.the-variants as reading
 use Rattle.notice.specs.declared.Found.{Found}
 use Rattle.notice.specs.declared.Found.the-variants as found
-use Rattle.notice.specs.Fields.{tagOf, sizeOf, isCarried, isKnown, startOf, lengthOf, rows}
-use Rattle.notice.specs.Numbers.{bigEndian, numberAt}
+use Rattle.notice_fields.specs.Fields.{tagOf, sizeOf, isCarried, startOf, lengthOf, rows}
+use Rattle.notice_fields.specs.Numbers.{bigEndian, numberAt}
 use Rattle.notice.specs.Encode.{kindOf, valuesIn, fieldBytes, rowBytes, bytesTo, bytesOf}
 use Rattle.notice.specs.Decode.{headStands, rowStands, standsTo, valueAt, noticeIn, kindAt, readAt}
 use Rattle.notice.specs.Decode.{readOf}
 use Rattle.notice.specs.Log.{Bytes}
 use Rattle.rules.proofs.Tests.{both-l, both-r}
+use Rattle.notice_bytes.proofs.Whole.{stood}
 use Rattle.notice.proofs.Made.{Shows, kind-same, values-same}
 use Rattle.notice.proofs.There.{there}
 use Rattle.notice.proofs.Alike.{by-itself}
-use Rattle.notice.proofs.Bytes.{length-big, length-bytes, length-notice}
+use Rattle.notice_fields.proofs.Digits.{length-big}
+use Rattle.notice_bytes.proofs.Laid.{length-bytes}
+use Rattle.notice.proofs.Bytes.{length-notice}
 use Rattle.notice.proofs.Has.{Has, has-both, has-part, bytes-back}
 use Rattle.notice.proofs.Cases.{only, alone}
 
@@ -86,14 +89,11 @@ read-stands bs small p n e is =
     let f = there bs p n e is in
     let k = kindAt bs p in
     let m = noticeIn bs p k in
-    let known : isKnown k ≡ true = both-l _ _ (f .all) in
-    let rest = both-r (isKnown k) _ (f .all) in
-    let fits : p + lengthOf k ≤ length bs = leb-true _ _ (both-l _ _ rest) in
-    let stand : standsTo bs p k rows ≡ true = both-r (leb (p + lengthOf k) (length bs)) _ rest in
-    let there = rows-stand bs small p k (valuesIn m) (values-same bs p k known refl) rows (omega arith) stand in
-    let same = kind-same bs p k known in
+    let s = stood bs p (f .all) in
+    let there = rows-stand bs small p k (valuesIn m) (values-same bs p k (s .known) refl) rows (omega arith) (s .stand) in
+    let same = kind-same bs p k (s .known) in
     let made : Stands bs p m (p + lengthOf k) =
-    record { has = as-notice bs p k m same there; after = sym (rw (length-notice, same)); inside = fits } in
+    record { has = as-notice bs p k m same there; after = sym (rw (length-notice, same)); inside = s .fits } in
     rw (f .notice, f .end) at made
 
 -- what reads as a notice in a log is that notice's bytes

@@ -15,16 +15,17 @@ use Rattle.notice.specs.declared.Notice.{Notice}
 use Rattle.notice.specs.declared.Reading.the-variants as reading
 use Rattle.notice.specs.declared.Found.{Found}
 use Rattle.notice.specs.declared.Found.the-variants as found
-use Rattle.notice.specs.Fields.{lastKind, openKind, table, tagOf, sizeOf, isCarried, startOf, lengthOf, rows}
-use Rattle.notice.specs.Numbers.{numberAt}
+use Rattle.notice_fields.specs.Fields.{lastKind, openKind, table, tagOf, sizeOf, isCarried, startOf, lengthOf, rows}
+use Rattle.notice_fields.specs.Numbers.{numberAt}
 use Rattle.notice.specs.Encode.{kindOf, bytesOf}
 use Rattle.notice.specs.Decode.{headStands, rowStands, standsTo, kindAt, isWhole, readAt, placeAfter, readOf}
 use Rattle.notice.specs.Log.{FitsFields}
 use Rattle.notice.proofs.Bytes.{length-notice}
-use Rattle.notice.proofs.Each.{by-order}
-use Rattle.notice.proofs.Cases.{at-none, no-kind, no-rows, no-room, unknown}
+use Rattle.notice_fields.proofs.Each.{by-order}
+use Rattle.notice_bytes.proofs.Whole.{no-kind, no-rows, no-room, unknown}
+use Rattle.notice.proofs.Cases.{at-none}
 use Rattle.notice.proofs.RoundTrip.{kind-at, past-kind}
-use Rattle.notice.proofs.Table.{no-kind-of}
+use Rattle.notice_fields.proofs.Table.{no-kind-of}
 
 -- ---- from the tests to the answer
 

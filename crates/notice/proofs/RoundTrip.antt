@@ -12,17 +12,20 @@ use Rattle.rules.specs.Refusals.{pick}
 use Rattle.notice.specs.declared.Notice.{Notice}
 use Rattle.notice.specs.declared.Reading.the-variants as reading
 use Rattle.notice.specs.declared.Found.the-variants as found
-use Rattle.notice.specs.Fields.{table, tagOf, sizeOf, isCarried, startOf, lengthOf, rows}
-use Rattle.notice.specs.Numbers.{bigEndian, numberAt}
+use Rattle.notice_fields.specs.Fields.{table, tagOf, sizeOf, isCarried, startOf, lengthOf, rows}
+use Rattle.notice_fields.specs.Numbers.{bigEndian, numberAt}
 use Rattle.notice.specs.Encode.{kindOf, valuesIn, fieldBytes, rowBytes, bytesTo, bytesOf}
 use Rattle.notice.specs.Decode.{headStands, rowStands, standsTo, valueAt, kindAt, isWhole}
 use Rattle.notice.specs.Decode.{readAt, readOf}
 use Rattle.notice.specs.Log.{FitsFields, AllFit, none, more, logOf, Gives, ends, next}
-use Rattle.notice.proofs.Table.{sound, value-inside}
+use Rattle.notice_fields.proofs.Table.{sound, value-inside}
 use Rattle.notice.proofs.Made.{Shows, kind-known, first-value, notice-back}
-use Rattle.notice.proofs.Bytes.{length-big, length-bytes, length-notice}
+use Rattle.notice_fields.proofs.Digits.{length-big}
+use Rattle.notice_bytes.proofs.Laid.{length-bytes}
+use Rattle.notice.proofs.Bytes.{length-notice}
 use Rattle.notice.proofs.Has.{Has, has-left, has-right, has-middle, number-back}
-use Rattle.notice.proofs.Cases.{at-end, at-whole, whole, only, alone}
+use Rattle.notice_bytes.proofs.Whole.{whole}
+use Rattle.notice.proofs.Cases.{at-end, at-whole, only, alone}
 
 -- ---- one field
 

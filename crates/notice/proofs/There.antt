@@ -1,5 +1,5 @@
 -- What a log has where it gives a notice: a whole notice, and a place after it that lies ahead and within the log.
--- Rests on the definition of a reading and on the field table's laws.
+-- Rests on the definition of a reading and on what is there where a whole notice stands.
 use mathlib.Core.Path.{_≡_, refl}
 use mathlib.Core.Bool.{Bool, true, false}
 use mathlib.Core.List.{List}
@@ -9,12 +9,11 @@ use borrow.Author.Tests.{leb-true}
 use lib.Dec.{leb}
 use lib.ListN.{length}
 use Rattle.rules.specs.Refusals.{pick}
-use Rattle.rules.proofs.Tests.{both-l, both-r}
 use Rattle.notice.specs.declared.Notice.{Notice}
 use Rattle.notice.specs.declared.Found.the-variants as found
-use Rattle.notice.specs.Fields.{table, isKnown, lengthOf}
+use Rattle.notice_fields.specs.Fields.{lengthOf}
 use Rattle.notice.specs.Decode.{noticeIn, kindAt, isWhole, readAt}
-use Rattle.notice.proofs.Table.{value-inside}
+use Rattle.notice_bytes.proofs.Whole.{stood}
 
 pub record There (bs : List ℕ) (p : ℕ) (n : Notice) (e : ℕ) : Type 0 where
   pub all : isWhole bs p ≡ true
@@ -38,15 +37,10 @@ pub record Inside (bs : List ℕ) (p e : ℕ) : Type 0 where
   pub within : e ≤ length bs
 
 pub inside : (bs : List ℕ) (p : ℕ) (n : Notice) (e : ℕ) → readAt bs p ≡ found.At n e → Inside bs p e
-unfolding table
 inside bs p n e is =
     let t = there bs p n e is in
-    let k = kindAt bs p in
-    let known : isKnown k ≡ true = both-l _ _ (t .all) in
-    let rest = both-r (isKnown k) _ (t .all) in
-    let fits : p + lengthOf k ≤ length bs = leb-true _ _ (both-l _ _ rest) in
-    let long = value-inside k 0 (omega arith) known in
-    record { ahead = omega (arith, t .end); within = omega (arith, t .end) }
+    let s = stood bs p (t .all) in
+    record { ahead = omega (arith, t .end, s .headed); within = omega (arith, t .end, s .fits) }
 
 -- where a log answers "end", no byte is left
 pub ended : (bs : List ℕ) (p : ℕ) → readAt bs p ≡ found.End → length bs ≤ p

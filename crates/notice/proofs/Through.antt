@@ -17,7 +17,7 @@ use Rattle.notice.specs.declared.Found.the-variants as found
 use Rattle.notice.specs.Decode.{readAt, placeAfter, isWhole}
 use Rattle.notice.specs.Log.{logOf, Gives, ends, next, AllFit}
 use Rattle.notice.specs.Log.{placeTo, isNotice, withFound, noticesTo, noticesOf, stopOf, isWholeLog}
-use Rattle.notice.proofs.Each.{false-true}
+use Rattle.notice_fields.proofs.Each.{false-true}
 use Rattle.notice.proofs.Cases.{at-end}
 use Rattle.notice.proofs.There.{inside}
 use Rattle.notice.proofs.RoundTrip.{log-gives}

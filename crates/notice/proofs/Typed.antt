@@ -7,10 +7,10 @@ use lib.ListN.{getD}
 use Rattle.notice.specs.declared.Notice.{Notice}
 use Rattle.notice.specs.declared.Kind.{Kind}
 use Rattle.notice.specs.declared.Kind.the-variants.{Open, Change, Close, Hold, Lift, Skip}
-use Rattle.notice.specs.Fields.{table, kindRow, lengthRow, floorRow, capRow, countRow, sizeOf, rows}
+use Rattle.notice_fields.specs.Fields.{table, kindRow, lengthRow, floorRow, capRow, countRow, sizeOf, rows}
 use Rattle.notice.specs.Encode.{kindOf, dataIn, valuesIn}
 use Rattle.notice.specs.Log.{KindTyped, Typed, FitsFields}
-use Rattle.notice.proofs.Each.{each}
+use Rattle.notice_fields.proofs.Each.{each}
 
 -- row i of some values fits, whether a kind carries it or not: a value that a kind has not is 0
 abbrev Fit : List ℕ → ℕ → ℕ → Type 0

@@ -28,8 +28,8 @@ use Rattle.notice.proofs.read_at.Kinds as read-at-kinds
 use Rattle.notice.proofs.read_at.Reads as read-at
 use Rattle.notice.proofs.next_in.Kinds as next-in-kinds
 use Rattle.notice.proofs.next_in.Reads as next-in
-use Rattle.notice.proofs.window.decided.Kinds as decided-kinds
-use Rattle.notice.proofs.window.decided.Reads as decided
+use Rattle.notice_fields.proofs.window.decided.Kinds as decided-kinds
+use Rattle.notice_fields.proofs.window.decided.Reads as decided
 use Rattle.notice.proofs.next as next
 
 pub size-one-outcome : OneOutcome 0 size-kinds.ps size-kinds.r size.Learnt

@@ -9,13 +9,13 @@ use lib.ListN.{length}
 use Rattle.notice.specs.declared.Notice.{Notice}
 use Rattle.notice.specs.declared.Kind.the-variants.{Open, Change, Skip}
 use Rattle.notice.specs.declared.Reading.the-variants as reading
-use Rattle.notice.specs.Fields.{table, openKind, changeKind, closeKind, holdKind, liftKind, skipKind, spanOf}
-use Rattle.notice.specs.Fields.{startOf, lengthOf, longestNotice}
-use Rattle.notice.specs.Numbers.{bigEndian}
+use Rattle.notice_fields.specs.Fields.{table, openKind, changeKind, closeKind, holdKind, liftKind, skipKind, spanOf}
+use Rattle.notice_fields.specs.Fields.{startOf, lengthOf, longestNotice}
+use Rattle.notice_fields.specs.Numbers.{bigEndian}
 use Rattle.notice.specs.Encode.{kindOf, fieldBytes, rowBytes, bytesTo, bytesOf}
 use Rattle.notice.specs.Decode.{readOf}
 use Rattle.notice.proofs.RoundTrip.{written-reads}
-use Rattle.notice.proofs.Table.{longest-kind}
+use Rattle.notice_fields.proofs.Table.{longest-kind}
 use Rattle.notice.proofs.Bytes.{length-notice}
 use Rattle.notice.proofs.Typed.{typed-fits}
 

@@ -1,12 +1,15 @@
--- What bytes read as (01, "Notices"), decided field by field from the table.
-use Prim.Native.Nat.{ℕ, zero, suc, _+_}
+-- What bytes read as (01, "Notices"), where the fields of a notice stand (`notice_bytes` specs/Standing).
+use Prim.Native.Nat.{ℕ, _+_}
 use mathlib.Core.Path.{_≡_}
-use mathlib.Core.Bool.{Bool, true, not}
+use mathlib.Core.Bool.{not}
 use mathlib.Core.List.{List, [], _∷_}
 use lib.Dec.{eqb, leb}
-use lib.ListN.{length, getD}
-use Rattle.rules.specs.Limits.{both}
+use lib.ListN.{length}
 use Rattle.rules.specs.Refusals.{pick, firstHit, refuse, done, malformed}
+use Rattle.notice_fields.specs.Fields.{sequenceRow, titleRow, timeRow, lengthRow, floorRow, capRow, countRow, openKind}
+use Rattle.notice_fields.specs.Fields.{changeKind, closeKind, holdKind, skipKind, lengthOf}
+unfoldable pub use Rattle.notice_bytes.specs.Standing.{headStands, rowStands, standsTo, valueAt}
+pub use Rattle.notice_bytes.specs.Standing.{kindAt, isWhole, isAlone}
 use Rattle.notice.specs.declared.Notice.{Notice}
 use Rattle.notice.specs.declared.Kind.{Kind}
 use Rattle.notice.specs.declared.Kind.the-variants.{Open, Change, Close, Hold, Lift, Skip}
@@ -14,27 +17,6 @@ use Rattle.notice.specs.declared.Reading.{Reading}
 use Rattle.notice.specs.declared.Reading.the-variants as reading
 use Rattle.notice.specs.declared.Found.{Found}
 use Rattle.notice.specs.declared.Found.the-variants as found
-use Rattle.notice.specs.Fields.{sequenceRow, titleRow, timeRow, lengthRow, floorRow, capRow, countRow, openKind}
-use Rattle.notice.specs.Fields.{changeKind, closeKind, holdKind, skipKind, headSize, tagOf, sizeOf, isCarried}
-use Rattle.notice.specs.Fields.{isKnown, startOf, lengthOf, rows}
-use Rattle.notice.specs.Numbers.{numberAt}
-
--- tag and length of row i stand at a place
-unfoldable pub headStands : List ℕ → ℕ → ℕ → Bool
-headStands bs at i = both (eqb (getD bs at 0) (tagOf i)) (eqb (numberAt bs (at + 1) 2) (sizeOf i))
-
--- nothing is asked of a row that the kind does not carry
-unfoldable pub rowStands : List ℕ → ℕ → ℕ → ℕ → Bool
-rowStands bs at k i = pick (isCarried k i) (headStands bs at i) true
-
--- the first rows of a notice of kind k stand one after the other from place p on
-unfoldable pub standsTo : List ℕ → ℕ → ℕ → ℕ → Bool
-standsTo bs p k zero = true
-standsTo bs p k (suc i) = both (standsTo bs p k i) (rowStands bs (p + startOf k i) k i)
-
--- the value of row i in a notice of kind k that starts at place p
-unfoldable pub valueAt : List ℕ → ℕ → ℕ → ℕ → ℕ
-valueAt bs p k i = numberAt bs (p + startOf k i + headSize) (sizeOf i)
 
 -- each kind carries only its own data
 unfoldable pub kindIn : List ℕ → ℕ → ℕ → Kind
@@ -56,17 +38,6 @@ noticeIn bs p k =
       kind = kindIn bs p k;
     }
 
--- the kind's number is the value of the first field
-abbrev pub kindAt : List ℕ → ℕ → ℕ
-kindAt bs p = getD bs (p + headSize) 0
-
--- a whole notice stands at place p: a known kind, as many bytes as its notices have, and all its fields
-abbrev pub isWhole : List ℕ → ℕ → Bool
-isWhole bs p =
-    both (isKnown (kindAt bs p))
-    (both (leb (p + lengthOf (kindAt bs p)) (length bs))
-    (standsTo bs p (kindAt bs p) rows))
-
 -- reading a log at a place: the notice and the place after it, "end" with no byte left or past the end, or not well formed
 unfoldable pub readAt : List ℕ → ℕ → Found
 readAt bs p =
@@ -87,9 +58,6 @@ further d found.End = found.End
 further d found.Malformed = found.Malformed
 
 -- one notice and nothing after it
-abbrev pub isAlone : List ℕ → Bool
-isAlone bs = both (isWhole bs 0) (eqb (lengthOf (kindAt bs 0)) (length bs))
-
 unfoldable pub readOf : List ℕ → Reading
 readOf bs = pick (isAlone bs) (reading.Whole (noticeIn bs 0 (kindAt bs 0))) reading.Malformed
 

@@ -1,17 +1,16 @@
 -- The bytes of a notice, field by field (01, "Notices"; hold, lift and skip by 02, requests 7 and 12).
-use Prim.Native.Nat.{ℕ, zero, suc}
+use Prim.Native.Nat.{ℕ}
 use mathlib.Core.Path.{_≡_}
 use mathlib.Core.Bool.{Bool}
 use mathlib.Core.List.{List, [], _∷_, _++_}
 use lib.Dec.{ltb}
-use lib.ListN.{length, drop, getD}
+use lib.ListN.{length, drop}
 use Rattle.rules.specs.Refusals.{pick, firstHit, refuse, wrongRows}
+use Rattle.notice_fields.specs.Fields.{openKind, changeKind, closeKind, holdKind, liftKind, skipKind, rows}
+unfoldable pub use Rattle.notice_bytes.specs.Laying.{fieldBytes, rowBytes, bytesTo}
 use Rattle.notice.specs.declared.Notice.{Notice}
 use Rattle.notice.specs.declared.Kind.{Kind}
 use Rattle.notice.specs.declared.Kind.the-variants.{Open, Change, Close, Hold, Lift, Skip}
-use Rattle.notice.specs.Fields.{openKind, changeKind, closeKind, holdKind, liftKind, skipKind, tagOf, sizeOf}
-use Rattle.notice.specs.Fields.{isCarried, rows}
-use Rattle.notice.specs.Numbers.{bigEndian}
 
 abbrev pub kindOf : Kind → ℕ
 kindOf (Open d a k n) = openKind
@@ -33,19 +32,6 @@ dataIn (Skip d n) = d ∷ 0 ∷ 0 ∷ n ∷ []
 -- what goes into each row of the table
 abbrev pub valuesIn : Notice → List ℕ
 valuesIn n = kindOf (n .kind) ∷ n .sequence ∷ n .title ∷ n .time ∷ dataIn (n .kind)
-
--- a field is its tag, its length in two bytes, and its value
-unfoldable pub fieldBytes : ℕ → ℕ → List ℕ
-fieldBytes i v = tagOf i ∷ bigEndian 2 (sizeOf i) ++ bigEndian (sizeOf i) v
-
--- what row i adds to a notice of kind k
-unfoldable pub rowBytes : ℕ → ℕ → ℕ → List ℕ
-rowBytes k i v = pick (isCarried k i) (fieldBytes i v) []
-
--- the first rows of a notice of kind k with these values
-unfoldable pub bytesTo : ℕ → List ℕ → ℕ → List ℕ
-bytesTo k vs zero = []
-bytesTo k vs (suc i) = bytesTo k vs i ++ rowBytes k i (getD vs i 0)
 
 -- a notice has exactly the fields of its kind, in the table's order
 unfoldable pub bytesOf : Notice → List ℕ

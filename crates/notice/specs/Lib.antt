@@ -1,4 +1,4 @@
--- The notices of document 01: the field table, big-endian numbers, the bytes of a notice, and what bytes read as.
+-- The notices of document 01: the bytes of a notice, what bytes read as, logs, and of the crates below what callers name.
 pub mod Fields
 pub mod Numbers
 pub mod Encode

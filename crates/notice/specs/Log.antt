@@ -10,13 +10,10 @@ use Rattle.notice.specs.declared.Kind.{Kind}
 use Rattle.notice.specs.declared.Kind.the-variants.{Open, Change, Close, Hold, Lift, Skip}
 use Rattle.notice.specs.declared.Found.{Found}
 use Rattle.notice.specs.declared.Found.the-variants as found
-use Rattle.notice.specs.Fields.{sizeOf, isCarried, rows}
+use Rattle.notice_fields.specs.Fields.{sizeOf, isCarried, rows}
+pub use Rattle.notice_fields.specs.Numbers.{Bytes}
 use Rattle.notice.specs.Encode.{kindOf, valuesIn, bytesOf}
 use Rattle.notice.specs.Decode.{readAt, placeAfter}
-
--- each element of a list of numbers is a byte
-abbrev pub Bytes : List ℕ → Type 0
-Bytes bs = (j : ℕ) → getD bs j 0 < 256
 
 -- the widths of the code's types
 abbrev pub KindTyped : Kind → Type 0

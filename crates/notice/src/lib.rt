@@ -4,15 +4,13 @@
 // No public function has a `requires`: any bytes and any place have an answer.
 
 use decode::notice_in;
-use decode::rows_stand;
-use encode::put_rows;
 use encode::values;
-use fields::ALL_FIELDS;
-use fields::HEAD;
-use fields::KIND;
-use fields::ROWS;
-use fields::carried;
-use fields::start;
+use notice_bytes::laying::put_rows;
+use notice_bytes::standing::alone;
+use notice_bytes::standing::whole_at;
+use notice_fields::fields::HEAD;
+use notice_fields::fields::ROWS;
+use notice_fields::fields::start;
 ghost use mathlib.Core.Path.{_≡_};
 ghost use Prim.Native.Nat.{_+_, _<_, _^_};
 ghost use lib.ListN.{length, drop};
@@ -21,9 +19,8 @@ ghost use Rattle.notice.specs.Decode.{Reads, Finds, Steps, placeAfter, f
 
 mod decode;
 mod encode;
-mod fields;
-mod numbers;
-pub mod window;
+
+pub use notice_fields::window;
 
 pub struct Notice {
     pub sequence: u32,
@@ -67,7 +64,7 @@ pub const LIFT: u8 = 5;
 pub const SKIP: u8 = 6;
 
 // The bytes of the longest notice, an open.
-pub const LONGEST: usize = ALL_FIELDS;
+pub const LONGEST: usize = notice_fields::fields::LONGEST;
 
 pub fn kind_number(kind: Kind) -> u8
     ensures { λ r. ⌜ r ≡ kindOf kind ⌝ }
@@ -131,36 +128,22 @@ pub fn read_at(log: &[u8], place: usize) -> Found
     if log.len() <= place {
         return Found::End;
     }
-    let left = log.len() - place;
-    if left <= HEAD {
-        return Found::Malformed;
+    if whole_at(log, place) {
+        let kind = log[place + HEAD];
+        Found::At(notice_in(log, place, kind), place + start(kind, ROWS))
+    } else {
+        Found::Malformed
     }
-    let kind = log[place + HEAD];
-    if carried(kind, KIND) {
-        let size = start(kind, ROWS);
-        if size <= left {
-            if rows_stand(log, place, kind) {
-                return Found::At(notice_in(log, place, kind), place + size);
-            }
-        }
-    }
-    Found::Malformed
 }
 
 // Reads one notice and nothing after it.
 pub fn read(bytes: &[u8]) -> Reading
     ensures { λ r. ⌜ Reads (now (bytes .entry)) r ⌝ }
 {
-    match read_at(bytes, 0) {
-        Found::At(n, end) => {
-            if end == bytes.len() {
-                Reading::Whole(n)
-            } else {
-                Reading::Malformed
-            }
-        }
-        Found::End => Reading::Malformed,
-        Found::Malformed => Reading::Malformed,
+    if alone(bytes) {
+        Reading::Whole(notice_in(bytes, 0, bytes[HEAD]))
+    } else {
+        Reading::Malformed
     }
 }
 
@@ -204,15 +187,21 @@ fn counted_on(found: Found, place: usize) -> Found
     }
 }
 
-// The next answer of a log, which moves past a notice: the part from its place on is read at its start.
+// What a log has at a place, read at the start of its part from there on.
+fn found_from(bytes: &[u8], place: usize) -> Found
+    ensures { λ r. ⌜ Finds (now (bytes .entry)) place r ⌝ }
+{
+    let first = read_at(part_from(bytes, place), 0);
+    counted_on(first, place)
+}
+
+// The next answer of a log, which moves past a notice.
 pub fn next<'s, 'a>(log: &'s mut Log<'a>) -> Found
     ensures { λ r. ⌜ Steps (now (now (log .entry) .bytes)) (now (log .entry) .place) r (now (log .exit) .place)
         × (now (log .exit) .bytes ≡ now (log .entry) .bytes) ⌝ }
 {
     let place = log.place;
-    let part = part_from(log.bytes, place);
-    let first = read_at(part, 0);
-    let found = counted_on(first, place);
+    let found = found_from(log.bytes, place);
     let after = place_after(found, place);
     log.place = after;
     found

@@ -10,13 +10,13 @@ use native.Mathlib.Omega.{arith}
 use lib.ListN.{length, drop, take}
 use lib.Seq.{drop-at, take-at}
 use Rattle.rules.specs.Refusals.{done}
-use Rattle.sharing.specs.declared.titles.Rated.{Rated}
-use Rattle.sharing.specs.Titles.{titles}
-use Rattle.sharing.specs.Choice.{Choice, Shared, prefers, sumOf, atLeast, shared}
+use Rattle.sharing_titles.specs.declared.titles.Rated.{Rated}
+use Rattle.sharing_titles.specs.Titles.{titles}
+use Rattle.sharing_choice.specs.Choice.{Choice, Shared, prefers, sumOf, atLeast, shared}
 use Rattle.sharing.specs.Verdict.{verdictOf, rowAfter}
-use Rattle.sharing.proofs.Order.{or-view}
-use Rattle.sharing.proofs.Search.{search-finds, only-one}
-use Rattle.sharing.proofs.titles.Laws.{titles-length, titles-floors}
+use Rattle.sharing_choice.proofs.Order.{or-view}
+use Rattle.sharing_choice.proofs.Search.{search-finds, only-one}
+use Rattle.sharing_titles.proofs.titles.Laws.{titles-length, titles-floors}
 use Rattle.sharing.proofs.verdict.Laws.{ready, row-done, row-refused}
 
 -- the least sum, as 01 says it

@@ -5,7 +5,7 @@ use Prim.Native.Nat.{ℕ}
 use lib.Dec.{ltb}
 use Rattle.rules.specs.Limits.{within, both, poolMin, poolMax}
 use Rattle.rules.specs.Refusals.{Rule, refuse, outsideLimits, noLanes, wrongRows}
-use Rattle.sharing.specs.Titles.{titles, rowTotal}
+use Rattle.sharing_titles.specs.Titles.{titles, rowTotal}
 use Rattle.sharing.specs.Verdict.{rowsFit, allowed, ordered, eachTitle}
 
 -- 10 1 6 9

@@ -1,7 +1,6 @@
--- What the sharing of lanes means (01, "Sharing"), and what its parts promise to each other.
+-- What a sharing of lanes answers and leaves (01, "Sharing"), and of the crates below what callers name.
 pub mod Titles
 pub mod Term
 pub mod Choice
 pub mod Verdict
 pub mod Former
-pub mod inner

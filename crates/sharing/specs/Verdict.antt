@@ -8,10 +8,10 @@ use lib.ListN.{length, drop}
 use Rattle.rules.specs.Limits.{within, both, poolMin, poolMax, rateMin, rateMax, lengthMin, lengthMax}
 use Rattle.rules.specs.Limits.{floorMin, floorMax, countMin, countMax, titlesMax}
 use Rattle.rules.specs.Refusals.{pick, refuse, firstHit, done, outsideLimits, floorAboveCap, noLanes, wrongRows}
-use Rattle.sharing.specs.declared.titles.Rated.{Rated}
+use Rattle.sharing_titles.specs.declared.titles.Rated.{Rated}
 use Rattle.sharing.specs.declared.verdict.Tally.{Tally}
-use Rattle.sharing.specs.Titles.{titles, rowTotal}
-use Rattle.sharing.specs.Choice.{shared}
+use Rattle.sharing_titles.specs.Titles.{titles, rowTotal}
+use Rattle.sharing_choice.specs.Choice.{shared}
 
 -- the four rows are of one length, at most sixteen, and the counts have room (01, "Sharing")
 unfoldable pub rowsFit : List ℕ → List ℕ → List ℕ → List ℕ → ℕ → Bool

@@ -2,13 +2,10 @@
 // rate x tick x 2^(K-k), in whole numbers.
 //
 // `share` is the one call. It has no `requires`: its contract settles the answer and the whole lent row for all inputs,
-// by definitions in specs/Choice and specs/Verdict that say "least over all choices" and say nothing of how the code
+// by definitions in specs/Verdict and `sharing_choice` specs/Choice that say "least over all choices" and say nothing of how the code
 // gets there. The code gives the lanes out one at a time, so its work grows with lanes times titles.
 ghost use Rattle.sharing.specs.Verdict.{Answered};
 
-mod giving;
-mod term;
-mod titles;
 mod verdict;
 
 // Shares a pool of lanes among the titles whose rates, lengths, floors and caps stand in four rows: the counts go into
@@ -30,7 +27,7 @@ pub fn share(
     let answer = verdict::verdict(pool, rates, lengths, floors, caps, counts.len());
     if answer == rules::DONE {
         let n = rates.len();
-        giving::fill(pool, rates, lengths, floors, caps, &mut counts[..n]);
+        sharing_choice::giving::fill(pool, rates, lengths, floors, caps, &mut counts[..n]);
     }
     answer
 }

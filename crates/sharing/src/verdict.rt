@@ -1,12 +1,12 @@
 // Which sharings are refused, and with which number.
 use rules::truth::also;
 ghost use mathlib.Core.Path.{_≡_};
-ghost use Rattle.sharing.specs.Titles.{titles, Even};
+ghost use Rattle.sharing_titles.specs.Titles.{titles, Even};
 ghost use Rattle.sharing.specs.Verdict.{rowsFit, allowed as allowedOf, Tallied, verdictOf};
-use super::titles::Rated;
-use super::titles::floor_total;
-use super::titles::title_at;
 use rules::within;
+use sharing_titles::titles::Rated;
+use sharing_titles::titles::floor_total;
+use sharing_titles::titles::title_at;
 
 // What one look at every title tells.
 pub struct Tally {

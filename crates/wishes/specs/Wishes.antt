@@ -8,7 +8,7 @@ use lib.ListN.{getD, length}
 use Rattle.rules.specs.Limits.{both, within, rateMin, rateMax, titlesMax}
 use Rattle.rules.specs.Refusals.{pick}
 use Rattle.rules.specs.Search.{every, howMany, total}
-use Rattle.sharing.specs.declared.titles.Rated.{Rated}
+use Rattle.sharing.specs.Titles.{Rated}
 use Rattle.sharing.specs.Titles.{rowTotal}
 use Rattle.sharing.specs.Choice.{shared}
 use Rattle.story.specs.declared.Title.{Title}

@@ -1,57 +1,40 @@
--- `notice::read` meets its contract: what stands at the start, if it ends where the bytes end.
+-- `notice::read` meets its contract: the notice at the start, where it is all that the bytes are.
+-- Rests on what is there where a whole notice stands.
 use borrow.Author.Needs.{needs}
-use mathlib.Core.Path.{sym, ap, _∙_}
-use borrow.Author.Tests.{eq-eqb, ne-eqb}
+use mathlib.Core.Path.{sym, _∙_}
+use native.Mathlib.Omega.{arith}
+use denote.Ref.{now}
+use Rattle.rules.proofs.Tests.{both-l}
+use Rattle.notice_bytes.proofs.Whole.{Stood, stood}
+use Rattle.notice.specs.Decode.{readOf}
 use Rattle.notice.proofs.Answers.{reads}
-use Rattle.notice.proofs.Cases.{only, alone}
 use Rattle.notice.proofs.read.Statement.{statement}
 use Rattle.notice.proofs.read.Tie as tie
 
-read-at-requires : tie.Need-read-at-requires
-read-at-requires c κs = search needs
+-- where the test of one notice and nothing after it passed
+here : (c : tie.Then1) → Stood (now (c .before .before .before .args .bytes)) 0
+here c = stood _ 0 (both-l _ _ (sym (c .before .alone .ensures) ∙ c .if1 .taken))
 
-enum-known-n : tie.Need-enum-known-n
-enum-known-n c = search needs
+alone-requires : tie.Need-alone-requires
+alone-requires c κs = search needs
 
-enum-told : tie.Need-enum-told
-enum-told c = search needs
+shared-slice-read-notice-in : tie.Need-shared-slice-read-notice-in
+shared-slice-read-notice-in c = omega (arith, here (c .before) .fits, here (c .before) .headed)
 
-enum-told-2 : tie.Need-enum-told-2
-enum-told-2 c = search needs
+notice-in-requires : tie.Need-notice-in-requires
+notice-in-requires c κs = (here (c .before) .fits, here (c .before) .known)
 
 returns : tie.Need-returns
-unfolding only
+unfolding readOf
 returns c =
-    let found = c .before .before in
-    let is = sym (found .before .before .read-at .ensures .is) ∙ found .n .given .1 in
-    reads _ (sym (alone _ ∙ ap (only _) is ∙ simp (eq-eqb _ _ (c .if1 .taken))))
+    let tested = c .before .before in
+    reads _ (rw (c .notice-in .ensures, ← tested .before .alone .ensures, tested .if1 .taken))
 
 returns-2 : tie.Need-returns-2
-unfolding only
-returns-2 c =
-    let found = c .before .before in
-    let is = sym (found .before .before .read-at .ensures .is) ∙ found .n .given .1 in
-    reads _ (sym (alone _ ∙ ap (only _) is ∙ simp (ne-eqb _ _ (c .if1 .left))))
-
-returns-3 : tie.Need-returns-3
-unfolding only
-returns-3 c =
-    reads _ (sym (alone _ ∙ ap (only _) (sym (c .before .before .read-at .ensures .is) ∙ c .enum-told .given .1)))
-
-returns-4 : tie.Need-returns-4
-unfolding only
-returns-4 c =
-    reads _ (sym (alone _ ∙ ap (only _) (sym (c .before .before .read-at .ensures .is) ∙ c .enum-told2 .given .1)))
+unfolding readOf
+returns-2 c = reads _ (rw (← c .before .alone .ensures, c .if1 .left))
 
 pub read-spec : {M : Type 1} → statement M
 read-spec =
     tie.close
-    (tie.spec
-    read-at-requires
-    enum-known-n
-    enum-told
-    enum-told-2
-    returns
-    returns-2
-    returns-3
-    returns-4)
+    (tie.spec alone-requires shared-slice-read-notice-in notice-in-requires returns returns-2)

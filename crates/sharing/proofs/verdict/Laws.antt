@@ -15,12 +15,12 @@ use Rattle.rules.specs.Limits.{both, within, poolMin, poolMax, rateMin, rateMax
 use Rattle.rules.specs.Limits.{floorMin, floorMax, countMin, titlesMax}
 use Rattle.rules.specs.Refusals.{firstHit, done, wrongRows, outsideLimits, floorAboveCap, noLanes}
 use Rattle.rules.proofs.Tests.{decide, both-l, both-r}
-use Rattle.sharing.specs.declared.titles.Rated.{Rated}
-use Rattle.sharing.specs.Titles.{titleAt, titles, nobody, rowTotal, Even}
+use Rattle.sharing_titles.specs.declared.titles.Rated.{Rated}
+use Rattle.sharing_titles.specs.Titles.{titleAt, titles, nobody, rowTotal, Even}
 use Rattle.sharing.specs.Verdict.{eachTitle, allowed, ordered, rowsFit, verdictOf, rowAfter}
-use Rattle.sharing.specs.Choice.{shared}
-use Rattle.sharing.specs.inner.Giving.{Weighable, Sound}
-use Rattle.sharing.proofs.Order.{side}
+use Rattle.sharing_choice.specs.Choice.{shared}
+use Rattle.sharing_titles.specs.inner.Weighing.{Weighable, Sound}
+use Rattle.sharing_choice.proofs.Order.{side}
 
 -- ---- one look at every title
 

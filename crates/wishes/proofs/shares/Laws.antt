@@ -15,7 +15,7 @@ use Rattle.rules.specs.Refusals.{pick, done, firstHit}
 use Rattle.rules.specs.Search.{howMany, total}
 use Rattle.rules.proofs.Tests.{both-l, both-r, both-in, pick-true}
 use Rattle.rules.proofs.Search.{below-suc, every-out, howMany-le, total-at}
-use Rattle.sharing.specs.declared.titles.Rated.{Rated}
+use Rattle.sharing.specs.Titles.{Rated}
 use Rattle.sharing.specs.Titles.{nobody, titles, rowTotal}
 use Rattle.sharing.specs.Titles as sharing
 use Rattle.sharing.specs.Choice.{Shared, shared}

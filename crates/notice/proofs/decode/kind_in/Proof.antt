@@ -1,7 +1,7 @@
 -- `decode::kind_in` meets its contract: by the kind's number, whose rows are all carried.
 use native.Mathlib.Omega.{arith}
 use borrow.Author.Tests.{eq-eqb, ne-eqb}
-use Rattle.notice.specs.Fields.{table}
+use Rattle.notice_fields.specs.Fields.{table}
 use Rattle.notice.specs.Decode.{kindIn}
 use Rattle.notice.proofs.decode.kind_in.Statement.{statement}
 use Rattle.notice.proofs.decode.kind_in.Tie as tie

@@ -1,7 +1,7 @@
 -- `decode::notice_in` meets its contract: each value from its row. Every known kind carries the first four.
 use borrow.Author.Needs.{needs}
 use native.Mathlib.Omega.{arith}
-use Rattle.notice.specs.Fields.{table}
+use Rattle.notice_fields.specs.Fields.{table}
 use Rattle.notice.specs.Decode.{noticeIn}
 use Rattle.notice.proofs.decode.notice_in.Statement.{statement}
 use Rattle.notice.proofs.decode.notice_in.Tie as tie

@@ -6,10 +6,10 @@ use native.Mathlib.Omega.{arith}
 use lib.ListN.{length, drop}
 use borrow.Author.Needs.{needs}
 use Rattle.rules.specs.Limits.{both}
-use Rattle.sharing.specs.declared.titles.Rated.{Rated}
-use Rattle.sharing.specs.Titles.{titles}
+use Rattle.sharing_titles.specs.declared.titles.Rated.{Rated}
+use Rattle.sharing_titles.specs.Titles.{titles}
 use Rattle.sharing.specs.Verdict.{allowed, ordered, eachTitle}
-use Rattle.sharing.proofs.titles.Laws.{titles-length}
+use Rattle.sharing_titles.proofs.titles.Laws.{titles-length}
 use Rattle.sharing.proofs.verdict.Laws.{passed-next, passed-all}
 use Rattle.sharing.proofs.verdict.examine.Statement.{statement}
 use Rattle.sharing.proofs.verdict.examine.Tie as tie

@@ -5,7 +5,7 @@ use mathlib.Core.Bool.{true}
 use native.Mathlib.Omega.{arith}
 use borrow.Author.Needs.{needs}
 use Rattle.rules.specs.Limits.{both, within, poolMin, poolMax}
-use Rattle.sharing.specs.Titles.{titles}
+use Rattle.sharing_titles.specs.Titles.{titles}
 use Rattle.sharing.specs.Verdict.{rowsFit, allowed, eachTitle}
 use Rattle.sharing.proofs.verdict.Laws.{fit, accepted}
 use Rattle.sharing.proofs.verdict.Laws.{refused-rows, refused-limits, refused-counts, refused-lanes}

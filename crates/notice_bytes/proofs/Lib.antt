@@ -1,0 +1,3 @@
+-- What holds of a notice's fields in bytes.
+pub mod Laid
+pub mod Whole

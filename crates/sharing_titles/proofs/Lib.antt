@@ -1,0 +1,1 @@
+-- The laws stand with the modules: proofs/titles/Laws and proofs/term/Laws.
