@@ -4,15 +4,12 @@ use mathlib.Core.Path.{_≡_, refl, sym, ap, _∙_}
 use Prim.Native.Nat.{ℕ, suc, _+_}
 use native.Mathlib.Numerals.{add-one}
 use native.Mathlib.Omega.{arith}
-use lib.Dec.{eqb}
 use borrow.Author.Tests.{eq-eqb, ne-eqb}
 use Rattle.rules.specs.Refusals.{pick, malformed, outOfTurn}
 use Rattle.notice.specs.declared.Notice.{Notice}
-use Rattle.notice.specs.declared.Kind.{Kind}
 use Rattle.notice.specs.declared.Reading.{Reading}
 use Rattle.notice.specs.declared.Reading.the-variants as reading
 use Rattle.story.specs.declared.State.{State}
-use Rattle.story.specs.Calls.{callAnswer}
 use Rattle.story.specs.Next.{callNext}
 use Rattle.story.specs.Runs.{answered, called}
 use Rattle.agent.specs.declared.Agent.{Agent}

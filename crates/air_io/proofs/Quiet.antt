@@ -1,6 +1,6 @@
 -- Of a record that is judged nothing is said but which notices did not count: each of the other lines goes with a refusal.
 -- Rests on what holds of a record that the call accepts.
-use mathlib.Core.Path.{_≡_, refl, _∙_}
+use mathlib.Core.Path.{_≡_, refl}
 use mathlib.Core.Bool.{Bool, true, false, not}
 use mathlib.Core.List.{List, append-nil}
 use Prim.Native.Nat.{ℕ}

@@ -37,7 +37,7 @@ use Rattle.agent.specs.Turns.{eventOf}
 use Rattle.agent.specs.Played.{heardOf, eventsPlayed, lifeIn}
 use Rattle.judging.specs.Record.{ticksIn}
 use Rattle.judging.specs.Judged.{isWhole, isJudged, judgedIn}
-use Rattle.airing.specs.Air.{inLimits, isFilmTitle, airAnswer, airGives}
+use Rattle.airing.specs.Air.{isFilmTitle, airAnswer, airGives}
 use Rattle.airing.specs.Own.{ownRecord}
 use Rattle.airing.proofs.OwnRecord.{own-ticks}
 use Rattle.airing.proofs.Starves.{own-record-starves-none}

@@ -1,6 +1,6 @@
 -- The notice that a line writes (docs/CONSOLE.md, "Commands": write): that of its event, with its sequence. A number too large for its
 -- field is an error of the line, so that none is cut here.
-use Prim.Native.Nat.{ℕ, min}
+use Prim.Native.Nat.{min}
 use Rattle.notice.specs.declared.Notice.{Notice}
 use Rattle.text.specs.Numbers.{byteMost, fourBytesMost}
 use Rattle.story.specs.declared.Act.{Act}

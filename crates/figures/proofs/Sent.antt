@@ -3,8 +3,6 @@
 use Prim.Native.Nat.{ℕ, _+_, _<_, _≤_}
 use mathlib.Core.Path.{_≡_, ap, _∙_}
 use borrow.Author.Tests.{eq-eqb, ne-eqb, lt-ltb, le-ltb}
-use lib.Dec.{eqb}
-use Rattle.rules.specs.Refusals.{pick}
 use Rattle.story.specs.declared.State.{State}
 use Rattle.story.specs.Calls.{freshNext, laneAnswer, laneShows}
 use Rattle.story.specs.declared.Act.the-variants.{Changes}

@@ -15,8 +15,8 @@ use Rattle.rules.proofs.Search.{every-out}
 use Rattle.scheme.specs.Scheme.{steadyKind}
 use Rattle.story.specs.declared.Title.{Title}
 use Rattle.story.specs.declared.State.{State}
-use Rattle.story.specs.Kept.{absentMode, titleAt, rowOk, numbersOk, orderOk, titleOk, stateOk}
-use Rattle.measures.specs.Readable.{slotOk, Readable, AllReadable}
+use Rattle.story.specs.Kept.{absentMode, titleAt, rowOk, numbersOk, orderOk, titleOk, slotOk, stateOk}
+use Rattle.measures.specs.Readable.{Readable, AllReadable, Owing, Sending, Changeable}
 
 module _ (t : Title) (ok : titleOk t ≡ true) where
   pub numbers : numbersOk t ≡ true
@@ -88,3 +88,14 @@ module _ (s : State) (ok : stateOk s ≡ true) where
 
   pub all-readable : AllReadable s
   all-readable i l = readable (titleAt s i) (title-ok i l)
+
+-- a title that is there, in a state within its limits
+module _ (t : Title) (ok : titleOk t ≡ true) (there : t .mode ≡ absentMode → ⊥) where
+  pub owing : Owing t
+  owing = record { film = readable t ok there; ends = ends-ok t ok }
+
+  pub sending : Sending t
+  sending = record { owing = owing; dropped = dropped-ok t ok }
+
+  pub changeable : Changeable t
+  changeable = record { owing = owing; ruled = count-fit t ok there }

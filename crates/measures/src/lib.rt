@@ -1,8 +1,6 @@
-// What is read off a state with no search: whether its numbers are within their limits, at which tick of a title a time
-// lies, and how many lanes are held. `limits::state_ok` takes any state; the others require of a title that is there the
-// numbers of its film, which that test gives.
+// What is read off a state with no search: at which tick of a title a time lies, and how many lanes are held. The functions require
+// of a title that is there a film within its limits, which `limits::state_ok` gives.
 
 pub mod lanes;
-pub mod limits;
 pub mod slots;
 pub mod ticks;

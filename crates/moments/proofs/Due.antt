@@ -16,9 +16,9 @@ use Rattle.story.specs.Kept.{absentMode, openMode, noTitle, titleAt, rowOk, num
 use Rattle.story.specs.Kept.{settledAt, lanesHeld}
 use Rattle.story.specs.Next.{changedTitle, changeNext}
 use Rattle.story.specs.Calls.{atSlotStart}
-use Rattle.measures.proofs.Within.{numbers, readable, dropped-ok, tuned-high, title-ok}
-use Rattle.owed.specs.Owing.{Changeable}
-use Rattle.owed.proofs.Fixed.{stored, changeable}
+use Rattle.measures.proofs.Within.{numbers, readable, changeable, dropped-ok, tuned-high, title-ok}
+use Rattle.measures.specs.Readable.{Changeable}
+use Rattle.owed.proofs.Fixed.{stored}
 use Rattle.moments.specs.Moments.{isPermitted, hasLanes, isDue, earliest}
 use Rattle.moments.specs.inner.Steps.{Found, permits, Timed, AllTimed, Frees, FindsLanes}
 use Rattle.moments.proofs.Earliest.{Hits, found}

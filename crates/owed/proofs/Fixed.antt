@@ -14,11 +14,11 @@ use Rattle.story.specs.declared.Film.{Film}
 use Rattle.story.specs.declared.Title.{Title}
 use Rattle.story.specs.declared.Act.{Act}
 use Rattle.story.specs.declared.Act.the-variants.{Opens, Changes, Closes, Doors}
-use Rattle.story.specs.Kept.{absentMode, openMode, closingMode, clearMark, isShut, rowOk, titleOk, tickAt}
+use Rattle.story.specs.Kept.{openMode, closingMode, clearMark, isShut, rowOk, tickAt}
 use Rattle.story.specs.Next.{ended, dropLane, dropLanes, turnedTitle, changedTitle, closedTitle, doorsTitle, nextTitle}
-use Rattle.measures.specs.Readable.{Filmed}
-use Rattle.measures.proofs.Within.{in-row, readable, count-fit, ends-ok, dropped-ok}
-use Rattle.owed.specs.Owing.{Owing, Sending, Changeable, Turnable}
+use Rattle.measures.specs.Readable.{Filmed, Owing}
+use Rattle.measures.proofs.Within.{in-row}
+use Rattle.owed.specs.Owing.{Turnable}
 
 -- a title with the same film, count and ends
 pub record Fixed (t q : Title) : Type 0 where
@@ -76,17 +76,6 @@ drop-more t q n k i e l = rw (lt-ltb i (t .count) l, ← e) (go (leb k i))
     go : (b : Bool) → pick b (dropLane q n i) q ≡ pick (both b true) (dropLane q n i) q
     go true = refl
     go false = refl
-
--- a title that is there, in a state within its limits
-module _ (t : Title) (ok : titleOk t ≡ true) (there : t .mode ≡ absentMode → ⊥) where
-  pub owing : Owing t
-  owing = record { film = readable t ok there; ends = ends-ok t ok }
-
-  pub sending : Sending t
-  sending = record { owing = owing; dropped = dropped-ok t ok }
-
-  pub changeable : Changeable t
-  changeable = record { owing = owing; ruled = count-fit t ok there }
 
 -- the film of a title after an event is within its limits: an opening's own, or as it was
 turned-film : (t : Title) (τ q m c d u : ℕ) → turnedTitle t τ q m c d u .film ≡ t .film

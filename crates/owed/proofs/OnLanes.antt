@@ -1,7 +1,7 @@
 -- What the boxes of a skip-forward title still await: all began under its one count, and take a lane's cell from that lane
 -- alone, for one period. Rests on the law that no two lanes have a cell in common.
 use mathlib.Core.Path.{_≡_, refl, sym, _∙_}
-use mathlib.Core.Bool.{Bool, true, false}
+use mathlib.Core.Bool.{Bool, true}
 use Prim.Native.Nat.{ℕ, suc, _+_, _≤_, _<_}
 use native.Mathlib.Omega.{arith}
 use native.Mathlib.Nat.{le-antisymm}

@@ -1,8 +1,8 @@
 -- Under a count a cell goes out on one channel only, so that the latest boxes of the count want it from there or not at
 -- all: where it goes out, just while they take that channel. A lane's own cell goes out under every count that has the
 -- lane. Rests on the grid's laws of lanes and of the one channel of a cell.
-use mathlib.Core.Path.{_≡_, refl, sym, ap, _∙_}
-use mathlib.Core.Bool.{Bool, true, false}
+use mathlib.Core.Path.{_≡_, sym, ap, _∙_}
+use mathlib.Core.Bool.{true}
 use Prim.Native.Nat.{ℕ, _+_, _*_, _^_, _≤_, _<_}
 use native.Mathlib.Omega.{arith}
 use lib.Dec.{ltb, eqb}

@@ -17,7 +17,7 @@ ghost use Rattle.rules.specs.Refusals.{pick};
 ghost use Rattle.story.specs.Kept.{clearMark, heldMark};
 ghost use Rattle.story.specs.Next.{ended, dropLane, dropLanes, turned, changedTitle, closedTitle, turnedTitle};
 ghost use Rattle.story.specs.Next.{doorsTitle};
-ghost use Rattle.owed.specs.Owing.{Owing, Changeable};
+ghost use Rattle.measures.specs.Readable.{Owing, Changeable};
 
 // A lane is dropped at a tick, and how many cells it owes is counted once, here.
 fn drop_lane(t: Title, tick: u64, lane: u64) -> Title

@@ -19,7 +19,7 @@ ghost use Rattle.grid.specs.Lanes.{isInG, laneCell};
 ghost use Rattle.grid.specs.Bounds.{Exactly, CountCap, IsCell, tickMax};
 ghost use Rattle.scheme.specs.Scheme.{padded, steadyKind, period as periodOf};
 ghost use Rattle.story.specs.Kept.{schemeIn, wants, keptAwaited, keptOwed, keptWithin};
-ghost use Rattle.owed.specs.Owing.{Owing};
+ghost use Rattle.measures.specs.Readable.{Owing};
 
 // A cell that goes out at a tick is owed to the latest boxes of a count, whose slot ended at tick `end`, while they
 // take the channel that carries it. A count below the floor has no boxes, and neither has one that never ruled.

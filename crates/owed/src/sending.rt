@@ -13,7 +13,7 @@ ghost use Rattle.rules.specs.Search.{first};
 ghost use Rattle.grid.specs.Bounds.{Exactly, tickMax};
 ghost use Rattle.story.specs.Life.{reach as reachOf};
 ghost use Rattle.story.specs.Kept.{keptNth, sendingTick, shows as showsOf};
-ghost use Rattle.owed.specs.Owing.{Owing, Sending};
+ghost use Rattle.measures.specs.Readable.{Owing, Sending};
 
 // How far from its drop the last tick lies that a lane may owe.
 pub fn reach(t: Title) -> u64

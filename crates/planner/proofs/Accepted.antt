@@ -2,11 +2,11 @@
 -- title's count to another between floor and cap. Rests on the order of a change's refusals.
 use mathlib.Core.Path.{_≡_, refl, sym, _∙_}
 use mathlib.Core.Bool.{Bool, true, false, not}
-use Prim.Native.Nat.{ℕ, _≤_, _<_}
+use Prim.Native.Nat.{ℕ, _≤_}
 use native.Mathlib.Omega.{arith}
 use lib.Dec.{leb}
 use borrow.Author.Tests.{leb-true, le-leb, le-ltb, ne-eqb, not-true}
-use Rattle.rules.specs.Limits.{both, within, idMax, eventTimeMax, floorMin, countMin, countMax, titlesMax}
+use Rattle.rules.specs.Limits.{both, within, idMax, eventTimeMax, floorMin, countMin, countMax}
 use Rattle.rules.specs.Refusals.{pick, firstHit, secondEvent, tooSoon, notAtSlot, noLanes}
 use Rattle.rules.proofs.Tests.{both-l, both-r, both-in, either-r, pick-false}
 use Rattle.rules.proofs.Refusals.{hitsOf, numbered, cleared}
@@ -14,7 +14,7 @@ use Rattle.measures.proofs.Within.{title-ok, readable, order}
 use Rattle.story.specs.declared.Title.{Title}
 use Rattle.story.specs.declared.State.{State}
 use Rattle.story.specs.Orders.{Tests, changeOrder}
-use Rattle.story.specs.Kept.{absentMode, openMode, isSteadyTitle, titleAt, stateOk, orderOk, isThere}
+use Rattle.story.specs.Kept.{absentMode, openMode, titleAt, orderOk, isThere}
 use Rattle.story.specs.declared.Act.the-variants.{Changes}
 use Rattle.story.specs.Story.{event}
 use Rattle.story.specs.Calls.{testsIn, callAnswer}

@@ -2,12 +2,11 @@
 -- of them with the one that fewer watch. The list drops its third lane, and raises the other film once that lane has sent what it
 -- owes; both events come, and the counts are the sharing's.
 -- Rests on the promise (`promised`), and on what the earliest time is.
-use mathlib.Core.Path.{_≡_, refl, sym, ap, subst, _∙_}
+use mathlib.Core.Path.{_≡_, refl, ap, subst, _∙_}
 use mathlib.Core.Bool.{true}
 use mathlib.Core.List.{List, [], _∷_, flatMap}
-use Prim.Native.Nat.{ℕ, _≤_}
+use Prim.Native.Nat.{ℕ}
 use native.Mathlib.Omega.{arith}
-use lib.ListN.{length}
 use Rattle.rules.specs.Refusals.{done}
 use Rattle.rules.specs.Search.{every}
 use Rattle.sharing.specs.Titles.{rowTotal}

@@ -22,12 +22,11 @@ use Rattle.story.specs.declared.Film.{Film}
 use Rattle.story.specs.declared.Title.{Title}
 use Rattle.story.specs.declared.State.{State}
 use Rattle.story.specs.Life.{reach}
-use Rattle.story.specs.Kept.{absentMode, openMode, heldMark, noTitle, titleAt, rowOk, numbersOk, orderOk, titleOk, stateOk}
+use Rattle.story.specs.Kept.{absentMode, openMode, heldMark, noTitle, titleAt, rowOk, numbersOk, orderOk, titleOk, stateOk, slotOk}
 use Rattle.story.specs.Kept.{isSteadyTitle, titleTick, tickAt, keptOwed, keptWithin}
 use Rattle.story.specs.Next.{ended, dropLane, dropLanes, changedTitle, changeNext}
-use Rattle.measures.specs.Readable.{slotOk}
-use Rattle.measures.proofs.Within.{numbers, order, dropped-ok, title-ok}
-use Rattle.owed.proofs.Fixed.{Fixed, fixed-drops, stored, stored-row, ended-owing, owing}
+use Rattle.measures.proofs.Within.{numbers, order, owing, dropped-ok, title-ok}
+use Rattle.owed.proofs.Fixed.{Fixed, fixed-drops, stored, stored-row, ended-owing}
 
 -- ---- one title
 

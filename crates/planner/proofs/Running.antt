@@ -11,8 +11,8 @@ use Rattle.story.specs.declared.State.{State}
 use Rattle.story.specs.Kept.{titleAt, stateOk}
 use Rattle.story.specs.Next.{changeNext}
 use Rattle.measures.proofs.Within.{title-ok}
-use Rattle.owed.specs.Owing.{Changeable}
-use Rattle.owed.proofs.Fixed.{changeable}
+use Rattle.measures.specs.Readable.{Changeable}
+use Rattle.measures.proofs.Within.{changeable}
 use Rattle.wishes.specs.Wishes.{Wish}
 use Rattle.planner.specs.Moves.{momentFor, moveAt, listed, allMoved}
 use Rattle.planner.specs.inner.Steps.{Fits, lastMoment, firstOf}

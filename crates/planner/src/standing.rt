@@ -1,6 +1,6 @@
 // Which questions are refused before any wish is worked out, and with which number.
 
-use measures::limits::state_ok;
+use limits::state_ok;
 use rules::DONE;
 use rules::EVENT_TIME_MAX;
 use rules::NO_LANES;

@@ -14,7 +14,7 @@ ghost use mathlib.Core.Bool.{true};
 ghost use Rattle.rules.specs.Limits.{idMax, askedMax, eventTimeMax, titlesMax};
 ghost use Rattle.story.specs.Kept.{titleAt, stateOk};
 ghost use Rattle.story.specs.Next.{changeNext};
-ghost use Rattle.owed.specs.Owing.{Changeable};
+ghost use Rattle.measures.specs.Readable.{Changeable};
 ghost use Rattle.planner.specs.inner.Steps.{AllFit, Timed};
 
 // The moments of a list of wishes in its first places, and the last of them; the given time where there are none.

@@ -14,7 +14,7 @@ use Rattle.grid.specs.Ticks.{slot}
 use Rattle.grid.specs.Channels.{InG}
 use Rattle.grid.specs.Lanes.{laneCell}
 use Rattle.grid.specs.Bounds.{Carrier}
-use Rattle.plan.specs.Plan.{planAt, never}
+use Rattle.plan.specs.Plan.{planAt}
 use Rattle.grid.proofs.Lanes.{cell-of-lane, lane-of-cell}
 use Rattle.grid.proofs.Carriers.{carries-only, carrier-one, carried-cell}
 use Rattle.scheme.specs.Scheme.{padded, starts}

@@ -28,7 +28,7 @@ ghost use Rattle.rules.specs.Search.{first};
 ghost use Rattle.grid.specs.Bounds.{Exactly, tickMax};
 ghost use Rattle.story.specs.Life.{reach};
 ghost use Rattle.story.specs.Kept.{keptOwed, keptNth, sendingTick, shows as showsOf};
-ghost use Rattle.owed.specs.Owing.{Owing, Sending};
+ghost use Rattle.measures.specs.Readable.{Owing, Sending};
 ghost use Rattle.rom.specs.Table.{romCap, romPeriod};
 ghost use Rattle.rom.specs.Lanes.{isForeign, romLaneAnswer, romLaneShows, Own};
 

@@ -9,7 +9,6 @@ use Prim.Native.Nat.{ℕ, _<_}
 use native.Mathlib.Omega.{arith}
 use lib.Dec.{ltb, eqb}
 use borrow.Author.Tests.{ltb-true, eq-eqb, ne-eqb, eqb-true, eqb-false, not-true}
-use Rattle.rules.specs.Limits.{both}
 use Rattle.rules.specs.Refusals.{pick, Rule, refuse, firstHit, before, behind}
 unfoldable pub use Rattle.rules.specs.Refusals.{hitsOf, numbered, isListed, distinct}
 use Rattle.rules.proofs.Tests.{decide, both-l, both-r}

@@ -4,7 +4,7 @@
 use mathlib.Core.Path.{_≡_, refl, sym, ap, _∙_}
 use mathlib.Core.Bool.{true}
 use mathlib.Core.Logic.{_⊎_, inl, inr, ⊎-elim}
-use mathlib.Core.List.{List, [], _∷_, _++_, append-nil, append-assoc, reverse, reverseAux}
+use mathlib.Core.List.{List, [], _∷_, _++_, append-nil, append-assoc, reverseAux}
 use Prim.Native.Nat.{ℕ, zero, suc, _+_, _≤_, _<_}
 use native.Mathlib.Nat.{add-zero}
 use native.Mathlib.Omega.{arith}
@@ -21,7 +21,7 @@ use Rattle.notice.proofs.Part.{at-last}
 use Rattle.notice.proofs.RoundTrip.{log-gives}
 use Rattle.salvaging.specs.declared.scan.Move.{Move}
 use Rattle.salvaging.specs.declared.scan.Move.the-variants.{Take, Skip, Stop}
-use Rattle.salvaging.specs.Scan.{isLater, Scan, lastOf, after, moveIn, scanTo, scanOf}
+use Rattle.salvaging.specs.Scan.{isLater, Scan, lastOf, after, moveIn, scanTo}
 use Rattle.salvaging.specs.Claims.{Below, Rising, Clear, ComeOut, Whole}
 use Rattle.salvaging.proofs.Moves.{in-turn}
 use Rattle.salvaging.proofs.Parts.{part-rest}

@@ -91,11 +91,11 @@ unfoldable pub titleOk : Title → Bool
 titleOk t = both (numbersOk t) (either (eqb (t .mode) absentMode) (orderOk t))
 
 -- the state of a refused fresh call apart, a pool has at least a lane: a pool of 0 has no titles
+abbrev pub slotOk : State → ℕ → Bool
+slotOk s i = both (titleOk (titleAt s i)) (either (leb poolMin (s .pool)) (eqb (titleAt s i .mode) absentMode))
+
 unfoldable pub stateOk : State → Bool
-stateOk s =
-    both (leb (s .pool) poolMax)
-    (both (leb (s .last) askedMax)
-    (every (λ i. both (titleOk (titleAt s i)) (either (leb poolMin (s .pool)) (eqb (titleAt s i .mode) absentMode))) titlesMax))
+stateOk s = both (leb (s .pool) poolMax) (both (leb (s .last) askedMax) (every (slotOk s) titlesMax))
 
 -- the ticks begun since the opening at a time in ms: B + t ticks is the start of tick t
 unfoldable pub tickAt : Title → ℕ → ℕ

@@ -8,8 +8,8 @@ use Rattle.rules.specs.Refusals.{firstHit, hitsOf, numbered, notThere}
 use Rattle.rules.proofs.Refusals.{cleared}
 use Rattle.story.specs.declared.Title.{Title}
 use Rattle.story.specs.Kept.{absentMode, titleOk, titleHeld, isThere}
-use Rattle.owed.specs.Owing.{Changeable}
-use Rattle.owed.proofs.Fixed.{changeable}
+use Rattle.measures.specs.Readable.{Changeable}
+use Rattle.measures.proofs.Within.{changeable}
 use Rattle.title_verdicts.specs.Titled.{standingRules}
 
 -- a title that is there is in its slot

@@ -1,5 +1,5 @@
 // What a title alone answers to an event, in 01's order: the refusals behind those of the numbers and of the clock, and before the
-// want of lanes. The functions require a title whose numbers are within their limits, which `measures::limits::state_ok` gives.
+// want of lanes. The functions require a title whose numbers are within their limits, which `limits::state_ok` gives.
 
 use measures::lanes::is_there;
 use measures::ticks::at_tick_start;

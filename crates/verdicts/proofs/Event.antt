@@ -1,30 +1,25 @@
 -- What an event's numbers and its standing give of the title: that it is there, within its limits.
 -- Rests on the laws of tests, of the refusals' order and of states within their limits.
-use mathlib.Core.Path.{_≡_, refl, sym, ap, subst, _∙_}
+use mathlib.Core.Path.{_≡_, refl, sym, ap, _∙_}
 use mathlib.Core.Bool.{Bool, true, false, not}
 use mathlib.Core.List.{_∷_}
 use Prim.Native.Nat.{ℕ, _≤_, _<_}
 use native.Mathlib.Omega.{arith}
-use borrow.Author.Tests.{leb-true, ltb-true, ltb-false, eqb-false, not-false, not-true}
+use borrow.Author.Tests.{leb-true, ltb-true, eqb-false, not-false, not-true}
 use lib.Dec.{leb, ltb, eqb}
 use Rattle.rules.specs.Limits.{both, idMax, laneMax, eventTimeMax, askedMax}
-use Rattle.rules.specs.Refusals.{firstHit, refuse, hitsOf, numbered, outsideLimits, tooEarly, notThere, floorAboveCap}
+use Rattle.rules.specs.Refusals.{firstHit, refuse, hitsOf, numbered, outsideLimits, tooEarly, notThere}
 use Rattle.rules.proofs.Tests.{both-l, both-r, both-true}
 use Rattle.rules.proofs.Refusals.{cleared}
-use Rattle.story.specs.declared.Film.{Film}
-use Rattle.story.specs.declared.Title.{Title}
 use Rattle.story.specs.declared.State.{State}
 use Rattle.story.specs.declared.Act.{Act}
 use Rattle.story.specs.declared.Act.the-variants.{Opens, Changes, Closes, Doors}
 use Rattle.story.specs.Kept.{absentMode, titleAt, stateOk, titleOk, isThere}
-use Rattle.story.specs.Next.{nextTitle}
-use Rattle.story.specs.Story.{event, filmLimits, actLimits}
+use Rattle.story.specs.Story.{event, actLimits}
 use Rattle.story.specs.Calls.{eventOk, laneHeld, laneRules, laneAnswer}
-use Rattle.story.proofs.Passed.{offered}
 use Rattle.measures.specs.Readable.{Filmed}
-use Rattle.measures.proofs.Within.{title-ok, readable}
-use Rattle.owed.specs.Owing.{Sending, Changeable, Turnable}
-use Rattle.owed.proofs.Fixed.{sending, next-filmed}
+use Rattle.measures.proofs.Within.{title-ok, readable, sending}
+use Rattle.measures.specs.Readable.{Sending, Changeable}
 use Rattle.title_verdicts.specs.Titled.{titleRules}
 use Rattle.title_verdicts.proofs.Stands.{there-changeable}
 use Rattle.verdicts.specs.Before.{eventRules, firstAnswer}
@@ -76,7 +71,7 @@ module _ (s : State) (i τ : ℕ) (ok : eventOk s i τ ≡ true) where
 -- an event that only lanes may refuse
 module _ (s : State) (i τ : ℕ) (a : Act) (none : firstAnswer s (event i τ a) ≡ 0) where
   -- clears the rest of its order,
-  cleared-all : (n : ℕ) →
+  pub cleared-all : (n : ℕ) →
       hitsOf n (refuse outsideLimits (not (actLimits a (eventOk s i τ))) ∷ refuse tooEarly (ltb τ (s .last)) ∷ titleRules (titleAt s i) τ a)
       ≡ false
   unfolding firstAnswer numbered
@@ -101,34 +96,8 @@ module _ (s : State) (i τ : ℕ) (a : Act) (none : firstAnswer s (event i τ a)
   pub taken-event : eventOk s i τ ≡ true
   taken-event = both-l (eventOk s i τ) (actLimits a true) (sym (in-parts a (eventOk s i τ)) ∙ act-numbers)
 
-  taken-changeable : not (isThere (titleAt s i) τ) ≡ false → Changeable (titleAt s i)
+  pub taken-changeable : not (isThere (titleAt s i) τ) ≡ false → Changeable (titleAt s i)
   taken-changeable away = there-changeable (titleAt s i) τ (event-title s i τ taken-event) (not-false (isThere (titleAt s i) τ) away)
-
--- and its title can be turned
-pub taken-turnable : (s : State) (i τ : ℕ) (a : Act) → firstAnswer s (event i τ a) ≡ 0 → Turnable (titleAt s i) a
-unfolding hitsOf
-taken-turnable s i τ (Opens f k) none = tt
-taken-turnable s i τ (Changes k) none = taken-changeable s i τ (Changes k) none (cleared-all s i τ (Changes k) none notThere)
-taken-turnable s i τ Closes none = taken-changeable s i τ Closes none (cleared-all s i τ Closes none notThere)
-taken-turnable s i τ (Doors b) none = taken-changeable s i τ (Doors b) none (cleared-all s i τ (Doors b) none notThere)
-
-opened-filmed : (s : State) (i τ : ℕ) (f : Film) (k : ℕ) → firstAnswer s (event i τ (Opens f k)) ≡ 0 → Filmed f
-unfolding hitsOf
-opened-filmed s i τ f k none =
-    let o = offered f k (taken-limits s i τ (Opens f k) none) in
-    let fit = ltb-false (f .cap) (f .floor) (cleared-all s i τ (Opens f k) none floorAboveCap) in
-    record {
-      sized = record { low = o .length-low; high = o .length-high };
-      cut = record { low = omega (arith, o .floor-low); fit = fit; high = o .cap-high };
-      flat = o .flat;
-    }
-
--- and it leaves a film within its limits
-pub taken-filmed : (s : State) (i τ : ℕ) (a : Act) → firstAnswer s (event i τ a) ≡ 0 → Filmed (nextTitle (titleAt s i) τ a .film)
-taken-filmed s i τ a none = next-filmed (titleAt s i) τ a (taken-turnable s i τ a none) own
-  where
-    own : (f : Film) (k : ℕ) → a ≡ Opens f k → Filmed f
-    own f k e = opened-filmed s i τ f k (subst (λ x. firstAnswer s (event i τ x) ≡ 0) e none)
 
 -- a lane question that is answered
 module _ (s : State) (i l τ : ℕ) (none : laneAnswer s i l τ ≡ 0) where

@@ -1,7 +1,7 @@
 // What an event answers, in 01's order: the first refusal that hits. The want of lanes is tested by the call, on the next
 // state.
 
-use measures::limits::state_ok;
+use limits::state_ok;
 use measures::slots::title_of;
 use rules::COUNT_MAX;
 use rules::COUNT_MIN;

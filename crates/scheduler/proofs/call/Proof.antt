@@ -8,7 +8,8 @@ use Rattle.story.specs.Next.{withTitle, nextTitle, callNext}
 use Rattle.story.specs.Calls.{callAnswer, eventOk}
 use Rattle.measures.proofs.Within.{all-readable}
 use Rattle.verdicts.specs.Before.{firstAnswer}
-use Rattle.verdicts.proofs.Event.{event-id, event-state, event-time, taken-event, taken-turnable, taken-filmed}
+use Rattle.verdicts.proofs.Event.{event-id, event-state, event-time, taken-event}
+use Rattle.scheduler.proofs.Taken.{taken-turnable, taken-filmed}
 use Rattle.scheduler.proofs.Settled.{with-readable, in-two, then-settled, then-refused}
 use borrow.Author.Needs.{needs}
 use Rattle.scheduler.proofs.call.Statement.{statement}

@@ -1,7 +1,6 @@
 -- `air_io::places::keep_line` meets its contract, by whether the word has begun.
 use mathlib.Core.Path.{refl}
 use borrow.Author.Tests.{lt-ltb, le-ltb}
-use borrow.Author.Needs.{needs}
 use Rattle.air_io.proofs.places.keep_line.Statement.{statement}
 use Rattle.air_io.proofs.places.keep_line.Tie as tie
 

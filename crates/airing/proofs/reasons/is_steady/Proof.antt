@@ -2,7 +2,6 @@
 use mathlib.Core.Path.{refl}
 use borrow.Author.Tests.{eq-eqb, ne-eqb, lt-ltb, le-ltb}
 use Rattle.airing.specs.inner.Steps.{isSteadyEnding}
-use borrow.Author.Needs.{needs}
 use Rattle.airing.proofs.reasons.is_steady.Statement.{statement}
 use Rattle.airing.proofs.reasons.is_steady.Tie as tie
 

@@ -1,6 +1,5 @@
 -- `console_boxes::calls::cells_of` meets its contract: the cells of an answer that is done, and none of another.
 use borrow.Author.Tests.{eq-eqb, ne-eqb}
-use borrow.Author.Needs.{needs}
 use Rattle.console_boxes.proofs.calls.cells_of.Statement.{statement}
 use Rattle.console_boxes.proofs.calls.cells_of.Tie as tie
 

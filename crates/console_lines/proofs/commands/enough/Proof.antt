@@ -1,7 +1,5 @@
 -- `console_lines::commands::enough` meets its contract: the test says whether it is sharing.
-use mathlib.Core.Path.{ap}
 use borrow.Author.Tests.{eq-eqb, ne-eqb}
-use Rattle.console_lines.specs.declared.commands.Command.{Command}
 use Rattle.console_lines.specs.Commands.{enough, leastOf}
 use borrow.Author.Needs.{needs}
 use Rattle.console_lines.proofs.commands.enough.Statement.{statement}

@@ -2,7 +2,7 @@
 use Prim.Native.Nat.{_≤_}
 use mathlib.Core.Path.{_≡_, sym, ap, _∙_}
 use native.Mathlib.Omega.{arith}
-use lib.ListN.{length, take, length-take}
+use lib.ListN.{length, length-take}
 use Rattle.text.specs.Texts.{same}
 use Rattle.text.proofs.Tables.{told}
 use Rattle.console_lines.specs.declared.commands.Command.{Command}

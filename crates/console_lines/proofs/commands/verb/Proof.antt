@@ -1,10 +1,9 @@
 -- `console_lines::commands::verb` meets its contract: of the rows passed, from the last on, the first that the word names.
 use Prim.Native.Nat.{_≤_}
-use mathlib.Core.Path.{_≡_, sym, ap, _∙_}
+use mathlib.Core.Path.{_≡_}
 use native.Mathlib.Omega.{arith}
-use native.Mathlib.Nat.{le-antisymm}
 use lib.ListN.{drop}
-use Rattle.console_lines.specs.Commands.{commandTable, seek, verbOf}
+use Rattle.console_lines.specs.Commands.{commandTable, seek}
 use Rattle.console_lines.proofs.Rows.{commands, sought-none, sought-back, sought-all}
 use borrow.Author.Needs.{needs}
 use Rattle.console_lines.proofs.commands.verb.Statement.{statement}

@@ -1,5 +1,4 @@
 -- `next_title` meets its contract: each act is the function of its name. An opening asks nothing of the title.
-use mathlib.Core.Path.{_≡_}
 use borrow.Author.Needs.{needs}
 use Rattle.owed.proofs.turning.next_title.Statement.{statement}
 use Rattle.owed.proofs.turning.next_title.Tie as tie

@@ -7,7 +7,6 @@ use Rattle.rules.specs.Limits.{both}
 use Rattle.rules.specs.Refusals.{firstHit}
 use Rattle.rules.proofs.Tests.{both-l}
 use Rattle.story.specs.declared.Title.{Title}
-use Rattle.story.specs.Kept.{titleOk}
 use Rattle.story.specs.Story.{actLimits}
 use Rattle.story.specs.Calls.{eventOk}
 use Rattle.title_verdicts.specs.Titled.{titleRules}

@@ -1,8 +1,8 @@
 -- `slot_ok` meets its contract: each way out decides the tests up to it.
 use borrow.Author.Tests.{le-leb, lt-leb}
 use borrow.Author.Needs.{needs}
-use Rattle.measures.proofs.limits.slot_ok.Statement.{statement}
-use Rattle.measures.proofs.limits.slot_ok.Tie as tie
+use Rattle.limits.proofs.slot_ok.Statement.{statement}
+use Rattle.limits.proofs.slot_ok.Tie as tie
 
 title-ok-requires : tie.Need-title-ok-requires
 title-ok-requires c κs = search needs

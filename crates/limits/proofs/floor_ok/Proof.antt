@@ -1,7 +1,7 @@
 -- `floor_ok` meets its contract: each way out decides the kind.
 use borrow.Author.Tests.{eq-eqb, ne-eqb}
-use Rattle.measures.proofs.limits.floor_ok.Statement.{statement}
-use Rattle.measures.proofs.limits.floor_ok.Tie as tie
+use Rattle.limits.proofs.floor_ok.Statement.{statement}
+use Rattle.limits.proofs.floor_ok.Tie as tie
 
 returns : tie.Need-returns
 returns c = rw (eq-eqb _ _ (c .if1 .taken))

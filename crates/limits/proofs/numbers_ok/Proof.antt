@@ -2,8 +2,8 @@
 use borrow.Author.Tests.{le-leb, lt-leb}
 use Rattle.story.specs.Kept.{numbersOk}
 use borrow.Author.Needs.{needs}
-use Rattle.measures.proofs.limits.numbers_ok.Statement.{statement}
-use Rattle.measures.proofs.limits.numbers_ok.Tie as tie
+use Rattle.limits.proofs.numbers_ok.Statement.{statement}
+use Rattle.limits.proofs.numbers_ok.Tie as tie
 
 returns : tie.Need-returns
 unfolding numbersOk

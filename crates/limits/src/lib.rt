@@ -28,8 +28,8 @@ ghost use Rattle.rules.specs.Limits.{both, either, poolMin, titlesMax, floorMax
 ghost use Rattle.rules.specs.Refusals.{pick};
 ghost use Rattle.rules.specs.Search.{every};
 ghost use Rattle.scheme.specs.Scheme.{steadyKind};
-ghost use Rattle.story.specs.Kept.{absentMode, numbersOk, orderOk, titleOk, stateOk};
-ghost use Rattle.measures.specs.Readable.{keptOk, restOk, slotOk};
+ghost use Rattle.story.specs.Kept.{absentMode, numbersOk, orderOk, titleOk, slotOk, stateOk};
+ghost use Rattle.limits.specs.Stored.{keptOk, restOk};
 
 // The time of a title's latest opening or change, and its three rows.
 fn kept_ok(t: Title) -> bool

@@ -2,8 +2,8 @@
 use borrow.Author.Tests.{le-leb, lt-leb}
 use Rattle.story.specs.Kept.{orderOk}
 use borrow.Author.Needs.{needs}
-use Rattle.measures.proofs.limits.order_ok.Statement.{statement}
-use Rattle.measures.proofs.limits.order_ok.Tie as tie
+use Rattle.limits.proofs.order_ok.Statement.{statement}
+use Rattle.limits.proofs.order_ok.Tie as tie
 
 returns : tie.Need-returns
 unfolding orderOk

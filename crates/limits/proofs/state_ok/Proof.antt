@@ -2,8 +2,8 @@
 use borrow.Author.Tests.{le-leb, lt-leb}
 use Rattle.story.specs.Kept.{stateOk}
 use borrow.Author.Needs.{needs}
-use Rattle.measures.proofs.limits.state_ok.Statement.{statement}
-use Rattle.measures.proofs.limits.state_ok.Tie as tie
+use Rattle.limits.proofs.state_ok.Statement.{statement}
+use Rattle.limits.proofs.state_ok.Tie as tie
 
 returns : tie.Need-returns
 unfolding stateOk

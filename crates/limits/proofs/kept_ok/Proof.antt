@@ -4,8 +4,8 @@ use mathlib.Core.Path.{_≡_}
 use native.Mathlib.Omega.{arith}
 use lib.ListN.{length}
 use borrow.Author.Needs.{needs}
-use Rattle.measures.proofs.limits.kept_ok.Statement.{statement}
-use Rattle.measures.proofs.limits.kept_ok.Tie as tie
+use Rattle.limits.proofs.kept_ok.Statement.{statement}
+use Rattle.limits.proofs.kept_ok.Tie as tie
 
 -- the function's start, seen from where the first row is lent
 abbrev start : tie.After-ends2 → tie.Start

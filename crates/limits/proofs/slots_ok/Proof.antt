@@ -5,10 +5,10 @@ use native.Mathlib.Omega.{arith}
 use native.Mathlib.Numerals.{add-one}
 use native.Mathlib.Nat.{le-antisymm}
 use Rattle.rules.specs.Search.{every}
-use Rattle.measures.specs.Readable.{slotOk}
+use Rattle.story.specs.Kept.{slotOk}
 use borrow.Author.Needs.{needs}
-use Rattle.measures.proofs.limits.slots_ok.Statement.{statement}
-use Rattle.measures.proofs.limits.slots_ok.Tie as tie
+use Rattle.limits.proofs.slots_ok.Statement.{statement}
+use Rattle.limits.proofs.slots_ok.Tie as tie
 
 abbrev Inv-loop : tie.InvT-loop
 Inv-loop s pool ok₀ i₀ ok i = (i ≤ 16) × (ok ≡ every (slotOk s) i) × (pool ≡ s .pool)

@@ -2,8 +2,8 @@
 use borrow.Author.Tests.{eq-eqb, ne-eqb}
 use Rattle.story.specs.Kept.{titleOk}
 use borrow.Author.Needs.{needs}
-use Rattle.measures.proofs.limits.title_ok.Statement.{statement}
-use Rattle.measures.proofs.limits.title_ok.Tie as tie
+use Rattle.limits.proofs.title_ok.Statement.{statement}
+use Rattle.limits.proofs.title_ok.Tie as tie
 
 numbers-ok-requires : tie.Need-numbers-ok-requires
 numbers-ok-requires c κs = search needs

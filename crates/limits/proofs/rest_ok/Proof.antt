@@ -1,8 +1,8 @@
 -- `rest_ok` meets its contract: each way out decides the tests up to it.
 use borrow.Author.Tests.{le-leb, lt-leb}
 use borrow.Author.Needs.{needs}
-use Rattle.measures.proofs.limits.rest_ok.Statement.{statement}
-use Rattle.measures.proofs.limits.rest_ok.Tie as tie
+use Rattle.limits.proofs.rest_ok.Statement.{statement}
+use Rattle.limits.proofs.rest_ok.Tie as tie
 
 returns : tie.Need-returns
 returns c = search (le-leb, lt-leb)

@@ -1,7 +1,7 @@
 -- `is_level` meets its contract: each way out decides the kind.
 use borrow.Author.Tests.{eq-eqb, ne-eqb}
-use Rattle.measures.proofs.limits.is_level.Statement.{statement}
-use Rattle.measures.proofs.limits.is_level.Tie as tie
+use Rattle.limits.proofs.is_level.Statement.{statement}
+use Rattle.limits.proofs.is_level.Tie as tie
 
 returns : tie.Need-returns
 returns c = rw (eq-eqb _ _ (c .if1 .taken))

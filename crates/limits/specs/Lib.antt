@@ -1,0 +1,2 @@
+-- Parts of the limits of stored numbers.
+pub mod Stored
