@@ -20,7 +20,7 @@ use Rattle.agent.specs.Turns.{eventOf, freshAgent, noticeAnswer, noticed
 use Rattle.story.specs.Story.{answer}
 use Rattle.story.specs.Runs.{lanesOf, Reached}
 use Rattle.story.proofs.Demands.{tells-the-story}
-use Rattle.agent.specs.Series.{agentAfter, hearing, heard, eventsHeard, Hearing}
+use Rattle.agent.specs.Series.{agentAfter, hearing, heard, Hearing}
 use Rattle.agent.specs.Played.{agentTold, agentPlayed, heardOf, eventsPlayed, ReadAs, none-read, one-read}
 use Rattle.agent.proofs.Order.{follows}
 
@@ -73,12 +73,7 @@ pub told-follows : (pool : ℕ) (bss : List (List ℕ)) (ns : List Notice) → R
 told-follows pool bss ns r =
     rw (told-series pool bss ns r, ← heard-alike (lanesOf pool) bss ns r) (follows pool bss)
 
--- the events of a log are those heard of the series of its notices
-pub played-heard : (pool : ℕ) (log : List ℕ) → Bytes log
-    → eventsPlayed pool log ≡ eventsHeard pool (map bytesOf (noticesOf log))
-played-heard pool log small = ap (map eventOf) (sym (heard-alike (lanesOf pool) _ _ (log-series log small (length log))))
-
--- and they are reached, with the state that a fresh agent has after the log
+-- the events of a log are reached, with the state that a fresh agent has after the log
 pub log-reached : (pool : ℕ) (log : List ℕ) → Bytes log → Reached pool (eventsPlayed pool log) (agentPlayed pool log .state)
 log-reached pool log small = told-follows pool _ (noticesOf log) (log-series log small (length log)) .run
 

@@ -3,9 +3,9 @@ use mathlib.Core.Path.{_≡_, refl, ap}
 use mathlib.Core.Bool.{Bool, true, false}
 use Prim.Native.Nat.{ℕ}
 use borrow.Author.Tests.{eq-eqb, ne-eqb}
-use Rattle.text.specs.Bytes.{separator}
+use Rattle.text.specs.Bytes.{newline, separator}
 use Rattle.air_io.specs.declared.places.Passed.{Passed}
-use Rattle.air_io.specs.Record.{newline, more}
+use Rattle.air_io.specs.Record.{more}
 use Rattle.air_io.specs.Places.{passing}
 
 abbrev passedOf : ℕ → Bool → ℕ → Passed

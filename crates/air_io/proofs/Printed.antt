@@ -17,8 +17,8 @@ use Rattle.rules.proofs.Tests.{decide, both-in, both-l, both-r, fails, pick-tru
 use Rattle.rules.proofs.Search.{howMany-hit, howMany-mono, howMany-flat, howMany-ext, howMany-wider}
 use Rattle.grid.specs.Ticks.{cells}
 use Rattle.notice.specs.Log.{isWholeLog}
-use Rattle.plan.specs.Row.{written}
-use Rattle.plan.proofs.Row.{written-length, written-first}
+use Rattle.plans.specs.Row.{written}
+use Rattle.plans.proofs.Row.{written-length, written-first}
 use Rattle.story.specs.Life.{Life, isAdmission}
 use Rattle.agent.specs.Played.{lifeIn}
 use Rattle.judging.specs.Record.{ticksMax, ticksIn}

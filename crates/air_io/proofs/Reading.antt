@@ -12,13 +12,13 @@ use Rattle.rules.specs.Limits.{either, lanePlaces}
 use Rattle.rules.specs.Refusals.{pick}
 use Rattle.rules.proofs.Tests.{decide, pick-true, pick-false}
 use Rattle.text.specs.declared.numbers.Number.{Number}
-use Rattle.text.specs.Bytes.{separator, digit}
+use Rattle.text.specs.Bytes.{newline, separator, digit}
 use Rattle.text.specs.Numbers.{top, grow}
 use Rattle.text.specs.Output.{Page, page, put}
 use Rattle.text.proofs.Pages.{put-length, put-within}
 use Rattle.judging.specs.Record.{nothingSeen}
 use Rattle.air_io.specs.declared.record.Scan.{Scan}
-use Rattle.air_io.specs.Record.{noCell, cellOf, noNumber, notTwelve, dash, sound, newline, more, SoFar, soFar, ending, closing, failing, longer, dashed, spelling, taking, takenTo, allTaken}
+use Rattle.air_io.specs.Record.{noCell, cellOf, noNumber, notTwelve, dash, sound, more, SoFar, soFar, ending, closing, failing, longer, dashed, spelling, taking, takenTo, allTaken}
 
 -- ---- a number as the record has it, and one more
 

@@ -5,9 +5,9 @@ use mathlib.Core.List.{List}
 use lib.Dec.{eqb, ltb}
 use lib.ListN.{length, getD}
 use Rattle.rules.specs.Refusals.{pick}
-use Rattle.text.specs.Bytes.{separator}
+use Rattle.text.specs.Bytes.{newline, separator}
 use Rattle.air_io.specs.declared.places.Passed.{Passed}
-use Rattle.air_io.specs.Record.{newline, more}
+use Rattle.air_io.specs.Record.{more}
 
 abbrev pub passedBy : ℕ → ℕ → Passed
 passedBy words line = record { words = words; inside = false; line = line }

@@ -7,7 +7,7 @@ use lib.Dec.{eqb, ltb}
 use lib.ListN.{length, getD}
 use Rattle.rules.specs.Limits.{either, lanePlaces}
 use Rattle.rules.specs.Refusals.{pick}
-use Rattle.text.specs.Bytes.{separator, digit, digitOf}
+use Rattle.text.specs.Bytes.{newline, separator, digit, digitOf}
 use Rattle.text.specs.Numbers.{top}
 use Rattle.text.specs.Output.{page, put}
 use Rattle.judging.specs.Record.{nothingSeen}
@@ -20,10 +20,7 @@ noCell = 65_534
 unfoldable pub cellOf : ℕ → ℕ
 cellOf v = pick (ltb nothingSeen v) noCell v
 
--- the bytes that end a line, and that stand for nothing
-abbrev pub newline : ℕ
-newline = 10
-
+-- the byte that stands for nothing seen
 abbrev pub dash : ℕ
 dash = 45
 

@@ -12,7 +12,7 @@ use Rattle.rules.specs.Limits.{within, poolMin, poolMax, idMax}
 use Rattle.rules.specs.Refusals.{pick, firstHit, done, notThere, malformed}
 use Rattle.rules.proofs.Tests.{both-r}
 use Rattle.notice.specs.Log.{Bytes, noticesOf, isWholeLog}
-use Rattle.plan.specs.Row.{written}
+use Rattle.plans.specs.Row.{written}
 use Rattle.story.specs.declared.Title.{Title}
 use Rattle.story.specs.Kept.{titleAt}
 use Rattle.agent.specs.declared.PlayedLog.{PlayedLog}

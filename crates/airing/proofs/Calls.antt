@@ -13,7 +13,7 @@ use Rattle.rules.specs.Refusals.{pick, Rule, refuse, firstHit, done, outsideLim
 use Rattle.rules.proofs.Tests.{both-r, both-l, pick-true, pick-false}
 use Rattle.rules.proofs.Refusals.{hitsOf, numbered, cleared, hit-append}
 use Rattle.notice.specs.Log.{isWholeLog}
-use Rattle.plan.proofs.Row.{written-length, written-first}
+use Rattle.plans.proofs.Row.{written-length, written-first}
 use Rattle.story.specs.Life.{Life}
 use Rattle.agent.specs.Played.{lifeIn}
 use Rattle.judging.specs.declared.Counts.{Counts}

@@ -19,8 +19,8 @@ use Rattle.notice.specs.declared.Notice.{Notice}
 use Rattle.notice.specs.declared.Kind.{Kind}
 use Rattle.notice.specs.declared.Kind.the-variants.{Open, Change, Close, Hold, Lift, Skip}
 use Rattle.scheme.specs.Scheme.{paddedKind, steadyKind, starts}
-use Rattle.plan.specs.Row.{written}
-use Rattle.plan.proofs.Row.{written-length, written-first}
+use Rattle.plans.specs.Row.{written}
+use Rattle.plans.proofs.Row.{written-length, written-first}
 use Rattle.story.specs.declared.Title.{Title}
 use Rattle.story.specs.declared.State.{State}
 use Rattle.story.specs.Calls.{blankTitle}

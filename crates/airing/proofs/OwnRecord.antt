@@ -6,7 +6,7 @@ use Prim.Native.Nat.{ℕ, _+_, _*_, _/_, _%_, _<_}
 use native.Mathlib.Omega.{arith}
 use lib.ListN.{getD, length, replicate, length-replicate}
 use Rattle.rules.specs.Limits.{lanePlaces}
-use Rattle.plan.proofs.Row.{written-length, written-first}
+use Rattle.plans.proofs.Row.{written-length, written-first}
 use Rattle.story.specs.declared.Event.{Event}
 use Rattle.story.specs.Story.{lifeOf, upTo, momentOf, tickLength}
 use Rattle.story.specs.Runs.{stateAfter}

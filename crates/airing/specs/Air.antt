@@ -9,7 +9,7 @@ use Rattle.rules.specs.Limits.{both, either, within, poolMin, poolMax, idMax, l
 use Rattle.rules.specs.Refusals.{pick, Rule, refuse, firstHit, done, outsideLimits, wrongRows, malformed, notThere}
 use Rattle.rules.specs.Search.{every}
 use Rattle.grid.specs.Ticks.{cells}
-use Rattle.plan.specs.Row.{written}
+use Rattle.plans.specs.Row.{written}
 use Rattle.scheme.specs.Scheme.{paddedKind}
 use Rattle.notice.specs.Log.{isWholeLog}
 use Rattle.story.specs.Life.{Life, isAdmission}

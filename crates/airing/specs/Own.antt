@@ -6,7 +6,7 @@ use lib.Dec.{eqb}
 use lib.ListN.{replicate}
 use Rattle.rules.specs.Limits.{lanePlaces}
 use Rattle.rules.specs.Refusals.{pick, done}
-use Rattle.plan.specs.Row.{written}
+use Rattle.plans.specs.Row.{written}
 use Rattle.story.specs.declared.State.{State}
 use Rattle.story.specs.Calls.{laneAnswer, laneShows}
 use Rattle.story.specs.declared.Event.{Event}

@@ -10,17 +10,17 @@ use lib.Dec.{eqb}
 use Rattle.rules.specs.Refusals.{pick, done}
 use Rattle.story.specs.declared.State.{State}
 use Rattle.story.specs.Calls.{laneAnswer, laneShows}
-use Rattle.plan.specs.Row.{Planned}
-use Rattle.skipping.specs.Plan.{blocks}
-use Rattle.skipping.specs.Row.{SkipPlanned}
+use Rattle.plans.specs.Row.{Planned}
+use Rattle.plans.specs.Forward.{blocks}
+use Rattle.plans.specs.Row.{SkipPlanned}
 use Rattle.rom.specs.Lanes.{romLaneAnswer, romLaneShows}
-use Rattle.rom.specs.Plans.{RomPlanned}
+use Rattle.rom.specs.Plan.{RomPlanned}
 use Rattle.text.specs.Output.{Page, puts}
 use Rattle.words.specs.Words.{missed}
 use Rattle.console_answers.specs.Entries.{each}
 use Rattle.console_answers.specs.Outcomes.{doneText, withText, valueText}
 use Rattle.console_boxes.specs.Lanes.{laneText, romLaneText}
-use Rattle.console_boxes.specs.Plans.{cellsText, plannedText, planText, romPlanText, skipPlanText}
+use Rattle.console_boxes.specs.Plan.{cellsText, plannedText, planText, romPlanText, skipPlanText}
 
 module _ (p r : Page) where
   pub lane-told : (s : State) (i l τ a v : ℕ) → a ≡ laneAnswer s i l τ → v ≡ laneShows s i l τ

@@ -1,3 +1,3 @@
 -- What a box asks.
 pub mod Lanes
-pub mod Plans
+pub mod Plan

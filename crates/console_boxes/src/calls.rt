@@ -8,7 +8,7 @@ ghost use Prim.Native.Nat.{_-_, _^_, _≤_};
 ghost use lib.Dec.{eqb};
 ghost use Rattle.rules.specs.Limits.{countMax};
 ghost use Rattle.rules.specs.Refusals.{pick, done};
-ghost use Rattle.console_boxes.specs.Plans.{Filled, planText, romPlanText, skipPlanText, planOver};
+ghost use Rattle.console_boxes.specs.Plan.{Filled, planText, romPlanText, skipPlanText, planOver};
 
 // The answer, the number that the words of a refusal name, and how many cells were written into the row.
 pub struct Told {
@@ -31,7 +31,7 @@ fn cells_of(answer: u8, cap: u64) -> usize
 fn padded(floor: u64, cap: u64, count: u64, arrival: u64, row: &mut [u16]) -> Told
     ensures { λ r. ⌜ Filled (planText floor cap count arrival (now (row .entry))) r (now (row .exit)) ⌝ }
 {
-    let answer = plan::plan(floor, cap, count, arrival, row);
+    let answer = plans::plan(floor, cap, count, arrival, row);
     let named = words::missed(answer, floor, cap);
     let cells = cells_of(answer, cap);
     Told {
@@ -44,7 +44,7 @@ fn padded(floor: u64, cap: u64, count: u64, arrival: u64, row: &mut [u16]) -> To
 fn small(floor: u64, cap: u64, count: u64, arrival: u64, row: &mut [u16]) -> Told
     ensures { λ r. ⌜ Filled (romPlanText floor cap count arrival (now (row .entry))) r (now (row .exit)) ⌝ }
 {
-    let answer = rom::plans::plan(floor, cap, count, arrival, row);
+    let answer = rom::plan::plan(floor, cap, count, arrival, row);
     let named = words::missed(answer, floor, cap);
     let cells = cells_of(answer, cap);
     Told {
@@ -67,7 +67,7 @@ fn one_less(count: u64) -> u64
 fn forward(count: u64, arrival: u64, row: &mut [u16]) -> Told
     ensures { λ r. ⌜ Filled (skipPlanText count arrival (now (row .entry))) r (now (row .exit)) ⌝ }
 {
-    let answer = skipping::skip_plan(count, arrival, row);
+    let answer = plans::skip_plan(count, arrival, row);
     let cells = cells_of(answer, one_less(count));
     Told {
         answer,

@@ -1,12 +1,12 @@
 // The cells of a plan, each behind a space.
 
 use console_answers::entries::put_entry;
-use plan::NEVER;
+use plans::NEVER;
 use text::output;
 ghost use Prim.Native.Nat.{_≤_};
 ghost use lib.ListN.{length};
 ghost use Rattle.text.specs.Output.{Written};
-ghost use Rattle.console_boxes.specs.Plans.{cellEntry, cellsText};
+ghost use Rattle.console_boxes.specs.Plan.{cellEntry, cellsText};
 
 // A cell of a plan: its number, or `-` where it is never taken.
 fn put_cell(out: &mut [u8], at: usize, n: u16) -> usize

@@ -4,4 +4,4 @@
 mod calls;
 mod cells;
 pub mod lanes;
-pub mod plans;
+pub mod plan;

@@ -20,7 +20,7 @@ use Rattle.console_answers.specs.Faults.{helpText}
 use Rattle.console_answers.specs.Outcomes.{doneText}
 use Rattle.console_notices.specs.Reading.{readingText}
 use Rattle.console_boxes.specs.Lanes.{laneText, romLaneText}
-use Rattle.console_boxes.specs.Plans.{planIn}
+use Rattle.console_boxes.specs.Plan.{planIn}
 use Rattle.console_pools.specs.Titles.{statusText, idsIn}
 use Rattle.console_pools.specs.Shares.{shareIn}
 use Rattle.console_pools.specs.Moves.{plannerIn}

@@ -10,7 +10,7 @@ use console_acts::writing::notice_of;
 use console_answers::faults;
 use console_answers::outcomes;
 use console_boxes::lanes;
-use console_boxes::plans;
+use console_boxes::plan;
 use console_lines::commands;
 use console_lines::lines;
 use console_lines::lines::Line;
@@ -134,7 +134,7 @@ fn ask(state: State, line: Line, s: &[u8], out: &mut [u8], at: usize) -> usize
         return lanes::put_rom_lane(out, at, state, n[0], n[1], n[2]);
     }
     if commands::asks_plan(command) {
-        return plans::put_plan(out, at, line);
+        return plan::put_plan(out, at, line);
     }
     tell(line, s, out, at)
 }

@@ -7,7 +7,7 @@ ghost use Rattle.rules.specs.Limits.{countMax};
 ghost use Rattle.grid.specs.Channels.{channelCell};
 ghost use Rattle.grid.specs.Bounds.{CountCap, Counted, tickMax};
 ghost use Rattle.rules.specs.Refusals.{pick};
-ghost use Rattle.plan.specs.Plan.{planAt};
+ghost use Rattle.plans.specs.Padded.{planAt};
 ghost use Rattle.figures.specs.Segments.{segmentOf, foundIn, needsNoBuffer};
 
 // The segment of count `count` that holds a cell.
@@ -77,6 +77,6 @@ pub fn taken_in(segment: usize) -> u64
     ensures { λ r. ⌜ r ≡ planAt 4 4 4 0 (segment - 1) ⌝ }
 {
     let mut row = [0u16; 16];
-    plan::plan(4, 4, 4, 0, &mut row);
+    plans::plan(4, 4, 4, 0, &mut row);
     wide(row[segment - 1])
 }

@@ -4,7 +4,7 @@ use crate::segments::wide;
 ghost use Prim.Native.Nat.{_<_, _≤_};
 ghost use Rattle.rules.specs.Limits.{askedMax};
 ghost use Rattle.grid.specs.Bounds.{FloorCap};
-ghost use Rattle.skipping.specs.Plan.{skipAt};
+ghost use Rattle.plans.specs.Forward.{skipAt};
 ghost use Rattle.figures.specs.Rows.{Holds};
 ghost use Rattle.figures.specs.Steady.{blockOn};
 
@@ -32,7 +32,7 @@ pub fn taken_from(start: u64) -> [u64; 8]
     ensures { λ r. ⌜ Holds (skipAt 4 start) 8 r ⌝ }
 {
     let mut plan = [0u16; 8];
-    skipping::skip_plan(4, start, &mut plan);
+    plans::skip_plan(4, start, &mut plan);
     let mut row = [0u64; 8];
     let mut i: usize = 0;
     while i < 8 {

@@ -13,7 +13,8 @@ use Rattle.text.specs.Digits.{decimal}
 use Rattle.text.proofs.Pages.{stands}
 use Rattle.text.proofs.Printing.{decimal-short}
 use Rattle.listing_io.specs.declared.steps.Listed.{Listed}
-use Rattle.listing_io.specs.Lines.{space, newline, ended, lineOf, lastLine, lineRoom}
+use Rattle.text.specs.Bytes.{newline}
+use Rattle.listing_io.specs.Lines.{space, ended, lineOf, lastLine, lineRoom}
 use Rattle.listing_io.specs.Step.{noticeLine, cutLine, lineAfter, Lists, Shows}
 
 -- ---- the lines

@@ -2,14 +2,12 @@
 use Prim.Native.Nat.{ℕ}
 use mathlib.Core.List.{List, [], _∷_, _++_}
 use Rattle.rules.specs.Refusals.{malformed}
+use Rattle.text.specs.Bytes.{newline}
 use Rattle.text.specs.Texts.{text}
 use Rattle.text.specs.Digits.{decimal}
 
 abbrev pub space : ℕ
 space = 32
-
-abbrev pub newline : ℕ
-newline = 10
 
 -- a number in decimal, and the byte that ends it
 unfoldable pub ended : ℕ → ℕ → List ℕ

@@ -59,10 +59,6 @@ module _ (t : Title) (ok : titleOk t ≡ true) where
         flat = level there;
       }
 
-  pub count-low : (t .mode ≡ absentMode → ⊥) → t .film .floor ≤ t .count
-  unfolding orderOk
-  count-low there = let o = order there in search (both-l, both-r, leb-true) depth 12
-
   pub count-fit : (t .mode ≡ absentMode → ⊥) → t .count ≤ t .film .cap
   unfolding orderOk
   count-fit there = let o = order there in search (both-l, both-r, leb-true) depth 12

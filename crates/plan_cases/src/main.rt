@@ -4,7 +4,7 @@ const STDOUT: i32 = 1;
 
 // One number of the plan: the tick minus the arrival, or "none" for a cell that is never taken.
 fn print_place(place: u16) {
-    if place == plan::NEVER {
+    if place == plans::NEVER {
         io::write_all(STDOUT, b"none");
     } else {
         io::print_decimal(STDOUT, place as u64);
@@ -26,7 +26,7 @@ fn print_row(row: &[u16]) {
 
 fn main() {
     let mut row = [0u16; 16];
-    let answer = plan::plan(2, 4, 4, 0, &mut row);
+    let answer = plans::plan(2, 4, 4, 0, &mut row);
     if answer == rules::DONE {
         print_row(&row);
     } else {

@@ -19,11 +19,11 @@ use Rattle.rules.proofs.Search.{below-suc}
 use Rattle.grid.specs.Lanes.{laneCell}
 use Rattle.grid.specs.Bounds.{Counted}
 use Rattle.scheme.specs.Scheme.{padded, starts}
-use Rattle.plan.specs.Plan.{planAt, never}
-use Rattle.plan.specs.Row.{written}
-use Rattle.plan.proofs.Row.{written-first}
+use Rattle.plans.specs.Padded.{planAt, never}
+use Rattle.plans.specs.Row.{written}
+use Rattle.plans.proofs.Row.{written-first}
 use Rattle.rom.specs.Table.{romFloor, romCap, romPeriod}
-use Rattle.rom.specs.Plans.{noted, notedLanes, notedTicks}
+use Rattle.rom.specs.Plan.{noted, notedLanes, notedTicks}
 use Rattle.rom.proofs.Entries.{lane-within}
 use Rattle.rom.specs.Showing.{isShown, shownAfter, seen}
 use Rattle.rom.proofs.Showing.{seen-plan}

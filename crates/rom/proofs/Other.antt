@@ -8,9 +8,9 @@ use borrow.Author.Tests.{eq-eqb, ne-eqb, eqb-true, not-false}
 use Rattle.rules.specs.Limits.{both}
 use Rattle.rules.specs.Refusals.{firstHit, outsideLimits}
 use Rattle.rules.proofs.Tests.{both-l, both-r}
-use Rattle.plan.specs.Plan.{planAnswer}
+use Rattle.plans.specs.Padded.{planAnswer}
 use Rattle.rom.specs.Table.{romFloor, romCap, isOther}
-use Rattle.rom.specs.Plans.{romPlanAnswer}
+use Rattle.rom.specs.Plan.{romPlanAnswer}
 
 module _ (A K : ℕ) where
   pub own : A ≡ romFloor → K ≡ romCap → isOther A K ≡ false

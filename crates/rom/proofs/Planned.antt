@@ -9,12 +9,12 @@ use native.Mathlib.Omega.{arith}
 use lib.ListN.{length}
 use Rattle.rules.specs.Refusals.{done}
 use Rattle.rules.proofs.Tests.{decide}
-use Rattle.plan.specs.Plan.{planAt, planAnswer}
-use Rattle.plan.specs.Row.{written, Planned}
-use Rattle.plan.proofs.Refusals.{Accepted, accepted-only}
-use Rattle.plan.proofs.Row.{row-done, row-refused}
+use Rattle.plans.specs.Padded.{planAt, planAnswer}
+use Rattle.plans.specs.Row.{written, Planned}
+use Rattle.plans.proofs.padded.Refusals.{Accepted, accepted-only}
+use Rattle.plans.proofs.padded.Row.{row-done, row-refused}
 use Rattle.rom.specs.Table.{romFloor, romCap, isOther}
-use Rattle.rom.specs.Plans.{romPlanAnswer, romPlanRow, RomPlanned}
+use Rattle.rom.specs.Plan.{romPlanAnswer, romPlanRow, RomPlanned}
 use Rattle.rom.proofs.Other.{own, own-numbers, plan-own, plan-other}
 
 -- a call that is not refused

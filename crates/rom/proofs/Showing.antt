@@ -14,14 +14,14 @@ use Rattle.grid.specs.Ticks.{slot}
 use Rattle.grid.specs.Channels.{InG}
 use Rattle.grid.specs.Lanes.{laneCell}
 use Rattle.grid.specs.Bounds.{Carrier}
-use Rattle.plan.specs.Plan.{planAt}
+use Rattle.plans.specs.Padded.{planAt}
 use Rattle.grid.proofs.Lanes.{cell-of-lane, lane-of-cell}
 use Rattle.grid.proofs.Carriers.{carries-only, carrier-one, carried-cell}
 use Rattle.scheme.specs.Scheme.{padded, starts}
 use Rattle.scheme.proofs.Takes.{Taken, taken-out, window-end}
 use Rattle.scheme.proofs.Padded.{spans-fit}
 use Rattle.scheme.proofs.Waits.{once}
-use Rattle.plan.proofs.Places.{plan-in, plan-never}
+use Rattle.plans.proofs.padded.Places.{plan-in, plan-never}
 use Rattle.rom.specs.Showing.{isShown, shownAfter, seen}
 
 module _ (A K k : ℕ) (low : A ≤ k) (high : k ≤ K) where

@@ -9,7 +9,7 @@ use denote.Ref.{now}
 use denote.Triple.Clauses.{AtExit}
 use Rattle.rules.specs.OneOutcome.{OneEnd, OneOutcome}
 use Rattle.story.specs.Kept.{titleAt}
-use Rattle.plan.proofs.plan.Reads as computed-plan
+use Rattle.plans.proofs.plan.Reads as computed-plan
 use Rattle.scheduler.proofs.lane.Reads as computed-lane
 use Rattle.rom.specs.Table.{romFloor, romCap}
 use Rattle.rom.specs.Lanes.{Own}
@@ -17,8 +17,8 @@ use Rattle.rom.proofs.Planned.{same-plan}
 use Rattle.rom.proofs.Answered.{same-answer, same-cell}
 use Rattle.rom.proofs.lanes.lane.Kinds as lane-kinds
 use Rattle.rom.proofs.lanes.lane.Reads as lane-call
-use Rattle.rom.proofs.plans.plan.Kinds as plan-kinds
-use Rattle.rom.proofs.plans.plan.Reads as plan-call
+use Rattle.rom.proofs.plan.plan.Kinds as plan-kinds
+use Rattle.rom.proofs.plan.plan.Reads as plan-call
 
 pub lane-one-outcome : OneOutcome 0 lane-kinds.ps lane-kinds.r lane-call.Learnt
 lane-one-outcome κs a x y e f p q =

@@ -5,7 +5,7 @@ use lib.Dec.{ltb, eqb}
 use Rattle.rules.specs.Refusals.{pick}
 use Rattle.rules.specs.Search.{some, first}
 use Rattle.grid.specs.Lanes.{laneCell}
-use Rattle.plan.specs.Plan.{never}
+use Rattle.plans.specs.Padded.{never}
 
 -- one of lanes 0 to l - 1 shows cell c at tick t
 unfoldable pub isShown : ℕ → ℕ → ℕ → ℕ → ℕ → Bool

@@ -3,5 +3,5 @@
 // code that computes the grid.
 
 pub mod lanes;
-pub mod plans;
+pub mod plan;
 pub mod table;

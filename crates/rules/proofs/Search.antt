@@ -39,9 +39,6 @@ module _ (p : ℕ → Bool) where
   pub some-none : (n : ℕ) → ((i : ℕ) → i < n → p i ≡ false) → some p n ≡ false
   some-none n f = fails (some p n) (λ h. let r = some-out n h in false≢true (sym (f (r .0) (r .1)) ∙ r .2))
 
-  pub none-some : (n i : ℕ) → some p n ≡ false → i < n → p i ≡ false
-  none-some n i h l = fails (p i) (λ t. false≢true (sym h ∙ some-in n i l t))
-
   -- ---- every
 
   pub every-in : (n : ℕ) → ((i : ℕ) → i < n → p i ≡ true) → every p n ≡ true

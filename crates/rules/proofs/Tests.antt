@@ -21,10 +21,6 @@ both-r false b h = absurd (false≢true h)
 pub both-in : (a b : Bool) → a ≡ true → b ≡ true → both a b ≡ true
 both-in a b p q = rw (p, q) refl
 
-pub both-out : (a b : Bool) → both a b ≡ false → (a ≡ false) ⊎ (b ≡ false)
-both-out true b h = inr h
-both-out false b h = inl refl
-
 -- a test joined with one that passes is itself
 pub both-true : (b : Bool) → both b true ≡ b
 both-true true = refl

@@ -8,7 +8,7 @@ use native.Mathlib.Omega.{arith}
 use native.Mathlib.Numerals.{add-one}
 use borrow.Author.Tests.{lt-ltb, le-ltb}
 use lib.Dec.{ltb}
-use lib.ListN.{length, getD, take, drop, set, length-drop, length-append}
+use lib.ListN.{length, getD, take, drop, set, length-drop}
 use lib.Seq.{length-take-le, drop-cons, take-suc, append-snoc, getD-append-add, getD-drop, set-at}
 use Rattle.rules.specs.Refusals.{pick}
 use Rattle.text.specs.Feed.{Moved, moved, count}
@@ -20,10 +20,6 @@ front l from i = take i (drop from l) ++ drop i l
 module _ (l : List ℕ) (from i : ℕ) where
   head-length : from + i ≤ length l → length (take i (drop from l)) ≡ i
   head-length h = length-take-le i (drop from l) (rw length-drop (omega arith))
-
-  pub front-length : from + i ≤ length l → length (front l from i) ≡ length l
-  unfolding front
-  front-length h = rw (length-append, head-length h, length-drop) (omega arith)
 
   front-at : from + i ≤ length l → getD (front l from i) (from + i) 0 ≡ getD l (from + i) 0
   unfolding front

@@ -9,6 +9,10 @@ use Rattle.rules.specs.Refusals.{pick}
 use Rattle.text.specs.declared.bytes.Sort.{Sort}
 use Rattle.text.specs.declared.bytes.Sort.the-variants.{Separator, Word, Digit, Hex, Line}
 
+-- the byte that ends a line
+abbrev pub newline : ℕ
+newline = 10
+
 -- a space, a tab or a carriage return
 abbrev pub separator : ℕ → Bool
 separator b = either (eqb b 32) (either (eqb b 9) (eqb b 13))
@@ -27,7 +31,7 @@ isSort Separator b = separator b
 isSort Word b = not (separator b)
 isSort Digit b = digit b
 isSort Hex b = hexDigit b
-isSort Line b = not (eqb b 10)
+isSort Line b = not (eqb b newline)
 
 -- how many bytes of that sort s begins with
 unfoldable pub run : Sort → List ℕ → ℕ

@@ -1,7 +1,7 @@
 // What a lane question and a question of all titles answer, in 01's order, and from when on a title may change again.
 
-use measures::lanes::is_held;
 use limits::state_ok;
+use measures::lanes::is_held;
 use measures::slots::title_of;
 use measures::ticks::settled_at;
 use measures::ticks::tick_at;

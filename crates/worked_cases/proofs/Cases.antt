@@ -15,7 +15,7 @@ use Rattle.grid.specs.Ticks.{tickOf, roundedUp, slot, cellOf}
 use Rattle.grid.specs.Channels.{floorRem, shift, segment, channelCell}
 use Rattle.grid.specs.Lanes.{isInG, isAdded, addedChannel, laneCell}
 use Rattle.scheme.specs.Scheme.{schemeOf, starts, takes, takesFrom, takenAfter, tickFor, filmIn}
-use Rattle.plan.specs.Plan.{planAt}
+use Rattle.plans.specs.Padded.{planAt}
 use Rattle.story.specs.Life.{isAdmission, isActive, droppedAt, isAwaited, isOwed, reach, owedWithin, isNth, nthOwed}
 use Rattle.story.specs.Life.{sends, onAir, isHeld}
 use Rattle.story.specs.Story.{tickIn, lifeOf, latestOf, tunedOf, upTo, heldIn, heldOver, answerTo, accepted}

@@ -12,7 +12,7 @@ use Rattle.rules.specs.Limits.{both}
 use Rattle.rules.specs.Refusals.{pick, done, outsideLimits, unchanged, aboveCap, notAtSlot, noLanes, tooSoon}
 use Rattle.grid.specs.Ticks.{cells, tickOf}
 use Rattle.grid.specs.Lanes.{isInG, laneCell}
-use Rattle.plan.specs.Plan.{planAt, never}
+use Rattle.plans.specs.Padded.{planAt, never}
 use Rattle.story.specs.Life.{Air, nothing, cell}
 use Rattle.scheme.specs.Scheme.{filmIn}
 use Rattle.story.specs.declared.Act.{Act}

@@ -12,7 +12,7 @@ use Rattle.scheme.specs.Scheme.{paddedKind, steadyKind, starts}
 use Rattle.notice.specs.declared.Notice.{Notice}
 use Rattle.notice.specs.declared.Reading.the-variants as reading
 use Rattle.notice.specs.Log.{isWholeLog}
-use Rattle.plan.specs.Row.{written}
+use Rattle.plans.specs.Row.{written}
 use Rattle.story.specs.declared.Title.{Title}
 use Rattle.story.specs.Kept.{openMode, titleAt, schemeIn, tickAt}
 use Rattle.story.specs.Life.{Life}

@@ -5,7 +5,8 @@ use native.Mathlib.Nat.{le-antisymm}
 use native.Mathlib.Numerals.{add-one}
 use native.Mathlib.Omega.{arith}
 use lib.ListN.{length, getD}
-use Rattle.air_io.specs.Record.{newline, SoFar, soFar, taking, takenTo}
+use Rattle.text.specs.Bytes.{newline}
+use Rattle.air_io.specs.Record.{SoFar, soFar, taking, takenTo}
 use Rattle.air_io.proofs.Reading.{taking-length}
 use borrow.Author.Needs.{needs}
 use Rattle.air_io.proofs.record.take_text.Statement.{statement}

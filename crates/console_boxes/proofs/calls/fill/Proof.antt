@@ -1,6 +1,6 @@
 -- `console_boxes::calls::fill` meets its contract: each test on the command is that of the definition.
 use borrow.Author.Tests.{eq-eqb, ne-eqb}
-use Rattle.console_boxes.specs.Plans.{planOver}
+use Rattle.console_boxes.specs.Plan.{planOver}
 use borrow.Author.Needs.{needs}
 use Rattle.console_boxes.proofs.calls.fill.Statement.{statement}
 use Rattle.console_boxes.proofs.calls.fill.Tie as tie

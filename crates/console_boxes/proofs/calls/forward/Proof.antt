@@ -3,8 +3,8 @@ use mathlib.Core.Path.{_≡_, sym, _∙_}
 use native.Mathlib.Omega.{arith}
 use lib.ListN.{length}
 use Rattle.rules.specs.Refusals.{done}
-use Rattle.skipping.specs.Plan.{blocks}
-use Rattle.skipping.proofs.Refusals.{Accepted, accepted-only}
+use Rattle.plans.specs.Forward.{blocks}
+use Rattle.plans.proofs.forward.Refusals.{Accepted, accepted-only}
 use Rattle.console_boxes.proofs.Answered.{forward-told, cells-fit}
 use borrow.Author.Needs.{needs}
 use Rattle.console_boxes.proofs.calls.forward.Statement.{statement}

@@ -4,7 +4,7 @@ use mathlib.Core.Path.{_≡_, sym, _∙_}
 use native.Mathlib.Omega.{arith}
 use lib.ListN.{length}
 use Rattle.rules.specs.Refusals.{done}
-use Rattle.plan.proofs.Refusals.{Accepted, accepted-only}
+use Rattle.plans.proofs.padded.Refusals.{Accepted, accepted-only}
 use Rattle.console_boxes.proofs.Answered.{padded-told, cells-fit}
 use borrow.Author.Needs.{needs}
 use Rattle.console_boxes.proofs.calls.padded.Statement.{statement}

@@ -1,7 +1,7 @@
 -- `console_boxes::cells::put_cell` meets its contract: `-` for a cell never taken, else its number.
 use borrow.Author.Tests.{eq-eqb, ne-eqb}
 use Rattle.text.specs.Texts.{text}
-use Rattle.console_boxes.specs.Plans.{cellEntry}
+use Rattle.console_boxes.specs.Plan.{cellEntry}
 use borrow.Author.Needs.{needs}
 use Rattle.console_boxes.proofs.cells.put_cell.Statement.{statement}
 use Rattle.console_boxes.proofs.cells.put_cell.Tie as tie

@@ -3,7 +3,7 @@ use Prim.Native.Nat.{ℕ, _-_}
 use native.Mathlib.Omega.{arith}
 use lib.ListN.{getD}
 use Rattle.text.specs.Output.{page}
-use Rattle.console_boxes.specs.Plans.{cellEntry}
+use Rattle.console_boxes.specs.Plan.{cellEntry}
 use Rattle.console_answers.proofs.Rows.{Passed, passed-none, passed-on, passed-all}
 use borrow.Author.Needs.{needs}
 use Rattle.console_boxes.proofs.cells.put_cells.Statement.{statement}

@@ -7,8 +7,8 @@ use lib.ListN.{getD}
 use Rattle.rules.specs.Refusals.{firstHit}
 use Rattle.grid.specs.Ticks.{slot}
 use Rattle.scheme.specs.Scheme.{starts}
-use Rattle.plan.specs.Plan.{planAnswer}
-use Rattle.plan.proofs.Row.{row-first}
+use Rattle.plans.specs.Padded.{planAnswer}
+use Rattle.plans.proofs.padded.Row.{row-first}
 use borrow.Author.Needs.{needs}
 use Rattle.figures.proofs.segments.taken_in.Statement.{statement}
 use Rattle.figures.proofs.segments.taken_in.Tie as tie

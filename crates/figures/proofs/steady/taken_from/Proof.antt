@@ -8,10 +8,10 @@ use lib.ListN.{length, getD, length-set}
 use borrow.Author.Needs.{needs}
 use borrow.Author.Tests.{le-leb}
 use Rattle.rules.specs.Limits.{askedMax}
-use Rattle.skipping.specs.Plan.{skipAt}
-use Rattle.skipping.specs.Row.{skipRow}
-use Rattle.skipping.proofs.Refusals.{accepted}
-use Rattle.skipping.proofs.Row.{row-first, row-length}
+use Rattle.plans.specs.Forward.{skipAt}
+use Rattle.plans.specs.Row.{skipRow}
+use Rattle.plans.proofs.forward.Refusals.{accepted}
+use Rattle.plans.proofs.forward.Row.{row-first, row-length}
 use Rattle.figures.proofs.Filling.{Filled, filled-next}
 use Rattle.figures.proofs.steady.taken_from.Statement.{statement}
 use Rattle.figures.proofs.steady.taken_from.Tie as tie

@@ -4,7 +4,8 @@ use Rattle.rules.specs.Refusals.{malformed}
 use Rattle.text.specs.Texts.{text}
 use Rattle.text.specs.Output.{page}
 use Rattle.text.proofs.Pages.{puts-then}
-use Rattle.listing_io.specs.Lines.{ended, lastLine, space, newline}
+use Rattle.text.specs.Bytes.{newline}
+use Rattle.listing_io.specs.Lines.{ended, lastLine, space}
 use borrow.Author.Needs.{needs}
 use Rattle.listing_io.proofs.lines.put_last.Statement.{statement}
 use Rattle.listing_io.proofs.lines.put_last.Tie as tie

@@ -2,7 +2,8 @@
 use mathlib.Core.List.{_++_}
 use Rattle.text.specs.Output.{page}
 use Rattle.text.proofs.Pages.{puts-then}
-use Rattle.listing_io.specs.Lines.{ended, lineOf, space, newline}
+use Rattle.text.specs.Bytes.{newline}
+use Rattle.listing_io.specs.Lines.{ended, lineOf, space}
 use borrow.Author.Needs.{needs}
 use Rattle.listing_io.proofs.lines.put_line.Statement.{statement}
 use Rattle.listing_io.proofs.lines.put_line.Tie as tie

@@ -1,0 +1,70 @@
+// The plan that a line asks for, written.
+
+use crate::calls;
+use crate::cells::put_cells;
+use console_answers::outcomes;
+use console_lines::commands;
+use console_lines::commands::PLACES_MOST;
+use console_lines::lines::Line;
+ghost use mathlib.Core.Path.{_≡_};
+ghost use Prim.Native.Nat.{_<_, _≤_};
+ghost use lib.ListN.{length};
+ghost use Rattle.text.specs.Output.{Written};
+ghost use Rattle.console_lines.specs.Commands.{placesMost};
+ghost use Rattle.console_lines.specs.Lines.{numbersMost};
+ghost use Rattle.console_boxes.specs.Plan.{planOver, planIn, placeOf, placesIn, zeros};
+
+// Where the places stand in a line that asks for a plan: behind the four numbers of a title and a box, or behind count and
+// arrival.
+const PLAN_PLACE: usize = 4;
+
+const SKIP_PLAN_PLACE: usize = 2;
+
+fn place_of(command: u8) -> usize
+    ensures { λ r. ⌜ (r ≡ placeOf command) × (r < numbersMost) ⌝ }
+{
+    if command == commands::SKIP_PLAN {
+        return SKIP_PLAN_PLACE;
+    }
+    PLAN_PLACE
+}
+
+// How many places a plan is lent, up to the most, which it is where the line leaves them out.
+fn places_of(line: Line) -> usize
+    ensures { λ r. ⌜ (r ≡ placesIn line) × (r ≤ placesMost) ⌝ }
+{
+    let count = line.count;
+    let n = line.numbers;
+    let place = place_of(line.command);
+    if place < count {
+        let places = n[place];
+        if places < PLACES_MOST as u64 {
+            return places as usize;
+        }
+    }
+    PLACES_MOST
+}
+
+// The row that a line lends.
+fn blank_row() -> [u16; PLACES_MOST]
+    ensures { λ r. ⌜ (r ≡ zeros placesMost) × (length r ≡ placesMost) ⌝ }
+{
+    [0; PLACES_MOST]
+}
+
+// Over a row that is lent: the answer, and behind it the cells.
+fn put_row(out: &mut [u8], at: usize, line: Line, row: &mut [u16]) -> usize
+    ensures { λ r. ⌜ Written (now (out .entry)) at (planOver line (now (row .entry))) (now (out .exit)) r ⌝ }
+{
+    let told = calls::fill(line, row);
+    let a = outcomes::put_done(out, at, told.answer, told.named);
+    put_cells(out, a, row, told.cells)
+}
+
+pub fn put_plan(out: &mut [u8], at: usize, line: Line) -> usize
+    ensures { λ r. ⌜ Written (now (out .entry)) at (planIn line) (now (out .exit)) r ⌝ }
+{
+    let n = places_of(line);
+    let mut row = blank_row();
+    put_row(out, at, line, &mut row[..n])
+}

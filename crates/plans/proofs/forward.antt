@@ -1,0 +1,5 @@
+-- Of the plan of a skip-forward title's box.
+pub mod Refusals
+pub mod Places
+pub mod Row
+pub mod Worked

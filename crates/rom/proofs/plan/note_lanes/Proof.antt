@@ -1,0 +1,70 @@
+-- `note_lanes` meets its contract. The invariant: the row has what the lanes passed show.
+use mathlib.Core.Path.{_≡_, ap, _∙_}
+use Prim.Native.Nat.{_-_, _≤_}
+use native.Mathlib.Omega.{arith}
+use native.Mathlib.Nat.{le-antisymm}
+use lib.ListN.{length}
+use borrow.Author.Needs.{needs}
+use Rattle.rom.specs.Plan.{notedLanes}
+use Rattle.rom.proofs.Noted.{noted-length, lanes-more}
+use Rattle.rom.proofs.plan.note_lanes.Statement.{statement}
+use Rattle.rom.proofs.plan.note_lanes.Tie as tie
+
+abbrev Inv-loop : tie.InvT-loop
+Inv-loop row₀ count tick after lane₀ row lane =
+    (lane ≤ count) × (row ≡ notedLanes row₀ tick after lane) × (length row ≡ length row₀)
+
+abbrev μ-loop : tie.MeasureT-loop
+μ-loop row₀ count tick after lane₀ row lane = count - lane
+
+loop-holds : tie.Need-loop-holds Inv-loop μ-loop
+unfolding notedLanes
+loop-holds c = search needs
+
+cell-at-requires : tie.Need-cell-at-requires Inv-loop μ-loop
+cell-at-requires c κs = search needs
+
+note-requires : tie.Need-note-requires Inv-loop μ-loop
+note-requires c κs = search needs
+
+add-lane : tie.Need-add-lane Inv-loop μ-loop
+add-lane c = search needs
+
+loop-less : tie.Need-loop-less Inv-loop μ-loop
+loop-less c = search needs
+
+loop-again : tie.Need-loop-again Inv-loop μ-loop
+loop-again c =
+    let n = c .before .before .note in
+    let x = c .before .before .before .cell-at in
+    let l = c .before .before .before .before .before .before .loop in
+    let s = c .before .before .before .before .before .before .before in
+    let a = s .before .args in (
+      omega arith,
+      lanes-more (a .row .now) (l .row) _ (a .tick) (a .after) (l .lane) _ (l .inv .1) (x .ensures .is) (n .ensures),
+      ap length (n .ensures) ∙ noted-length (l .row) _ _ ∙ l .inv .2,
+    )
+
+same-length : tie.Need-same-length Inv-loop μ-loop
+same-length c = c .before .loop .inv .2
+
+returns : tie.Need-returns Inv-loop μ-loop
+returns c =
+    let a = c .before .before .before .args in
+    let l = c .before .loop in
+    l .inv .1 ∙ ap (notedLanes (a .row .now) (a .tick) (a .after)) (le-antisymm (l .inv .0) (c .loop-test .left))
+
+pub note-lanes-spec : {M : Type 1} → statement M
+note-lanes-spec =
+    tie.close
+    (tie.spec
+    Inv-loop
+    μ-loop
+    loop-holds
+    cell-at-requires
+    note-requires
+    add-lane
+    loop-less
+    loop-again
+    same-length
+    returns)
