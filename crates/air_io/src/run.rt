@@ -12,27 +12,17 @@ use files::arguments::pool_and_title;
 use files::complaints::complain;
 use files::complaints::write_complaints;
 use files::loading::LOG_ROOM;
-use files::loading::complain_of;
-use files::loading::load;
+use files::loading::load_both;
 use files::pages::within_row;
 use files::pages::write_page;
 use judging::TICKS_MAX;
 use rules::LANE_PLACES;
-ghost use mathlib.Core.Path.{_≡_};
-ghost use lib.ListN.{length};
 
 // One byte more than a text may have: 512 KiB.
 const TEXT_ROOM: usize = 524_289;
 
 // The numbers of one tick more than a record may have, which shows it to be too long.
 const NUMBERS_ROOM: usize = (TICKS_MAX + 1) * LANE_PLACES;
-
-// The `ensures` gives the length, which lending the array as a slice needs.
-fn text_room() -> [u8; TEXT_ROOM]
-    ensures { λ r. ⌜ 524_289 ≡ length r ⌝ }
-{
-    [0u8; TEXT_ROOM]
-}
 
 fn show(pool: u64, title: u64, log: &[u8], record: &[u16]) {
     let mut out = io::large_buffer();
@@ -66,30 +56,18 @@ fn tell(pool: u64, title: u64, log: &[u8], text: &[u8]) {
     complain_of_fault(scan);
 }
 
-fn with_record(pool: u64, title: u64, log: &[u8]) {
-    let mut text = text_room();
-    let file = load(4, &mut text);
-    let size = file.size;
-    if file.ok {
-        tell(pool, title, log, &text[..size]);
-    } else {
-        complain_of(b"RECORD", file);
+fn with_rooms(pool: u64, title: u64, log: &mut [u8], text: &mut [u8]) {
+    let read = load_both(log, b"RECORD", text);
+    let size = read.log;
+    let length = read.own;
+    if read.ok {
+        tell(pool, title, &log[..size], &text[..length]);
     }
 }
 
-fn with_log(pool: u64, title: u64, log: &mut [u8]) {
-    let file = load(3, log);
-    let size = file.size;
-    if file.ok {
-        with_record(pool, title, &log[..size]);
-    } else {
-        complain_of(b"LOG", file);
-    }
-}
-
-// The room is lent as an array first, whose length then needs no proof.
-fn lend(pool: u64, title: u64, log: &mut [u8; LOG_ROOM]) {
-    with_log(pool, title, log);
+// The rooms are lent as arrays first, whose lengths then need no proof.
+fn lend(pool: u64, title: u64, log: &mut [u8; LOG_ROOM], text: &mut [u8; TEXT_ROOM]) {
+    with_rooms(pool, title, log, text);
 }
 
 // Arguments are tested in their order, then the files.
@@ -98,5 +76,6 @@ pub fn run() {
         return;
     };
     let mut log = [0u8; LOG_ROOM];
-    lend(pool, title, &mut log);
+    let mut text = [0u8; TEXT_ROOM];
+    lend(pool, title, &mut log, &mut text);
 }

@@ -6,13 +6,13 @@
 use agent::Agent;
 use console_lines::commands::PLACES_MOST;
 use console_lines::lines::LONGEST;
-use streams::Got;
+use streams::Filled;
+use streams::refill;
 use text::bytes;
 use text::bytes::Sort;
 use text::feed;
-ghost use Prim.Native.Nat.{_-_, _≤_};
+ghost use Prim.Native.Nat.{_≤_};
 ghost use lib.ListN.{length};
-ghost use Rattle.streams.specs.Reads.{Fits};
 
 // The pool that a session starts with.
 const POOL: u64 = 8;
@@ -180,29 +180,19 @@ fn finish(session: Session, buffer: &[u8], kept: usize, out: &mut [u8]) -> Sessi
     over(session)
 }
 
-// Reads what is there behind the first bytes of the buffer.
-fn refill(buffer: &mut [u8], kept: usize) -> Got
-    ensures { λ r. ⌜ Fits (length (now (buffer .entry)) - kept) r ⌝ }
-{
-    if buffer.len() < kept {
-        return Got::End;
-    }
-    streams::read_some(&mut buffer[kept..])
-}
-
 // Reads a block behind the bytes that are kept and answers its lines. After a read that failed nothing is answered.
 fn read_block(session: Session, kept: usize, buffer: &mut [u8], out: &mut [u8]) -> Stand {
-    let got = refill(buffer, kept);
-    match got {
-        Got::Bytes(n) => take_block(session, buffer, kept + n, out),
-        Got::End => {
-            let last = finish(session, buffer, kept, out);
+    let filled = refill(buffer, kept);
+    match filled {
+        Filled::More(n) => take_block(session, buffer, n, out),
+        Filled::Last(n) => {
+            let last = finish(session, buffer, n, out);
             Stand {
                 session: last,
                 place: 0,
             }
         }
-        Got::Failed => {
+        Filled::Failed => {
             let failed = over(session);
             Stand {
                 session: failed,

@@ -14,7 +14,8 @@ use Rattle.text.specs.Output.{Page, puts}
 use Rattle.console_answers.specs.Entries.{numbersText}
 use Rattle.console_answers.specs.Outcomes.{doneText}
 use Rattle.console_answers.proofs.Answered.{told, refused}
-use Rattle.console_pools.specs.Titles.{titlesText, statusText}
+use Rattle.console_pools.specs.Beside.{beside}
+use Rattle.console_pools.specs.Titles.{statusText}
 use Rattle.console_pools.specs.Shares.{shareText}
 
 module _ (p q r : Page) where
@@ -32,7 +33,7 @@ module _ (p q r : Page) where
         counts' ≡ pick (eqb a done) (map (λ i. statusCount s i) ids) counts
         → held' ≡ pick (eqb a done) (map (λ i. statusHeld s i τ) ids) held
         → marks' ≡ pick (eqb a done) (map (λ i. statusMark s i) ids) marks
-        → a ≡ done → r ≡ puts q (titlesText ids counts' held' marks' (length ids)) → r ≡ puts p (statusText s τ ids)
+        → a ≡ done → r ≡ puts q (beside ids counts' held' marks' (length ids)) → r ≡ puts p (statusText s τ ids)
     unfolding statusText
     status-told counts' held' marks' ec eh em z f =
         rw same-answer

@@ -1,27 +1,18 @@
 -- What the planner lists (docs/CONSOLE.md, "Commands": planner).
 use Prim.Native.Nat.{ℕ, _-_, min}
-use mathlib.Core.List.{List, map, _++_}
+use mathlib.Core.List.{List, [], map}
 use lib.ListN.{length, getD, take}
 use Rattle.story.specs.declared.State.{State}
 use Rattle.planner.specs.Moves.{Move}
 use Rattle.planner.specs.Outcome.{plannerAnswer, given}
 use Rattle.console_lines.specs.Commands.{titlesMost, roomMost}
-use Rattle.console_answers.specs.Entries.{entry, each}
 use Rattle.console_answers.specs.Outcomes.{withText}
+use Rattle.console_pools.specs.Beside.{beside}
 use Rattle.console_pools.specs.Shares.{column}
 
--- a listed change: title, time and count
-unfoldable pub moveEntry : ℕ → ℕ → ℕ → List ℕ
-moveEntry id time count = (entry id ++ entry time) ++ entry count
-
--- the first n listed changes of three rows
-abbrev pub movesText : List ℕ → List ℕ → List ℕ → ℕ → List ℕ
-movesText ids times counts n =
-    each (λ (i : ℕ). moveEntry (getD ids i 0) (getD times i 0) (getD counts i 0)) n
-
--- the events of a planner's list, in their order
+-- the events of a planner's list, in their order: title, time and count of each
 unfoldable pub listText : List Move → List ℕ
-listText ms = movesText (map (λ m. m .title) ms) (map (λ m. m .time) ms) (map (λ m. m .count) ms) (length ms)
+listText ms = beside (map (λ m. m .title) ms) (map (λ m. m .time) ms) (map (λ m. m .count) ms) [] (length ms)
 
 -- what the planner lists, with room for so many events
 unfoldable pub plannerText : State → ℕ → List ℕ → ℕ → List ℕ

@@ -1,7 +1,7 @@
 // What the planner lists.
 
+use crate::beside::put_beside;
 use crate::columns::column;
-use console_answers::entries::put_entry;
 use console_answers::outcomes;
 use console_lines::commands::ROOM_MOST;
 use console_lines::commands::TITLES_MOST;
@@ -10,42 +10,10 @@ use rules::DONE;
 use story::State;
 ghost use mathlib.Core.Path.{_≡_};
 ghost use Prim.Native.Nat.{_-_, _≤_, min};
-ghost use lib.ListN.{length};
 ghost use Rattle.console_lines.specs.Commands.{titlesMost, roomMost};
 ghost use Rattle.planner.specs.Outcome.{roomOf};
 ghost use Rattle.text.specs.Output.{Written};
-ghost use Rattle.console_pools.specs.Moves.{plannerText, plannerIn, moveEntry, movesText};
-
-// A listed change: title, time and count.
-fn put_move(out: &mut [u8], at: usize, id: u64, time: u64, count: u64) -> usize
-    ensures { λ r. ⌜ Written (now (out .entry)) at (moveEntry id time count) (now (out .exit)) r ⌝ }
-{
-    let a = put_entry(out, at, id);
-    let b = put_entry(out, a, time);
-    put_entry(out, b, count)
-}
-
-// The first n listed changes.
-pub fn put_moves(
-    out: &mut [u8],
-    at: usize,
-    ids: &[u64],
-    times: &[u64],
-    counts: &[u64],
-    n: usize,
-) -> usize
-    requires { ⌜ (n ≤ length (now ids)) × ((n ≤ length (now times)) × (n ≤ length (now counts))) ⌝ }
-    ensures { λ r. ⌜ Written (now (out .entry)) at
-        (movesText (now (ids .entry)) (now (times .entry)) (now (counts .entry)) n) (now (out .exit)) r ⌝ }
-{
-    let mut place = at;
-    let mut i = 0;
-    while i < n {
-        place = put_move(out, place, ids[i], times[i], counts[i]);
-        i += 1;
-    }
-    place
-}
+ghost use Rattle.console_pools.specs.Moves.{plannerText, plannerIn};
 
 // Into rows that are lent.
 fn put_rows(
@@ -66,7 +34,8 @@ fn put_rows(
     let answer = listed.answer;
     let a = outcomes::put_done(out, at, answer, 0);
     if answer == DONE {
-        return put_moves(out, a, ids, times, counts, listed.many as usize);
+        let none = [0u64; 0];
+        return put_beside(out, a, ids, times, counts, &none, listed.many as usize);
     }
     a
 }

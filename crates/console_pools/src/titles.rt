@@ -1,6 +1,6 @@
 // The status of titles.
 
-use console_answers::entries::put_entry;
+use crate::beside::put_beside;
 use console_answers::outcomes;
 use console_lines::commands::IDS_MOST;
 use console_lines::lines::NUMBERS_MOST;
@@ -11,40 +11,7 @@ ghost use Prim.Native.Nat.{_-_, _≤_, min};
 ghost use lib.ListN.{length, getD};
 ghost use Rattle.console_lines.specs.Commands.{idsMost};
 ghost use Rattle.text.specs.Output.{Written};
-ghost use Rattle.console_pools.specs.Titles.{statusText, idsIn, titleEntry, titlesText};
-
-// A title's id, count, lanes held and mark.
-fn put_title(out: &mut [u8], at: usize, id: u64, count: u64, held: u64, mark: u64) -> usize
-    ensures { λ r. ⌜ Written (now (out .entry)) at (titleEntry id count held mark) (now (out .exit)) r ⌝ }
-{
-    let a = put_entry(out, at, id);
-    let b = put_entry(out, a, count);
-    let c = put_entry(out, b, held);
-    put_entry(out, c, mark)
-}
-
-pub fn put_titles(
-    out: &mut [u8],
-    at: usize,
-    ids: &[u64],
-    counts: &[u64],
-    held: &[u64],
-    marks: &[u64],
-) -> usize
-    requires { ⌜ (length (now counts) ≡ length (now ids))
-        × ((length (now held) ≡ length (now ids)) × (length (now marks) ≡ length (now ids))) ⌝ }
-    ensures { λ r. ⌜ Written (now (out .entry)) at
-        (titlesText (now (ids .entry)) (now (counts .entry)) (now (held .entry)) (now (marks .entry)) (length (now (ids .entry))))
-        (now (out .exit)) r ⌝ }
-{
-    let mut place = at;
-    let mut i = 0;
-    while i < ids.len() {
-        place = put_title(out, place, ids[i], counts[i], held[i], marks[i]);
-        i += 1;
-    }
-    place
-}
+ghost use Rattle.console_pools.specs.Titles.{statusText, idsIn};
 
 // Over rows of one length.
 fn put_rows(
@@ -64,7 +31,7 @@ fn put_rows(
     let answer = status::status(s, time, ids, counts, held, marks);
     let a = outcomes::put_done(out, at, answer, 0);
     if answer == DONE {
-        return put_titles(out, a, ids, counts, held, marks);
+        return put_beside(out, a, ids, counts, held, marks, ids.len());
     }
     a
 }

@@ -1,4 +1,4 @@
-// A file that an argument names, whole in a lent room.
+// Files that arguments name, each whole in a lent room.
 
 use crate::complaints::complain;
 ghost use mathlib.Core.Path.{_≡_};
@@ -8,11 +8,23 @@ ghost use lib.ListN.{length};
 // Room for a log: a file is read with room for one byte more than it may have, which shows it to be too long.
 pub const LOG_ROOM: usize = 1_048_577;
 
+// The arguments that name the log and the program's own file.
+const LOG_ARGUMENT: usize = 3;
+
+const OWN_ARGUMENT: usize = 4;
+
 // What became of a file: so many bytes of it, at the room's start, or why it has none.
-pub struct File {
-    pub size: usize,
+struct File {
+    size: usize,
+    ok: bool,
+    long: bool,
+}
+
+// What became of a program's two files: so many bytes of each, at its room's start, once both are loaded.
+pub struct Files {
+    pub log: usize,
+    pub own: usize,
     pub ok: bool,
-    pub long: bool,
 }
 
 // What one read gave.
@@ -71,7 +83,7 @@ fn read_all(fd: i32, room: &mut [u8]) -> File
 }
 
 // The file that an argument names.
-pub fn load(i: usize, room: &mut [u8]) -> File
+fn load(i: usize, room: &mut [u8]) -> File
     ensures { λ r. ⌜ r .size ≤ length (now (room .entry)) ⌝ }
 {
     let mut name = io::buffer();
@@ -89,10 +101,36 @@ pub fn load(i: usize, room: &mut [u8]) -> File
 }
 
 // What is wrong with a file that was not loaded.
-pub fn complain_of(what: &[u8], file: File) {
+fn complain_of(what: &[u8], file: File) {
     if file.long {
         complain(what, b" is too long");
     } else {
         complain(what, b" cannot be read");
+    }
+}
+
+// The log and the program's own file, under the name that a complaint gives it. The first that was not loaded is said on
+// standard error, and then neither counts.
+pub fn load_both(log: &mut [u8], name: &[u8], own: &mut [u8]) -> Files
+    ensures { λ r. ⌜ (r .log ≤ length (now (log .entry))) × (r .own ≤ length (now (own .entry))) ⌝ }
+{
+    let first = load(LOG_ARGUMENT, log);
+    if first.ok {
+        let second = load(OWN_ARGUMENT, own);
+        if second.ok {
+            return Files {
+                log: first.size,
+                own: second.size,
+                ok: true,
+            };
+        }
+        complain_of(name, second);
+    } else {
+        complain_of(b"LOG", first);
+    }
+    Files {
+        log: 0,
+        own: 0,
+        ok: false,
     }
 }

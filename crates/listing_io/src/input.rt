@@ -10,7 +10,8 @@ use super::steps::list_at;
 use agent::Agent;
 use agent::fresh_agent;
 use notice::window::decided;
-use streams::Got;
+use streams::Filled;
+use streams::refill;
 use text::feed::compact;
 ghost use mathlib.Core.Path.{_≡_};
 ghost use mathlib.Core.Bool.{true, false};
@@ -123,16 +124,12 @@ fn list_filled(agent: Agent, buffer: &mut [u8], filled: usize, over: bool) -> Fe
 fn feed(fed: Fed, buffer: &mut [u8]) -> Fed
     ensures { λ r. ⌜ (r .more ≡ true → r .kept < longestNotice) ⌝ }
 {
-    let kept = fed.kept;
     let agent = fed.agent;
-    if buffer.len() < kept {
-        return ended(agent);
-    }
-    let got = streams::read_some(&mut buffer[kept..]);
-    match got {
-        Got::Bytes(n) => list_filled(agent, buffer, kept + n, false),
-        Got::End => list_filled(agent, buffer, kept, true),
-        Got::Failed => ended(agent),
+    let filled = refill(buffer, fed.kept);
+    match filled {
+        Filled::More(n) => list_filled(agent, buffer, n, false),
+        Filled::Last(n) => list_filled(agent, buffer, n, true),
+        Filled::Failed => ended(agent),
     }
 }
 

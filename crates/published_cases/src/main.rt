@@ -22,6 +22,41 @@ use figures::times::slot_tenths;
 use figures::transitions::fourth_lane;
 use figures::transitions::sent;
 use libc::STDOUT_FILENO;
+use rules::COUNT_MAX;
+ghost use Prim.Native.Nat.{_≤_};
+
+// The numbers that a row has room for.
+const ROW_MOST: usize = 16;
+
+// The numbers that a row computes: the first `many`.
+struct Row {
+    numbers: [u64; ROW_MOST],
+    many: usize,
+}
+
+// What is computed of each number of a row.
+enum Figure {
+    // of a count, at a floor: the wait that padding adds
+    Increase(u64),
+    // how long a channel that is given back is held
+    Held(u64),
+    // the longest wait
+    Slot(u64),
+    // of a cell: the segment of so many channels, cap 4, that holds it
+    Segment(u64),
+    // of a channel among so many, cap 4: its segment at a tick
+    Channel(u64, u64),
+    // of a tick: in which segment of so many channels what a channel of 2 carries goes out so much later
+    Found(u64, u64, u64),
+    // of a segment: the slot in which the box of figure 1 takes it
+    Taken,
+    // of a start: whether it needs no buffer
+    Unbuffered,
+    // of a slot: what 4 channels have and 3 have not
+    Fourth,
+    // of a slot: what a lane sends then, after 4 channels went to so many
+    Sent(u64, u64),
+}
 
 // A word and a row of numbers, on a line.
 fn print_row(word: &[u8], row: &[u64]) {
@@ -56,47 +91,122 @@ fn show(what: &[u8], computed: &[u64], expected: &[u64]) {
     }
 }
 
+// A number, or the nearer of two bounds where it lies outside them.
+fn bounded(low: u64, high: u64, n: u64) -> u64
+    requires { ⌜ low ≤ high ⌝ }
+    ensures { λ r. ⌜ (low ≤ r) × (r ≤ high) ⌝ }
+{
+    if n < low {
+        return low;
+    }
+    if high < n {
+        return high;
+    }
+    n
+}
+
+// A number that lies outside what its figure is defined for, as no row's does, is taken as the nearest inside.
+fn figured(figure: Figure, n: u64) -> u64 {
+    let at = bounded(0, 15, n);
+    match figure {
+        Figure::Increase(floor) => {
+            let f = bounded(1, COUNT_MAX, floor);
+            increase(f, bounded(f, COUNT_MAX, at))
+        }
+        Figure::Held(floor) => {
+            let f = bounded(1, COUNT_MAX, floor);
+            holding_tenths(f, bounded(f, COUNT_MAX, at))
+        }
+        Figure::Slot(floor) => {
+            let f = bounded(1, COUNT_MAX, floor);
+            slot_seconds(f, bounded(f, COUNT_MAX, at))
+        }
+        Figure::Segment(count) => segment_of(4, bounded(0, 4, count), at),
+        Figure::Channel(count, tick) => {
+            let k = bounded(1, 4, count);
+            on_channel(k, 4, k, bounded(0, k - 1, at), bounded(0, 15, tick))
+        }
+        Figure::Found(other, channel, later) => {
+            let then = at + bounded(0, 15, later);
+            found_in(bounded(2, 4, other), bounded(0, 1, channel), at, then)
+        }
+        Figure::Taken => taken_in(bounded(1, 15, at) as usize),
+        Figure::Unbuffered => unbuffered(bounded(0, 8, at)),
+        Figure::Fourth => fourth_lane(at),
+        Figure::Sent(count, lane) => sent(count, lane, at),
+    }
+}
+
+fn no_row() -> Row {
+    Row {
+        numbers: [0; ROW_MOST],
+        many: 0,
+    }
+}
+
+// One number more, where there is room.
+fn with(row: Row, n: u64) -> Row {
+    let many = row.many;
+    if many < ROW_MOST {
+        let mut next = row;
+        next.numbers[many] = n;
+        next.many = many + 1;
+        return next;
+    }
+    row
+}
+
+// A figure of each number.
+fn with_each(row: Row, figure: Figure, numbers: &[u64]) -> Row {
+    let mut next = row;
+    let mut i = 0;
+    while i < numbers.len() {
+        next = with(next, figured(figure, numbers[i]));
+        i += 1;
+    }
+    next
+}
+
+// The first `many`.
+fn show_first(what: &[u8], numbers: [u64; ROW_MOST], many: usize, expected: &[u64]) {
+    if many <= ROW_MOST {
+        show(what, &numbers[..many], expected);
+    }
+}
+
+fn show_row(what: &[u8], row: Row, expected: &[u64]) {
+    let numbers = row.numbers;
+    show_first(what, numbers, row.many, expected);
+}
+
+fn show_each(what: &[u8], figure: Figure, numbers: &[u64], expected: &[u64]) {
+    show_row(what, with_each(no_row(), figure, numbers), expected);
+}
+
 // Section II-A: with 4 channels, what the box that starts at t0 takes in its first three slots, channel by channel; it is done
 // with C0 after one slot and with C1 after two.
 fn figure_1_channels() {
-    show(
+    show_each(
         b"source 000, figure 1: segments in the first slot, C0 to C3",
-        &[
-            on_channel(4, 4, 4, 0, 0),
-            on_channel(4, 4, 4, 1, 0),
-            on_channel(4, 4, 4, 2, 0),
-            on_channel(4, 4, 4, 3, 0),
-        ],
+        Figure::Channel(4, 0),
+        &[0, 1, 2, 3],
         &[1, 2, 4, 8],
     );
-    show(
+    let a = with_each(no_row(), Figure::Channel(4, 1), &[1, 2, 3]);
+    let b = with_each(a, Figure::Channel(4, 2), &[2, 3]);
+    show_row(
         b"source 000, figure 1: in the second slot, C1 to C3, and in the third, C2 and C3",
-        &[
-            on_channel(4, 4, 4, 1, 1),
-            on_channel(4, 4, 4, 2, 1),
-            on_channel(4, 4, 4, 3, 1),
-            on_channel(4, 4, 4, 2, 2),
-            on_channel(4, 4, 4, 3, 2),
-        ],
+        b,
         &[3, 5, 9, 6, 10],
     );
 }
 
 // The same by the box plan: the slot, from 0, in which each of these nine segments is taken.
 fn figure_1_plan() {
-    show(
+    show_each(
         b"source 000, figure 1: slots in which the plan takes segments 1 2 4 8, 3 5 9, 6 10",
-        &[
-            taken_in(1),
-            taken_in(2),
-            taken_in(4),
-            taken_in(8),
-            taken_in(3),
-            taken_in(5),
-            taken_in(9),
-            taken_in(6),
-            taken_in(10),
-        ],
+        Figure::Taken,
+        &[1, 2, 4, 8, 3, 5, 9, 6, 10],
         &[0, 0, 0, 0, 1, 1, 1, 2, 2],
     );
 }
@@ -104,18 +214,10 @@ fn figure_1_plan() {
 // Section II-A: one start in each 2^(k-1) slots needs no buffer, since each segment is on a channel just when it plays. This is
 // of the channels; the plan takes what comes first. The text says that it is one of eight; which one is derived.
 fn figure_1_buffer() {
-    show(
+    show_each(
         b"source 000, figure 1: which of the starts at slots 0 to 7 needs no buffer",
-        &[
-            unbuffered(0),
-            unbuffered(1),
-            unbuffered(2),
-            unbuffered(3),
-            unbuffered(4),
-            unbuffered(5),
-            unbuffered(6),
-            unbuffered(7),
-        ],
+        Figure::Unbuffered,
+        &[0, 1, 2, 3, 4, 5, 6, 7],
         &[0, 1, 0, 0, 0, 0, 0, 0],
     );
 }
@@ -130,131 +232,57 @@ fn padding() {
 }
 
 // Figure 2 is a drawing; its values by the formula above it, whose numerator should read 2^k - 2^floor.
-fn figure_2_low() {
-    show(
+fn figure_2() {
+    show_each(
         b"source 000, figure 2, derived: floor 2, k 2 to 10, 1/100 minute",
-        &[
-            increase(2, 2),
-            increase(2, 3),
-            increase(2, 4),
-            increase(2, 5),
-            increase(2, 6),
-            increase(2, 7),
-            increase(2, 8),
-            increase(2, 9),
-            increase(2, 10),
-        ],
+        Figure::Increase(2),
+        &[2, 3, 4, 5, 6, 7, 8, 9, 10],
         &[0, 143, 100, 56, 30, 15, 8, 4, 2],
     );
-}
-
-fn figure_2_three() {
-    show(
+    show_each(
         b"source 000, figure 2, derived: floor 3, k 3 to 10, 1/100 minute",
-        &[
-            increase(3, 3),
-            increase(3, 4),
-            increase(3, 5),
-            increase(3, 6),
-            increase(3, 7),
-            increase(3, 8),
-            increase(3, 9),
-            increase(3, 10),
-        ],
+        Figure::Increase(3),
+        &[3, 4, 5, 6, 7, 8, 9, 10],
         &[0, 29, 21, 12, 6, 3, 2, 1],
     );
-}
-
-fn figure_2_high() {
-    show(
+    show_each(
         b"source 000, figure 2, derived: floor 4, k 4 to 10, 1/100 minute",
-        &[
-            increase(4, 4),
-            increase(4, 5),
-            increase(4, 6),
-            increase(4, 7),
-            increase(4, 8),
-            increase(4, 9),
-            increase(4, 10),
-        ],
+        Figure::Increase(4),
+        &[4, 5, 6, 7, 8, 9, 10],
         &[0, 6, 5, 3, 1, 1, 0],
     );
-    show(
+    show_each(
         b"source 000, figure 2, derived: floor 5, k 5 to 10, 1/100 minute",
-        &[
-            increase(5, 5),
-            increase(5, 6),
-            increase(5, 7),
-            increase(5, 8),
-            increase(5, 9),
-            increase(5, 10),
-        ],
+        Figure::Increase(5),
+        &[5, 6, 7, 8, 9, 10],
         &[0, 2, 1, 1, 0, 0],
     );
 }
 
 // Lemma 1 and figure 3, floor 2: a segment of 2 channels is two of 3 and four of 4. By the cells, of which cap 4 has 16.
-fn figure_3_two() {
-    show(
+fn figure_3() {
+    show_each(
         b"source 000, figure 3: segments of 3 channels that make segments 1 to 4 of 2 channels",
-        &[
-            segment_of(4, 3, 0),
-            segment_of(4, 3, 3),
-            segment_of(4, 3, 4),
-            segment_of(4, 3, 7),
-            segment_of(4, 3, 8),
-            segment_of(4, 3, 11),
-            segment_of(4, 3, 12),
-            segment_of(4, 3, 15),
-        ],
+        Figure::Segment(3),
+        &[0, 3, 4, 7, 8, 11, 12, 15],
         &[1, 2, 3, 4, 5, 6, 7, 8],
     );
-}
-
-fn figure_3_four() {
-    show(
+    show_each(
         b"source 000, figure 3: first and last segments of 4 channels that make segments 1 to 4 of 2 channels",
-        &[
-            segment_of(4, 4, 0),
-            segment_of(4, 4, 3),
-            segment_of(4, 4, 4),
-            segment_of(4, 4, 7),
-            segment_of(4, 4, 8),
-            segment_of(4, 4, 11),
-            segment_of(4, 4, 12),
-            segment_of(4, 4, 15),
-        ],
+        Figure::Segment(4),
+        &[0, 3, 4, 7, 8, 11, 12, 15],
         &[1, 4, 5, 8, 9, 12, 13, 16],
     );
-    show(
+    show_each(
         b"source 000, figure 3: segments of 2 channels that hold those",
-        &[
-            segment_of(4, 2, 0),
-            segment_of(4, 2, 3),
-            segment_of(4, 2, 4),
-            segment_of(4, 2, 7),
-            segment_of(4, 2, 8),
-            segment_of(4, 2, 11),
-            segment_of(4, 2, 12),
-            segment_of(4, 2, 15),
-        ],
+        Figure::Segment(2),
+        &[0, 3, 4, 7, 8, 11, 12, 15],
         &[1, 1, 2, 2, 3, 3, 4, 4],
     );
-}
-
-fn figure_3_three() {
-    show(
+    show_each(
         b"source 000, figure 3: segments of 3 channels that hold segments 1 to 4 and 13 to 16 of 4 channels",
-        &[
-            segment_of(4, 3, 0),
-            segment_of(4, 3, 1),
-            segment_of(4, 3, 2),
-            segment_of(4, 3, 3),
-            segment_of(4, 3, 12),
-            segment_of(4, 3, 13),
-            segment_of(4, 3, 14),
-            segment_of(4, 3, 15),
-        ],
+        Figure::Segment(3),
+        &[0, 1, 2, 3, 12, 13, 14, 15],
         &[1, 1, 2, 2, 7, 7, 8, 8],
     );
 }
@@ -267,61 +295,40 @@ fn figure_4b_first() {
         &[on_channel(2, 4, 2, 0, 4), on_channel(2, 4, 2, 1, 4)],
         &[1, 3],
     );
-    show(
+    let a = with_each(no_row(), Figure::Found(3, 0, 0), &[4, 6]);
+    let b = with_each(a, Figure::Found(3, 1, 0), &[4, 6]);
+    show_row(
         b"source 000, figure 4(b), t1 to t2: found in these of 3 channels, half slot by half slot",
-        &[
-            found_in(3, 0, 4, 4),
-            found_in(3, 0, 6, 6),
-            found_in(3, 1, 4, 4),
-            found_in(3, 1, 6, 6),
-        ],
+        b,
         &[1, 2, 5, 6],
     );
 }
 
 fn figure_4b_second() {
-    show(
+    let a = with_each(no_row(), Figure::Found(4, 0, 0), &[4, 5, 6, 7]);
+    let b = with_each(a, Figure::Found(4, 1, 0), &[4, 5, 6, 7]);
+    show_row(
         b"source 000, figure 4(b), t1 to t2: and in these of 4 channels, quarter by quarter",
-        &[
-            found_in(4, 0, 4, 4),
-            found_in(4, 0, 5, 5),
-            found_in(4, 0, 6, 6),
-            found_in(4, 0, 7, 7),
-            found_in(4, 1, 4, 4),
-            found_in(4, 1, 5, 5),
-            found_in(4, 1, 6, 6),
-            found_in(4, 1, 7, 7),
-        ],
+        b,
         &[1, 2, 3, 4, 9, 10, 11, 12],
     );
 }
 
 // The same holds "similarly" from t3 to t4, which the text does not place: the next slot of 2 channels, by Lemma 1.
 fn figure_4b_third() {
-    show(
+    let a = with_each(no_row(), Figure::Channel(2, 8), &[0, 1]);
+    let b = with_each(a, Figure::Found(3, 0, 0), &[8, 10]);
+    let c = with_each(b, Figure::Found(3, 1, 0), &[8, 10]);
+    show_row(
         b"source 000, figure 4(b), t3 to t4, derived: segments of 2 channels, then of 3 in which they are found",
-        &[
-            on_channel(2, 4, 2, 0, 8),
-            on_channel(2, 4, 2, 1, 8),
-            found_in(3, 0, 8, 8),
-            found_in(3, 0, 10, 10),
-            found_in(3, 1, 8, 8),
-            found_in(3, 1, 10, 10),
-        ],
+        c,
         &[1, 2, 1, 2, 3, 4],
     );
-    show(
+    let a = with_each(no_row(), Figure::Found(4, 0, 0), &[8, 9, 10, 11]);
+    let b = with_each(a, Figure::Found(4, 1, 0), &[8, 9, 10, 11]);
+    show_row(
         b"source 000, figure 4(b), t3 to t4, derived: and of 4 channels",
-        &[
-            found_in(4, 0, 8, 8),
-            found_in(4, 0, 9, 9),
-            found_in(4, 0, 10, 10),
-            found_in(4, 0, 11, 11),
-            found_in(4, 1, 8, 8),
-            found_in(4, 1, 9, 9),
-            found_in(4, 1, 10, 10),
-            found_in(4, 1, 11, 11),
-        ],
+        b,
         &[1, 2, 3, 4, 5, 6, 7, 8],
     );
 }
@@ -329,18 +336,11 @@ fn figure_4b_third() {
 // Figure 4(a): without the shift, S3 of 2 channels is found neither with 3 channels nor with 4. What k channels carry unshifted
 // is what they carry shifted 2^(k-2) - 1 slots later: 2 ticks for 3 channels, 3 ticks for 4. 0 is "not found".
 fn figure_4a() {
-    show(
+    let a = with_each(no_row(), Figure::Found(3, 1, 2), &[4, 5, 6, 7]);
+    let b = with_each(a, Figure::Found(4, 1, 3), &[4, 5, 6, 7]);
+    show_row(
         b"source 000, figure 4(a): S3 of 2 channels, in 3 and in 4 channels that are not shifted",
-        &[
-            found_in(3, 1, 4, 6),
-            found_in(3, 1, 5, 7),
-            found_in(3, 1, 6, 8),
-            found_in(3, 1, 7, 9),
-            found_in(4, 1, 4, 7),
-            found_in(4, 1, 5, 8),
-            found_in(4, 1, 6, 9),
-            found_in(4, 1, 7, 10),
-        ],
+        b,
         &[0, 0, 0, 0, 0, 0, 0, 0],
     );
 }
@@ -366,18 +366,10 @@ fn waiting() {
 
 // Figure 6 is a drawing; by Definition 3 for floor 2, what 4 channels carry and 3 do not, slot by slot.
 fn figure_6a() {
-    show(
+    show_each(
         b"source 000, figure 6(a), derived: segments that 4 channels have and 3 have not, from slot 4",
-        &[
-            fourth_lane(4),
-            fourth_lane(5),
-            fourth_lane(6),
-            fourth_lane(7),
-            fourth_lane(8),
-            fourth_lane(9),
-            fourth_lane(10),
-            fourth_lane(11),
-        ],
+        Figure::Fourth,
+        &[4, 5, 6, 7, 8, 9, 10, 11],
         &[3, 1, 7, 1, 3, 1, 15, 1],
     );
 }
@@ -385,9 +377,10 @@ fn figure_6a() {
 // By Definition 4 with t at slot 4, S3, S7 and S15 are left of these, at slots 4, 6 and 10; by Definition 5 they are packed. S15 is
 // padding, which is owed to nobody and not sent. 99 is a lane that is released.
 fn figure_6c() {
-    show(
+    show_each(
         b"source 000, figure 6(c), derived: what the fourth lane sends from slot 4 on, after 4 channels went to 3",
-        &[sent(3, 3, 4), sent(3, 3, 5), sent(3, 3, 6), sent(3, 3, 7)],
+        Figure::Sent(3, 3),
+        &[4, 5, 6, 7],
         &[3, 7, 99, 99],
     );
 }
@@ -395,58 +388,39 @@ fn figure_6c() {
 // Figure 7 is a drawing; by the same definitions from 4 channels to 2, the third lane has S3 and S7 of 3 channels left, which are
 // S5, S6 and S13, S14 of 4. S13 to S16 are padding.
 fn figure_7() {
-    show(
+    let a = with_each(no_row(), Figure::Sent(2, 3), &[4, 5, 6, 7]);
+    let b = with_each(a, Figure::Sent(2, 2), &[4, 5, 6, 7, 8]);
+    show_row(
         b"source 000, figure 7, derived: what the fourth and the third lane send from slot 4 on, after 4 channels went to 2",
-        &[
-            sent(2, 3, 4),
-            sent(2, 3, 5),
-            sent(2, 3, 6),
-            sent(2, 3, 7),
-            sent(2, 2, 4),
-            sent(2, 2, 5),
-            sent(2, 2, 6),
-            sent(2, 2, 7),
-            sent(2, 2, 8),
-        ],
+        b,
         &[3, 7, 99, 99, 5, 6, 99, 99, 99],
     );
 }
 
 // Table 3.4: how long a channel that is given back is held, the longest over all drop moments, for each base number of channels.
 fn table_3_4() {
-    show(
+    show_each(
         b"source 002, table 3.4, base 2: held after 3 went to 2, up to 7 to 6, 1/10 minute",
-        &[
-            holding_tenths(2, 3),
-            holding_tenths(2, 4),
-            holding_tenths(2, 5),
-            holding_tenths(2, 6),
-            holding_tenths(2, 7),
-        ],
+        Figure::Held(2),
+        &[3, 4, 5, 6, 7],
         &[200, 200, 150, 100, 63],
     );
-    show(
+    show_each(
         b"source 002, table 3.4, base 3: held after 4 went to 3, up to 7 to 6, 1/10 minute",
-        &[
-            holding_tenths(3, 4),
-            holding_tenths(3, 5),
-            holding_tenths(3, 6),
-            holding_tenths(3, 7),
-        ],
+        Figure::Held(3),
+        &[4, 5, 6, 7],
         &[171, 129, 86, 54],
     );
-    show(
+    show_each(
         b"source 002, table 3.4, base 4: held after 5 went to 4, up to 7 to 6, 1/10 minute",
-        &[
-            holding_tenths(4, 5),
-            holding_tenths(4, 6),
-            holding_tenths(4, 7),
-        ],
+        Figure::Held(4),
+        &[5, 6, 7],
         &[120, 80, 50],
     );
-    show(
+    show_each(
         b"source 002, table 3.4, base 5: held after 6 went to 5 and 7 to 6, 1/10 minute",
-        &[holding_tenths(5, 6), holding_tenths(5, 7)],
+        Figure::Held(5),
+        &[6, 7],
         &[77, 48],
     );
 }
@@ -531,18 +505,10 @@ fn figure_3_6a() {
 
 // Table II, 120 minutes: the row SSB has the numbers of floor 2.
 fn table_2_ssb() {
-    show(
+    show_each(
         b"source 004, table II, SSB: floor 2, k 2 to 9, 1/100 second",
-        &[
-            slot_seconds(2, 2),
-            slot_seconds(2, 3),
-            slot_seconds(2, 4),
-            slot_seconds(2, 5),
-            slot_seconds(2, 6),
-            slot_seconds(2, 7),
-            slot_seconds(2, 8),
-            slot_seconds(2, 9),
-        ],
+        Figure::Slot(2),
+        &[2, 3, 4, 5, 6, 7, 8, 9],
         &[
             240_000,
             120_000,
@@ -563,32 +529,20 @@ fn table_2_sfb() {
         &[slot_tenths(3, 3)],
         &[10_286],
     );
-    show(
+    show_each(
         b"source 004, table II, SFB: floor 3, k 4 to 9, 1/100 second",
-        &[
-            slot_seconds(3, 4),
-            slot_seconds(3, 5),
-            slot_seconds(3, 6),
-            slot_seconds(3, 7),
-            slot_seconds(3, 8),
-            slot_seconds(3, 9),
-        ],
+        Figure::Slot(3),
+        &[4, 5, 6, 7, 8, 9],
         &[51_429, 25_714, 12_857, 6_429, 3_214, 1_607],
     );
 }
 
 // The row that is printed SEB is the same at floor 4.
 fn table_2_seb() {
-    show(
+    show_each(
         b"source 004, table II, SEB: floor 4, k 4 to 9, 1/100 second",
-        &[
-            slot_seconds(4, 4),
-            slot_seconds(4, 5),
-            slot_seconds(4, 6),
-            slot_seconds(4, 7),
-            slot_seconds(4, 8),
-            slot_seconds(4, 9),
-        ],
+        Figure::Slot(4),
+        &[4, 5, 6, 7, 8, 9],
         &[48_000, 24_000, 12_000, 6_000, 3_000, 1_500],
     );
 }
@@ -623,12 +577,8 @@ fn main() {
     figure_1_plan();
     figure_1_buffer();
     padding();
-    figure_2_low();
-    figure_2_three();
-    figure_2_high();
-    figure_3_two();
-    figure_3_four();
-    figure_3_three();
+    figure_2();
+    figure_3();
     figure_4b_first();
     figure_4b_second();
     figure_4b_third();

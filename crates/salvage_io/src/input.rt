@@ -10,7 +10,8 @@ use super::lines::put_end;
 use libc::STDOUT_FILENO;
 use salvaging::steps::Progress;
 use salvaging::steps::begun;
-use streams::Got;
+use streams::Filled;
+use streams::refill;
 use text::feed::compact;
 ghost use mathlib.Core.Path.{_≡_};
 ghost use mathlib.Core.Bool.{true, false};
@@ -132,16 +133,12 @@ fn feed(fed: Fed, buffer: &mut [u8], ports: Ports) -> Fed
     requires { ⌜ Counts (fed .progress) × (length (now buffer) ≤ blockRoom) ⌝ }
     ensures { λ r. ⌜ (r .more ≡ true → r .kept < longestNotice) × Counts (r .progress) ⌝ }
 {
-    let kept = fed.kept;
     let progress = fed.progress;
-    if buffer.len() < kept {
-        return ended(progress);
-    }
-    let got = streams::read_some(&mut buffer[kept..]);
-    match got {
-        Got::Bytes(n) => pass_filled(progress, buffer, kept + n, ports),
-        Got::End => pass_last(progress, &buffer[..kept], ports),
-        Got::Failed => ended(progress),
+    let filled = refill(buffer, fed.kept);
+    match filled {
+        Filled::More(n) => pass_filled(progress, buffer, n, ports),
+        Filled::Last(n) => pass_last(progress, &buffer[..n], ports),
+        Filled::Failed => ended(progress),
     }
 }
 

@@ -5,10 +5,10 @@
 use libc::STDIN_FILENO;
 use libc::STDOUT_FILENO;
 ghost use lib.ListN.{length};
-ghost use Rattle.streams.specs.Reads.{Fits};
+ghost use Rattle.streams.specs.Reads.{Fits, Holds};
 
 // What one read gave.
-pub enum Got {
+enum Got {
     // so many bytes, at the room's start: one at least
     Bytes(usize),
     // no byte will follow, or there is no room
@@ -17,8 +17,18 @@ pub enum Got {
     Failed,
 }
 
+// What stands at a buffer's start after a read behind the bytes that were kept there.
+pub enum Filled {
+    // so many bytes, the kept ones first
+    More(usize),
+    // the kept ones, so many, and no byte will follow
+    Last(usize),
+    // nothing that counts, and standard error says why
+    Failed,
+}
+
 // Reads once, whatever is there, into the start of a room.
-pub fn read_some(room: &mut [u8]) -> Got
+fn read_some(room: &mut [u8]) -> Got
     ensures { λ r. ⌜ Fits (length (now (room .entry))) r ⌝ }
 {
     let answer = libc::read(STDIN_FILENO, room);
@@ -31,6 +41,21 @@ pub fn read_some(room: &mut [u8]) -> Got
         return Got::End;
     }
     Got::Bytes(n)
+}
+
+// Reads once behind the first bytes of a buffer, which are kept; none are where it has not so many.
+pub fn refill(buffer: &mut [u8], kept: usize) -> Filled
+    ensures { λ r. ⌜ Holds (length (now (buffer .entry))) r ⌝ }
+{
+    if buffer.len() < kept {
+        return Filled::Last(0);
+    }
+    let got = read_some(&mut buffer[kept..]);
+    match got {
+        Got::Bytes(n) => Filled::More(kept + n),
+        Got::End => Filled::Last(kept),
+        Got::Failed => Filled::Failed,
+    }
 }
 
 // Writes all the bytes and answers true, or false where that failed and standard error says why; some may be written

@@ -9,26 +9,16 @@ use files::arguments::pool_and_title;
 use files::complaints::complain_at;
 use files::complaints::write_complaints;
 use files::loading::LOG_ROOM;
-use files::loading::complain_of;
-use files::loading::load;
+use files::loading::load_both;
 use files::pages::write_page;
 use waiting::Report;
 use waiting::report_of;
-ghost use mathlib.Core.Path.{_≡_};
-ghost use lib.ListN.{length};
 
 // One byte more than a text may have.
 const TEXT_ROOM: usize = 65_537;
 
 // As many numbers as a text of arrivals can have, with a byte between each two.
 const ROW_ROOM: usize = 32_768;
-
-// The `ensures` gives the length, which lending the array as a slice needs.
-fn text_room() -> [u8; TEXT_ROOM]
-    ensures { λ r. ⌜ 65_537 ≡ length r ⌝ }
-{
-    [0u8; TEXT_ROOM]
-}
 
 fn show(report: Report) {
     let mut out = io::buffer();
@@ -55,30 +45,18 @@ fn tell(pool: u64, title: u64, log: &[u8], text: &[u8]) {
     complain_at(b"ARRIVALS", b": no number at byte ", scan.place);
 }
 
-fn with_arrivals(pool: u64, title: u64, log: &[u8]) {
-    let mut text = text_room();
-    let file = load(4, &mut text);
-    let size = file.size;
-    if file.ok {
-        tell(pool, title, log, &text[..size]);
-    } else {
-        complain_of(b"ARRIVALS", file);
+fn with_rooms(pool: u64, title: u64, log: &mut [u8], text: &mut [u8]) {
+    let read = load_both(log, b"ARRIVALS", text);
+    let size = read.log;
+    let length = read.own;
+    if read.ok {
+        tell(pool, title, &log[..size], &text[..length]);
     }
 }
 
-fn with_log(pool: u64, title: u64, log: &mut [u8]) {
-    let file = load(3, log);
-    let size = file.size;
-    if file.ok {
-        with_arrivals(pool, title, &log[..size]);
-    } else {
-        complain_of(b"LOG", file);
-    }
-}
-
-// The room is lent as an array first, whose length then needs no proof.
-fn lend(pool: u64, title: u64, log: &mut [u8; LOG_ROOM]) {
-    with_log(pool, title, log);
+// The rooms are lent as arrays first, whose lengths then need no proof.
+fn lend(pool: u64, title: u64, log: &mut [u8; LOG_ROOM], text: &mut [u8; TEXT_ROOM]) {
+    with_rooms(pool, title, log, text);
 }
 
 // Arguments are tested in their order, then the files.
@@ -87,5 +65,6 @@ pub fn run() {
         return;
     };
     let mut log = [0u8; LOG_ROOM];
-    lend(pool, title, &mut log);
+    let mut text = [0u8; TEXT_ROOM];
+    lend(pool, title, &mut log, &mut text);
 }

@@ -18,9 +18,6 @@ abbrev μ-loop : tie.MeasureT-loop
 loop-holds : tie.Need-loop-holds Inv-loop μ-loop
 loop-holds c = (omega arith, refl)
 
-run-end-requires : tie.Need-run-end-requires Inv-loop μ-loop
-run-end-requires c κs = search needs
-
 sub-take-line : tie.Need-sub-take-line Inv-loop μ-loop
 sub-take-line c =
     omega (
@@ -38,15 +35,6 @@ part-take-line-start c =
           (c .before .before .before .loop .from),
       c .before .run-end .ensures,
     )
-
-part-take-line-end : tie.Need-part-take-line-end Inv-loop μ-loop
-part-take-line-end c = omega arith
-
-take-line-requires : tie.Need-take-line-requires Inv-loop μ-loop
-take-line-requires c κs = search needs
-
-add-from : tie.Need-add-from Inv-loop μ-loop
-add-from c = omega arith
 
 loop-less : tie.Need-loop-less Inv-loop μ-loop
 loop-less c =
@@ -68,14 +56,8 @@ loop-again c =
 same-length : tie.Need-same-length Inv-loop μ-loop
 same-length c = c .before .before .before .loop .inv .1
 
-returns : tie.Need-returns Inv-loop μ-loop
-returns c = omega arith
-
 same-length-2 : tie.Need-same-length-2 Inv-loop μ-loop
 same-length-2 c = c .before .loop .inv .1
-
-returns-2 : tie.Need-returns-2 Inv-loop μ-loop
-returns-2 c = omega arith
 
 pub take-lines-spec : {M : Type 1} → statement M
 take-lines-spec =
@@ -84,15 +66,15 @@ take-lines-spec =
     Inv-loop
     μ-loop
     loop-holds
-    run-end-requires
+    (λ c κs. search needs)
     sub-take-line
     part-take-line-start
-    part-take-line-end
-    take-line-requires
-    add-from
+    (λ c. omega arith)
+    (λ c κs. search needs)
+    (λ c. omega arith)
     loop-less
     loop-again
     same-length
-    returns
+    (λ c. omega arith)
     same-length-2
-    returns-2)
+    (λ c. omega arith))

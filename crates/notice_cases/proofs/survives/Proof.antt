@@ -31,23 +31,11 @@ enough c =
     let sized = c .before .before .before in
     omega (arith, sized .size .ensures, c .before .write .kept .1 .0, none-longer (sized .before .args .n), open-length)
 
-size-requires : tie.Need-size-requires
-size-requires c κs = search needs
-
-slice-aggregate-write : tie.Need-slice-aggregate-write
-slice-aggregate-write c = search needs
-
-write-requires : tie.Need-write-requires
-write-requires c κs = search needs
-
 array-share-prefix-room : tie.Need-array-share-prefix-room
 array-share-prefix-room c = enough c
 
 slice-aggregate-read : tie.Need-slice-aggregate-read
 slice-aggregate-read c = sym (length-take-le _ _ (enough (c .before)))
-
-read-requires : tie.Need-read-requires
-read-requires c κs = search needs
 
 returns : tie.Need-returns
 unfolding table startOf spanOf
@@ -64,10 +52,10 @@ pub survives-spec : {M : Type 1} → statement M
 survives-spec =
     tie.close
     (tie.spec
-    size-requires
-    slice-aggregate-write
-    write-requires
+    (λ c κs. search needs)
+    (λ c. search needs)
+    (λ c κs. search needs)
     array-share-prefix-room
     slice-aggregate-read
-    read-requires
+    (λ c κs. search needs)
     returns)

@@ -10,45 +10,6 @@ use borrow.Author.Needs.{needs}
 use Rattle.unheard_io.proofs.put_missed.Statement.{statement}
 use Rattle.unheard_io.proofs.put_missed.Tie as tie
 
-slice-aggregate-put-line : tie.Need-slice-aggregate-put-line
-slice-aggregate-put-line c = search needs
-
-slice-aggregate-put-line-2 : tie.Need-slice-aggregate-put-line-2
-slice-aggregate-put-line-2 c = search needs
-
-put-line-requires : tie.Need-put-line-requires
-put-line-requires c κs = search needs
-
-slice-aggregate-put-line-3 : tie.Need-slice-aggregate-put-line-3
-slice-aggregate-put-line-3 c = search needs
-
-slice-aggregate-put-line-4 : tie.Need-slice-aggregate-put-line-4
-slice-aggregate-put-line-4 c = search needs
-
-put-line-requires-2 : tie.Need-put-line-requires-2
-put-line-requires-2 c κs = search needs
-
-slice-aggregate-put-line-5 : tie.Need-slice-aggregate-put-line-5
-slice-aggregate-put-line-5 c = search needs
-
-slice-aggregate-put-line-6 : tie.Need-slice-aggregate-put-line-6
-slice-aggregate-put-line-6 c = search needs
-
-put-line-requires-3 : tie.Need-put-line-requires-3
-put-line-requires-3 c κs = search needs
-
-put-meaning-requires : tie.Need-put-meaning-requires
-put-meaning-requires c κs = search needs
-
-slice-aggregate-put : tie.Need-slice-aggregate-put
-slice-aggregate-put c = search needs
-
-put-requires : tie.Need-put-requires
-put-requires c κs = search needs
-
-same-length : tie.Need-same-length
-same-length c = search needs
-
 returns : tie.Need-returns
 unfolding missedLine text
 returns c =
@@ -67,4 +28,4 @@ returns c =
     (c .before .before .put .ensures)
 
 pub put-missed-spec : {M : Type 1} → statement M
-put-missed-spec = tie.close (tie.spec slice-aggregate-put-line slice-aggregate-put-line-2 put-line-requires slice-aggregate-put-line-3 slice-aggregate-put-line-4 put-line-requires-2 slice-aggregate-put-line-5 slice-aggregate-put-line-6 put-line-requires-3 put-meaning-requires slice-aggregate-put put-requires same-length returns)
+put-missed-spec = tie.close (tie.spec (λ c. search needs) (λ c. search needs) (λ c κs. search needs) (λ c. search needs) (λ c. search needs) (λ c κs. search needs) (λ c. search needs) (λ c. search needs) (λ c κs. search needs) (λ c κs. search needs) (λ c. search needs) (λ c κs. search needs) (λ c. search needs) returns)

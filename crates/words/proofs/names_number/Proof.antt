@@ -7,17 +7,8 @@ use Rattle.words.proofs.names_number.Tie as tie
 returns : tie.Need-returns
 returns c = simp (eq-eqb _ _ (c .if1 .taken))
 
-cast-within : tie.Need-cast-within
-cast-within c = search needs
-
-cast-within-2 : tie.Need-cast-within-2
-cast-within-2 c = search needs
-
-within-requires : tie.Need-within-requires
-within-requires c κs = search needs
-
 returns-2 : tie.Need-returns-2
 returns-2 c = simp (ne-eqb _ _ (c .before .if1 .left)) (c .within .ensures)
 
 pub names-number-spec : {M : Type 1} → statement M
-names-number-spec = tie.close (tie.spec returns cast-within cast-within-2 within-requires returns-2)
+names-number-spec = tie.close (tie.spec returns (λ c. search needs) (λ c. search needs) (λ c κs. search needs) returns-2)

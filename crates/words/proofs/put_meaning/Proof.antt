@@ -9,21 +9,6 @@ use borrow.Author.Needs.{needs}
 use Rattle.words.proofs.put_meaning.Statement.{statement}
 use Rattle.words.proofs.put_meaning.Tie as tie
 
-put-number-requires : tie.Need-put-number-requires
-put-number-requires c κs = search needs
-
-slice-aggregate-put : tie.Need-slice-aggregate-put
-slice-aggregate-put c = search needs
-
-put-requires : tie.Need-put-requires
-put-requires c κs = search needs
-
-refusal-words-requires : tie.Need-refusal-words-requires
-refusal-words-requires c κs = search needs
-
-same-length : tie.Need-same-length
-same-length c = search needs
-
 returns : tie.Need-returns
 unfolding meaningText text
 returns c =
@@ -34,4 +19,4 @@ returns c =
     (c .before .before .refusal-words .ensures)
 
 pub put-meaning-spec : {M : Type 1} → statement M
-put-meaning-spec = tie.close (tie.spec put-number-requires slice-aggregate-put put-requires refusal-words-requires same-length returns)
+put-meaning-spec = tie.close (tie.spec (λ c κs. search needs) (λ c. search needs) (λ c κs. search needs) (λ c κs. search needs) (λ c. search needs) returns)

@@ -9,21 +9,6 @@ use borrow.Author.Needs.{needs}
 use Rattle.words.proofs.put_refusal.Statement.{statement}
 use Rattle.words.proofs.put_refusal.Tie as tie
 
-put-meaning-requires : tie.Need-put-meaning-requires
-put-meaning-requires c κs = search needs
-
-names-number-requires : tie.Need-names-number-requires
-names-number-requires c κs = search needs
-
-put-naming-requires : tie.Need-put-naming-requires
-put-naming-requires c κs = search needs
-
-put-number-requires : tie.Need-put-number-requires
-put-number-requires c κs = search needs
-
-same-length : tie.Need-same-length
-same-length c = search needs
-
 returns : tie.Need-returns
 unfolding refusalText
 returns c =
@@ -34,12 +19,9 @@ returns c =
     (puts-then room (meaningText (x .number)) named (c .before .before .before .before .before .before .before .before .before .before .before .before .put-meaning .ensures)
     (puts-then _ (namingWords (x .number)) (decimal (x .named)) (c .before .before .before .before .before .before .put-naming .ensures) (c .before .before .put-number .ensures)))
 
-same-length-2 : tie.Need-same-length-2
-same-length-2 c = search needs
-
 returns-2 : tie.Need-returns-2
 unfolding refusalText
 returns-2 c = rw (sym (c .before .names-number .ensures) ∙ c .if1 .left, append-nil) (c .before .before .before .before .put-meaning .ensures)
 
 pub put-refusal-spec : {M : Type 1} → statement M
-put-refusal-spec = tie.close (tie.spec put-meaning-requires names-number-requires put-naming-requires put-number-requires same-length returns same-length-2 returns-2)
+put-refusal-spec = tie.close (tie.spec (λ c κs. search needs) (λ c κs. search needs) (λ c κs. search needs) (λ c κs. search needs) (λ c. search needs) returns (λ c. search needs) returns-2)

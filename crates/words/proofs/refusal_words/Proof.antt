@@ -9,15 +9,9 @@ use borrow.Author.Needs.{needs}
 use Rattle.words.proofs.refusal_words.Statement.{statement}
 use Rattle.words.proofs.refusal_words.Tie as tie
 
-put-line-requires : tie.Need-put-line-requires
-put-line-requires c κs = search needs
-
-same-length : tie.Need-same-length
-same-length c = search needs
-
 returns : tie.Need-returns
 unfolding text isSort run listed plain refusalWords
 returns c = c .before .before .put-line .ensures ∙ ap (puts _) (lines refusals _ refl)
 
 pub refusal-words-spec : {M : Type 1} → statement M
-refusal-words-spec = tie.close (tie.spec put-line-requires same-length returns)
+refusal-words-spec = tie.close (tie.spec (λ c κs. search needs) (λ c. search needs) returns)

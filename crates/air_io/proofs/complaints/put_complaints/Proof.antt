@@ -9,24 +9,6 @@ use borrow.Author.Needs.{needs}
 use Rattle.air_io.proofs.complaints.put_complaints.Statement.{statement}
 use Rattle.air_io.proofs.complaints.put_complaints.Tie as tie
 
-first-stray-requires : tie.Need-first-stray-requires
-first-stray-requires c κs = search needs
-
-put-unheard-requires : tie.Need-put-unheard-requires
-put-unheard-requires c κs = search needs
-
-put-long-requires : tie.Need-put-long-requires
-put-long-requires c κs = search needs
-
-put-skip-requires : tie.Need-put-skip-requires
-put-skip-requires c κs = search needs
-
-put-stray-requires : tie.Need-put-stray-requires
-put-stray-requires c κs = search needs
-
-same-length : tie.Need-same-length
-same-length c = search needs
-
 returns : tie.Need-returns
 unfolding complaintsText
 returns c =
@@ -44,4 +26,4 @@ returns c =
     (c .before .before .put-stray .ensures))
 
 pub put-complaints-spec : {M : Type 1} → statement M
-put-complaints-spec = tie.close (tie.spec first-stray-requires put-unheard-requires put-long-requires put-skip-requires put-stray-requires same-length returns)
+put-complaints-spec = tie.close (tie.spec (λ c κs. search needs) (λ c κs. search needs) (λ c κs. search needs) (λ c κs. search needs) (λ c κs. search needs) (λ c. search needs) returns)

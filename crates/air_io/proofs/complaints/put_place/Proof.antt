@@ -11,30 +11,6 @@ use borrow.Author.Needs.{needs}
 use Rattle.air_io.proofs.complaints.put_place.Statement.{statement}
 use Rattle.air_io.proofs.complaints.put_place.Tie as tie
 
-line-of-requires : tie.Need-line-of-requires
-line-of-requires c κs = search needs
-
-slice-aggregate-put-line : tie.Need-slice-aggregate-put-line
-slice-aggregate-put-line c = search needs
-
-slice-aggregate-put-line-2 : tie.Need-slice-aggregate-put-line-2
-slice-aggregate-put-line-2 c = search needs
-
-put-line-requires : tie.Need-put-line-requires
-put-line-requires c κs = search needs
-
-slice-aggregate-put-line-3 : tie.Need-slice-aggregate-put-line-3
-slice-aggregate-put-line-3 c = search needs
-
-slice-aggregate-put-line-4 : tie.Need-slice-aggregate-put-line-4
-slice-aggregate-put-line-4 c = search needs
-
-put-line-requires-2 : tie.Need-put-line-requires-2
-put-line-requires-2 c κs = search needs
-
-same-length : tie.Need-same-length
-same-length c = search needs
-
 returns : tie.Need-returns
 unfolding strayLine text
 returns c =
@@ -45,4 +21,4 @@ returns c =
     (lineOf [] (x .k % lanePlaces) (text ": the title has no such cell\n")) (c .before .before .before .before .before .before .before .before .put-line .ensures) (c .before .before .put-line2 .ensures))
 
 pub put-place-spec : {M : Type 1} → statement M
-put-place-spec = tie.close (tie.spec line-of-requires slice-aggregate-put-line slice-aggregate-put-line-2 put-line-requires slice-aggregate-put-line-3 slice-aggregate-put-line-4 put-line-requires-2 same-length returns)
+put-place-spec = tie.close (tie.spec (λ c κs. search needs) (λ c. search needs) (λ c. search needs) (λ c κs. search needs) (λ c. search needs) (λ c. search needs) (λ c κs. search needs) (λ c. search needs) returns)

@@ -7,21 +7,6 @@ use borrow.Author.Needs.{needs}
 use Rattle.air_io.proofs.complaints.put_skip.Statement.{statement}
 use Rattle.air_io.proofs.complaints.put_skip.Tie as tie
 
-is-skip-forward-requires : tie.Need-is-skip-forward-requires
-is-skip-forward-requires c κs = search needs
-
-slice-aggregate-put-line : tie.Need-slice-aggregate-put-line
-slice-aggregate-put-line c = search needs
-
-slice-aggregate-put-line-2 : tie.Need-slice-aggregate-put-line-2
-slice-aggregate-put-line-2 c = search needs
-
-put-line-requires : tie.Need-put-line-requires
-put-line-requires c κs = search needs
-
-same-length : tie.Need-same-length
-same-length c = search needs
-
 returns : tie.Need-returns
 unfolding skipLine text
 returns c = rw (sym (c .before .before .before .before .before .before .before .is-skip-forward .ensures) ∙ c .before .before .before .before .before .before .if1 .taken) (c .before .before .put-line .ensures)
@@ -31,4 +16,4 @@ unfolding skipLine puts
 returns-2 c = rw (sym (c .before .is-skip-forward .ensures) ∙ c .if1 .left) refl
 
 pub put-skip-spec : {M : Type 1} → statement M
-put-skip-spec = tie.close (tie.spec is-skip-forward-requires slice-aggregate-put-line slice-aggregate-put-line-2 put-line-requires same-length returns returns-2)
+put-skip-spec = tie.close (tie.spec (λ c κs. search needs) (λ c. search needs) (λ c. search needs) (λ c κs. search needs) (λ c. search needs) returns returns-2)

@@ -7,12 +7,6 @@ use borrow.Author.Needs.{needs}
 use Rattle.air_io.proofs.complaints.put_stray.Statement.{statement}
 use Rattle.air_io.proofs.complaints.put_stray.Tie as tie
 
-put-place-requires : tie.Need-put-place-requires
-put-place-requires c κs = search needs
-
-same-length : tie.Need-same-length
-same-length c = search needs
-
 returns : tie.Need-returns
 unfolding strayText
 returns c = rw (lt-ltb _ _ (c .before .before .before .before .if1 .taken)) (c .before .before .put-place .ensures)
@@ -22,4 +16,4 @@ unfolding strayText puts
 returns-2 c = rw (le-ltb _ _ (c .if1 .left)) refl
 
 pub put-stray-spec : {M : Type 1} → statement M
-put-stray-spec = tie.close (tie.spec put-place-requires same-length returns returns-2)
+put-stray-spec = tie.close (tie.spec (λ c κs. search needs) (λ c. search needs) returns returns-2)

@@ -28,24 +28,12 @@ loop-holds : tie.Need-loop-holds Inv-loop μ-loop
 unfolding howMany
 loop-holds c = (omega arith, refl, lines-none _ _ _ _)
 
-shared-slice-read-if1 : tie.Need-shared-slice-read-if1 Inv-loop μ-loop
-shared-slice-read-if1 c = search needs
-
-put-judged-requires : tie.Need-put-judged-requires Inv-loop μ-loop
-put-judged-requires c κs = search needs
-
 add-j : tie.Need-add-j Inv-loop μ-loop
 add-j c =
     let at-loop = c .before .before .before .before .before .before .before in
     let marks = at-loop .before .before .before .before .args .marks .now in
     let l = at-loop .loop in
     record { fits = omega (arith, l .inv .1, howMany-le (isMarked marks) (l .tick), c .before .before .before .before .before .before .loop-test .taken) }
-
-add-tick : tie.Need-add-tick Inv-loop μ-loop
-add-tick c = search needs
-
-loop-less : tie.Need-loop-less Inv-loop μ-loop
-loop-less c = search needs
 
 loop-again : tie.Need-loop-again Inv-loop μ-loop
 loop-again c =
@@ -85,11 +73,11 @@ put-admissions-spec =
     Inv-loop
     μ-loop
     loop-holds
-    shared-slice-read-if1
-    put-judged-requires
+    (λ c. search needs)
+    (λ c κs. search needs)
     add-j
-    add-tick
-    loop-less
+    (λ c. search needs)
+    (λ c. search needs)
     loop-again
     same-length
     returns)

@@ -7,15 +7,6 @@ use borrow.Author.Needs.{needs}
 use Rattle.air_io.proofs.lines.put_judged.Statement.{statement}
 use Rattle.air_io.proofs.lines.put_judged.Tie as tie
 
-result-at-requires : tie.Need-result-at-requires
-result-at-requires c κs = search needs
-
-put-admission-requires : tie.Need-put-admission-requires
-put-admission-requires c κs = search needs
-
-same-length : tie.Need-same-length
-same-length c = search needs
-
 returns : tie.Need-returns
 unfolding judgedLine
 returns c =
@@ -29,4 +20,4 @@ returns-2 c = rw (le-ltb _ _ (c .if1 .left)) refl
 
 pub put-judged-spec : {M : Type 1} → statement M
 put-judged-spec =
-    tie.close (tie.spec result-at-requires put-admission-requires same-length returns returns-2)
+    tie.close (tie.spec (λ c κs. search needs) (λ c κs. search needs) (λ c. search needs) returns returns-2)

@@ -8,15 +8,6 @@ use borrow.Author.Needs.{needs}
 use Rattle.air_io.proofs.lines.put_place.Statement.{statement}
 use Rattle.air_io.proofs.lines.put_place.Tie as tie
 
-put-line-requires : tie.Need-put-line-requires
-put-line-requires c κs = search needs
-
-put-number-requires : tie.Need-put-number-requires
-put-number-requires c κs = search needs
-
-same-length : tie.Need-same-length
-same-length c = search needs
-
 returns : tie.Need-returns
 unfolding placeText
 returns c =
@@ -27,4 +18,4 @@ returns c =
     (second .put-number .ensures)
 
 pub put-place-spec : {M : Type 1} → statement M
-put-place-spec = tie.close (tie.spec put-line-requires put-number-requires same-length returns)
+put-place-spec = tie.close (tie.spec (λ c κs. search needs) (λ c κs. search needs) (λ c. search needs) returns)

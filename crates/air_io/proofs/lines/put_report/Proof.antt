@@ -11,15 +11,6 @@ use borrow.Author.Needs.{needs}
 use Rattle.air_io.proofs.lines.put_report.Statement.{statement}
 use Rattle.air_io.proofs.lines.put_report.Tie as tie
 
-put-admissions-requires : tie.Need-put-admissions-requires
-put-admissions-requires c κs = search needs
-
-put-totals-requires : tie.Need-put-totals-requires
-put-totals-requires c κs = search needs
-
-same-length : tie.Need-same-length
-same-length c = search needs
-
 returns : tie.Need-returns
 unfolding reportText
 returns c =
@@ -30,18 +21,6 @@ returns c =
     rw (eq-eqb _ _ (at-if1 .if1 .taken))
     (puts-then (page (x .out .now) 0) (markedLines (x .marks .now) (x .row .now) (x .judgement .judged) (length (x .marks .now))) (totalLines (x .judgement))
     (first .put-admissions .ensures) (second .put-totals .ensures))
-
-put-refusal-requires : tie.Need-put-refusal-requires
-put-refusal-requires c κs = search needs
-
-slice-aggregate-put : tie.Need-slice-aggregate-put
-slice-aggregate-put c = search needs
-
-put-requires : tie.Need-put-requires
-put-requires c κs = search needs
-
-same-length-2 : tie.Need-same-length-2
-same-length-2 c = search needs
 
 returns-2 : tie.Need-returns-2
 unfolding reportText text
@@ -57,12 +36,12 @@ pub put-report-spec : {M : Type 1} → statement M
 put-report-spec =
     tie.close
     (tie.spec
-    put-admissions-requires
-    put-totals-requires
-    same-length
+    (λ c κs. search needs)
+    (λ c κs. search needs)
+    (λ c. search needs)
     returns
-    put-refusal-requires
-    slice-aggregate-put
-    put-requires
-    same-length-2
+    (λ c κs. search needs)
+    (λ c. search needs)
+    (λ c κs. search needs)
+    (λ c. search needs)
     returns-2)

@@ -9,39 +9,6 @@ use borrow.Author.Needs.{needs}
 use Rattle.air_io.proofs.lines.put_totals.Statement.{statement}
 use Rattle.air_io.proofs.lines.put_totals.Tie as tie
 
-difference-requires : tie.Need-difference-requires
-difference-requires c κs = search needs
-
-slice-aggregate-put-line : tie.Need-slice-aggregate-put-line
-slice-aggregate-put-line c = search needs
-
-slice-aggregate-put-line-2 : tie.Need-slice-aggregate-put-line-2
-slice-aggregate-put-line-2 c = search needs
-
-put-line-requires : tie.Need-put-line-requires
-put-line-requires c κs = search needs
-
-slice-aggregate-put-line-3 : tie.Need-slice-aggregate-put-line-3
-slice-aggregate-put-line-3 c = search needs
-
-slice-aggregate-put-line-4 : tie.Need-slice-aggregate-put-line-4
-slice-aggregate-put-line-4 c = search needs
-
-put-line-requires-2 : tie.Need-put-line-requires-2
-put-line-requires-2 c κs = search needs
-
-slice-aggregate-put-line-5 : tie.Need-slice-aggregate-put-line-5
-slice-aggregate-put-line-5 c = search needs
-
-slice-aggregate-put-line-6 : tie.Need-slice-aggregate-put-line-6
-slice-aggregate-put-line-6 c = search needs
-
-put-line-requires-3 : tie.Need-put-line-requires-3
-put-line-requires-3 c κs = search needs
-
-same-length : tie.Need-same-length
-same-length c = search needs
-
 returns : tie.Need-returns
 unfolding totalLines text
 returns c =
@@ -62,15 +29,15 @@ pub put-totals-spec : {M : Type 1} → statement M
 put-totals-spec =
     tie.close
     (tie.spec
-    difference-requires
-    slice-aggregate-put-line
-    slice-aggregate-put-line-2
-    put-line-requires
-    slice-aggregate-put-line-3
-    slice-aggregate-put-line-4
-    put-line-requires-2
-    slice-aggregate-put-line-5
-    slice-aggregate-put-line-6
-    put-line-requires-3
-    same-length
+    (λ c κs. search needs)
+    (λ c. search needs)
+    (λ c. search needs)
+    (λ c κs. search needs)
+    (λ c. search needs)
+    (λ c. search needs)
+    (λ c κs. search needs)
+    (λ c. search needs)
+    (λ c. search needs)
+    (λ c κs. search needs)
+    (λ c. search needs)
     returns)

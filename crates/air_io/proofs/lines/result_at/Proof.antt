@@ -5,12 +5,6 @@ use borrow.Author.Needs.{needs}
 use Rattle.air_io.proofs.lines.result_at.Statement.{statement}
 use Rattle.air_io.proofs.lines.result_at.Tie as tie
 
-mul-result : tie.Need-mul-result
-mul-result c = search needs
-
-shared-slice-read-result : tie.Need-shared-slice-read-result
-shared-slice-read-result c = search needs
-
 returns : tie.Need-returns
 returns c = refl
 
@@ -18,4 +12,4 @@ returns-2 : tie.Need-returns-2
 returns-2 c = sym (List·getD-eq-default (c .before .args .row .now) 0 (c .if1 .left))
 
 pub result-at-spec : {M : Type 1} → statement M
-result-at-spec = tie.close (tie.spec mul-result shared-slice-read-result returns returns-2)
+result-at-spec = tie.close (tie.spec (λ c. search needs) (λ c. search needs) returns returns-2)

@@ -22,21 +22,6 @@ loop-holds : tie.Need-loop-holds Inv-loop μ-loop
 unfolding passedTo lineTo
 loop-holds c = (omega arith, refl, refl)
 
-keep-line-requires : tie.Need-keep-line-requires Inv-loop μ-loop
-keep-line-requires c κs = search needs
-
-shared-slice-read-pass : tie.Need-shared-slice-read-pass Inv-loop μ-loop
-shared-slice-read-pass c = search needs
-
-pass-requires : tie.Need-pass-requires Inv-loop μ-loop
-pass-requires c κs = search needs
-
-add-i : tie.Need-add-i Inv-loop μ-loop
-add-i c = search needs
-
-loop-less : tie.Need-loop-less Inv-loop μ-loop
-loop-less c = search needs
-
 loop-again : tie.Need-loop-again Inv-loop μ-loop
 unfolding passedTo lineTo
 loop-again c =
@@ -57,4 +42,4 @@ returns c =
     l .inv .2 ∙ ap (lineTo (x .text .now) (x .k)) (le-antisymm (l .inv .0) (c .loop-test .left))
 
 pub line-of-spec : {M : Type 1} → statement M
-line-of-spec = tie.close (tie.spec Inv-loop μ-loop loop-holds keep-line-requires shared-slice-read-pass pass-requires add-i loop-less loop-again returns)
+line-of-spec = tie.close (tie.spec Inv-loop μ-loop loop-holds (λ c κs. search needs) (λ c. search needs) (λ c κs. search needs) (λ c. search needs) (λ c. search needs) loop-again returns)

@@ -5,14 +5,8 @@ use borrow.Author.Needs.{needs}
 use Rattle.air_io.proofs.places.pass.Statement.{statement}
 use Rattle.air_io.proofs.places.pass.Tie as tie
 
-one-more-requires : tie.Need-one-more-requires
-one-more-requires c κs = search needs
-
 returns : tie.Need-returns
 returns c = passes-line _ _ (c .before .if1 .taken) _ (c .one-more .ensures)
-
-is-separator-requires : tie.Need-is-separator-requires
-is-separator-requires c κs = search needs
 
 returns-2 : tie.Need-returns-2
 returns-2 c = passes-gap _ _ (c .before .before .if1 .left) (sym (c .before .is-separator .ensures) ∙ c .if2 .taken)
@@ -20,11 +14,8 @@ returns-2 c = passes-gap _ _ (c .before .before .if1 .left) (sym (c .before .is-
 returns-3 : tie.Need-returns-3
 returns-3 c = passes-inside _ _ (c .before .before .before .if1 .left) (sym (c .before .before .is-separator .ensures) ∙ c .before .if2 .left) (c .if3 .taken)
 
-one-more-requires-2 : tie.Need-one-more-requires-2
-one-more-requires-2 c κs = search needs
-
 returns-4 : tie.Need-returns-4
 returns-4 c = passes-word _ _ (c .before .before .before .before .if1 .left) (sym (c .before .before .before .is-separator .ensures) ∙ c .before .before .if2 .left) (c .before .if3 .left) _ (c .one-more2 .ensures)
 
 pub pass-spec : {M : Type 1} → statement M
-pass-spec = tie.close (tie.spec one-more-requires returns is-separator-requires returns-2 returns-3 one-more-requires-2 returns-4)
+pass-spec = tie.close (tie.spec (λ c κs. search needs) returns (λ c κs. search needs) returns-2 returns-3 (λ c κs. search needs) returns-4)

@@ -4,14 +4,8 @@ use borrow.Author.Needs.{needs}
 use Rattle.air_io.proofs.record.end_line.Statement.{statement}
 use Rattle.air_io.proofs.record.end_line.Tie as tie
 
-one-more-requires : tie.Need-one-more-requires
-one-more-requires c κs = search needs
-
 returns : tie.Need-returns
 returns c = closes-none _ _ (c .before .if1 .taken) (c .one-more .ensures)
-
-one-more-requires-2 : tie.Need-one-more-requires-2
-one-more-requires-2 c κs = search needs
 
 returns-2 : tie.Need-returns-2
 returns-2 c = closes-all _ _ (c .before .before .if1 .left) (c .before .if2 .taken) (c .one-more2 .ensures)
@@ -21,4 +15,4 @@ returns-3 c = closes-other _ (c .before .if1 .left) (c .if2 .left)
 
 pub end-line-spec : {M : Type 1} → statement M
 end-line-spec =
-    tie.close (tie.spec one-more-requires returns one-more-requires-2 returns-2 returns-3)
+    tie.close (tie.spec (λ c κs. search needs) returns (λ c κs. search needs) returns-2 returns-3)

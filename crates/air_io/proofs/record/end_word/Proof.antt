@@ -4,18 +4,6 @@ use borrow.Author.Needs.{needs}
 use Rattle.air_io.proofs.record.end_word.Statement.{statement}
 use Rattle.air_io.proofs.record.end_word.Tie as tie
 
-cell-of-requires : tie.Need-cell-of-requires
-cell-of-requires c κs = search needs
-
-put-cell-requires : tie.Need-put-cell-requires
-put-cell-requires c κs = search needs
-
-one-more-requires : tie.Need-one-more-requires
-one-more-requires c κs = search needs
-
-same-length : tie.Need-same-length
-same-length c = search needs
-
 returns : tie.Need-returns
 returns c =
     let at-put = c .before .before .before in
@@ -28,4 +16,4 @@ returns-2 c = ends-out _ _ (c .if1 .left)
 pub end-word-spec : {M : Type 1} → statement M
 end-word-spec =
     tie.close
-    (tie.spec cell-of-requires put-cell-requires one-more-requires same-length returns returns-2)
+    (tie.spec (λ c κs. search needs) (λ c κs. search needs) (λ c κs. search needs) (λ c. search needs) returns returns-2)

@@ -5,27 +5,15 @@ use borrow.Author.Needs.{needs}
 use Rattle.air_io.proofs.record.spell.Statement.{statement}
 use Rattle.air_io.proofs.record.spell.Tie as tie
 
-is-digit-requires : tie.Need-is-digit-requires
-is-digit-requires c κs = search needs
-
-fail-requires : tie.Need-fail-requires
-fail-requires c κs = search needs
-
 returns : tie.Need-returns
 returns c =
     let at-if1 = c .before .before in
     spells-behind-dash _ _ (sym (at-if1 .before .is-digit .ensures) ∙ at-if1 .if1 .taken) _ (c .before .if2 .taken) (c .fail .ensures)
 
-grow-requires : tie.Need-grow-requires
-grow-requires c κs = search needs
-
 returns-2 : tie.Need-returns-2
 returns-2 c =
     let at-if1 = c .before .before in
     spells-digit _ _ (sym (at-if1 .before .is-digit .ensures) ∙ at-if1 .if1 .taken) _ (c .before .if2 .left) (c .grow .ensures)
-
-fail-requires-2 : tie.Need-fail-requires-2
-fail-requires-2 c κs = search needs
 
 returns-3 : tie.Need-returns-3
 returns-3 c =
@@ -33,17 +21,11 @@ returns-3 c =
     let at-if1 = at-if3 .before in
     spells-dash-inside _ _ (sym (at-if1 .before .is-digit .ensures) ∙ at-if1 .if1 .left) (at-if3 .if3 .taken) _ (c .before .if4 .taken) (c .fail2 .ensures)
 
-cast-next : tie.Need-cast-next
-cast-next c = search needs
-
 returns-4 : tie.Need-returns-4
 returns-4 c =
     let at-if3 = c .before in
     let at-if1 = at-if3 .before in
     spells-dash _ _ (sym (at-if1 .before .is-digit .ensures) ∙ at-if1 .if1 .left) (at-if3 .if3 .taken) (c .if4 .left)
-
-fail-requires-3 : tie.Need-fail-requires-3
-fail-requires-3 c κs = search needs
 
 returns-5 : tie.Need-returns-5
 returns-5 c =
@@ -55,14 +37,14 @@ pub spell-spec : {M : Type 1} → statement M
 spell-spec =
     tie.close
     (tie.spec
-    is-digit-requires
-    fail-requires
+    (λ c κs. search needs)
+    (λ c κs. search needs)
     returns
-    grow-requires
+    (λ c κs. search needs)
     returns-2
-    fail-requires-2
+    (λ c κs. search needs)
     returns-3
-    cast-next
+    (λ c. search needs)
     returns-4
-    fail-requires-3
+    (λ c κs. search needs)
     returns-5)

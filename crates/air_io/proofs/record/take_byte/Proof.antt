@@ -5,29 +5,11 @@ use borrow.Author.Needs.{needs}
 use Rattle.air_io.proofs.record.take_byte.Statement.{statement}
 use Rattle.air_io.proofs.record.take_byte.Tie as tie
 
-end-word-requires : tie.Need-end-word-requires
-end-word-requires c κs = search needs
-
-end-line-requires : tie.Need-end-line-requires
-end-line-requires c κs = search needs
-
-same-length : tie.Need-same-length
-same-length c = search needs
-
 returns : tie.Need-returns
 returns c =
     let at-word = c .before .before .before in
     let at-if2 = at-word .before .before in
     takes-newline _ _ _ (at-if2 .before .if1 .taken) _ _ _ (at-if2 .if2 .taken) (at-word .end-word .ensures) (c .end-line .ensures)
-
-is-separator-requires : tie.Need-is-separator-requires
-is-separator-requires c κs = search needs
-
-end-word-requires-2 : tie.Need-end-word-requires-2
-end-word-requires-2 c κs = search needs
-
-same-length-2 : tie.Need-same-length-2
-same-length-2 c = search needs
 
 returns-2 : tie.Need-returns-2
 returns-2 c =
@@ -35,9 +17,6 @@ returns-2 c =
     let at-if3 = at-word .before .before in
     let at-if2 = at-if3 .before .before in
     takes-separator _ _ _ (at-if2 .before .if1 .taken) (at-if2 .if2 .left) _ _ (sym (at-if3 .before .is-separator .ensures) ∙ at-if3 .if3 .taken) (at-word .end-word2 .ensures)
-
-spell-requires : tie.Need-spell-requires
-spell-requires c κs = search needs
 
 returns-3 : tie.Need-returns-3
 returns-3 c =
@@ -52,14 +31,14 @@ pub take-byte-spec : {M : Type 1} → statement M
 take-byte-spec =
     tie.close
     (tie.spec
-    end-word-requires
-    end-line-requires
-    same-length
+    (λ c κs. search needs)
+    (λ c κs. search needs)
+    (λ c. search needs)
     returns
-    is-separator-requires
-    end-word-requires-2
-    same-length-2
+    (λ c κs. search needs)
+    (λ c κs. search needs)
+    (λ c. search needs)
     returns-2
-    spell-requires
+    (λ c κs. search needs)
     returns-3
     returns-4)

@@ -23,18 +23,6 @@ loop-holds : tie.Need-loop-holds Inv-loop μ-loop
 unfolding takenTo
 loop-holds c = (omega arith, refl, refl)
 
-shared-slice-read-take-byte : tie.Need-shared-slice-read-take-byte Inv-loop μ-loop
-shared-slice-read-take-byte c = search needs
-
-take-byte-requires : tie.Need-take-byte-requires Inv-loop μ-loop
-take-byte-requires c κs = search needs
-
-add-i : tie.Need-add-i Inv-loop μ-loop
-add-i c = search needs
-
-loop-less : tie.Need-loop-less Inv-loop μ-loop
-loop-less c = search needs
-
 loop-again : tie.Need-loop-again Inv-loop μ-loop
 unfolding takenTo
 loop-again c =
@@ -48,9 +36,6 @@ loop-again c =
       e ∙ rw add-one (ap (λ s. taking s b) (l .inv .1)),
       ap (λ (s : SoFar). length (s .row)) e ∙ taking-length (soFar (l .row) (l .scan)) b ∙ l .inv .2,
     )
-
-take-byte-requires-2 : tie.Need-take-byte-requires-2 Inv-loop μ-loop
-take-byte-requires-2 c κs = search needs
 
 same-length : tie.Need-same-length Inv-loop μ-loop
 same-length c =
@@ -77,11 +62,11 @@ take-text-spec =
     Inv-loop
     μ-loop
     loop-holds
-    shared-slice-read-take-byte
-    take-byte-requires
-    add-i
-    loop-less
+    (λ c. search needs)
+    (λ c κs. search needs)
+    (λ c. search needs)
+    (λ c. search needs)
     loop-again
-    take-byte-requires-2
+    (λ c κs. search needs)
     same-length
     returns)

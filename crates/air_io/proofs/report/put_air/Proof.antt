@@ -6,36 +6,6 @@ use borrow.Author.Needs.{needs}
 use Rattle.air_io.proofs.report.put_air.Statement.{statement}
 use Rattle.air_io.proofs.report.put_air.Tie as tie
 
-blank-row-requires : tie.Need-blank-row-requires
-blank-row-requires c κs = search needs
-
-blank-marks-requires : tie.Need-blank-marks-requires
-blank-marks-requires c κs = search needs
-
-slice-aggregate-air : tie.Need-slice-aggregate-air
-slice-aggregate-air c = search needs
-
-air-requires : tie.Need-air-requires
-air-requires c κs = search needs
-
-slice-aggregate-admissions : tie.Need-slice-aggregate-admissions
-slice-aggregate-admissions c = search needs
-
-admissions-requires : tie.Need-admissions-requires
-admissions-requires c κs = search needs
-
-slice-aggregate-put-report : tie.Need-slice-aggregate-put-report
-slice-aggregate-put-report c = search needs
-
-slice-aggregate-put-report-2 : tie.Need-slice-aggregate-put-report-2
-slice-aggregate-put-report-2 c = search needs
-
-put-report-requires : tie.Need-put-report-requires
-put-report-requires c κs = search needs
-
-same-length : tie.Need-same-length
-same-length c = search needs
-
 returns : tie.Need-returns
 returns c =
     let at-report = c .before .before in
@@ -54,14 +24,14 @@ pub put-air-spec : {M : Type 1} → statement M
 put-air-spec =
     tie.close
     (tie.spec
-    blank-row-requires
-    blank-marks-requires
-    slice-aggregate-air
-    air-requires
-    slice-aggregate-admissions
-    admissions-requires
-    slice-aggregate-put-report
-    slice-aggregate-put-report-2
-    put-report-requires
-    same-length
+    (λ c κs. search needs)
+    (λ c κs. search needs)
+    (λ c. search needs)
+    (λ c κs. search needs)
+    (λ c. search needs)
+    (λ c κs. search needs)
+    (λ c. search needs)
+    (λ c. search needs)
+    (λ c κs. search needs)
+    (λ c. search needs)
     returns)

@@ -17,24 +17,6 @@ Inv-loop out₀ at row place₀ i₀ out place i =
 abbrev μ-loop : tie.MeasureT-loop
 μ-loop out₀ at row place₀ i₀ out place i = length row - i
 
-loop-holds : tie.Need-loop-holds Inv-loop μ-loop
-loop-holds c = passed-none _ _ _
-
-mul-put-entry : tie.Need-mul-put-entry Inv-loop μ-loop
-mul-put-entry c = search needs
-
-shared-slice-read-put-entry : tie.Need-shared-slice-read-put-entry Inv-loop μ-loop
-shared-slice-read-put-entry c = search needs
-
-put-entry-requires : tie.Need-put-entry-requires Inv-loop μ-loop
-put-entry-requires c κs = search needs
-
-add-i : tie.Need-add-i Inv-loop μ-loop
-add-i c = omega arith
-
-loop-less : tie.Need-loop-less Inv-loop μ-loop
-loop-less c = omega arith
-
 loop-again : tie.Need-loop-again Inv-loop μ-loop
 loop-again c =
     let at-put = c .before .before in
@@ -42,24 +24,18 @@ loop-again c =
     let at-loop = at-loop-test .before in
     passed-on _ _ _ _ (at-loop .loop .inv) (at-loop-test .loop-test .taken) (at-put .put-entry .ensures)
 
-same-length : tie.Need-same-length Inv-loop μ-loop
-same-length c = c .before .loop .inv .room
-
-returns : tie.Need-returns Inv-loop μ-loop
-returns c = passed-all _ _ _ _ (c .before .loop .inv) (c .loop-test .left)
-
 pub put-numbers-spec : {M : Type 1} → statement M
 put-numbers-spec =
     tie.close
     (tie.spec
     Inv-loop
     μ-loop
-    loop-holds
-    mul-put-entry
-    shared-slice-read-put-entry
-    put-entry-requires
-    add-i
-    loop-less
+    (λ c. passed-none _ _ _)
+    (λ c. search needs)
+    (λ c. search needs)
+    (λ c κs. search needs)
+    (λ c. omega arith)
+    (λ c. omega arith)
     loop-again
-    same-length
-    returns)
+    (λ c. c .before .loop .inv .room)
+    (λ c. passed-all _ _ _ _ (c .before .loop .inv) (c .loop-test .left)))

@@ -9,15 +9,9 @@ use borrow.Author.Needs.{needs}
 use Rattle.console_answers.proofs.faults.fault_words.Statement.{statement}
 use Rattle.console_answers.proofs.faults.fault_words.Tie as tie
 
-put-line-requires : tie.Need-put-line-requires
-put-line-requires c κs = search needs
-
-same-length : tie.Need-same-length
-same-length c = search needs
-
 returns : tie.Need-returns
 unfolding text isSort run listed plain faultWords
 returns c = c .before .before .put-line .ensures ∙ ap (puts _) (lines faults _ refl)
 
 pub fault-words-spec : {M : Type 1} → statement M
-fault-words-spec = tie.close (tie.spec put-line-requires same-length returns)
+fault-words-spec = tie.close (tie.spec (λ c κs. search needs) (λ c. search needs) returns)

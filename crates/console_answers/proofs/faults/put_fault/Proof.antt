@@ -11,30 +11,6 @@ use borrow.Author.Needs.{needs}
 use Rattle.console_answers.proofs.faults.put_fault.Statement.{statement}
 use Rattle.console_answers.proofs.faults.put_fault.Tie as tie
 
-slice-aggregate-put : tie.Need-slice-aggregate-put
-slice-aggregate-put c = search needs
-
-put-requires : tie.Need-put-requires
-put-requires c κs = search needs
-
-fault-words-requires : tie.Need-fault-words-requires
-fault-words-requires c κs = search needs
-
-slice-aggregate-put-2 : tie.Need-slice-aggregate-put-2
-slice-aggregate-put-2 c = search needs
-
-put-requires-2 : tie.Need-put-requires-2
-put-requires-2 c κs = search needs
-
-from-one-requires : tie.Need-from-one-requires
-from-one-requires c κs = search needs
-
-put-number-requires : tie.Need-put-number-requires
-put-number-requires c κs = search needs
-
-same-length : tie.Need-same-length
-same-length c = search needs
-
 returns : tie.Need-returns
 unfolding faultText text
 returns c =
@@ -58,12 +34,12 @@ pub put-fault-spec : {M : Type 1} → statement M
 put-fault-spec =
     tie.close
     (tie.spec
-    slice-aggregate-put
-    put-requires
-    fault-words-requires
-    slice-aggregate-put-2
-    put-requires-2
-    from-one-requires
-    put-number-requires
-    same-length
+    (λ c. search needs)
+    (λ c κs. search needs)
+    (λ c κs. search needs)
+    (λ c. search needs)
+    (λ c κs. search needs)
+    (λ c κs. search needs)
+    (λ c κs. search needs)
+    (λ c. search needs)
     returns)

@@ -5,16 +5,10 @@ use borrow.Author.Needs.{needs}
 use Rattle.console_answers.proofs.faults.put_help.Statement.{statement}
 use Rattle.console_answers.proofs.faults.put_help.Tie as tie
 
-put-requires : tie.Need-put-requires
-put-requires c κs = search needs
-
-same-length : tie.Need-same-length
-same-length c = search needs
-
 returns : tie.Need-returns
 unfolding helpText parted text
 returns c =
     c .before .before .put .ensures
 
 pub put-help-spec : {M : Type 1} → statement M
-put-help-spec = tie.close (tie.spec put-requires same-length returns)
+put-help-spec = tie.close (tie.spec (λ c κs. search needs) (λ c. search needs) returns)

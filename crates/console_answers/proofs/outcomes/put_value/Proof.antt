@@ -7,21 +7,9 @@ use borrow.Author.Needs.{needs}
 use Rattle.console_answers.proofs.outcomes.put_value.Statement.{statement}
 use Rattle.console_answers.proofs.outcomes.put_value.Tie as tie
 
-put-done-requires : tie.Need-put-done-requires
-put-done-requires c κs = search needs
-
-put-entry-requires : tie.Need-put-entry-requires
-put-entry-requires c κs = search needs
-
-same-length : tie.Need-same-length
-same-length c = search needs
-
 returns : tie.Need-returns
 unfolding valueText withText
 returns c = rw (eq-eqb _ _ (c .before .before .before .before .if1 .taken), puts-append) (cc)
-
-same-length-2 : tie.Need-same-length-2
-same-length-2 c = search needs
 
 returns-2 : tie.Need-returns-2
 unfolding valueText withText
@@ -30,4 +18,4 @@ returns-2 c = rw (ne-eqb _ _ (c .if1 .left), append-nil) (cc)
 pub put-value-spec : {M : Type 1} → statement M
 put-value-spec =
     tie.close
-    (tie.spec put-done-requires put-entry-requires same-length returns same-length-2 returns-2)
+    (tie.spec (λ c κs. search needs) (λ c κs. search needs) (λ c. search needs) returns (λ c. search needs) returns-2)

@@ -16,17 +16,8 @@ fits : (at-plan : tie.After-skip-plan) → at-plan .skip-plan .result ≡ done �
     Accepted (x .count) (x .arrival) (length (x .row .now))
 fits at-plan z = accepted-only _ _ _ (sym (at-plan .skip-plan .ensures .answer) ∙ z)
 
-skip-plan-requires : tie.Need-skip-plan-requires
-skip-plan-requires c κs = search needs
-
-one-less-requires : tie.Need-one-less-requires
-one-less-requires c κs = search needs
-
 cells-of-requires : tie.Need-cells-of-requires
 cells-of-requires c κs = λ z. omega (arith, fits (c .before .before .before) z .within .high, c .one-less .ensures)
-
-same-length : tie.Need-same-length
-same-length c = search needs
 
 returns : tie.Need-returns
 returns c =
@@ -41,4 +32,4 @@ returns c =
 pub forward-spec : {M : Type 1} → statement M
 forward-spec =
     tie.close
-    (tie.spec skip-plan-requires one-less-requires cells-of-requires same-length returns)
+    (tie.spec (λ c κs. search needs) (λ c κs. search needs) cells-of-requires (λ c. search needs) returns)

@@ -16,17 +16,8 @@ fits : (at-plan : tie.After-plan) → at-plan .plan .result ≡ done →
     Accepted (x .floor) (x .cap) (x .count) (x .arrival) (length (x .row .now))
 fits at-plan z = accepted-only _ _ _ _ _ (sym (at-plan .plan .ensures .answer) ∙ z)
 
-plan-requires : tie.Need-plan-requires
-plan-requires c κs = search needs
-
-missed-requires : tie.Need-missed-requires
-missed-requires c κs = search needs
-
 cells-of-requires : tie.Need-cells-of-requires
 cells-of-requires c κs = λ z. fits (c .before .before .before) z .count .high
-
-same-length : tie.Need-same-length
-same-length c = search needs
 
 returns : tie.Need-returns
 returns c =
@@ -43,4 +34,4 @@ returns c =
 pub padded-spec : {M : Type 1} → statement M
 padded-spec =
     tie.close
-    (tie.spec plan-requires missed-requires cells-of-requires same-length returns)
+    (tie.spec (λ c κs. search needs) (λ c κs. search needs) cells-of-requires (λ c. search needs) returns)

@@ -16,20 +16,11 @@ fits : (at-plan : tie.After-plan) → at-plan .plan .result ≡ done →
     RomAccepted (x .floor) (x .cap) (x .count) (x .arrival) (length (x .row .now))
 fits at-plan z = rom-accepted _ _ _ _ _ (sym (at-plan .plan .ensures .answer) ∙ z)
 
-plan-requires : tie.Need-plan-requires
-plan-requires c κs = search needs
-
-missed-requires : tie.Need-missed-requires
-missed-requires c κs = search needs
-
 cells-of-requires : tie.Need-cells-of-requires
 cells-of-requires c κs =
     λ z.
     let t = fits (c .before .before .before) z in
     omega (arith, t .cap, t .accepted .count .high)
-
-same-length : tie.Need-same-length
-same-length c = search needs
 
 returns : tie.Need-returns
 returns c =
@@ -49,4 +40,4 @@ returns c =
 pub small-spec : {M : Type 1} → statement M
 small-spec =
     tie.close
-    (tie.spec plan-requires missed-requires cells-of-requires same-length returns)
+    (tie.spec (λ c κs. search needs) (λ c κs. search needs) cells-of-requires (λ c. search needs) returns)

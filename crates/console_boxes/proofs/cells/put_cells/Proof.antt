@@ -16,24 +16,6 @@ Inv-loop out₀ at row n place₀ i₀ out place i =
 abbrev μ-loop : tie.MeasureT-loop
 μ-loop out₀ at row n place₀ i₀ out place i = n - i
 
-loop-holds : tie.Need-loop-holds Inv-loop μ-loop
-loop-holds c = passed-none _ _ _
-
-mul-put-cell : tie.Need-mul-put-cell Inv-loop μ-loop
-mul-put-cell c = search needs
-
-shared-slice-read-put-cell : tie.Need-shared-slice-read-put-cell Inv-loop μ-loop
-shared-slice-read-put-cell c = search needs
-
-put-cell-requires : tie.Need-put-cell-requires Inv-loop μ-loop
-put-cell-requires c κs = search needs
-
-add-i : tie.Need-add-i Inv-loop μ-loop
-add-i c = omega arith
-
-loop-less : tie.Need-loop-less Inv-loop μ-loop
-loop-less c = omega arith
-
 loop-again : tie.Need-loop-again Inv-loop μ-loop
 loop-again c =
     let at-put = c .before .before in
@@ -41,24 +23,18 @@ loop-again c =
     let at-loop = at-loop-test .before in
     passed-on _ _ _ _ (at-loop .loop .inv) (at-loop-test .loop-test .taken) (at-put .put-cell .ensures)
 
-same-length : tie.Need-same-length Inv-loop μ-loop
-same-length c = c .before .loop .inv .room
-
-returns : tie.Need-returns Inv-loop μ-loop
-returns c = passed-all _ _ _ _ (c .before .loop .inv) (c .loop-test .left)
-
 pub put-cells-spec : {M : Type 1} → statement M
 put-cells-spec =
     tie.close
     (tie.spec
     Inv-loop
     μ-loop
-    loop-holds
-    mul-put-cell
-    shared-slice-read-put-cell
-    put-cell-requires
-    add-i
-    loop-less
+    (λ c. passed-none _ _ _)
+    (λ c. search needs)
+    (λ c. search needs)
+    (λ c κs. search needs)
+    (λ c. omega arith)
+    (λ c. omega arith)
     loop-again
-    same-length
-    returns)
+    (λ c. c .before .loop .inv .room)
+    (λ c. passed-all _ _ _ _ (c .before .loop .inv) (c .loop-test .left)))

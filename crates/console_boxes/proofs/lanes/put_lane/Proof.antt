@@ -5,15 +5,6 @@ use borrow.Author.Needs.{needs}
 use Rattle.console_boxes.proofs.lanes.put_lane.Statement.{statement}
 use Rattle.console_boxes.proofs.lanes.put_lane.Tie as tie
 
-lane-requires : tie.Need-lane-requires
-lane-requires c κs = search needs
-
-put-value-requires : tie.Need-put-value-requires
-put-value-requires c κs = search needs
-
-same-length : tie.Need-same-length
-same-length c = search needs
-
 returns : tie.Need-returns
 returns c = let x = c .before .before .before .before .before .before .args in
     let p = page (x .out .now) (x .at) in
@@ -21,4 +12,4 @@ returns c = let x = c .before .before .before .before .before .before .args in
     (c .before .before .before .before .lane .ensures .1) (c .before .before .put-value .ensures)
 
 pub put-lane-spec : {M : Type 1} → statement M
-put-lane-spec = tie.close (tie.spec lane-requires put-value-requires same-length returns)
+put-lane-spec = tie.close (tie.spec (λ c κs. search needs) (λ c κs. search needs) (λ c. search needs) returns)

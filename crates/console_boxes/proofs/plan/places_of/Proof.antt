@@ -6,15 +6,6 @@ use borrow.Author.Needs.{needs}
 use Rattle.console_boxes.proofs.plan.places_of.Statement.{statement}
 use Rattle.console_boxes.proofs.plan.places_of.Tie as tie
 
-place-of-requires : tie.Need-place-of-requires
-place-of-requires c κs = search needs
-
-mul-places : tie.Need-mul-places
-mul-places c = search needs
-
-array-read-places : tie.Need-array-read-places
-array-read-places c = search needs
-
 returns : tie.Need-returns
 unfolding placesIn
 returns c =
@@ -31,4 +22,4 @@ returns-3 c = (rw (← c .before .place-of .ensures .0, le-ltb _ _ (c .if1 .left
 
 pub places-of-spec : {M : Type 1} → statement M
 places-of-spec =
-    tie.close (tie.spec place-of-requires mul-places array-read-places returns returns-2 returns-3)
+    tie.close (tie.spec (λ c κs. search needs) (λ c. search needs) (λ c. search needs) returns returns-2 returns-3)

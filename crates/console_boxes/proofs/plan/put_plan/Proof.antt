@@ -6,25 +6,10 @@ use borrow.Author.Needs.{needs}
 use Rattle.console_boxes.proofs.plan.put_plan.Statement.{statement}
 use Rattle.console_boxes.proofs.plan.put_plan.Tie as tie
 
-places-of-requires : tie.Need-places-of-requires
-places-of-requires c κs = search needs
-
-blank-row-requires : tie.Need-blank-row-requires
-blank-row-requires c κs = search needs
-
-array-borrow-prefix-row : tie.Need-array-borrow-prefix-row
-array-borrow-prefix-row c = search needs
-
 slice-aggregate-put-row : tie.Need-slice-aggregate-put-row
 slice-aggregate-put-row c =
     counted _ placesMost (c .before .before .blank-row .result) (c .before .before .blank-row .ensures .1)
     (c .before .before .before .places-of .ensures .1)
-
-put-row-requires : tie.Need-put-row-requires
-put-row-requires c κs = search needs
-
-same-length : tie.Need-same-length
-same-length c = search needs
 
 returns : tie.Need-returns
 unfolding planIn
@@ -39,10 +24,10 @@ pub put-plan-spec : {M : Type 1} → statement M
 put-plan-spec =
     tie.close
     (tie.spec
-    places-of-requires
-    blank-row-requires
-    array-borrow-prefix-row
+    (λ c κs. search needs)
+    (λ c κs. search needs)
+    (λ c. search needs)
     slice-aggregate-put-row
-    put-row-requires
-    same-length
+    (λ c κs. search needs)
+    (λ c. search needs)
     returns)

@@ -6,21 +6,6 @@ use borrow.Author.Needs.{needs}
 use Rattle.console_boxes.proofs.plan.put_row.Statement.{statement}
 use Rattle.console_boxes.proofs.plan.put_row.Tie as tie
 
-fill-requires : tie.Need-fill-requires
-fill-requires c κs = search needs
-
-put-done-requires : tie.Need-put-done-requires
-put-done-requires c κs = search needs
-
-put-cells-requires : tie.Need-put-cells-requires
-put-cells-requires c κs = search needs
-
-same-length : tie.Need-same-length
-same-length c = search needs
-
-same-length-2 : tie.Need-same-length-2
-same-length-2 c = search needs
-
 returns : tie.Need-returns
 returns c =
     let at-put-cells = c .before .before in
@@ -33,4 +18,4 @@ returns c =
 pub put-row-spec : {M : Type 1} → statement M
 put-row-spec =
     tie.close
-    (tie.spec fill-requires put-done-requires put-cells-requires same-length same-length-2 returns)
+    (tie.spec (λ c κs. search needs) (λ c κs. search needs) (λ c κs. search needs) (λ c. search needs) (λ c. search needs) returns)

@@ -9,12 +9,9 @@ returns : tie.Need-returns
 unfolding enough
 returns c = simp (eq-eqb _ _ (c .if1 .taken))
 
-entry-requires : tie.Need-entry-requires
-entry-requires c κs = search needs
-
 returns-2 : tie.Need-returns-2
 unfolding enough leastOf
 returns-2 c = simp (ne-eqb _ _ (c .before .before .if1 .left), c .before .entry .ensures)
 
 pub enough-spec : {M : Type 1} → statement M
-enough-spec = tie.close (tie.spec returns entry-requires returns-2)
+enough-spec = tie.close (tie.spec returns (λ c κs. search needs) returns-2)

@@ -8,18 +8,9 @@ use borrow.Author.Needs.{needs}
 use Rattle.console_lines.proofs.commands.entry.Statement.{statement}
 use Rattle.console_lines.proofs.commands.entry.Tie as tie
 
-mul-result : tie.Need-mul-result
-mul-result c = search needs
-
-array-copy-out-result : tie.Need-array-copy-out-result
-array-copy-out-result c = search needs
-
 returns : tie.Need-returns
 unfolding text commandTable commandOf
 returns c = any-default commandTable (c .before .before .args .command) _ nobody (c .before .if1 .taken)
-
-array-copy-out-result-2 : tie.Need-array-copy-out-result-2
-array-copy-out-result-2 c = search needs
 
 returns-2 : tie.Need-returns-2
 unfolding text commandTable commandOf
@@ -27,4 +18,4 @@ returns-2 c = sym (List·getD-eq-default commandTable nobody (c .before .if1 .le
 
 pub entry-spec : {M : Type 1} → statement M
 entry-spec =
-    tie.close (tie.spec mul-result array-copy-out-result returns array-copy-out-result-2 returns-2)
+    tie.close (tie.spec (λ c. search needs) (λ c. search needs) returns (λ c. search needs) returns-2)

@@ -8,15 +8,6 @@ use borrow.Author.Needs.{needs}
 use Rattle.console_lines.proofs.commands.limit.Statement.{statement}
 use Rattle.console_lines.proofs.commands.limit.Tie as tie
 
-entry-requires : tie.Need-entry-requires
-entry-requires c κs = search needs
-
-mul-result : tie.Need-mul-result
-mul-result c = search needs
-
-element-copy-out-result : tie.Need-element-copy-out-result
-element-copy-out-result c = search needs
-
 returns : tie.Need-returns
 unfolding limitOf
 returns c =
@@ -30,4 +21,4 @@ returns-2 c = rw (le-ltb _ _ (c .if1 .left))
 
 pub limit-spec : {M : Type 1} → statement M
 limit-spec =
-    tie.close (tie.spec entry-requires mul-result element-copy-out-result returns returns-2)
+    tie.close (tie.spec (λ c κs. search needs) (λ c. search needs) (λ c. search needs) returns returns-2)

@@ -7,9 +7,6 @@ use borrow.Author.Needs.{needs}
 use Rattle.console_lines.proofs.commands.most.Statement.{statement}
 use Rattle.console_lines.proofs.commands.most.Tie as tie
 
-entry-requires : tie.Need-entry-requires
-entry-requires c κs = search needs
-
 returns : tie.Need-returns
 unfolding mostOf
 returns c =
@@ -17,4 +14,4 @@ returns c =
     (is, rw is (most-few (c .before .args .command)))
 
 pub most-spec : {M : Type 1} → statement M
-most-spec = tie.close (tie.spec entry-requires returns)
+most-spec = tie.close (tie.spec (λ c κs. search needs) returns)

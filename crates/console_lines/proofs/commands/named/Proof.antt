@@ -33,23 +33,14 @@ tells c =
     told (a .word .now) _ _ (c .same .ensures .0) (c .same .ensures .1)
     ∙ ap (same (a .word .now)) (name-is _ _ _ (at-entry .entry .ensures) (at-run-end .run-end .ensures))
 
-entry-requires : tie.Need-entry-requires
-entry-requires c κs = search needs
-
 slice-aggregate-run-end : tie.Need-slice-aggregate-run-end
 slice-aggregate-run-end c = let e = word-room (c .before .before .before .before .args .command) in search needs
-
-run-end-requires : tie.Need-run-end-requires
-run-end-requires c κs = search needs
 
 array-share-prefix-name : tie.Need-array-share-prefix-name
 array-share-prefix-name c = omega (arith, fits c .0, fits c .1)
 
 slice-aggregate-same : tie.Need-slice-aggregate-same
 slice-aggregate-same c = rw length-take (omega (arith, fits (c .before) .0))
-
-same-requires : tie.Need-same-requires
-same-requires c κs = search needs
 
 returns : tie.Need-returns
 returns c = rw (sym (tells (c .before)) ∙ c .if1 .taken)
@@ -61,11 +52,11 @@ pub named-spec : {M : Type 1} → statement M
 named-spec =
     tie.close
     (tie.spec
-    entry-requires
+    (λ c κs. search needs)
     slice-aggregate-run-end
-    run-end-requires
+    (λ c κs. search needs)
     array-share-prefix-name
     slice-aggregate-same
-    same-requires
+    (λ c κs. search needs)
     returns
     returns-2)

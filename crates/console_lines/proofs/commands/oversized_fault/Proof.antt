@@ -4,9 +4,6 @@ use Rattle.console_lines.specs.Commands.{oversized}
 use Rattle.console_lines.proofs.commands.oversized_fault.Statement.{statement}
 use Rattle.console_lines.proofs.commands.oversized_fault.Tie as tie
 
-asks-plan-requires : tie.Need-asks-plan-requires
-asks-plan-requires c κs = search needs
-
 returns : tie.Need-returns
 unfolding oversized
 returns c = simp (← c .before .asks-plan .ensures, c .if1 .taken)
@@ -16,4 +13,4 @@ unfolding oversized
 returns-2 c = simp (← c .before .asks-plan .ensures, c .if1 .left)
 
 pub oversized-fault-spec : {M : Type 1} → statement M
-oversized-fault-spec = tie.close (tie.spec asks-plan-requires returns returns-2)
+oversized-fault-spec = tie.close (tie.spec (λ c κs. search needs) returns returns-2)

@@ -15,20 +15,8 @@ Inv-loop word found₀ left₀ found left = (left ≤ commands) × (found ≡ se
 abbrev μ-loop : tie.MeasureT-loop
 μ-loop word found₀ left₀ found left = left
 
-cast-left : tie.Need-cast-left Inv-loop μ-loop
-cast-left c = search needs
-
 loop-holds : tie.Need-loop-holds Inv-loop μ-loop
 loop-holds c = (omega arith, sought-none _)
-
-sub-left : tie.Need-sub-left Inv-loop μ-loop
-sub-left c = omega arith
-
-named-requires : tie.Need-named-requires Inv-loop μ-loop
-named-requires c κs = search needs
-
-loop-less : tie.Need-loop-less Inv-loop μ-loop
-loop-less c = omega arith
 
 loop-again : tie.Need-loop-again Inv-loop μ-loop
 loop-again c =
@@ -42,4 +30,4 @@ returns c = sought-all _ _ _ (c .loop-test .left) (c .before .loop .inv .1)
 pub verb-spec : {M : Type 1} → statement M
 verb-spec =
     tie.close
-    (tie.spec Inv-loop μ-loop cast-left loop-holds sub-left named-requires loop-less loop-again returns)
+    (tie.spec Inv-loop μ-loop (λ c. search needs) loop-holds (λ c. omega arith) (λ c κs. search needs) (λ c. omega arith) loop-again returns)

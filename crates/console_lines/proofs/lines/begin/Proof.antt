@@ -1,8 +1,9 @@
 -- `console_lines::lines::begin` meets its contract: its tests are those of the definition, and a word stays within the
 -- line.
-use Prim.Native.Nat.{ℕ}
+use Prim.Native.Nat.{ℕ, _≤_}
 use mathlib.Core.Path.{_∙_, ap}
 use native.Mathlib.Omega.{arith}
+use lib.ListN.{length}
 use Rattle.console_lines.specs.declared.lines.Line.{Line}
 use Rattle.console_lines.specs.Commands.{tooLong}
 use Rattle.console_lines.specs.Lines.{withFault, withVerb, longest}
@@ -13,26 +14,11 @@ use borrow.Author.Needs.{needs}
 use Rattle.console_lines.proofs.lines.begin.Statement.{statement}
 use Rattle.console_lines.proofs.lines.begin.Tie as tie
 
-empty-requires : tie.Need-empty-requires
-empty-requires c κs = search needs
-
-faulted-requires : tie.Need-faulted-requires
-faulted-requires c κs = search needs
-
 returns : tie.Need-returns
 returns c =
     let x = c .before .before .before .before .args in
     c .faulted .ensures ∙ ap (λ (l : Line). withFault l tooLong longest) (c .before .empty .ensures) ∙ begun-long
     (x .s .now) (c .before .before .if1 .taken)
-
-run-end-requires : tie.Need-run-end-requires
-run-end-requires c κs = search needs
-
-shared-slice-read-if3 : tie.Need-shared-slice-read-if3
-shared-slice-read-if3 c = search needs
-
-empty-requires-2 : tie.Need-empty-requires-2
-empty-requires-2 c κs = search needs
 
 returns-2 : tie.Need-returns-2
 returns-2 c =
@@ -40,44 +26,17 @@ returns-2 c =
     c .empty2 .ensures ∙ begun-hash (x .s .now) (c .before .before .before .before .before .if1 .left) _
     (c .before .before .before .before .run-end .ensures) (c .before .before .before .if2 .taken) (c .before .if3 .taken)
 
-run-end-requires-2 : tie.Need-run-end-requires-2
-run-end-requires-2 c κs = search needs
-
-sub-verb : tie.Need-sub-verb
-sub-verb c =
-    let x = c .before .before .before .before .before .before .before .args in
-    omega (
-      arith,
-      c .run-end2 .ensures,
-      run-end-low Word (x .s .now) (c .before .before .before .before .run-end .result),
-      run-end-high Word (x .s .now) (c .before .before .before .before .run-end .result) (omega arith),
-    )
-
-part-verb-start : tie.Need-part-verb-start
-part-verb-start c =
-    let x = c .before .before .before .before .before .before .before .args in
-    omega (
-      arith,
-      c .run-end2 .ensures,
-      run-end-low Word (x .s .now) (c .before .before .before .before .run-end .result),
-      run-end-high Word (x .s .now) (c .before .before .before .before .run-end .result) (omega arith),
-    )
-
-part-verb-end : tie.Need-part-verb-end
-part-verb-end c =
-    let x = c .before .before .before .before .before .before .before .args in
-    omega (
-      arith,
-      c .run-end2 .ensures,
-      run-end-low Word (x .s .now) (c .before .before .before .before .run-end .result),
-      run-end-high Word (x .s .now) (c .before .before .before .before .run-end .result) (omega arith),
-    )
-
-verb-requires : tie.Need-verb-requires
-verb-requires c κs = search needs
-
-take-verb-requires : tie.Need-take-verb-requires
-take-verb-requires c κs = search needs
+-- the first word ends within the line, and not before its start
+word : (r : tie.After-run-end2) →
+    let a = r .before .before .before .before .run-end .result in
+    let x = r .before .before .before .before .before .before .before .args in
+    (a ≤ r .run-end2 .result) × (r .run-end2 .result ≤ length (x .s .now))
+word r =
+    let a = r .before .before .before .before .run-end .result in
+    let x = r .before .before .before .before .before .before .before .args in
+    let low = run-end-low Word (x .s .now) a in
+    let high = run-end-high Word (x .s .now) a (omega arith) in
+    (omega (arith, r .run-end2 .ensures, low), omega (arith, r .run-end2 .ensures, high))
 
 returns-3 : tie.Need-returns-3
 returns-3 c =
@@ -93,9 +52,6 @@ returns-3 c =
     ∙ begun-verb (x .s .now) (at-if1 .if1 .left) _ (at-run-end .run-end .ensures) (at-if2 .if2 .taken) (at-if3 .if3 .left) _
     (at-run-end2 .run-end2 .ensures)
 
-empty-requires-3 : tie.Need-empty-requires-3
-empty-requires-3 c κs = search needs
-
 returns-4 : tie.Need-returns-4
 returns-4 c =
     let x = c .before .before .before .before .before .args in
@@ -106,19 +62,19 @@ pub begin-spec : {M : Type 1} → statement M
 begin-spec =
     tie.close
     (tie.spec
-    empty-requires
-    faulted-requires
+    (λ c κs. search needs)
+    (λ c κs. search needs)
     returns
-    run-end-requires
-    shared-slice-read-if3
-    empty-requires-2
+    (λ c κs. search needs)
+    (λ c. search needs)
+    (λ c κs. search needs)
     returns-2
-    run-end-requires-2
-    sub-verb
-    part-verb-start
-    part-verb-end
-    verb-requires
-    take-verb-requires
+    (λ c κs. search needs)
+    (λ c. omega (arith, word c))
+    (λ c. omega (arith, word c))
+    (λ c. omega (arith, word c))
+    (λ c κs. search needs)
+    (λ c κs. search needs)
     returns-3
-    empty-requires-3
+    (λ c κs. search needs)
     returns-4)

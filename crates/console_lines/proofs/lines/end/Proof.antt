@@ -4,19 +4,10 @@ use borrow.Author.Needs.{needs}
 use Rattle.console_lines.proofs.lines.end.Statement.{statement}
 use Rattle.console_lines.proofs.lines.end.Tie as tie
 
-enough-requires : tie.Need-enough-requires
-enough-requires c κs = search needs
-
-faulted-requires : tie.Need-faulted-requires
-faulted-requires c κs = search needs
-
 returns : tie.Need-returns
 unfolding ended
 returns c =
     rw (← c .before .before .enough .ensures, c .before .if1 .taken) (c .faulted .ensures)
-
-faulted-requires-2 : tie.Need-faulted-requires-2
-faulted-requires-2 c κs = search needs
 
 returns-2 : tie.Need-returns-2
 unfolding ended
@@ -25,4 +16,4 @@ returns-2 c =
 
 pub end-spec : {M : Type 1} → statement M
 end-spec =
-    tie.close (tie.spec enough-requires faulted-requires returns faulted-requires-2 returns-2)
+    tie.close (tie.spec (λ c κs. search needs) (λ c κs. search needs) returns (λ c κs. search needs) returns-2)

@@ -5,20 +5,11 @@ use borrow.Author.Needs.{needs}
 use Rattle.console_lines.proofs.lines.step.Statement.{statement}
 use Rattle.console_lines.proofs.lines.step.Tie as tie
 
-run-end-requires : tie.Need-run-end-requires
-run-end-requires c κs = search needs
-
-take-word-requires : tie.Need-take-word-requires
-take-word-requires c κs = search needs
-
 returns : tie.Need-returns
 returns c =
     let x = c .before .before .before .before .args in
     c .take-word .ensures ∙ step-word (x .s .now) (x .line) _ (c .before .before .run-end .ensures)
     (c .before .if1 .taken)
-
-end-requires : tie.Need-end-requires
-end-requires c κs = search needs
 
 returns-2 : tie.Need-returns-2
 returns-2 c =
@@ -26,4 +17,4 @@ returns-2 c =
     c .end .ensures ∙ step-end (x .s .now) (x .line) _ (c .before .before .run-end .ensures) (c .before .if1 .left)
 
 pub step-spec : {M : Type 1} → statement M
-step-spec = tie.close (tie.spec run-end-requires take-word-requires returns end-requires returns-2)
+step-spec = tie.close (tie.spec (λ c κs. search needs) (λ c κs. search needs) returns (λ c κs. search needs) returns-2)

@@ -5,29 +5,17 @@ use borrow.Author.Needs.{needs}
 use Rattle.console_lines.proofs.lines.take_kind.Statement.{statement}
 use Rattle.console_lines.proofs.lines.take_kind.Tie as tie
 
-verb-requires : tie.Need-verb-requires
-verb-requires c κs = search needs
-
-faulted-requires : tie.Need-faulted-requires
-faulted-requires c κs = search needs
-
 returns : tie.Need-returns
 returns c =
     let x = c .before .before .before .before .args in
     c .faulted .ensures ∙ kind-low (x .word .now) (x .line) (x .a) (x .e) _ (c .before .before .verb .ensures)
     (c .before .if1 .taken)
 
-faulted-requires-2 : tie.Need-faulted-requires-2
-faulted-requires-2 c κs = search needs
-
 returns-2 : tie.Need-returns-2
 returns-2 c =
     let x = c .before .before .before .before .before .args in
     c .faulted2 .ensures ∙ kind-high (x .word .now) (x .line) (x .a) (x .e) _ (c .before .before .before .verb .ensures)
     (c .before .before .if1 .left) (c .before .if2 .taken)
-
-add-l : tie.Need-add-l
-add-l c = search needs
 
 returns-3 : tie.Need-returns-3
 returns-3 c =
@@ -38,4 +26,4 @@ returns-3 c =
 pub take-kind-spec : {M : Type 1} → statement M
 take-kind-spec =
     tie.close
-    (tie.spec verb-requires faulted-requires returns faulted-requires-2 returns-2 add-l returns-3)
+    (tie.spec (λ c κs. search needs) (λ c κs. search needs) returns (λ c κs. search needs) returns-2 (λ c. search needs) returns-3)

@@ -10,32 +10,11 @@ use borrow.Author.Needs.{needs}
 use Rattle.console_lines.proofs.lines.take_number.Statement.{statement}
 use Rattle.console_lines.proofs.lines.take_number.Tie as tie
 
-run-end-requires : tie.Need-run-end-requires
-run-end-requires c κs = search needs
-
-faulted-requires : tie.Need-faulted-requires
-faulted-requires c κs = search needs
-
 returns : tie.Need-returns
 returns c =
     let x = c .before .before .before .before .args in
     c .faulted .ensures ∙ number-bad (x .s .now) (x .line) (x .a) (x .e) _ (c .before .before .run-end .ensures)
     (c .before .if1 .taken)
-
-spelt-requires : tie.Need-spelt-requires
-spelt-requires c κs = search needs
-
-limit-requires : tie.Need-limit-requires
-limit-requires c κs = search needs
-
-above-requires : tie.Need-above-requires
-above-requires c κs = search needs
-
-oversized-fault-requires : tie.Need-oversized-fault-requires
-oversized-fault-requires c κs = search needs
-
-faulted-requires-2 : tie.Need-faulted-requires-2
-faulted-requires-2 c κs = search needs
 
 returns-2 : tie.Need-returns-2
 returns-2 c =
@@ -53,15 +32,6 @@ returns-2 c =
     (at-above .above .ensures ∙ ap (above (at-limit .limit .result)) (at-spelt .spelt .ensures))
     (at-if2 .if2 .taken)
 
-mul-l : tie.Need-mul-l
-mul-l c = search needs
-
-element-write-l : tie.Need-element-write-l
-element-write-l c = search needs
-
-add-l : tie.Need-add-l
-add-l c = search needs
-
 returns-3 : tie.Need-returns-3
 unfolding goOn capped
 returns-3 c =
@@ -77,16 +47,16 @@ pub take-number-spec : {M : Type 1} → statement M
 take-number-spec =
     tie.close
     (tie.spec
-    run-end-requires
-    faulted-requires
+    (λ c κs. search needs)
+    (λ c κs. search needs)
     returns
-    spelt-requires
-    limit-requires
-    above-requires
-    oversized-fault-requires
-    faulted-requires-2
+    (λ c κs. search needs)
+    (λ c κs. search needs)
+    (λ c κs. search needs)
+    (λ c κs. search needs)
+    (λ c κs. search needs)
     returns-2
-    mul-l
-    element-write-l
-    add-l
+    (λ c. search needs)
+    (λ c. search needs)
+    (λ c. search needs)
     returns-3)

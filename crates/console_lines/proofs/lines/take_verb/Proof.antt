@@ -5,12 +5,6 @@ use borrow.Author.Needs.{needs}
 use Rattle.console_lines.proofs.lines.take_verb.Statement.{statement}
 use Rattle.console_lines.proofs.lines.take_verb.Tie as tie
 
-empty-requires : tie.Need-empty-requires
-empty-requires c κs = search needs
-
-faulted-requires : tie.Need-faulted-requires
-faulted-requires c κs = search needs
-
 returns : tie.Need-returns
 unfolding withVerb
 returns c =
@@ -22,4 +16,4 @@ returns-2 c =
     rw (ne-eqb _ _ (c .if1 .left))
 
 pub take-verb-spec : {M : Type 1} → statement M
-take-verb-spec = tie.close (tie.spec empty-requires faulted-requires returns returns-2)
+take-verb-spec = tie.close (tie.spec (λ c κs. search needs) (λ c κs. search needs) returns returns-2)

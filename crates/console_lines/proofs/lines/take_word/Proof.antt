@@ -1,8 +1,9 @@
 -- `console_lines::lines::take_word` meets its contract: its tests are those of the definition, and a word stays within
 -- the line.
-use Prim.Native.Nat.{ℕ}
+use Prim.Native.Nat.{ℕ, _≤_}
 use mathlib.Core.Path.{_∙_, ap}
 use native.Mathlib.Omega.{arith}
+use lib.ListN.{length}
 use Rattle.console_lines.specs.Lines.{withFault}
 use Rattle.text.specs.declared.bytes.Sort.the-variants.{Word}
 use Rattle.text.proofs.Runs.{run-end-low, run-end-high}
@@ -11,14 +12,16 @@ use borrow.Author.Needs.{needs}
 use Rattle.console_lines.proofs.lines.take_word.Statement.{statement}
 use Rattle.console_lines.proofs.lines.take_word.Tie as tie
 
-most-requires : tie.Need-most-requires
-most-requires c κs = search needs
-
-crowded-fault-requires : tie.Need-crowded-fault-requires
-crowded-fault-requires c κs = search needs
-
-faulted-requires : tie.Need-faulted-requires
-faulted-requires c κs = search needs
+-- a word ends within the line, and not before its start
+word : (r : tie.After-run-end) →
+    let x = r .before .before .before .before .args in
+    (x .a ≤ r .run-end .result) × (r .run-end .result ≤ length (x .s .now))
+word r =
+    let at-start = r .before .before .before .before in
+    let x = at-start .args in
+    let low = run-end-low Word (x .s .now) (x .a) in
+    let high = run-end-high Word (x .s .now) (x .a) (omega (arith, at-start .pre)) in
+    (omega (arith, r .run-end .ensures, low), omega (arith, r .run-end .ensures, high))
 
 returns : tie.Need-returns
 returns c =
@@ -27,74 +30,12 @@ returns c =
     ∙ word-crowded (x .s .now) (x .line) (x .a) _ (c .before .before .before .most .ensures .0)
     (c .before .before .if1 .taken)
 
-run-end-requires : tie.Need-run-end-requires
-run-end-requires c κs = search needs
-
-takes-hex-requires : tie.Need-takes-hex-requires
-takes-hex-requires c κs = search needs
-
-take-hex-requires : tie.Need-take-hex-requires
-take-hex-requires c κs =
-    let x = c .before .before .before .before .before .before .args in
-    omega (
-      arith,
-      c .before .before .run-end .ensures,
-      run-end-low Word (x .s .now) (x .a),
-      run-end-high Word (x .s .now)
-          (x .a) (omega arith),
-    )
-
 returns-2 : tie.Need-returns-2
 returns-2 c =
     let x = c .before .before .before .before .before .before .before .args in
     c .take-hex .ensures ∙ word-hex (x .s .now) (x .line) (x .a) _
     (c .before .before .before .before .before .most .ensures .0) (c .before .before .before .before .if1 .left) _
     (c .before .before .takes-hex .ensures) _ (c .before .before .before .run-end .ensures) (c .before .if2 .taken)
-
-takes-kind-requires : tie.Need-takes-kind-requires
-takes-kind-requires c κs = search needs
-
-sub-take-kind : tie.Need-sub-take-kind
-sub-take-kind c =
-    let at-run-end = c .before .before .before .before in
-    let at-start = at-run-end .before .before .before .before in
-    let x = at-start .args in
-    omega (
-      arith,
-      at-run-end .run-end .ensures,
-      run-end-low Word (x .s .now) (x .a),
-      run-end-high Word (x .s .now) (x .a)
-          (omega arith),
-    )
-
-part-take-kind-start : tie.Need-part-take-kind-start
-part-take-kind-start c =
-    let at-run-end = c .before .before .before .before in
-    let at-start = at-run-end .before .before .before .before in
-    let x = at-start .args in
-    omega (
-      arith,
-      at-run-end .run-end .ensures,
-      run-end-low Word (x .s .now) (x .a),
-      run-end-high Word (x .s .now) (x .a)
-          (omega arith),
-    )
-
-part-take-kind-end : tie.Need-part-take-kind-end
-part-take-kind-end c =
-    let at-run-end = c .before .before .before .before in
-    let at-start = at-run-end .before .before .before .before in
-    let x = at-start .args in
-    omega (
-      arith,
-      at-run-end .run-end .ensures,
-      run-end-low Word (x .s .now) (x .a),
-      run-end-high Word (x .s .now) (x .a)
-          (omega arith),
-    )
-
-take-kind-requires : tie.Need-take-kind-requires
-take-kind-requires c κs = search needs
 
 returns-3 : tie.Need-returns-3
 returns-3 c =
@@ -110,9 +51,6 @@ returns-3 c =
     c .take-kind .ensures ∙ word-kind (x .s .now) (x .line) (x .a) _ (at-most .most .ensures .0) (at-if1 .if1 .left) _
     (at-takes-hex .takes-hex .ensures) _ (at-run-end .run-end .ensures) (at-if2 .if2 .left) _
     (at-takes-kind .takes-kind .ensures) (at-if3 .if3 .taken)
-
-take-number-requires : tie.Need-take-number-requires
-take-number-requires c κs = search needs
 
 returns-4 : tie.Need-returns-4
 returns-4 c =
@@ -132,19 +70,19 @@ pub take-word-spec : {M : Type 1} → statement M
 take-word-spec =
     tie.close
     (tie.spec
-    most-requires
-    crowded-fault-requires
-    faulted-requires
+    (λ c κs. search needs)
+    (λ c κs. search needs)
+    (λ c κs. search needs)
     returns
-    run-end-requires
-    takes-hex-requires
-    take-hex-requires
+    (λ c κs. search needs)
+    (λ c κs. search needs)
+    (λ c κs. word (c .before .before) .0)
     returns-2
-    takes-kind-requires
-    sub-take-kind
-    part-take-kind-start
-    part-take-kind-end
-    take-kind-requires
+    (λ c κs. search needs)
+    (λ c. omega (arith, word (c .before .before .before .before)))
+    (λ c. omega (arith, word (c .before .before .before .before)))
+    (λ c. omega (arith, word (c .before .before .before .before)))
+    (λ c κs. search needs)
     returns-3
-    take-number-requires
+    (λ c κs. search needs)
     returns-4)

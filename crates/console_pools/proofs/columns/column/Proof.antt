@@ -42,21 +42,6 @@ mul-as-four-bytes-2 c = let h = placed c in record { fits = omega (arith, h .1) 
 element-copy-out-as-four-bytes : tie.Need-element-copy-out-as-four-bytes Inv-loop μ-loop
 element-copy-out-as-four-bytes c = placed c .1
 
-as-four-bytes-requires : tie.Need-as-four-bytes-requires Inv-loop μ-loop
-as-four-bytes-requires c κs = search needs
-
-mul-c : tie.Need-mul-c Inv-loop μ-loop
-mul-c c = search needs
-
-array-write-c : tie.Need-array-write-c Inv-loop μ-loop
-array-write-c c = search needs
-
-add-i : tie.Need-add-i Inv-loop μ-loop
-add-i c = search needs
-
-loop-less : tie.Need-loop-less Inv-loop μ-loop
-loop-less c = omega arith
-
 loop-again : tie.Need-loop-again Inv-loop μ-loop
 unfolding column
 loop-again c = (omega arith, rw add-one (cc))
@@ -79,10 +64,10 @@ column-spec =
     add-as-four-bytes
     mul-as-four-bytes-2
     element-copy-out-as-four-bytes
-    as-four-bytes-requires
-    mul-c
-    array-write-c
-    add-i
-    loop-less
+    (λ c κs. search needs)
+    (λ c. search needs)
+    (λ c. search needs)
+    (λ c. search needs)
+    (λ c. omega arith)
     loop-again
     returns)

@@ -11,21 +11,6 @@ start at-share =
     let at-lent = at-share .before .before in
     at-lent .before .before .before .before .before .before
 
-share-requires : tie.Need-share-requires
-share-requires c κs = search needs
-
-put-done-requires : tie.Need-put-done-requires
-put-done-requires c κs = search needs
-
-put-shares-requires : tie.Need-put-shares-requires
-put-shares-requires c κs = search needs
-
-same-length : tie.Need-same-length
-same-length c = search needs
-
-same-length-2 : tie.Need-same-length-2
-same-length-2 c = search needs
-
 returns : tie.Need-returns
 returns c =
     let at-put-shares = c .before .before in
@@ -37,12 +22,6 @@ returns c =
     share-told p _ _ (x .pool) _ (x .rates .now) (x .lengths .now) (x .floors .now) (x .caps .now) (x .counts .now) _
     (at-share .share .ensures) (at-put-done .put-done .ensures) (at-if1 .if1 .taken) (search needs)
     (at-put-shares .put-shares .ensures)
-
-same-length-3 : tie.Need-same-length-3
-same-length-3 c = search needs
-
-same-length-4 : tie.Need-same-length-4
-same-length-4 c = search needs
 
 returns-2 : tie.Need-returns-2
 returns-2 c =
@@ -57,12 +36,12 @@ pub put-rows-spec : {M : Type 1} → statement M
 put-rows-spec =
     tie.close
     (tie.spec
-    share-requires
-    put-done-requires
-    put-shares-requires
-    same-length
-    same-length-2
+    (λ c κs. search needs)
+    (λ c κs. search needs)
+    (λ c κs. search needs)
+    (λ c. search needs)
+    (λ c. search needs)
     returns
-    same-length-3
-    same-length-4
+    (λ c. search needs)
+    (λ c. search needs)
     returns-2)

@@ -5,31 +5,10 @@ use borrow.Author.Needs.{needs}
 use Rattle.console_pools.proofs.titles.put_rows.Statement.{statement}
 use Rattle.console_pools.proofs.titles.put_rows.Tie as tie
 
-status-requires : tie.Need-status-requires
-status-requires c κs = search needs
-
-put-done-requires : tie.Need-put-done-requires
-put-done-requires c κs = search needs
-
-put-titles-requires : tie.Need-put-titles-requires
-put-titles-requires c κs = search needs
-
-same-length : tie.Need-same-length
-same-length c = search needs
-
-same-length-2 : tie.Need-same-length-2
-same-length-2 c = search needs
-
-same-length-3 : tie.Need-same-length-3
-same-length-3 c = search needs
-
-same-length-4 : tie.Need-same-length-4
-same-length-4 c = search needs
-
 returns : tie.Need-returns
 returns c =
-    let at-put-titles = c .before .before in
-    let at-if1 = at-put-titles .before .before .before .before .before in
+    let at-put-beside = c .before .before in
+    let at-if1 = at-put-beside .before .before .before .before .before in
     let at-put-done = at-if1 .before .before .before in
     let rows-back = at-put-done .before .before .before .before in
     let at-status = rows-back .before .before .before .before in
@@ -43,19 +22,7 @@ returns c =
     (h .0) (h .1 .0) (h .1 .1) (asked .0)
     (at-put-done .put-done .ensures) _ _ _ (asked .1 .0)
     (asked .1 .1 .0) (asked .1 .1 .1) (at-if1 .if1 .taken)
-    (at-put-titles .put-titles .ensures)
-
-same-length-5 : tie.Need-same-length-5
-same-length-5 c = search needs
-
-same-length-6 : tie.Need-same-length-6
-same-length-6 c = search needs
-
-same-length-7 : tie.Need-same-length-7
-same-length-7 c = search needs
-
-same-length-8 : tie.Need-same-length-8
-same-length-8 c = search needs
+    (at-put-beside .put-beside .ensures)
 
 returns-2 : tie.Need-returns-2
 returns-2 c =
@@ -76,16 +43,16 @@ pub put-rows-spec : {M : Type 1} → statement M
 put-rows-spec =
     tie.close
     (tie.spec
-    status-requires
-    put-done-requires
-    put-titles-requires
-    same-length
-    same-length-2
-    same-length-3
-    same-length-4
+    (λ c κs. search needs)
+    (λ c κs. search needs)
+    (λ c κs. search needs)
+    (λ c. search needs)
+    (λ c. search needs)
+    (λ c. search needs)
+    (λ c. search needs)
     returns
-    same-length-5
-    same-length-6
-    same-length-7
-    same-length-8
+    (λ c. search needs)
+    (λ c. search needs)
+    (λ c. search needs)
+    (λ c. search needs)
     returns-2)

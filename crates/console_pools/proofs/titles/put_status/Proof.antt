@@ -8,39 +8,12 @@ use borrow.Author.Needs.{needs}
 use Rattle.console_pools.proofs.titles.put_status.Statement.{statement}
 use Rattle.console_pools.proofs.titles.put_status.Tie as tie
 
-ids-of-requires : tie.Need-ids-of-requires
-ids-of-requires c κs = search needs
-
-add-end : tie.Need-add-end
-add-end c = search needs
-
-array-read-put-rows : tie.Need-array-read-put-rows
-array-read-put-rows c = search needs
-
-sub-put-rows : tie.Need-sub-put-rows
-sub-put-rows c = search needs
-
-part-put-rows-start : tie.Need-part-put-rows-start
-part-put-rows-start c = search needs
-
-part-put-rows-end : tie.Need-part-put-rows-end
-part-put-rows-end c = search needs
-
-array-borrow-prefix-counts : tie.Need-array-borrow-prefix-counts
-array-borrow-prefix-counts c = search needs
-
 slice-aggregate-put-rows : tie.Need-slice-aggregate-put-rows
 slice-aggregate-put-rows c = rw length-take (omega (arith, c .before .before .before .before .ids-of .ensures .1))
-
-array-borrow-prefix-held : tie.Need-array-borrow-prefix-held
-array-borrow-prefix-held c = search needs
 
 slice-aggregate-put-rows-2 : tie.Need-slice-aggregate-put-rows-2
 slice-aggregate-put-rows-2 c =
     rw length-take (omega (arith, c .before .before .before .before .before .ids-of .ensures .1))
-
-array-borrow-prefix-marks : tie.Need-array-borrow-prefix-marks
-array-borrow-prefix-marks c = search needs
 
 slice-aggregate-put-rows-3 : tie.Need-slice-aggregate-put-rows-3
 slice-aggregate-put-rows-3 c =
@@ -52,9 +25,6 @@ put-rows-requires c κs =
       simp (length-take, length-drop) (omega (arith, few)),
       (simp (length-take, length-drop) (omega (arith, few)), simp (length-take, length-drop) (omega (arith, few))),
     )
-
-same-length : tie.Need-same-length
-same-length c = search needs
 
 returns : tie.Need-returns
 unfolding idsIn
@@ -69,18 +39,18 @@ pub put-status-spec : {M : Type 1} → statement M
 put-status-spec =
     tie.close
     (tie.spec
-    ids-of-requires
-    add-end
-    array-read-put-rows
-    sub-put-rows
-    part-put-rows-start
-    part-put-rows-end
-    array-borrow-prefix-counts
+    (λ c κs. search needs)
+    (λ c. search needs)
+    (λ c. search needs)
+    (λ c. search needs)
+    (λ c. search needs)
+    (λ c. search needs)
+    (λ c. search needs)
     slice-aggregate-put-rows
-    array-borrow-prefix-held
+    (λ c. search needs)
     slice-aggregate-put-rows-2
-    array-borrow-prefix-marks
+    (λ c. search needs)
     slice-aggregate-put-rows-3
     put-rows-requires
-    same-length
+    (λ c. search needs)
     returns)

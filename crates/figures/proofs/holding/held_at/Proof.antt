@@ -5,9 +5,6 @@ use borrow.Author.Tests.{eq-eqb, ne-eqb}
 use Rattle.figures.proofs.holding.held_at.Statement.{statement}
 use Rattle.figures.proofs.holding.held_at.Tie as tie
 
-lane-requires : tie.Need-lane-requires
-lane-requires c κs = search needs
-
 returns : tie.Need-returns
 returns c =
     record { is = simp (← c .before .lane .ensures .0, eq-eqb _ _ (c .if1 .taken)); low = omega arith; high = omega arith }
@@ -17,4 +14,4 @@ returns-2 c =
     record { is = simp (← c .before .lane .ensures .0, ne-eqb _ _ (c .if1 .left)); low = omega arith; high = omega arith }
 
 pub held-at-spec : {M : Type 1} → statement M
-held-at-spec = tie.close (tie.spec lane-requires returns returns-2)
+held-at-spec = tie.close (tie.spec (λ c κs. search needs) returns returns-2)

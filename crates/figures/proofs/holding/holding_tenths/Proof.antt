@@ -5,12 +5,6 @@ use borrow.Author.Needs.{needs}
 use Rattle.figures.proofs.holding.holding_tenths.Statement.{statement}
 use Rattle.figures.proofs.holding.holding_tenths.Tie as tie
 
-longest-held-requires : tie.Need-longest-held-requires
-longest-held-requires c κs = search needs
-
-slot-ms-requires : tie.Need-slot-ms-requires
-slot-ms-requires c κs = search needs
-
 mul-result : tie.Need-mul-result
 mul-result c =
     record { fits = omega (arith, mul-le-mul (c .before .longest-held .ensures .high) (c .slot-ms .ensures .high)) }
@@ -24,4 +18,4 @@ returns c = rw (c .before .longest-held .ensures .is, c .slot-ms .ensures .is)
 
 pub holding-tenths-spec : {M : Type 1} → statement M
 holding-tenths-spec =
-    tie.close (tie.spec longest-held-requires slot-ms-requires mul-result add-result returns)
+    tie.close (tie.spec (λ c κs. search needs) (λ c κs. search needs) mul-result add-result returns)

@@ -25,33 +25,9 @@ Inv-loop floor count period most₀ i₀ most i =
 abbrev μ-loop : tie.MeasureT-loop
 μ-loop floor count period most₀ i₀ most i = period / 2 - i
 
-sub-pow2 : tie.Need-sub-pow2 Inv-loop μ-loop
-sub-pow2 c = search needs
-
-pow2-requires : tie.Need-pow2-requires Inv-loop μ-loop
-pow2-requires c κs = search needs
-
 loop-holds : tie.Need-loop-holds Inv-loop μ-loop
 unfolding longestHeld
 loop-holds c = (omega arith, omega arith, c .pow2 .ensures .is, c .pow2 .ensures .high, refl)
-
-mul-held-ticks : tie.Need-mul-held-ticks Inv-loop μ-loop
-mul-held-ticks c = search needs
-
-add-held-ticks : tie.Need-add-held-ticks Inv-loop μ-loop
-add-held-ticks c = search needs
-
-held-ticks-requires : tie.Need-held-ticks-requires Inv-loop μ-loop
-held-ticks-requires c κs = search needs
-
-larger-requires : tie.Need-larger-requires Inv-loop μ-loop
-larger-requires c κs = search needs
-
-add-i : tie.Need-add-i Inv-loop μ-loop
-add-i c = search needs
-
-loop-less : tie.Need-loop-less Inv-loop μ-loop
-loop-less c = search needs
 
 loop-again : tie.Need-loop-again Inv-loop μ-loop
 unfolding longestHeld
@@ -73,14 +49,14 @@ longest-held-spec =
     (tie.spec
     Inv-loop
     μ-loop
-    sub-pow2
-    pow2-requires
+    (λ c. search needs)
+    (λ c κs. search needs)
     loop-holds
-    mul-held-ticks
-    add-held-ticks
-    held-ticks-requires
-    larger-requires
-    add-i
-    loop-less
+    (λ c. search needs)
+    (λ c. search needs)
+    (λ c κs. search needs)
+    (λ c κs. search needs)
+    (λ c. search needs)
+    (λ c. search needs)
     loop-again
     returns)

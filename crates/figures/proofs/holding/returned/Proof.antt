@@ -9,23 +9,8 @@ use borrow.Author.Needs.{needs}
 use Rattle.figures.proofs.holding.returned.Statement.{statement}
 use Rattle.figures.proofs.holding.returned.Tie as tie
 
-fresh-requires : tie.Need-fresh-requires
-fresh-requires c κs = search needs
-
-open-requires : tie.Need-open-requires
-open-requires c κs = search needs
-
-slot-ms-requires : tie.Need-slot-ms-requires
-slot-ms-requires c κs = search needs
-
 mul-change : tie.Need-mul-change
 mul-change c = omega (arith, mul-le-mul (c .before .before .before .pre .1) (c .slot-ms .ensures .high))
-
-sub-change : tie.Need-sub-change
-sub-change c = search needs
-
-change-requires : tie.Need-change-requires
-change-requires c κs = search needs
 
 returns : tie.Need-returns
 unfolding returnedAt
@@ -41,10 +26,10 @@ pub returned-spec : {M : Type 1} → statement M
 returned-spec =
     tie.close
     (tie.spec
-    fresh-requires
-    open-requires
-    slot-ms-requires
+    (λ c κs. search needs)
+    (λ c κs. search needs)
+    (λ c κs. search needs)
     mul-change
-    sub-change
-    change-requires
+    (λ c. search needs)
+    (λ c κs. search needs)
     returns)

@@ -25,27 +25,6 @@ loop-holds : tie.Need-loop-holds Inv-loop μ-loop
 unfolding agreeTo
 loop-holds c = (omega arith, refl, c .if1 .left)
 
-mul-also : tie.Need-mul-also Inv-loop μ-loop
-mul-also c = search needs
-
-shared-slice-read-also : tie.Need-shared-slice-read-also Inv-loop μ-loop
-shared-slice-read-also c = search needs
-
-mul-also-2 : tie.Need-mul-also-2 Inv-loop μ-loop
-mul-also-2 c = search needs
-
-shared-slice-read-also-2 : tie.Need-shared-slice-read-also-2 Inv-loop μ-loop
-shared-slice-read-also-2 c = search needs
-
-also-requires : tie.Need-also-requires Inv-loop μ-loop
-also-requires c κs = search needs
-
-add-i : tie.Need-add-i Inv-loop μ-loop
-add-i c = search needs
-
-loop-less : tie.Need-loop-less Inv-loop μ-loop
-loop-less c = search needs
-
 loop-again : tie.Need-loop-again Inv-loop μ-loop
 unfolding agreeTo
 loop-again c = (omega arith, rw add-one (cc), cc)
@@ -64,12 +43,12 @@ agree-spec =
     μ-loop
     returns
     loop-holds
-    mul-also
-    shared-slice-read-also
-    mul-also-2
-    shared-slice-read-also-2
-    also-requires
-    add-i
-    loop-less
+    (λ c. search needs)
+    (λ c. search needs)
+    (λ c. search needs)
+    (λ c. search needs)
+    (λ c κs. search needs)
+    (λ c. search needs)
+    (λ c. search needs)
     loop-again
     returns-2)

@@ -4,15 +4,6 @@ use borrow.Author.Needs.{needs}
 use Rattle.figures.proofs.segments.found_in.Statement.{statement}
 use Rattle.figures.proofs.segments.found_in.Tie as tie
 
-channel-cell-requires : tie.Need-channel-cell-requires
-channel-cell-requires c κs = search needs
-
-in-g-requires : tie.Need-in-g-requires
-in-g-requires c κs = search needs
-
-segment-of-requires : tie.Need-segment-of-requires
-segment-of-requires c κs = search needs
-
 returns : tie.Need-returns
 returns c =
     let asked = c .before .before in
@@ -25,4 +16,4 @@ returns-2 c =
 
 pub found-in-spec : {M : Type 1} → statement M
 found-in-spec =
-    tie.close (tie.spec channel-cell-requires in-g-requires segment-of-requires returns returns-2)
+    tie.close (tie.spec (λ c κs. search needs) (λ c κs. search needs) (λ c κs. search needs) returns returns-2)

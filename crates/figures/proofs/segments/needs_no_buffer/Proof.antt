@@ -19,21 +19,6 @@ loop-holds : tie.Need-loop-holds Inv-loop μ-loop
 unfolding needsNoBuffer
 loop-holds c = (omega arith, refl)
 
-add-in-g : tie.Need-add-in-g Inv-loop μ-loop
-add-in-g c = search needs
-
-in-g-requires : tie.Need-in-g-requires Inv-loop μ-loop
-in-g-requires c κs = search needs
-
-also-requires : tie.Need-also-requires Inv-loop μ-loop
-also-requires c κs = search needs
-
-add-cell : tie.Need-add-cell Inv-loop μ-loop
-add-cell c = search needs
-
-loop-less : tie.Need-loop-less Inv-loop μ-loop
-loop-less c = search needs
-
 loop-again : tie.Need-loop-again Inv-loop μ-loop
 unfolding needsNoBuffer
 loop-again c = (omega arith, rw add-one (cc))
@@ -50,10 +35,10 @@ needs-no-buffer-spec =
     Inv-loop
     μ-loop
     loop-holds
-    add-in-g
-    in-g-requires
-    also-requires
-    add-cell
-    loop-less
+    (λ c. search needs)
+    (λ c κs. search needs)
+    (λ c κs. search needs)
+    (λ c. search needs)
+    (λ c. search needs)
     loop-again
     returns)

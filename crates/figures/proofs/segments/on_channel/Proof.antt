@@ -7,9 +7,6 @@ use borrow.Author.Needs.{needs}
 use Rattle.figures.proofs.segments.on_channel.Statement.{statement}
 use Rattle.figures.proofs.segments.on_channel.Tie as tie
 
-channel-cell-requires : tie.Need-channel-cell-requires
-channel-cell-requires c κs = search needs
-
 segment-of-requires : tie.Need-segment-of-requires
 segment-of-requires c κs =
     (record { fit = c .before .pre .0 .fit; high = c .before .pre .0 .high }, lt-of-lt-of-le (c .channel-cell .ensures .within) (pow-mono (c .before .pre .0 .high)))
@@ -18,4 +15,4 @@ returns : tie.Need-returns
 returns c = c .segment-of .ensures ∙ ap (segmentOf _ _) (c .before .channel-cell .ensures .is)
 
 pub on-channel-spec : {M : Type 1} → statement M
-on-channel-spec = tie.close (tie.spec channel-cell-requires segment-of-requires returns)
+on-channel-spec = tie.close (tie.spec (λ c κs. search needs) segment-of-requires returns)

@@ -6,12 +6,6 @@ use borrow.Author.Needs.{needs}
 use Rattle.figures.proofs.segments.segment_of.Statement.{statement}
 use Rattle.figures.proofs.segments.segment_of.Tie as tie
 
-slot-requires : tie.Need-slot-requires
-slot-requires c κs = search needs
-
-div-result : tie.Need-div-result
-div-result c = search needs
-
 add-result : tie.Need-add-result
 add-result c = omega (arith, div-le-self (c .before .args .cell) (c .slot .result))
 
@@ -20,4 +14,4 @@ unfolding segmentOf
 returns c = rw (c .slot .ensures .is)
 
 pub segment-of-spec : {M : Type 1} → statement M
-segment-of-spec = tie.close (tie.spec slot-requires div-result add-result returns)
+segment-of-spec = tie.close (tie.spec (λ c κs. search needs) (λ c. search needs) add-result returns)

@@ -13,24 +13,6 @@ use borrow.Author.Needs.{needs}
 use Rattle.figures.proofs.segments.taken_in.Statement.{statement}
 use Rattle.figures.proofs.segments.taken_in.Tie as tie
 
-slice-aggregate-plan : tie.Need-slice-aggregate-plan
-slice-aggregate-plan c = search needs
-
-plan-requires : tie.Need-plan-requires
-plan-requires c κs = search needs
-
-sub-wide : tie.Need-sub-wide
-sub-wide c = search needs
-
-mul-wide : tie.Need-mul-wide
-mul-wide c = search needs
-
-array-read-wide : tie.Need-array-read-wide
-array-read-wide c = search needs
-
-wide-requires : tie.Need-wide-requires
-wide-requires c κs = search needs
-
 returns : tie.Need-returns
 unfolding planAnswer firstHit slot starts
 returns c =
@@ -43,10 +25,10 @@ pub taken-in-spec : {M : Type 1} → statement M
 taken-in-spec =
     tie.close
     (tie.spec
-    slice-aggregate-plan
-    plan-requires
-    sub-wide
-    mul-wide
-    array-read-wide
-    wide-requires
+    (λ c. search needs)
+    (λ c κs. search needs)
+    (λ c. search needs)
+    (λ c. search needs)
+    (λ c. search needs)
+    (λ c κs. search needs)
     returns)

@@ -3,9 +3,6 @@ use borrow.Author.Needs.{needs}
 use Rattle.figures.proofs.segments.unbuffered.Statement.{statement}
 use Rattle.figures.proofs.segments.unbuffered.Tie as tie
 
-needs-no-buffer-requires : tie.Need-needs-no-buffer-requires
-needs-no-buffer-requires c κs = search needs
-
 returns : tie.Need-returns
 returns c = rw (← c .before .needs-no-buffer .ensures, c .if1 .taken)
 
@@ -13,4 +10,4 @@ returns-2 : tie.Need-returns-2
 returns-2 c = rw (← c .before .needs-no-buffer .ensures, c .if1 .left)
 
 pub unbuffered-spec : {M : Type 1} → statement M
-unbuffered-spec = tie.close (tie.spec needs-no-buffer-requires returns returns-2)
+unbuffered-spec = tie.close (tie.spec (λ c κs. search needs) returns returns-2)

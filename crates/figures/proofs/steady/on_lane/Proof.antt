@@ -40,18 +40,6 @@ add-row c =
     let s = c .before .before .before in
     record { fits = small (s .args .count) (c .lane-cell .result) (s .pre .0 .high) (c .lane-cell .ensures .within) }
 
-mul-row : tie.Need-mul-row Inv-loop μ-loop
-mul-row c = search needs
-
-array-write-row : tie.Need-array-write-row Inv-loop μ-loop
-array-write-row c = search needs
-
-add-i : tie.Need-add-i Inv-loop μ-loop
-add-i c = search needs
-
-loop-less : tie.Need-loop-less Inv-loop μ-loop
-loop-less c = search needs
-
 loop-again : tie.Need-loop-again Inv-loop μ-loop
 loop-again c =
     let a = c .before .before .before .args in
@@ -83,9 +71,9 @@ on-lane-spec =
     loop-holds
     lane-cell-requires
     add-row
-    mul-row
-    array-write-row
-    add-i
-    loop-less
+    (λ c. search needs)
+    (λ c. search needs)
+    (λ c. search needs)
+    (λ c. search needs)
     loop-again
     returns)

@@ -30,39 +30,12 @@ planned start lent plan time size is =
     let yes = accepted 4 start (length lent) (le-leb start askedMax time) (omega arith) in
     (ap length is ∙ row-length 4 start lent ∙ size, λ i l. ap (λ (r : List ℕ). getD r i 0) is ∙ row-first 4 start lent yes i l)
 
-slice-aggregate-skip-plan : tie.Need-slice-aggregate-skip-plan Inv-loop μ-loop
-slice-aggregate-skip-plan c = search needs
-
-skip-plan-requires : tie.Need-skip-plan-requires Inv-loop μ-loop
-skip-plan-requires c κs = search needs
-
 loop-holds : tie.Need-loop-holds Inv-loop μ-loop
 loop-holds c =
     let s = c .before .before .before in (
       omega arith,
       (refl, (λ i l. absurd (omega arith), planned (s .args .start) _ _ (s .pre) refl (c .before .skip-plan .ensures .left))),
     )
-
-mul-wide : tie.Need-mul-wide Inv-loop μ-loop
-mul-wide c = search needs
-
-array-read-wide : tie.Need-array-read-wide Inv-loop μ-loop
-array-read-wide c = search needs
-
-wide-requires : tie.Need-wide-requires Inv-loop μ-loop
-wide-requires c κs = search needs
-
-mul-row : tie.Need-mul-row Inv-loop μ-loop
-mul-row c = search needs
-
-array-write-row : tie.Need-array-write-row Inv-loop μ-loop
-array-write-row c = search needs
-
-add-i : tie.Need-add-i Inv-loop μ-loop
-add-i c = search needs
-
-loop-less : tie.Need-loop-less Inv-loop μ-loop
-loop-less c = search needs
 
 loop-again : tie.Need-loop-again Inv-loop μ-loop
 loop-again c =
@@ -93,15 +66,15 @@ taken-from-spec =
     (tie.spec
     Inv-loop
     μ-loop
-    slice-aggregate-skip-plan
-    skip-plan-requires
+    (λ c. search needs)
+    (λ c κs. search needs)
     loop-holds
-    mul-wide
-    array-read-wide
-    wide-requires
-    mul-row
-    array-write-row
-    add-i
-    loop-less
+    (λ c. search needs)
+    (λ c. search needs)
+    (λ c κs. search needs)
+    (λ c. search needs)
+    (λ c. search needs)
+    (λ c. search needs)
+    (λ c. search needs)
     loop-again
     returns)

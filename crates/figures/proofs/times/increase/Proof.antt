@@ -5,19 +5,10 @@ use borrow.Author.Needs.{needs}
 use Rattle.figures.proofs.times.increase.Statement.{statement}
 use Rattle.figures.proofs.times.increase.Tie as tie
 
-slot-ms-requires : tie.Need-slot-ms-requires
-slot-ms-requires c κs = search needs
-
-slot-ms-requires-2 : tie.Need-slot-ms-requires-2
-slot-ms-requires-2 c κs = search needs
-
 returns : tie.Need-returns
 unfolding increaseOf
 returns c =
     rw (← c .before .before .slot-ms .ensures .is, ← c .before .slot-ms2 .ensures .is, lt-ltb _ _ (c .if1 .taken))
-
-add-result : tie.Need-add-result
-add-result c = search needs
 
 returns-2 : tie.Need-returns-2
 unfolding increaseOf
@@ -26,4 +17,4 @@ returns-2 c =
 
 pub increase-spec : {M : Type 1} → statement M
 increase-spec =
-    tie.close (tie.spec slot-ms-requires slot-ms-requires-2 returns add-result returns-2)
+    tie.close (tie.spec (λ c κs. search needs) (λ c κs. search needs) returns (λ c. search needs) returns-2)

@@ -4,21 +4,6 @@ use borrow.Author.Needs.{needs}
 use Rattle.figures.proofs.transitions.sent.Statement.{statement}
 use Rattle.figures.proofs.transitions.sent.Tie as tie
 
-fresh-requires : tie.Need-fresh-requires
-fresh-requires c κs = search needs
-
-open-requires : tie.Need-open-requires
-open-requires c κs = search needs
-
-change-requires : tie.Need-change-requires
-change-requires c κs = search needs
-
-lane-requires : tie.Need-lane-requires
-lane-requires c κs = search needs
-
-add-result : tie.Need-add-result
-add-result c = search needs
-
 run : (c : tie.After-lane) →
     Run (c .before .before .before .before .args .count) (c .before .before .before .fresh .result .state) (c .before .before .«open» .result .state) (c .before .change .result .state)
 run c =
@@ -41,11 +26,11 @@ pub sent-spec : {M : Type 1} → statement M
 sent-spec =
     tie.close
     (tie.spec
-    fresh-requires
-    open-requires
-    change-requires
-    lane-requires
-    add-result
+    (λ c κs. search needs)
+    (λ c κs. search needs)
+    (λ c κs. search needs)
+    (λ c κs. search needs)
+    (λ c. search needs)
     returns
     returns-2
     returns-3)

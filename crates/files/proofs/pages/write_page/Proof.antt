@@ -6,18 +6,9 @@ use borrow.Author.Needs.{needs}
 use Rattle.files.proofs.pages.write_page.Statement.{statement}
 use Rattle.files.proofs.pages.write_page.Tie as tie
 
-within-row-requires : tie.Need-within-row-requires
-within-row-requires c κs = search needs
-
 slice-aggregate-write-all : tie.Need-slice-aggregate-write-all
 slice-aggregate-write-all c = sym (length-take-le _ _ (omega (arith, c .before .within-row .ensures)))
 
-write-all-requires : tie.Need-write-all-requires
-write-all-requires c κs = search needs
-
-returns : tie.Need-returns
-returns c = search needs
-
 pub write-page-spec : {M : Type 1} → statement M
 write-page-spec =
-    tie.close (tie.spec within-row-requires slice-aggregate-write-all write-all-requires returns)
+    tie.close (tie.spec (λ c κs. search needs) slice-aggregate-write-all (λ c κs. search needs) (λ c. search needs))

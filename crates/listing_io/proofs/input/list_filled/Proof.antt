@@ -13,15 +13,6 @@ slice-reshare-prefix-drain c = search needs
 slice-aggregate-drain : tie.Need-slice-aggregate-drain
 slice-aggregate-drain c = sym (length-take-le _ _ (slice-reshare-prefix-drain (c .before)))
 
-drain-requires : tie.Need-drain-requires
-drain-requires c κs = search needs
-
-compact-requires : tie.Need-compact-requires
-compact-requires c κs = search needs
-
-same-length : tie.Need-same-length
-same-length c = search needs
-
 returns : tie.Need-returns
 returns c =
     let moved = c .before .before in
@@ -29,12 +20,6 @@ returns c =
     let printed = written .before .before .before in
     kept-few _ _ _ _ _ _ _ (printed .drain .ensures) (written .if1 .taken) (slice-aggregate-drain (printed .before))
     (moved .compact .ensures .many)
-
-ended-requires : tie.Need-ended-requires
-ended-requires c κs = search needs
-
-same-length-2 : tie.Need-same-length-2
-same-length-2 c = search needs
 
 returns-2 : tie.Need-returns-2
 returns-2 c = λ q. false-true (sym (c .ended .ensures) ∙ q)
@@ -45,10 +30,10 @@ list-filled-spec =
     (tie.spec
     slice-reshare-prefix-drain
     slice-aggregate-drain
-    drain-requires
-    compact-requires
-    same-length
+    (λ c κs. search needs)
+    (λ c κs. search needs)
+    (λ c. search needs)
     returns
-    ended-requires
-    same-length-2
+    (λ c κs. search needs)
+    (λ c. search needs)
     returns-2)

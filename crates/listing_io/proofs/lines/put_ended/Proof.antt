@@ -8,15 +8,6 @@ use borrow.Author.Needs.{needs}
 use Rattle.listing_io.proofs.lines.put_ended.Statement.{statement}
 use Rattle.listing_io.proofs.lines.put_ended.Tie as tie
 
-put-number-requires : tie.Need-put-number-requires
-put-number-requires c κs = search needs
-
-put-byte-requires : tie.Need-put-byte-requires
-put-byte-requires c κs = search needs
-
-same-length : tie.Need-same-length
-same-length c = search needs
-
 returns : tie.Need-returns
 unfolding ended puts
 returns c =
@@ -26,4 +17,4 @@ returns c =
     (c .before .before .put-byte .ensures)
 
 pub put-ended-spec : {M : Type 1} → statement M
-put-ended-spec = tie.close (tie.spec put-number-requires put-byte-requires same-length returns)
+put-ended-spec = tie.close (tie.spec (λ c κs. search needs) (λ c κs. search needs) (λ c. search needs) returns)

@@ -10,24 +10,6 @@ use borrow.Author.Needs.{needs}
 use Rattle.listing_io.proofs.lines.put_last.Statement.{statement}
 use Rattle.listing_io.proofs.lines.put_last.Tie as tie
 
-slice-aggregate-put : tie.Need-slice-aggregate-put
-slice-aggregate-put c = search needs
-
-put-requires : tie.Need-put-requires
-put-requires c κs = search needs
-
-cast-put-ended : tie.Need-cast-put-ended
-cast-put-ended c = search needs
-
-put-ended-requires : tie.Need-put-ended-requires
-put-ended-requires c κs = search needs
-
-put-ended-requires-2 : tie.Need-put-ended-requires-2
-put-ended-requires-2 c κs = search needs
-
-same-length : tie.Need-same-length
-same-length c = search needs
-
 returns : tie.Need-returns
 unfolding lastLine text
 returns c =
@@ -44,10 +26,10 @@ pub put-last-spec : {M : Type 1} → statement M
 put-last-spec =
     tie.close
     (tie.spec
-    slice-aggregate-put
-    put-requires
-    cast-put-ended
-    put-ended-requires
-    put-ended-requires-2
-    same-length
+    (λ c. search needs)
+    (λ c κs. search needs)
+    (λ c. search needs)
+    (λ c κs. search needs)
+    (λ c κs. search needs)
+    (λ c. search needs)
     returns)

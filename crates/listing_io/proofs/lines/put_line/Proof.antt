@@ -8,24 +8,6 @@ use borrow.Author.Needs.{needs}
 use Rattle.listing_io.proofs.lines.put_line.Statement.{statement}
 use Rattle.listing_io.proofs.lines.put_line.Tie as tie
 
-put-ended-requires : tie.Need-put-ended-requires
-put-ended-requires c κs = search needs
-
-put-ended-requires-2 : tie.Need-put-ended-requires-2
-put-ended-requires-2 c κs = search needs
-
-put-ended-requires-3 : tie.Need-put-ended-requires-3
-put-ended-requires-3 c κs = search needs
-
-put-ended-requires-4 : tie.Need-put-ended-requires-4
-put-ended-requires-4 c κs = search needs
-
-put-ended-requires-5 : tie.Need-put-ended-requires-5
-put-ended-requires-5 c κs = search needs
-
-same-length : tie.Need-same-length
-same-length c = search needs
-
 returns : tie.Need-returns
 unfolding lineOf
 returns c =
@@ -51,10 +33,10 @@ pub put-line-spec : {M : Type 1} → statement M
 put-line-spec =
     tie.close
     (tie.spec
-    put-ended-requires
-    put-ended-requires-2
-    put-ended-requires-3
-    put-ended-requires-4
-    put-ended-requires-5
-    same-length
+    (λ c κs. search needs)
+    (λ c κs. search needs)
+    (λ c κs. search needs)
+    (λ c κs. search needs)
+    (λ c κs. search needs)
+    (λ c. search needs)
     returns)

@@ -5,19 +5,13 @@ use borrow.Author.Needs.{needs}
 use Rattle.listing_io.proofs.steps.held_after.Statement.{statement}
 use Rattle.listing_io.proofs.steps.held_after.Tie as tie
 
-held-requires : tie.Need-held-requires
-held-requires c κs = search needs
-
 returns : tie.Need-returns
 unfolding heldAfter
 returns c = rw (eq-eqb _ _ (c .before .if1 .taken)) (c .held .ensures .1)
-
-held-requires-2 : tie.Need-held-requires-2
-held-requires-2 c κs = search needs
 
 returns-2 : tie.Need-returns-2
 unfolding heldAfter
 returns-2 c = rw (ne-eqb _ _ (c .before .if1 .left)) (c .held2 .ensures .1)
 
 pub held-after-spec : {M : Type 1} → statement M
-held-after-spec = tie.close (tie.spec held-requires returns held-requires-2 returns-2)
+held-after-spec = tie.close (tie.spec (λ c κs. search needs) returns (λ c κs. search needs) returns-2)

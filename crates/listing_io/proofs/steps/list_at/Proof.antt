@@ -5,30 +5,6 @@ use borrow.Author.Needs.{needs}
 use Rattle.listing_io.proofs.steps.list_at.Statement.{statement}
 use Rattle.listing_io.proofs.steps.list_at.Tie as tie
 
-next-in-requires : tie.Need-next-in-requires
-next-in-requires c κs = search needs
-
-enum-known-found : tie.Need-enum-known-found
-enum-known-found c = search needs
-
-list-notice-requires : tie.Need-list-notice-requires
-list-notice-requires c κs = search needs
-
-enum-told : tie.Need-enum-told
-enum-told c = search needs
-
-enum-told-2 : tie.Need-enum-told-2
-enum-told-2 c = search needs
-
-held-after-requires : tie.Need-held-after-requires
-held-after-requires c κs = search needs
-
-put-last-requires : tie.Need-put-last-requires
-put-last-requires c κs = search needs
-
-same-length : tie.Need-same-length
-same-length c = search needs
-
 returns : tie.Need-returns
 returns c =
     let found = c .before .before .before .before .before in
@@ -38,9 +14,6 @@ returns c =
 returns-2 : tie.Need-returns-2
 returns-2 c =
     found-step _ _ _ _ _ _ _ (sym (c .before .before .next-in .ensures .is) ∙ c .enum-told .given .1) (end-step _ _ _)
-
-same-length-2 : tie.Need-same-length-2
-same-length-2 c = search needs
 
 returns-3 : tie.Need-returns-3
 returns-3 c =
@@ -52,15 +25,15 @@ pub list-at-spec : {M : Type 1} → statement M
 list-at-spec =
     tie.close
     (tie.spec
-    next-in-requires
-    enum-known-found
-    list-notice-requires
-    enum-told
-    enum-told-2
-    held-after-requires
-    put-last-requires
-    same-length
+    (λ c κs. search needs)
+    (λ c. search needs)
+    (λ c κs. search needs)
+    (λ c. search needs)
+    (λ c. search needs)
+    (λ c κs. search needs)
+    (λ c κs. search needs)
+    (λ c. search needs)
     returns
     returns-2
-    same-length-2
+    (λ c. search needs)
     returns-3)

@@ -4,21 +4,6 @@ use borrow.Author.Needs.{needs}
 use Rattle.listing_io.proofs.steps.list_notice.Statement.{statement}
 use Rattle.listing_io.proofs.steps.list_notice.Tie as tie
 
-heed-requires : tie.Need-heed-requires
-heed-requires c κs = search needs
-
-held-after-requires : tie.Need-held-after-requires
-held-after-requires c κs = search needs
-
-kind-number-requires : tie.Need-kind-number-requires
-kind-number-requires c κs = search needs
-
-put-line-requires : tie.Need-put-line-requires
-put-line-requires c κs = search needs
-
-same-length : tie.Need-same-length
-same-length c = search needs
-
 returns : tie.Need-returns
 returns c =
     let lined = c .before .before in
@@ -32,9 +17,9 @@ pub list-notice-spec : {M : Type 1} → statement M
 list-notice-spec =
     tie.close
     (tie.spec
-    heed-requires
-    held-after-requires
-    kind-number-requires
-    put-line-requires
-    same-length
+    (λ c κs. search needs)
+    (λ c κs. search needs)
+    (λ c κs. search needs)
+    (λ c κs. search needs)
+    (λ c. search needs)
     returns)

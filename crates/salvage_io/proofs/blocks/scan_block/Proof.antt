@@ -5,17 +5,8 @@ use borrow.Author.Needs.{needs}
 use Rattle.salvage_io.proofs.blocks.scan_block.Statement.{statement}
 use Rattle.salvage_io.proofs.blocks.scan_block.Tie as tie
 
-slice-aggregate-walk : tie.Need-slice-aggregate-walk
-slice-aggregate-walk c = search needs
-
-slice-aggregate-walk-2 : tie.Need-slice-aggregate-walk-2
-slice-aggregate-walk-2 c = search needs
-
-walk-requires : tie.Need-walk-requires
-walk-requires c κs = search needs
-
 returns : tie.Need-returns
 returns c = block-holds _ _ _ _ _ _ _ _ (c .before .before .before .walk .ensures) (c .before .before .before .before .before .before .before .pre .1 .0) (omega arith) (omega arith)
 
 pub scan-block-spec : {M : Type 1} → statement M
-scan-block-spec = tie.close (tie.spec slice-aggregate-walk slice-aggregate-walk-2 walk-requires returns)
+scan-block-spec = tie.close (tie.spec (λ c. search needs) (λ c. search needs) (λ c κs. search needs) returns)

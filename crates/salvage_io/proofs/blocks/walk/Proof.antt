@@ -24,9 +24,6 @@ sub-if1 c = omega (arith, c .before .loop .inv .ahead)
 sub-decided : tie.Need-sub-decided Inv-loop μ-loop
 sub-decided c = omega (arith, c .before .before .before .loop .inv .ahead)
 
-decided-requires : tie.Need-decided-requires Inv-loop μ-loop
-decided-requires c κs = search needs
-
 advance-requires : tie.Need-advance-requires Inv-loop μ-loop
 advance-requires c κs =
     let f = c .before .before .before .before .before .loop .inv in
@@ -65,4 +62,4 @@ returns-2 : tie.Need-returns-2 Inv-loop μ-loop
 returns-2 c = at-end _ _ _ _ _ _ _ _ _ _ (c .before .before .loop .inv) (c .if1 .left)
 
 pub walk-spec : {M : Type 1} → statement M
-walk-spec = tie.close (tie.spec Inv-loop μ-loop loop-holds sub-if1 sub-decided decided-requires advance-requires put-taken-requires put-said-requires loop-less loop-again same-length same-length-2 returns same-length-3 same-length-4 returns-2)
+walk-spec = tie.close (tie.spec Inv-loop μ-loop loop-holds sub-if1 sub-decided (λ c κs. search needs) advance-requires put-taken-requires put-said-requires loop-less loop-again same-length same-length-2 returns same-length-3 same-length-4 returns-2)

@@ -7,19 +7,10 @@ use borrow.Author.Needs.{needs}
 use Rattle.salvage_io.proofs.input.pass_filled.Statement.{statement}
 use Rattle.salvage_io.proofs.input.pass_filled.Tie as tie
 
-sub-if1 : tie.Need-sub-if1
-sub-if1 c = search needs
-
-ended-requires : tie.Need-ended-requires
-ended-requires c κs = search needs
-
 returns : tie.Need-returns
 returns c =
     let e = c .ended .ensures in
     (over-none (c .ended .result) (e .0), over-counts _ (c .ended .result) e (c .before .before .before .pre .0))
-
-slice-reshare-prefix-pass-on : tie.Need-slice-reshare-prefix-pass-on
-slice-reshare-prefix-pass-on c = search needs
 
 slice-aggregate-pass-on : tie.Need-slice-aggregate-pass-on
 slice-aggregate-pass-on c = sym (length-take-le _ _ (c .before .before .before .pre .1 .0))
@@ -33,12 +24,6 @@ pass-on-requires c κs =
 sub-compact : tie.Need-sub-compact
 sub-compact c = block-ahead _ _ _ _ (c .before .before .before .before .pass-on .ensures)
 
-compact-requires : tie.Need-compact-requires
-compact-requires c κs = search needs
-
-same-length : tie.Need-same-length
-same-length c = search needs
-
 returns-2 : tie.Need-returns-2
 returns-2 c =
     let moved = c .before .before in
@@ -47,12 +32,6 @@ returns-2 c =
       (λ _. kept-few _ _ _ _ _ _ _ w (slice-aggregate-pass-on (passed .before)) (moved .compact .ensures .many)),
       block-counts _ _ _ _ w,
     )
-
-ended-requires-2 : tie.Need-ended-requires-2
-ended-requires-2 c κs = search needs
-
-same-length-2 : tie.Need-same-length-2
-same-length-2 c = search needs
 
 returns-3 : tie.Need-returns-3
 returns-3 c =
@@ -64,16 +43,16 @@ pub pass-filled-spec : {M : Type 1} → statement M
 pass-filled-spec =
     tie.close
     (tie.spec
-    sub-if1
-    ended-requires
+    (λ c. search needs)
+    (λ c κs. search needs)
     returns
-    slice-reshare-prefix-pass-on
+    (λ c. search needs)
     slice-aggregate-pass-on
     pass-on-requires
     sub-compact
-    compact-requires
-    same-length
+    (λ c κs. search needs)
+    (λ c. search needs)
     returns-2
-    ended-requires-2
-    same-length-2
+    (λ c κs. search needs)
+    (λ c. search needs)
     returns-3)

@@ -4,25 +4,13 @@ use borrow.Author.Needs.{needs}
 use Rattle.salvage_io.proofs.input.pass_last.Statement.{statement}
 use Rattle.salvage_io.proofs.input.pass_last.Tie as tie
 
-sub-if1 : tie.Need-sub-if1
-sub-if1 c = search needs
-
-ended-requires : tie.Need-ended-requires
-ended-requires c κs = search needs
-
 returns : tie.Need-returns
 returns c =
     let e = c .ended .ensures in
     (e .0, over-counts _ (c .ended .result) e (c .before .before .before .pre .0))
 
-pass-on-requires : tie.Need-pass-on-requires
-pass-on-requires c κs = search needs
-
 say-end-requires : tie.Need-say-end-requires
 say-end-requires c κs = block-counts _ _ _ _ (c .before .before .before .pass-on .ensures)
-
-ended-requires-2 : tie.Need-ended-requires-2
-ended-requires-2 c κs = search needs
 
 returns-2 : tie.Need-returns-2
 returns-2 c =
@@ -33,10 +21,10 @@ pub pass-last-spec : {M : Type 1} → statement M
 pass-last-spec =
     tie.close
     (tie.spec
-    sub-if1
-    ended-requires
+    (λ c. search needs)
+    (λ c κs. search needs)
     returns
-    pass-on-requires
+    (λ c κs. search needs)
     say-end-requires
-    ended-requires-2
+    (λ c κs. search needs)
     returns-2)

@@ -6,15 +6,6 @@ use borrow.Author.Needs.{needs}
 use Rattle.salvage_io.proofs.lines.put_end.Statement.{statement}
 use Rattle.salvage_io.proofs.lines.put_end.Tie as tie
 
-put-open-requires : tie.Need-put-open-requires
-put-open-requires c κs = search needs
-
-put-total-requires : tie.Need-put-total-requires
-put-total-requires c κs = search needs
-
-same-length : tie.Need-same-length
-same-length c = search needs
-
 returns : tie.Need-returns
 unfolding endText
 returns c =
@@ -23,4 +14,4 @@ returns c =
     (c .before .before .put-total .ensures)
 
 pub put-end-spec : {M : Type 1} → statement M
-put-end-spec = tie.close (tie.spec put-open-requires put-total-requires same-length returns)
+put-end-spec = tie.close (tie.spec (λ c κs. search needs) (λ c κs. search needs) (λ c. search needs) returns)

@@ -4,32 +4,14 @@ use borrow.Author.Needs.{needs}
 use Rattle.salvage_io.proofs.lines.put_gap.Statement.{statement}
 use Rattle.salvage_io.proofs.lines.put_gap.Tie as tie
 
-enum-told : tie.Need-enum-told
-enum-told c = search needs
-
-enum-known-before : tie.Need-enum-known-before
-enum-known-before c = search needs
-
-enum-told-2 : tie.Need-enum-told-2
-enum-told-2 c = search needs
-
-enum-known-behind : tie.Need-enum-known-behind
-enum-known-behind c = search needs
-
-put-follows-requires : tie.Need-put-follows-requires
-put-follows-requires c κs = search needs
-
 returns : tie.Need-returns
 returns c = none-before _ _ _ (c .enum-told .given .1)
 
 returns-2 : tie.Need-returns-2
 returns-2 c = none-behind _ _ _ _ (c .before .before .before .before2 .given .1) (c .enum-told2 .given .1)
 
-same-length : tie.Need-same-length
-same-length c = search needs
-
 returns-3 : tie.Need-returns-3
 returns-3 c = two-taken _ _ _ _ (c .before .before .before .before .before .before .before .before .before2 .given .1) _ _ (c .before .before .before .before .before .behind .given .1) (c .before .before .put-follows .ensures)
 
 pub put-gap-spec : {M : Type 1} → statement M
-put-gap-spec = tie.close (tie.spec enum-told enum-known-before enum-told-2 enum-known-behind put-follows-requires returns returns-2 same-length returns-3)
+put-gap-spec = tie.close (tie.spec (λ c. search needs) (λ c. search needs) (λ c. search needs) (λ c. search needs) (λ c κs. search needs) returns returns-2 (λ c. search needs) returns-3)

@@ -5,15 +5,6 @@ use borrow.Author.Needs.{needs}
 use Rattle.salvage_io.proofs.lines.put_open.Statement.{statement}
 use Rattle.salvage_io.proofs.lines.put_open.Tie as tie
 
-is-open-requires : tie.Need-is-open-requires
-is-open-requires c κs = search needs
-
-put-stretch-requires : tie.Need-put-stretch-requires
-put-stretch-requires c κs = search needs
-
-same-length : tie.Need-same-length
-same-length c = search needs
-
 returns : tie.Need-returns
 returns c = open-some _ (c .before .before .before .before .before .before .before .args .p) _ (sym (c .before .before .before .before .before .is-open .ensures) ∙ c .before .before .before .before .if1 .taken) (c .before .before .put-stretch .ensures)
 
@@ -21,4 +12,4 @@ returns-2 : tie.Need-returns-2
 returns-2 c = open-none _ (c .before .before .before .args .p) (sym (c .before .is-open .ensures) ∙ c .if1 .left)
 
 pub put-open-spec : {M : Type 1} → statement M
-put-open-spec = tie.close (tie.spec is-open-requires put-stretch-requires same-length returns returns-2)
+put-open-spec = tie.close (tie.spec (λ c κs. search needs) (λ c κs. search needs) (λ c. search needs) returns returns-2)

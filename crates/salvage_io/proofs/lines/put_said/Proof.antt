@@ -8,18 +8,6 @@ use borrow.Author.Needs.{needs}
 use Rattle.salvage_io.proofs.lines.put_said.Statement.{statement}
 use Rattle.salvage_io.proofs.lines.put_said.Tie as tie
 
-is-open-requires : tie.Need-is-open-requires
-is-open-requires c κs = search needs
-
-put-stretch-requires : tie.Need-put-stretch-requires
-put-stretch-requires c κs = search needs
-
-put-gap-requires : tie.Need-put-gap-requires
-put-gap-requires c κs = search needs
-
-same-length : tie.Need-same-length
-same-length c = search needs
-
 returns : tie.Need-returns
 returns c =
     let x = c .before .before .before .before .before .before .before .before .before .before .before .before .before .before .args in
@@ -39,4 +27,4 @@ returns-3 c =
     says-none _ (x .p) (x .next) (c .if1 .left)
 
 pub put-said-spec : {M : Type 1} → statement M
-put-said-spec = tie.close (tie.spec is-open-requires put-stretch-requires put-gap-requires same-length returns returns-2 returns-3)
+put-said-spec = tie.close (tie.spec (λ c κs. search needs) (λ c κs. search needs) (λ c κs. search needs) (λ c. search needs) returns returns-2 returns-3)

@@ -5,24 +5,9 @@ use borrow.Author.Needs.{needs}
 use Rattle.salvage_io.proofs.lines.put_total.Statement.{statement}
 use Rattle.salvage_io.proofs.lines.put_total.Tie as tie
 
-slice-aggregate-put-two : tie.Need-slice-aggregate-put-two
-slice-aggregate-put-two c = search needs
-
-slice-aggregate-put-two-2 : tie.Need-slice-aggregate-put-two-2
-slice-aggregate-put-two-2 c = search needs
-
-slice-aggregate-put-two-3 : tie.Need-slice-aggregate-put-two-3
-slice-aggregate-put-two-3 c = search needs
-
-put-two-requires : tie.Need-put-two-requires
-put-two-requires c κs = search needs
-
-same-length : tie.Need-same-length
-same-length c = search needs
-
 returns : tie.Need-returns
 unfolding totalLine text
 returns c = c .before .before .put-two .ensures
 
 pub put-total-spec : {M : Type 1} → statement M
-put-total-spec = tie.close (tie.spec slice-aggregate-put-two slice-aggregate-put-two-2 slice-aggregate-put-two-3 put-two-requires same-length returns)
+put-total-spec = tie.close (tie.spec (λ c. search needs) (λ c. search needs) (λ c. search needs) (λ c κs. search needs) (λ c. search needs) returns)

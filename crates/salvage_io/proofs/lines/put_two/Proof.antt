@@ -8,24 +8,6 @@ use borrow.Author.Needs.{needs}
 use Rattle.salvage_io.proofs.lines.put_two.Statement.{statement}
 use Rattle.salvage_io.proofs.lines.put_two.Tie as tie
 
-put-requires : tie.Need-put-requires
-put-requires c κs = search needs
-
-put-number-requires : tie.Need-put-number-requires
-put-number-requires c κs = search needs
-
-put-requires-2 : tie.Need-put-requires-2
-put-requires-2 c κs = search needs
-
-put-number-requires-2 : tie.Need-put-number-requires-2
-put-number-requires-2 c κs = search needs
-
-put-requires-3 : tie.Need-put-requires-3
-put-requires-3 c κs = search needs
-
-same-length : tie.Need-same-length
-same-length c = search needs
-
 returns : tie.Need-returns
 unfolding twoNumbers
 returns c =
@@ -42,4 +24,4 @@ returns c =
     (c .before .before .put3 .ensures)
 
 pub put-two-spec : {M : Type 1} → statement M
-put-two-spec = tie.close (tie.spec put-requires put-number-requires put-requires-2 put-number-requires-2 put-requires-3 same-length returns)
+put-two-spec = tie.close (tie.spec (λ c κs. search needs) (λ c κs. search needs) (λ c κs. search needs) (λ c κs. search needs) (λ c κs. search needs) (λ c. search needs) returns)

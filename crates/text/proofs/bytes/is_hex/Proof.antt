@@ -3,14 +3,8 @@ use borrow.Author.Needs.{needs}
 use Rattle.text.proofs.bytes.is_hex.Statement.{statement}
 use Rattle.text.proofs.bytes.is_hex.Tie as tie
 
-is-digit-requires : tie.Need-is-digit-requires
-is-digit-requires c κs = search needs
-
 returns : tie.Need-returns
 returns c = simp (← c .before .is-digit .ensures, c .if1 .taken)
-
-within-requires : tie.Need-within-requires
-within-requires c κs = search needs
 
 returns-2 : tie.Need-returns-2
 returns-2 c =
@@ -20,9 +14,6 @@ returns-2 c =
       ← c .before .within .ensures,
       c .if2 .taken,
     )
-
-within-requires-2 : tie.Need-within-requires-2
-within-requires-2 c κs = search needs
 
 returns-3 : tie.Need-returns-3
 returns-3 c =
@@ -37,4 +28,4 @@ returns-3 c =
 pub is-hex-spec : {M : Type 1} → statement M
 is-hex-spec =
     tie.close
-    (tie.spec is-digit-requires returns within-requires returns-2 within-requires-2 returns-3)
+    (tie.spec (λ c κs. search needs) returns (λ c κs. search needs) returns-2 (λ c κs. search needs) returns-3)

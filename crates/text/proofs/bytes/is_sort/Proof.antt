@@ -4,33 +4,6 @@ use borrow.Author.Needs.{needs}
 use Rattle.text.proofs.bytes.is_sort.Statement.{statement}
 use Rattle.text.proofs.bytes.is_sort.Tie as tie
 
-enum-told : tie.Need-enum-told
-enum-told c = search needs
-
-is-separator-requires : tie.Need-is-separator-requires
-is-separator-requires c κs = search needs
-
-enum-told-2 : tie.Need-enum-told-2
-enum-told-2 c = search needs
-
-is-separator-requires-2 : tie.Need-is-separator-requires-2
-is-separator-requires-2 c κs = search needs
-
-enum-told-3 : tie.Need-enum-told-3
-enum-told-3 c = search needs
-
-is-digit-requires : tie.Need-is-digit-requires
-is-digit-requires c κs = search needs
-
-enum-told-4 : tie.Need-enum-told-4
-enum-told-4 c = search needs
-
-is-hex-requires : tie.Need-is-hex-requires
-is-hex-requires c κs = search needs
-
-enum-told-5 : tie.Need-enum-told-5
-enum-told-5 c = search needs
-
 returns : tie.Need-returns
 unfolding isSort
 returns c = rw (c .before .enum-told .given .1) (cc)
@@ -55,15 +28,15 @@ pub is-sort-spec : {M : Type 1} → statement M
 is-sort-spec =
     tie.close
     (tie.spec
-    enum-told
-    is-separator-requires
-    enum-told-2
-    is-separator-requires-2
-    enum-told-3
-    is-digit-requires
-    enum-told-4
-    is-hex-requires
-    enum-told-5
+    (λ c. search needs)
+    (λ c κs. search needs)
+    (λ c. search needs)
+    (λ c κs. search needs)
+    (λ c. search needs)
+    (λ c κs. search needs)
+    (λ c. search needs)
+    (λ c κs. search needs)
+    (λ c. search needs)
     returns
     returns-2
     returns-3

@@ -16,21 +16,6 @@ Inv-loop s from sort i₀ i = runEnd sort s i ≡ runEnd sort s from
 abbrev μ-loop : tie.MeasureT-loop
 μ-loop s from sort i₀ i = length s - i
 
-loop-holds : tie.Need-loop-holds Inv-loop μ-loop
-loop-holds c = search needs
-
-shared-slice-read-is-sort : tie.Need-shared-slice-read-is-sort Inv-loop μ-loop
-shared-slice-read-is-sort c = omega arith
-
-is-sort-requires : tie.Need-is-sort-requires Inv-loop μ-loop
-is-sort-requires c κs = search needs
-
-add-i : tie.Need-add-i Inv-loop μ-loop
-add-i c = omega arith
-
-loop-less : tie.Need-loop-less Inv-loop μ-loop
-loop-less c = omega arith
-
 loop-again : tie.Need-loop-again Inv-loop μ-loop
 loop-again c =
     let a = c .before .before .before .before .before .before .args in
@@ -56,11 +41,11 @@ run-end-spec =
     (tie.spec
     Inv-loop
     μ-loop
-    loop-holds
-    shared-slice-read-is-sort
-    is-sort-requires
-    add-i
-    loop-less
+    (λ c. search needs)
+    (λ c. omega arith)
+    (λ c κs. search needs)
+    (λ c. omega arith)
+    (λ c. omega arith)
     loop-again
     returns
     returns-2)

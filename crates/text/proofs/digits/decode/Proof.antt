@@ -23,54 +23,6 @@ loop-holds : tie.Need-loop-holds Inv-loop μ-loop
 loop-holds c =
     (refl, refl)
 
-mul-hex-of : tie.Need-mul-hex-of Inv-loop μ-loop
-mul-hex-of c =
-    omega arith
-
-shared-slice-read-hex-of : tie.Need-shared-slice-read-hex-of Inv-loop μ-loop
-shared-slice-read-hex-of c =
-    omega arith
-
-hex-of-requires : tie.Need-hex-of-requires Inv-loop μ-loop
-hex-of-requires c κs =
-    search needs
-
-mul-hex-of-2 : tie.Need-mul-hex-of-2 Inv-loop μ-loop
-mul-hex-of-2 c =
-    omega arith
-
-add-hex-of : tie.Need-add-hex-of Inv-loop μ-loop
-add-hex-of c =
-    omega arith
-
-shared-slice-read-hex-of-2 : tie.Need-shared-slice-read-hex-of-2 Inv-loop μ-loop
-shared-slice-read-hex-of-2 c =
-    omega arith
-
-hex-of-requires-2 : tie.Need-hex-of-requires-2 Inv-loop μ-loop
-hex-of-requires-2 c κs =
-    search needs
-
-mul-put-byte : tie.Need-mul-put-byte Inv-loop μ-loop
-mul-put-byte c =
-    omega arith
-
-add-put-byte : tie.Need-add-put-byte Inv-loop μ-loop
-add-put-byte c =
-    omega arith
-
-put-byte-requires : tie.Need-put-byte-requires Inv-loop μ-loop
-put-byte-requires c κs =
-    search needs
-
-add-i : tie.Need-add-i Inv-loop μ-loop
-add-i c =
-    omega arith
-
-loop-less : tie.Need-loop-less Inv-loop μ-loop
-loop-less c =
-    omega arith
-
 loop-again : tie.Need-loop-again Inv-loop μ-loop
 loop-again c =
     let at-put-byte = c .before .before in
@@ -109,18 +61,18 @@ decode-spec =
     Inv-loop
     μ-loop
     loop-holds
-    mul-hex-of
-    shared-slice-read-hex-of
-    hex-of-requires
-    mul-hex-of-2
-    add-hex-of
-    shared-slice-read-hex-of-2
-    hex-of-requires-2
-    mul-put-byte
-    add-put-byte
-    put-byte-requires
-    add-i
-    loop-less
+    (λ c. omega arith)
+    (λ c. omega arith)
+    (λ c κs. search needs)
+    (λ c. omega arith)
+    (λ c. omega arith)
+    (λ c. omega arith)
+    (λ c κs. search needs)
+    (λ c. omega arith)
+    (λ c. omega arith)
+    (λ c κs. search needs)
+    (λ c. omega arith)
+    (λ c. omega arith)
     loop-again
     same-length
     returns)

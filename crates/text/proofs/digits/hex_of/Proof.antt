@@ -8,84 +8,31 @@ use Rattle.text.proofs.digits.hex_of.Tie as tie
 
 returns : tie.Need-returns
 unfolding hexOf
-returns c =
-    (rw (lt-ltb _ _ (c .if1 .taken)), omega arith)
+returns c = (search (lt-ltb, le-ltb), omega arith)
 
 returns-2 : tie.Need-returns-2
 unfolding hexOf
-returns-2 c =
-    (rw (le-ltb _ _ (c .before .if1 .left), lt-ltb _ _ (c .if2 .taken)), omega arith)
+returns-2 c = (search (lt-ltb, le-ltb), omega arith)
 
 returns-3 : tie.Need-returns-3
 unfolding hexOf
-returns-3 c = (
-  rw (le-ltb _ _ (c .before .before .if1 .left), le-ltb _ _ (c .before .if2 .left), lt-ltb _ _ (c .if3 .taken)),
-  omega arith,
-)
-
-sub-result : tie.Need-sub-result
-sub-result c = search needs
+returns-3 c = (search (lt-ltb, le-ltb), omega arith)
 
 returns-4 : tie.Need-returns-4
 unfolding hexOf
-returns-4 c = (
-  rw (
-    le-ltb _ _ (c .before .before .before .if1 .left),
-    le-ltb _ _ (c .before .before .if2 .left),
-    le-ltb _ _
-        (c .before .if3 .left),
-    lt-ltb _ _ (c .if4 .taken),
-  ),
-  omega arith,
-)
+returns-4 c = (search (lt-ltb, le-ltb), omega arith)
 
 returns-5 : tie.Need-returns-5
 unfolding hexOf
-returns-5 c = (
-  rw (
-    le-ltb _ _ (c .before .before .before .before .if1 .left),
-    le-ltb _ _ (c .before .before .before .if2 .left),
-    le-ltb _ _ (c .before .before .if3 .left),
-    le-ltb _ _ (c .before .if4 .left),
-    lt-ltb _ _ (c .if5 .taken),
-  ),
-  omega arith,
-)
-
-sub-result-2 : tie.Need-sub-result-2
-sub-result-2 c = search needs
+returns-5 c = (search (lt-ltb, le-ltb), omega arith)
 
 returns-6 : tie.Need-returns-6
 unfolding hexOf
-returns-6 c = (
-  rw (
-    le-ltb _ _ (c .before .before .before .before .before .if1 .left),
-    le-ltb _ _
-        (c .before .before .before .before .if2 .left),
-    le-ltb _ _ (c .before .before .before .if3 .left),
-    le-ltb _ _
-        (c .before .before .if4 .left),
-    le-ltb _ _ (c .before .if5 .left),
-    lt-ltb _ _ (c .if6 .taken),
-  ),
-  omega arith,
-)
+returns-6 c = (search (lt-ltb, le-ltb), omega arith)
 
 returns-7 : tie.Need-returns-7
 unfolding hexOf
-returns-7 c = (
-  rw (
-    le-ltb _ _ (c .before .before .before .before .before .if1 .left),
-    le-ltb _ _
-        (c .before .before .before .before .if2 .left),
-    le-ltb _ _ (c .before .before .before .if3 .left),
-    le-ltb _ _
-        (c .before .before .if4 .left),
-    le-ltb _ _ (c .before .if5 .left),
-    le-ltb _ _ (c .if6 .left),
-  ),
-  omega arith,
-)
+returns-7 c = (search (lt-ltb, le-ltb), omega arith)
 
 pub hex-of-spec : {M : Type 1} → statement M
 hex-of-spec =
@@ -94,9 +41,9 @@ hex-of-spec =
     returns
     returns-2
     returns-3
-    sub-result
+    (λ c. search needs)
     returns-4
     returns-5
-    sub-result-2
+    (λ c. search needs)
     returns-6
     returns-7)

@@ -10,23 +10,8 @@ use borrow.Author.Needs.{needs}
 use Rattle.text.proofs.digits.put_number.Statement.{statement}
 use Rattle.text.proofs.digits.put_number.Tie as tie
 
-decimal-requires : tie.Need-decimal-requires
-decimal-requires c κs = search needs
-
-sub-put : tie.Need-sub-put
-sub-put c = search needs
-
-part-put-start : tie.Need-part-put-start
-part-put-start c = search needs
-
 part-put-end : tie.Need-part-put-end
 part-put-end c = rw (c .before .before .before .decimal .ensures .size) (omega arith)
-
-put-requires : tie.Need-put-requires
-put-requires c κs = search needs
-
-same-length : tie.Need-same-length
-same-length c = search needs
 
 returns : tie.Need-returns
 returns c =
@@ -44,10 +29,10 @@ pub put-number-spec : {M : Type 1} → statement M
 put-number-spec =
     tie.close
     (tie.spec
-    decimal-requires
-    sub-put
-    part-put-start
+    (λ c κs. search needs)
+    (λ c. search needs)
+    (λ c. search needs)
     part-put-end
-    put-requires
-    same-length
+    (λ c κs. search needs)
+    (λ c. search needs)
     returns)

@@ -4,12 +4,6 @@ use borrow.Author.Needs.{needs}
 use Rattle.waits_io.proofs.arrivals.end_number.Statement.{statement}
 use Rattle.waits_io.proofs.arrivals.end_number.Tie as tie
 
-put-value-requires : tie.Need-put-value-requires
-put-value-requires c κs = search needs
-
-same-length : tie.Need-same-length
-same-length c = search needs
-
 returns : tie.Need-returns
 returns c = ends-in _ _ _ _ (c .before .before .before .before .if1 .taken) (c .before .before .put-value .ensures)
 
@@ -17,4 +11,4 @@ returns-2 : tie.Need-returns-2
 returns-2 c = ends-out _ _ (c .if1 .left)
 
 pub end-number-spec : {M : Type 1} → statement M
-end-number-spec = tie.close (tie.spec put-value-requires same-length returns returns-2)
+end-number-spec = tie.close (tie.spec (λ c κs. search needs) (λ c. search needs) returns returns-2)

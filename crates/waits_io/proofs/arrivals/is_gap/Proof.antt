@@ -7,11 +7,8 @@ use Rattle.waits_io.proofs.arrivals.is_gap.Tie as tie
 returns : tie.Need-returns
 returns c = rw (eq-eqb _ _ (c .if1 .taken))
 
-is-separator-requires : tie.Need-is-separator-requires
-is-separator-requires c κs = search needs
-
 returns-2 : tie.Need-returns-2
 returns-2 c = rw (ne-eqb _ _ (c .before .if1 .left)) (c .is-separator .ensures)
 
 pub is-gap-spec : {M : Type 1} → statement M
-is-gap-spec = tie.close (tie.spec returns is-separator-requires returns-2)
+is-gap-spec = tie.close (tie.spec returns (λ c κs. search needs) returns-2)

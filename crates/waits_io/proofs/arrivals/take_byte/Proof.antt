@@ -5,12 +5,6 @@ use borrow.Author.Needs.{needs}
 use Rattle.waits_io.proofs.arrivals.take_byte.Statement.{statement}
 use Rattle.waits_io.proofs.arrivals.take_byte.Tie as tie
 
-is-digit-requires : tie.Need-is-digit-requires
-is-digit-requires c κs = search needs
-
-grow-requires : tie.Need-grow-requires
-grow-requires c κs = search needs
-
 returns : tie.Need-returns
 returns c =
     let at-if2 = c .before in
@@ -18,15 +12,6 @@ returns c =
     let at-if1 = at-digit .before in
     takes-digit _ _ _ _ (at-if1 .if1 .taken) _ (sym (at-digit .is-digit .ensures) ∙ at-if2 .if2 .taken)
     (c .grow .ensures)
-
-is-gap-requires : tie.Need-is-gap-requires
-is-gap-requires c κs = search needs
-
-end-number-requires : tie.Need-end-number-requires
-end-number-requires c κs = search needs
-
-same-length : tie.Need-same-length
-same-length c = search needs
 
 returns-2 : tie.Need-returns-2
 returns-2 c =
@@ -55,12 +40,12 @@ pub take-byte-spec : {M : Type 1} → statement M
 take-byte-spec =
     tie.close
     (tie.spec
-    is-digit-requires
-    grow-requires
+    (λ c κs. search needs)
+    (λ c κs. search needs)
     returns
-    is-gap-requires
-    end-number-requires
-    same-length
+    (λ c κs. search needs)
+    (λ c κs. search needs)
+    (λ c. search needs)
     returns-2
     returns-3
     returns-4)

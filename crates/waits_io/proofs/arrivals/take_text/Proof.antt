@@ -22,18 +22,6 @@ loop-holds : tie.Need-loop-holds Inv-loop μ-loop
 unfolding takenTo
 loop-holds c = (omega arith, refl, refl)
 
-shared-slice-read-b : tie.Need-shared-slice-read-b Inv-loop μ-loop
-shared-slice-read-b c = search needs
-
-add-i : tie.Need-add-i Inv-loop μ-loop
-add-i c = search needs
-
-take-byte-requires : tie.Need-take-byte-requires Inv-loop μ-loop
-take-byte-requires c κs = search needs
-
-loop-less : tie.Need-loop-less Inv-loop μ-loop
-loop-less c = search needs
-
 loop-again : tie.Need-loop-again Inv-loop μ-loop
 unfolding takenTo
 loop-again c =
@@ -46,9 +34,6 @@ loop-again c =
       e ∙ rw add-one (ap (λ s. taking s (suc (l .i)) b) (l .inv .1)),
       ap (λ (s : SoFar). length (s .row)) e ∙ taking-length (soFar (l .row) (l .scan)) (l .i + 1) b ∙ l .inv .2,
     )
-
-end-number-requires : tie.Need-end-number-requires Inv-loop μ-loop
-end-number-requires c κs = search needs
 
 same-length : tie.Need-same-length Inv-loop μ-loop
 same-length c =
@@ -74,11 +59,11 @@ take-text-spec =
     Inv-loop
     μ-loop
     loop-holds
-    shared-slice-read-b
-    add-i
-    take-byte-requires
-    loop-less
+    (λ c. search needs)
+    (λ c. search needs)
+    (λ c κs. search needs)
+    (λ c. search needs)
     loop-again
-    end-number-requires
+    (λ c κs. search needs)
     same-length
     returns)

@@ -7,15 +7,6 @@ use borrow.Author.Needs.{needs}
 use Rattle.waits_io.proofs.complaints.put_complaints.Statement.{statement}
 use Rattle.waits_io.proofs.complaints.put_complaints.Tie as tie
 
-put-unheard-requires : tie.Need-put-unheard-requires
-put-unheard-requires c κs = search needs
-
-put-many-requires : tie.Need-put-many-requires
-put-many-requires c κs = search needs
-
-same-length : tie.Need-same-length
-same-length c = search needs
-
 returns : tie.Need-returns
 unfolding complaintsText
 returns c =
@@ -24,4 +15,4 @@ returns c =
     (c .before .before .put-many .ensures)
 
 pub put-complaints-spec : {M : Type 1} → statement M
-put-complaints-spec = tie.close (tie.spec put-unheard-requires put-many-requires same-length returns)
+put-complaints-spec = tie.close (tie.spec (λ c κs. search needs) (λ c κs. search needs) (λ c. search needs) returns)

@@ -7,15 +7,6 @@ use Rattle.waits_io.proofs.lines.mean.Tie as tie
 returns : tie.Need-returns
 returns c = mean-none _ _ (c .if1 .taken)
 
-div-whole : tie.Need-div-whole
-div-whole c = search needs
-
-rem-rest : tie.Need-rem-rest
-rem-rest c = search needs
-
-sub-if2 : tie.Need-sub-if2
-sub-if2 c = search needs
-
 returns-2 : tie.Need-returns-2
 returns-2 c = mean-down _ _ (c .before .if1 .left) (c .if2 .taken)
 
@@ -26,4 +17,4 @@ returns-3 : tie.Need-returns-3
 returns-3 c = mean-up _ _ (c .before .if1 .left) (c .if2 .left)
 
 pub mean-spec : {M : Type 1} → statement M
-mean-spec = tie.close (tie.spec returns div-whole rem-rest sub-if2 returns-2 add-result returns-3)
+mean-spec = tie.close (tie.spec returns (λ c. search needs) (λ c. search needs) (λ c. search needs) returns-2 add-result returns-3)

@@ -9,15 +9,6 @@ use borrow.Author.Needs.{needs}
 use Rattle.waits_io.proofs.lines.put_report.Statement.{statement}
 use Rattle.waits_io.proofs.lines.put_report.Tie as tie
 
-put-counts-requires : tie.Need-put-counts-requires
-put-counts-requires c κs = search needs
-
-put-waits-requires : tie.Need-put-waits-requires
-put-waits-requires c κs = search needs
-
-same-length : tie.Need-same-length
-same-length c = search needs
-
 returns : tie.Need-returns
 unfolding reportText
 returns c =
@@ -27,18 +18,6 @@ returns c =
     rw (eq-eqb _ _ (first .before .before .if1 .taken))
     (puts-then (page (x .out .now) 0) (countLines (x .report .arrivals) (x .report .waits .admitted)) (waitLines (x .report .waits))
     (first .put-counts .ensures) (second .put-waits .ensures))
-
-put-refusal-requires : tie.Need-put-refusal-requires
-put-refusal-requires c κs = search needs
-
-slice-aggregate-put : tie.Need-slice-aggregate-put
-slice-aggregate-put c = search needs
-
-put-requires : tie.Need-put-requires
-put-requires c κs = search needs
-
-same-length-2 : tie.Need-same-length-2
-same-length-2 c = search needs
 
 returns-2 : tie.Need-returns-2
 unfolding reportText text
@@ -53,12 +32,12 @@ pub put-report-spec : {M : Type 1} → statement M
 put-report-spec =
     tie.close
     (tie.spec
-    put-counts-requires
-    put-waits-requires
-    same-length
+    (λ c κs. search needs)
+    (λ c κs. search needs)
+    (λ c. search needs)
     returns
-    put-refusal-requires
-    slice-aggregate-put
-    put-requires
-    same-length-2
+    (λ c κs. search needs)
+    (λ c. search needs)
+    (λ c κs. search needs)
+    (λ c. search needs)
     returns-2)

@@ -9,30 +9,6 @@ use borrow.Author.Needs.{needs}
 use Rattle.waits_io.proofs.lines.put_waits.Statement.{statement}
 use Rattle.waits_io.proofs.lines.put_waits.Tie as tie
 
-slice-aggregate-put-line : tie.Need-slice-aggregate-put-line
-slice-aggregate-put-line c = search needs
-
-slice-aggregate-put-line-2 : tie.Need-slice-aggregate-put-line-2
-slice-aggregate-put-line-2 c = search needs
-
-put-line-requires : tie.Need-put-line-requires
-put-line-requires c κs = search needs
-
-slice-aggregate-put-line-3 : tie.Need-slice-aggregate-put-line-3
-slice-aggregate-put-line-3 c = search needs
-
-slice-aggregate-put-line-4 : tie.Need-slice-aggregate-put-line-4
-slice-aggregate-put-line-4 c = search needs
-
-put-line-requires-2 : tie.Need-put-line-requires-2
-put-line-requires-2 c κs = search needs
-
-put-mean-requires : tie.Need-put-mean-requires
-put-mean-requires c κs = search needs
-
-same-length : tie.Need-same-length
-same-length c = search needs
-
 returns : tie.Need-returns
 unfolding waitLines text
 returns c =
@@ -50,12 +26,12 @@ pub put-waits-spec : {M : Type 1} → statement M
 put-waits-spec =
     tie.close
     (tie.spec
-    slice-aggregate-put-line
-    slice-aggregate-put-line-2
-    put-line-requires
-    slice-aggregate-put-line-3
-    slice-aggregate-put-line-4
-    put-line-requires-2
-    put-mean-requires
-    same-length
+    (λ c. search needs)
+    (λ c. search needs)
+    (λ c κs. search needs)
+    (λ c. search needs)
+    (λ c. search needs)
+    (λ c κs. search needs)
+    (λ c κs. search needs)
+    (λ c. search needs)
     returns)

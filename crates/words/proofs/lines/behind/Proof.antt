@@ -5,12 +5,6 @@ use borrow.Author.Needs.{needs}
 use Rattle.words.proofs.lines.behind.Statement.{statement}
 use Rattle.words.proofs.lines.behind.Tie as tie
 
-run-end-requires : tie.Need-run-end-requires
-run-end-requires c κs = search needs
-
-add-result : tie.Need-add-result
-add-result c = search needs
-
 returns : tie.Need-returns
 returns c = (after-newline _ _ _ (c .before .run-end .ensures), omega arith)
 
@@ -18,4 +12,4 @@ returns-2 : tie.Need-returns-2
 returns-2 c = (after-all _ _ _ (c .before .run-end .ensures) (c .if1 .left), omega arith)
 
 pub behind-spec : {M : Type 1} → statement M
-behind-spec = tie.close (tie.spec run-end-requires add-result returns returns-2)
+behind-spec = tie.close (tie.spec (λ c κs. search needs) (λ c. search needs) returns returns-2)

@@ -20,12 +20,6 @@ ends c =
     let from = c .before .line-start .result in
     (omega (arith, e, run-end-low Line s from), omega (arith, e, run-end-high Line s from (c .before .line-start .ensures .1)))
 
-line-start-requires : tie.Need-line-start-requires
-line-start-requires c κs = search needs
-
-run-end-requires : tie.Need-run-end-requires
-run-end-requires c κs = search needs
-
 sub-put : tie.Need-sub-put
 sub-put c = ends (c .before) .0
 
@@ -34,12 +28,6 @@ part-put-start c = ends (c .before) .0
 
 part-put-end : tie.Need-part-put-end
 part-put-end c = ends (c .before) .1
-
-put-requires : tie.Need-put-requires
-put-requires c κs = search needs
-
-same-length : tie.Need-same-length
-same-length c = search needs
 
 returns : tie.Need-returns
 returns c =
@@ -52,11 +40,11 @@ pub put-line-spec : {M : Type 1} → statement M
 put-line-spec =
     tie.close
     (tie.spec
-    line-start-requires
-    run-end-requires
+    (λ c κs. search needs)
+    (λ c κs. search needs)
     sub-put
     part-put-start
     part-put-end
-    put-requires
-    same-length
+    (λ c κs. search needs)
+    (λ c. search needs)
     returns)
