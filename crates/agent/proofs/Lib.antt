@@ -9,5 +9,4 @@ pub mod HeadEnd
 pub mod OneMoment
 pub mod OneMomentExample
 pub mod Played
-pub mod Reading
 pub mod Unique

@@ -3,4 +3,3 @@ pub mod Turns
 pub mod Series
 pub mod Boxes
 pub mod Played
-pub mod inner

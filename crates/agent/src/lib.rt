@@ -35,13 +35,6 @@ pub struct Followed {
     pub agent: Agent,
 }
 
-// A log as far as it was played into an agent: the place of the next notice, and whether one may follow.
-pub struct PlayedLog {
-    pub agent: Agent,
-    pub place: usize,
-    pub more: bool,
-}
-
 // A fresh agent of a pool. A refusal gives one with a pool of 0 lanes.
 pub fn fresh_agent(pool: u64) -> Followed
     ensures { λ r. ⌜ (r .answer ≡ freshAnswer pool) × (r .agent ≡ freshAgent pool) ⌝ }

@@ -15,9 +15,9 @@ use Rattle.notice.specs.Log.{Bytes, noticesOf, isWholeLog}
 use Rattle.plans.specs.Row.{written}
 use Rattle.story.specs.declared.Title.{Title}
 use Rattle.story.specs.Kept.{titleAt}
-use Rattle.agent.specs.declared.PlayedLog.{PlayedLog}
+use Rattle.logs.specs.declared.PlayedLog.{PlayedLog}
 use Rattle.agent.specs.Played.{agentPlayed, lifeIn}
-use Rattle.agent.specs.inner.Steps.{Plays}
+use Rattle.logs.specs.Reading.{Plays}
 use Rattle.agent.proofs.Played.{log-series}
 use Rattle.airing.specs.declared.follow.Ending.{Ending}
 use Rattle.airing.specs.Air.{inLimits, isFilmTitle, markOf}

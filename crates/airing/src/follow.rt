@@ -1,15 +1,11 @@
 // A log played into a fresh agent, notice by notice, while the ticks of one title are marked.
 
 use crate::marks::mark_to;
-use agent::Agent;
-use agent::PlayedLog;
-use agent::fresh_agent;
-use agent::heed;
+use logs::PlayedLog;
+use logs::not_begun;
+use logs::read_for;
 use measures::slots::title_of;
 use measures::ticks::tick_at;
-use notice::Found;
-use notice::Notice;
-use notice::next_in;
 use rules::DONE;
 use rules::MALFORMED;
 use rules::NOT_THERE;
@@ -21,9 +17,9 @@ ghost use mathlib.Core.Path.{_≡_};
 ghost use mathlib.Core.Bool.{true};
 ghost use Rattle.rules.specs.Limits.{idMax};
 ghost use Rattle.notice.specs.Decode.{readAt};
-ghost use Rattle.agent.specs.inner.Steps.{Steps, Plays};
+ghost use Rattle.logs.specs.Reading.{Steps, Plays};
 ghost use Rattle.airing.specs.Air.{inLimits};
-ghost use Rattle.airing.specs.inner.Steps.{heardMarks, Ready, Hears, answerOf, Ends, Follows};
+ghost use Rattle.airing.specs.inner.Steps.{heardMarks, Ready, answerOf, Ends, Follows};
 
 // What a log answers, and the title as it stands at its end.
 pub struct Ending {
@@ -31,57 +27,23 @@ pub struct Ending {
     pub title: Title,
 }
 
-// A notice, put to the agent. An accepted one of the title settles its ticks so far, unless it is an opening, with which they
-// begin anew.
-fn hear(agent: Agent, n: Notice, title: u64, marks: &mut [u8]) -> Agent
-    requires { ⌜ Ready agent title ⌝ }
-    ensures { λ r. ⌜ Hears agent title n (now (marks .entry)) r (now (marks .exit)) ⌝ }
-{
-    let t = title_of(agent.state, title);
-    let mode = t.mode;
-    let id = n.title;
-    let followed = heed(agent, n);
-    let answer = followed.answer;
-    let next = followed.agent;
-    if answer == DONE {
-        if id as u64 == title {
-            if mode == OPEN {
-                mark_to(t, tick_at(t, n.time), marks);
-                return next;
-            }
-        }
-    }
-    next
-}
-
-// One read more: past a notice, and no further at the log's end or where bytes are no notice.
+// One read more of the log. An accepted event of the title while it is open settles its ticks so far; any other is an opening, with
+// which they begin anew.
 fn step(played: PlayedLog, log: &[u8], title: u64, marks: &mut [u8]) -> PlayedLog
     requires { ⌜ Ready (played .agent) title ⌝ }
     ensures { λ r. ⌜ Steps (heardMarks title) played (now (marks .entry)) (readAt (now (log .entry)) (played .place)) r (now (marks .exit)) ⌝ }
 {
-    let agent = played.agent;
-    let place = played.place;
-    let found = next_in(log, place);
-    match found {
-        Found::At(n, end) => {
-            let next = hear(agent, n, title, marks);
-            PlayedLog {
-                agent: next,
-                place: end,
-                more: true,
-            }
+    let read = read_for(played, log, title);
+    let next = read.played;
+    let t = read.before;
+    let mode = t.mode;
+    if read.own {
+        if mode == OPEN {
+            mark_to(t, tick_at(t, read.time), marks);
+            return next;
         }
-        Found::End => PlayedLog {
-            agent: agent,
-            place: place,
-            more: false,
-        },
-        Found::Malformed => PlayedLog {
-            agent: agent,
-            place: place,
-            more: false,
-        },
     }
+    next
 }
 
 // A log, played into a fresh agent up to where its reading stops.
@@ -89,13 +51,7 @@ fn play(pool: u64, log: &[u8], title: u64, marks: &mut [u8]) -> PlayedLog
     requires { ⌜ title ≤ idMax ⌝ }
     ensures { λ r. ⌜ Plays (heardMarks title) pool (now (log .entry)) (now (marks .entry)) r (now (marks .exit)) ⌝ }
 {
-    let started = fresh_agent(pool);
-    let agent = started.agent;
-    let mut played = PlayedLog {
-        agent: agent,
-        place: 0,
-        more: true,
-    };
+    let mut played = not_begun(pool);
     while played.more {
         played = step(played, log, title, marks);
     }

@@ -26,6 +26,11 @@ pub both-true : (b : Bool) → both b true ≡ b
 both-true true = refl
 both-true false = refl
 
+-- and joined with one that fails it fails
+pub both-none : (b : Bool) → both b false ≡ false
+both-none true = refl
+both-none false = refl
+
 pub either-l : (a b : Bool) → a ≡ true → either a b ≡ true
 either-l a b p = rw p refl
 

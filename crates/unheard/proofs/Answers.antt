@@ -8,19 +8,19 @@ use borrow.Author.Tests.{eq-eqb, ne-eqb, lt-leb, le-leb}
 use lib.ListN.{length}
 use Rattle.rules.specs.Limits.{within, poolMin, poolMax}
 use Rattle.rules.specs.Refusals.{firstHit, done, outsideLimits, malformed}
-use Rattle.notice.specs.declared.Notice.{Notice}
+use Rattle.notice.specs.declared.Found.{Found}
 use Rattle.notice.specs.declared.Found.the-variants as found
 use Rattle.notice.specs.Decode.{readAt}
 use Rattle.notice.specs.Log.{noticesOf, stopOf}
+use Rattle.notice.proofs.Each.{false-true}
 use Rattle.notice.proofs.There.{inside}
-use Rattle.agent.specs.declared.Agent.{Agent}
-use Rattle.agent.specs.declared.PlayedLog.{PlayedLog}
-use Rattle.agent.specs.inner.Steps.{Plays}
-use Rattle.agent.proofs.Turns.{Turn}
+use Rattle.logs.specs.declared.PlayedLog.{PlayedLog}
+use Rattle.logs.specs.declared.ReadOn.{ReadOn}
+use Rattle.logs.specs.Reading.{stepped, readNext, Plays}
 use Rattle.unheard.specs.declared.Tally.{Tally}
 use Rattle.unheard.specs.declared.Unheard.{Unheard}
 use Rattle.unheard.specs.Unheard.{noneTold, refusedWith, unheardAnswer, unheardIn}
-use Rattle.unheard.specs.inner.Steps.{counted, heardCount, Room, Small, Hears}
+use Rattle.unheard.specs.inner.Steps.{counted, heardCount, Room, Small}
 use Rattle.unheard.proofs.Counting.{tally, told-tally}
 
 -- ---- one notice
@@ -39,16 +39,18 @@ module _ (t : Tally) (a : ℕ) where
     unfolding counted
     counts-later some = rw (ne-eqb a done not-ok, ne-eqb (t .missed) 0 some) refl
 
-pub hears : (g : Agent) (n : Notice) (t : Tally) (a : ℕ) (h : Agent) (q : Tally) → Turn g n a h → q ≡ counted t a
-    → Hears g n t (record { agent = h; tally = q })
-hears g n t a h q told is = record { agent-is = told .1; tally-is = is ∙ ap (counted t) (told .0) }
-
 -- a notice that a log has at a place leaves room to count it
-pub roomy : (log : List ℕ) (place : ℕ) (t : Tally) (n : Notice) (e : ℕ) → Small place t → readAt log place ≡ found.At n e → e < 2 ^ 64
-    → Room t
-roomy log place t n e s is typed =
-    let i = inside log place n e is in
-    record { fits = omega (arith, s .few, i .ahead); missed-low = s .missed-low }
+pub roomy : (log : List ℕ) (p : PlayedLog) (t : Tally) (r : ReadOn) → Small (p .place) t → r ≡ readNext p (readAt log (p .place))
+    → r .played .more ≡ true → r .played .place < 2 ^ 64 → Room t
+unfolding readNext stepped
+roomy log p t r s is more typed = go (readAt log (p .place)) refl (rw is at more) (rw is at typed)
+  where
+    go : (f : Found) → readAt log (p .place) ≡ f → readNext p f .played .more ≡ true → readNext p f .played .place < 2 ^ 64 → Room t
+    go (found.At n e) at going fits =
+        let i = inside log (p .place) n e at in
+        record { fits = omega (arith, s .few, i .ahead); missed-low = s .missed-low }
+    go found.End at going fits = false-true going
+    go found.Malformed at going fits = false-true going
 
 -- ---- the call
 

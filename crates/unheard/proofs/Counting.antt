@@ -15,10 +15,10 @@ use Rattle.notice.specs.declared.Found.the-variants as found
 use Rattle.notice.specs.Decode.{readAt, placeAfter}
 use Rattle.notice.specs.Log.{placeTo, withFound, noticesTo}
 use Rattle.notice.proofs.There.{inside}
-use Rattle.agent.specs.declared.PlayedLog.{PlayedLog}
+use Rattle.logs.specs.declared.PlayedLog.{PlayedLog}
 use Rattle.agent.specs.Turns.{freshAgent}
-use Rattle.agent.specs.inner.Steps.{keptTold}
-use Rattle.agent.proofs.Reading.{PlayedTo}
+use Rattle.logs.specs.Reading.{keptTold}
+use Rattle.logs.proofs.Reading.{PlayedTo}
 use Rattle.unheard.specs.declared.Tally.{Tally}
 use Rattle.unheard.specs.Unheard.{answerTo, missedIn, firstIn, saidIn, tallyIn, noneTold}
 use Rattle.unheard.specs.inner.Steps.{counted, heardCount, Small}

@@ -1,13 +1,9 @@
 // Which notices of a log did not count: they are told one after the other to a fresh agent of a pool, which refuses some. No
 // public function has a `requires`: any pool and any bytes have an answer.
 
-use agent::Agent;
-use agent::PlayedLog;
-use agent::fresh_agent;
-use agent::heed;
-use notice::Found;
-use notice::Notice;
-use notice::next_in;
+use logs::PlayedLog;
+use logs::not_begun;
+use logs::read_on;
 use rules::DONE;
 use rules::MALFORMED;
 use rules::OUTSIDE_LIMITS;
@@ -16,9 +12,9 @@ use rules::POOL_MIN;
 use rules::within;
 ghost use mathlib.Core.Path.{_≡_};
 ghost use Rattle.notice.specs.Decode.{readAt};
-ghost use Rattle.agent.specs.inner.Steps.{Steps, Plays};
+ghost use Rattle.logs.specs.Reading.{Steps, Plays};
 ghost use Rattle.unheard.specs.Unheard.{noneTold, refusedWith, unheardIn};
-ghost use Rattle.unheard.specs.inner.Steps.{counted as countedOf, heardCount, Room, Small, Hears};
+ghost use Rattle.unheard.specs.inner.Steps.{counted as countedOf, heardCount, Room, Small};
 
 // How many notices were told, how many of them did not count, and of the first of those its number, from 1 on, and what it was
 // answered; both are 0 where all count.
@@ -38,12 +34,6 @@ pub struct Unheard {
 // A log as far as it was played, and the tally of its notices.
 struct Counted {
     played: PlayedLog,
-    tally: Tally,
-}
-
-// What a notice leaves.
-struct Heard {
-    agent: Agent,
     tally: Tally,
 }
 
@@ -79,55 +69,25 @@ fn count(tally: Tally, answer: u8) -> Tally
     next
 }
 
-// A notice, put to the agent.
-fn hear(agent: Agent, tally: Tally, n: Notice) -> Heard
-    requires { ⌜ Room tally ⌝ }
-    ensures { λ r. ⌜ Hears agent n tally r ⌝ }
-{
-    let followed = heed(agent, n);
-    let answer = followed.answer;
-    let next = followed.agent;
-    Heard {
-        agent: next,
-        tally: count(tally, answer),
-    }
-}
-
-// One read more: past a notice, and no further at the log's end or where bytes are no notice.
+// One read more of the log: what a notice is answered is counted.
 fn step(counted: Counted, log: &[u8]) -> Counted
     requires { ⌜ Small (counted .played .place) (counted .tally) ⌝ }
     ensures { λ r. ⌜ Steps heardCount (counted .played) (counted .tally)
         (readAt (now (log .entry)) (counted .played .place)) (r .played) (r .tally) ⌝ }
 {
-    let mut played = counted.played;
+    let played = counted.played;
     let tally = counted.tally;
-    let agent = played.agent;
-    let place = played.place;
-    played.more = false;
-    let found = next_in(log, place);
-    match found {
-        Found::At(n, end) => {
-            let heard = hear(agent, tally, n);
-            let followed = heard.agent;
-            let told = heard.tally;
-            let next = PlayedLog {
-                agent: followed,
-                place: end,
-                more: true,
-            };
-            Counted {
-                played: next,
-                tally: told,
-            }
-        }
-        Found::End => Counted {
-            played: played,
-            tally: tally,
-        },
-        Found::Malformed => Counted {
-            played: played,
-            tally: tally,
-        },
+    let read = read_on(played, log);
+    let next = read.played;
+    if next.more {
+        return Counted {
+            played: next,
+            tally: count(tally, read.answer),
+        };
+    }
+    Counted {
+        played: next,
+        tally: tally,
     }
 }
 
@@ -135,14 +95,8 @@ fn step(counted: Counted, log: &[u8]) -> Counted
 fn play(pool: u64, log: &[u8]) -> Counted
     ensures { λ r. ⌜ Plays heardCount pool (now (log .entry)) noneTold (r .played) (r .tally) ⌝ }
 {
-    let started = fresh_agent(pool);
-    let agent = started.agent;
+    let played = not_begun(pool);
     let tally = none_told();
-    let played = PlayedLog {
-        agent: agent,
-        place: 0,
-        more: true,
-    };
     let mut counted = Counted {
         played: played,
         tally: tally,

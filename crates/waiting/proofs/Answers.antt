@@ -1,6 +1,6 @@
 -- The report's refusals, as the code meets its cases, and what a row that passes them is. Rest on the laws of listed refusals.
 use mathlib.Core.Path.{_≡_, refl, sym, _∙_}
-use mathlib.Core.Bool.{Bool, true, false, not, false≢true}
+use mathlib.Core.Bool.{true, false, not, false≢true}
 use mathlib.Core.Logic.{⊎-elim}
 use mathlib.Core.List.{List, [], _∷_}
 use Prim.Native.Nat.{ℕ, _≤_, _<_}
@@ -10,7 +10,7 @@ use lib.Dec.{leb, ltb, eqb}
 use lib.ListN.{getD, length, List·getD-eq-default}
 use Rattle.rules.specs.Limits.{both, within, poolMin, poolMax, idMax, askedMax}
 use Rattle.rules.specs.Refusals.{pick, refuse, firstHit, done, outsideLimits, wrongRows, malformed}
-use Rattle.rules.proofs.Tests.{decide, both-l, both-r, fails, pick-true, pick-false}
+use Rattle.rules.proofs.Tests.{decide, both-l, both-r, both-none, fails, pick-true, pick-false}
 use Rattle.rules.proofs.Refusals.{hitsOf, numbered, cleared, hit-append}
 use Rattle.rules.proofs.Search
 use Rattle.notice.specs.Log.{isWholeLog, stopOf}
@@ -39,10 +39,6 @@ row-low xs h j =
     (decide (ltb j (length xs)))
 
 -- ---- the refusals that do not hang on the log
-
-both-none : (b : Bool) → both b false ≡ false
-both-none true = refl
-both-none false = refl
 
 module _ (pool title : ℕ) (xs : List ℕ) where
   outside : allInLimits pool title xs ≡ false → outsideLimits ≡ rowAnswer pool title xs

@@ -1,5 +1,4 @@
 -- What the code's way through a log comes to, and two logs that differ in an order alone.
-pub mod Hearing
 pub mod Answers
 pub mod Counting
 pub mod Reading

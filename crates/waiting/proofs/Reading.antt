@@ -4,9 +4,9 @@ use Prim.Native.Nat.{ℕ, _≤_}
 use lib.ListN.{length}
 use Rattle.rules.specs.Limits.{idMax}
 use Rattle.notice.specs.Log.{Bytes, noticesTo}
-use Rattle.agent.specs.declared.PlayedLog.{PlayedLog}
+use Rattle.logs.specs.declared.PlayedLog.{PlayedLog}
 use Rattle.agent.proofs.Played.{log-series}
-use Rattle.agent.proofs.Reading.{PlayedTo}
+use Rattle.logs.proofs.Reading.{PlayedTo}
 use Rattle.admissions.specs.declared.Tally.{Tally}
 use Rattle.admissions.specs.Waits.{rowMax}
 use Rattle.admissions.specs.Stretches.{fresh}

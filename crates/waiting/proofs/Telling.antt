@@ -11,9 +11,9 @@ use Rattle.rules.specs.Refusals.{done}
 use Rattle.rules.proofs.Tests.{decide}
 use Rattle.notice.specs.Log.{Bytes, noticesOf}
 use Rattle.story.specs.Kept.{titleAt}
-use Rattle.agent.specs.declared.PlayedLog.{PlayedLog}
+use Rattle.logs.specs.declared.PlayedLog.{PlayedLog}
 use Rattle.agent.specs.Played.{agentPlayed, lifeIn}
-use Rattle.agent.specs.inner.Steps.{Plays}
+use Rattle.logs.specs.Reading.{Plays}
 use Rattle.agent.proofs.Played.{log-series}
 use Rattle.admissions.specs.declared.Tally.{Tally}
 use Rattle.admissions.specs.declared.Waits.{Waits}

@@ -6,14 +6,9 @@ use admissions::Waits;
 use admissions::ended;
 use admissions::endless;
 use admissions::opened;
-use agent::Agent;
-use agent::PlayedLog;
-use agent::fresh_agent;
-use agent::heed;
-use notice::Found;
-use notice::Kind;
-use notice::Notice;
-use notice::next_in;
+use logs::PlayedLog;
+use logs::not_begun;
+use logs::read_for;
 use rules::ASKED_MAX;
 use rules::DONE;
 use rules::ID_MAX;
@@ -23,6 +18,7 @@ use rules::POOL_MAX;
 use rules::POOL_MIN;
 use rules::WRONG_ROWS;
 use rules::within;
+use story::OPEN;
 use story::Title;
 ghost use Prim.Native.Nat.{_≤_};
 ghost use mathlib.Core.Path.{_≡_};
@@ -31,8 +27,8 @@ ghost use Rattle.rules.specs.Limits.{eventTimeMax, idMax};
 ghost use Rattle.notice.specs.Decode.{readAt};
 ghost use Rattle.admissions.specs.Waits.{rowMax};
 ghost use Rattle.admissions.specs.Stretches.{Playing, Few, fresh};
-ghost use Rattle.agent.specs.inner.Steps.{Steps, Plays};
-ghost use Rattle.waiting.specs.inner.Steps.{eventTally, heardTally, Ready, Hears, rowAnswer};
+ghost use Rattle.logs.specs.Reading.{Steps, Plays};
+ghost use Rattle.waiting.specs.inner.Steps.{eventTally, heardTally, Ready, rowAnswer};
 ghost use Rattle.waiting.specs.Report.{rowInLimits, refusedWith, Reports};
 
 // The most arrivals of a row.
@@ -51,99 +47,40 @@ struct Counted {
     tally: Tally,
 }
 
-// What a notice leaves.
-struct Heard {
-    agent: Agent,
-    tally: Tally,
-}
-
-// An accepted event of the title, which was t before it.
-fn count_event(t: Title, n: Notice, arrivals: &[u64], tally: Tally) -> Tally
+// An accepted event of the title, which was t before it: of an open title it ends a stretch, any other is an opening.
+fn count_event(t: Title, time: u64, arrivals: &[u64], tally: Tally) -> Tally
     requires { ⌜ (t .mode ≡ 1 → Playing t) ⌝ }
-    requires { ⌜ n .time ≤ eventTimeMax ⌝ }
+    requires { ⌜ time ≤ eventTimeMax ⌝ }
     requires { ⌜ Few (length (now arrivals)) (tally .waits) ⌝ }
-    ensures { λ r. ⌜ r ≡ eventTally t (n .time) (n .kind) (now (arrivals .entry)) tally ⌝ }
+    ensures { λ r. ⌜ r ≡ eventTally (now (arrivals .entry)) t time tally ⌝ }
 {
-    let time = n.time;
-    let kind = n.kind;
-    match kind {
-        Kind::Open {
-            length: _,
-            floor: _,
-            cap: _,
-            count: _,
-        } => opened(time),
-        Kind::Change { count: _ } => ended(t, time, arrivals, tally),
-        Kind::Close => ended(t, time, arrivals, tally),
-        Kind::Hold => ended(t, time, arrivals, tally),
-        Kind::Lift => ended(t, time, arrivals, tally),
-        Kind::Skip {
-            length: _,
-            count: _,
-        } => opened(time),
+    let mode = t.mode;
+    if mode == OPEN {
+        return ended(t, time, arrivals, tally);
     }
+    opened(time)
 }
 
-// A notice, put to the agent; only an accepted one of the title counts.
-fn hear(agent: Agent, tally: Tally, n: Notice, title: u64, arrivals: &[u64]) -> Heard
-    requires { ⌜ Ready agent title (now arrivals) tally ⌝ }
-    ensures { λ r. ⌜ Hears agent title (now (arrivals .entry)) n tally r ⌝ }
-{
-    let s = agent.state;
-    let t = s.titles[title as usize];
-    let id = n.title;
-    let followed = heed(agent, n);
-    let answer = followed.answer;
-    let next = followed.agent;
-    if answer == DONE {
-        if id as u64 == title {
-            return Heard {
-                agent: next,
-                tally: count_event(t, n, arrivals, tally),
-            };
-        }
-    }
-    Heard {
-        agent: next,
-        tally: tally,
-    }
-}
-
-// One read more: past a notice, and no further at the log's end or where bytes are no notice.
+// One read more of the log.
 fn step(counted: Counted, log: &[u8], title: u64, arrivals: &[u64]) -> Counted
     requires { ⌜ Ready (counted .played .agent) title (now arrivals) (counted .tally) ⌝ }
     ensures { λ r. ⌜ Steps (heardTally title (now (arrivals .entry))) (counted .played) (counted .tally)
         (readAt (now (log .entry)) (counted .played .place)) (r .played) (r .tally) ⌝ }
 {
-    let mut played = counted.played;
+    let played = counted.played;
     let tally = counted.tally;
-    let agent = played.agent;
-    let place = played.place;
-    played.more = false;
-    let found = next_in(log, place);
-    match found {
-        Found::At(n, end) => {
-            let heard = hear(agent, tally, n, title, arrivals);
-            let followed = heard.agent;
-            let tallied = heard.tally;
-            let next = PlayedLog {
-                agent: followed,
-                place: end,
-                more: true,
-            };
-            Counted {
-                played: next,
-                tally: tallied,
-            }
-        }
-        Found::End => Counted {
-            played: played,
-            tally: tally,
-        },
-        Found::Malformed => Counted {
-            played: played,
-            tally: tally,
-        },
+    let read = read_for(played, log, title);
+    let next = read.played;
+    let before = read.before;
+    if read.own {
+        return Counted {
+            played: next,
+            tally: count_event(before, read.time, arrivals, tally),
+        };
+    }
+    Counted {
+        played: next,
+        tally: tally,
     }
 }
 
@@ -153,14 +90,8 @@ fn play(pool: u64, log: &[u8], title: u64, arrivals: &[u64]) -> Counted
     requires { ⌜ length (now arrivals) ≤ rowMax ⌝ }
     ensures { λ r. ⌜ Plays (heardTally title (now (arrivals .entry))) pool (now (log .entry)) (fresh 0) (r .played) (r .tally) ⌝ }
 {
-    let started = fresh_agent(pool);
-    let agent = started.agent;
+    let played = not_begun(pool);
     let tally = opened(0);
-    let played = PlayedLog {
-        agent: agent,
-        place: 0,
-        more: true,
-    };
     let mut counted = Counted {
         played: played,
         tally: tally,

@@ -10,7 +10,6 @@ use Rattle.rules.specs.Limits.{both, idMax}
 use Rattle.rules.specs.Refusals.{pick, refuse, firstHit, done, outsideLimits, wrongRows, malformed, notThere}
 use Rattle.scheme.specs.Scheme.{paddedKind, steadyKind, starts}
 use Rattle.notice.specs.declared.Notice.{Notice}
-use Rattle.notice.specs.declared.Reading.the-variants as reading
 use Rattle.notice.specs.Log.{isWholeLog}
 use Rattle.plans.specs.Row.{written}
 use Rattle.story.specs.declared.Title.{Title}
@@ -19,9 +18,9 @@ use Rattle.story.specs.Life.{Life}
 use Rattle.measures.specs.Readable.{Filmed}
 use Rattle.admissions.specs.Stretches.{admitting}
 use Rattle.agent.specs.declared.Agent.{Agent}
-use Rattle.agent.specs.Turns.{freshAgent, noticeAnswer, noticed}
+use Rattle.agent.specs.Turns.{freshAgent}
 use Rattle.agent.specs.Played.{lifeIn}
-use Rattle.agent.specs.inner.Steps.{keptTold}
+use Rattle.logs.specs.Reading.{keptTold, heardOwn, byMode}
 use Rattle.airing.specs.declared.follow.Ending.{Ending}
 use Rattle.airing.specs.Air.{inLimits, hasRoom, isFilmTitle, markOf}
 use Rattle.airing.specs.Reasons.{isSteadyTitle}
@@ -44,12 +43,13 @@ pub record Markable (t : Title) : Type 0 where
   pub film : Filmed (t .film)
   pub fit : t .count ≤ t .film .cap
 
--- an accepted event of an open title settles its ticks up to the event; one of a title that is not open is an opening, with
--- which all ticks begin anew
-unfoldable pub heardMarks : ℕ → Agent → Notice → List ℕ → List ℕ
-heardMarks i g n row =
-    pick (both (eqb (noticeAnswer g (reading.Whole n)) 0) (both (eqb (n .title) i) (eqb (titleAt (g .state) i .mode) openMode)))
-    (markedTo (titleAt (g .state) i) (tickAt (titleAt (g .state) i) (n .time)) row) row
+-- an accepted event of an open title settles its ticks up to the event, and with an opening all ticks begin anew
+abbrev pub eventMarks : Title → ℕ → List ℕ → List ℕ
+eventMarks = byMode (λ t τ row. markedTo t (tickAt t τ) row) (λ τ row. row)
+
+-- the row after a notice, for title i
+abbrev pub heardMarks : ℕ → Agent → Notice → List ℕ → List ℕ
+heardMarks i = heardOwn eventMarks i
 
 -- the row after notices, newest first
 abbrev pub toldMarks : ℕ → ℕ → List ℕ → List Notice → List ℕ
@@ -59,10 +59,6 @@ toldMarks pool i row ns = keptTold (heardMarks i) (freshAgent pool) row ns
 pub record Ready (g : Agent) (i : ℕ) : Type 0 where
   pub id : i ≤ idMax
   pub markable : titleAt (g .state) i .mode ≡ openMode → Markable (titleAt (g .state) i)
-
-pub record Hears (g : Agent) (i : ℕ) (n : Notice) (row : List ℕ) (h : Agent) (marked : List ℕ) : Type 0 where
-  pub agent-is : h ≡ noticed g (reading.Whole n)
-  pub marks-are : marked ≡ heardMarks i g n row
 
 -- a stored title has the numbers of a life that is sent by the padded grid
 pub record Standing (L : Life) (t : Title) : Type 0 where

@@ -1,6 +1,6 @@
 -- `unheard::play` meets its contract and ends: each step is one read more, and one that goes on moves ahead.
 use borrow.Author.Needs.{needs}
-use Rattle.agent.proofs.Reading.{PlayedTo, not-begun, played-on, all-played, left, falls}
+use Rattle.logs.proofs.Reading.{PlayedTo, not-begun, played-on, all-played, left, falls}
 use Rattle.unheard.specs.Unheard.{noneTold}
 use Rattle.unheard.specs.inner.Steps.{heardCount}
 use Rattle.unheard.proofs.Counting.{small}
@@ -13,14 +13,14 @@ Inv-loop pool log counted₀ counted = PlayedTo heardCount pool log noneTold (co
 abbrev μ-loop : tie.MeasureT-loop
 μ-loop pool log counted₀ counted = left log (counted .played)
 
-fresh-agent-requires : tie.Need-fresh-agent-requires Inv-loop μ-loop
-fresh-agent-requires c κs = search needs
+not-begun-requires : tie.Need-not-begun-requires Inv-loop μ-loop
+not-begun-requires c κs = search needs
 
 none-told-requires : tie.Need-none-told-requires Inv-loop μ-loop
 none-told-requires c κs = search needs
 
 loop-holds : tie.Need-loop-holds Inv-loop μ-loop
-loop-holds c = not-begun _ _ _ _ _ _ (c .before .before .fresh-agent .ensures .1) (c .none-told .ensures)
+loop-holds c = not-begun _ _ _ _ _ _ (c .before .not-begun .ensures) (c .none-told .ensures)
 
 step-requires : tie.Need-step-requires Inv-loop μ-loop
 step-requires c κs = small _ _ _ _ (c .before .loop .inv)
@@ -40,7 +40,7 @@ play-spec =
     (tie.spec
     Inv-loop
     μ-loop
-    fresh-agent-requires
+    not-begun-requires
     none-told-requires
     loop-holds
     step-requires

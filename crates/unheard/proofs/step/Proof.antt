@@ -1,50 +1,26 @@
--- `unheard::step` meets its contract, by what the reader finds at the place.
-use mathlib.Core.Path.{refl, sym, _∙_}
-use Rattle.agent.proofs.Reading.{steps-on, steps-nowhere}
+-- `unheard::step` meets its contract, by whether a notice was read.
+use Rattle.logs.proofs.Own.{steps-told, steps-nowhere}
+use Rattle.unheard.specs.inner.Steps.{counted}
 use Rattle.unheard.proofs.Answers.{roomy}
 use borrow.Author.Needs.{needs}
 use Rattle.unheard.proofs.step.Statement.{statement}
 use Rattle.unheard.proofs.step.Tie as tie
 
-next-in-requires : tie.Need-next-in-requires
-next-in-requires c κs = search needs
+read-on-requires : tie.Need-read-on-requires
+read-on-requires c κs = search needs
 
-enum-known-found : tie.Need-enum-known-found
-enum-known-found c = search needs
-
-hear-requires : tie.Need-hear-requires
-hear-requires c κs =
-    let read = c .before in
-    roomy _ _ _ _ _ (read .before .before .before .before .before .before .before .pre) (sym (read .before .before .next-in .ensures .is) ∙ read .found .given .1) (search needs)
-
-enum-told : tie.Need-enum-told
-enum-told c = search needs
-
-enum-told-2 : tie.Need-enum-told-2
-enum-told-2 c = search needs
+count-requires : tie.Need-count-requires
+count-requires c κs =
+    let at-read = c .before .before in
+    roomy _ _ _ _ (at-read .before .before .before .before .pre) (at-read .read-on .ensures) (c .if1 .taken) (search needs)
 
 returns : tie.Need-returns
 returns c =
-    let heard = c .before .before in
-    let read = heard .before .before in
-    steps-on _ _ _ _ _ _ _ _ (sym (read .before .before .next-in .ensures .is) ∙ read .found .given .1) (heard .hear .ensures .agent-is)
-    (heard .hear .ensures .tally-is)
+    let at-read = c .before .before .before in
+    steps-told (λ a t. counted t a) _ _ _ _ (at-read .read-on .ensures) _ (c .before .if1 .taken) (c .count .ensures)
 
 returns-2 : tie.Need-returns-2
-returns-2 c = steps-nowhere _ _ _ _ _ (sym (c .before .before .next-in .ensures .is) ∙ c .enum-told .given .1) refl
-
-returns-3 : tie.Need-returns-3
-returns-3 c = steps-nowhere _ _ _ _ _ (sym (c .before .before .next-in .ensures .is) ∙ c .enum-told2 .given .1) refl
+returns-2 c = steps-nowhere (λ a t. counted t a) _ _ _ _ (c .before .before .read-on .ensures) (c .if1 .left)
 
 pub step-spec : {M : Type 1} → statement M
-step-spec =
-    tie.close
-    (tie.spec
-    next-in-requires
-    enum-known-found
-    hear-requires
-    enum-told
-    enum-told-2
-    returns
-    returns-2
-    returns-3)
+step-spec = tie.close (tie.spec read-on-requires count-requires returns returns-2)

@@ -1,14 +1,12 @@
 -- How the code counts, notice by notice. The call's contract cites nothing of this; proofs/ shows what it comes to.
 use Prim.Native.Nat.{ℕ, _+_, _≤_, _<_, _^_}
-use mathlib.Core.Path.{_≡_}
 use lib.Dec.{eqb}
 use Rattle.rules.specs.Refusals.{pick, done}
 use Rattle.notice.specs.declared.Notice.{Notice}
 use Rattle.notice.specs.declared.Reading.the-variants as reading
 use Rattle.agent.specs.declared.Agent.{Agent}
-use Rattle.agent.specs.Turns.{noticeAnswer, noticed}
+use Rattle.agent.specs.Turns.{noticeAnswer}
 use Rattle.unheard.specs.declared.Tally.{Tally}
-use Rattle.unheard.specs.declared.Heard.{Heard}
 
 -- one notice more, with what it was answered
 unfoldable pub counted : Tally → ℕ → Tally
@@ -30,7 +28,3 @@ pub record Room (t : Tally) : Type 0 where
 pub record Small (place : ℕ) (t : Tally) : Type 0 where
   pub few : t .notices ≤ place
   pub missed-low : t .missed ≤ t .notices
-
-pub record Hears (g : Agent) (n : Notice) (t : Tally) (r : Heard) : Type 0 where
-  pub agent-is : r .agent ≡ noticed g (reading.Whole n)
-  pub tally-is : r .tally ≡ heardCount g n t

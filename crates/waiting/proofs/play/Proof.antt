@@ -1,7 +1,7 @@
 -- `waiting::play` meets its contract and ends: each step is one read more, and one that goes on moves ahead.
 use native.Mathlib.Omega.{arith}
 use borrow.Author.Needs.{needs}
-use Rattle.agent.proofs.Reading.{PlayedTo, not-begun, played-on, all-played, left, falls}
+use Rattle.logs.proofs.Reading.{PlayedTo, not-begun, played-on, all-played, left, falls}
 use Rattle.admissions.specs.Stretches.{fresh}
 use Rattle.waiting.specs.inner.Steps.{heardTally}
 use Rattle.waiting.proofs.Reading.{ready}
@@ -15,18 +15,18 @@ Inv-loop pool log title arrivals counted₀ counted =
 abbrev μ-loop : tie.MeasureT-loop
 μ-loop pool log title arrivals counted₀ counted = left log (counted .played)
 
-fresh-agent-requires : tie.Need-fresh-agent-requires Inv-loop μ-loop
-fresh-agent-requires c κs = search needs
+not-begun-requires : tie.Need-not-begun-requires Inv-loop μ-loop
+not-begun-requires c κs = search needs
 
 opened-requires : tie.Need-opened-requires Inv-loop μ-loop
 opened-requires c κs = search needs
 
 loop-holds : tie.Need-loop-holds Inv-loop μ-loop
-loop-holds c = not-begun _ _ _ _ _ _ (c .before .before .fresh-agent .ensures .1) (c .opened .ensures)
+loop-holds c = not-begun _ _ _ _ _ _ (c .before .not-begun .ensures) (c .opened .ensures)
 
 step-requires : tie.Need-step-requires Inv-loop μ-loop
 step-requires c κs =
-    let known = c .before .before .before .before .before .before in
+    let known = c .before .before .before .before .before in
     ready _ _ _ _ _ _ (c .before .loop .inv) (λ j. omega (arith, known .shared-slice-known .given j)) (known .before .pre .0) (known .before .pre .1)
 
 loop-less : tie.Need-loop-less Inv-loop μ-loop
@@ -44,7 +44,7 @@ play-spec =
     (tie.spec
     Inv-loop
     μ-loop
-    fresh-agent-requires
+    not-begun-requires
     opened-requires
     loop-holds
     step-requires

@@ -1,47 +1,26 @@
--- `waiting::step` meets its contract, by what the reader finds at the place.
-use mathlib.Core.Path.{refl, sym, _∙_}
-use Rattle.agent.proofs.Reading.{steps-on, steps-nowhere}
+-- `waiting::step` meets its contract, by whether the read was an accepted event of the title.
+use mathlib.Core.Path.{_≡_}
+use Rattle.logs.proofs.Own.{of-before, steps-own, steps-past}
+use Rattle.admissions.specs.Stretches.{Playing}
 use borrow.Author.Needs.{needs}
 use Rattle.waiting.proofs.step.Statement.{statement}
 use Rattle.waiting.proofs.step.Tie as tie
 
-next-in-requires : tie.Need-next-in-requires
-next-in-requires c κs = search needs
+read-for-requires : tie.Need-read-for-requires
+read-for-requires c κs = search needs
 
-enum-known-found : tie.Need-enum-known-found
-enum-known-found c = search needs
-
-hear-requires : tie.Need-hear-requires
-hear-requires c κs = search needs
-
-enum-told : tie.Need-enum-told
-enum-told c = search needs
-
-enum-told-2 : tie.Need-enum-told-2
-enum-told-2 c = search needs
+count-event-requires : tie.Need-count-event-requires
+count-event-requires c κs =
+    let at-read = c .before .before .before in
+    let ready = at-read .before .before .before .before .before .pre in
+    let met = at-read .read-for .ensures in
+    (of-before (λ t. t .mode ≡ 1 → Playing t) _ _ _ _ met (ready .playing), (met .early (c .if1 .taken), ready .few))
 
 returns : tie.Need-returns
-returns c =
-    let heard = c .before .before in
-    let read = heard .before .before in
-    steps-on _ _ _ _ _ _ _ _ (sym (read .before .before .next-in .ensures .is) ∙ read .found .given .1) (heard .hear .ensures .agent-is)
-    (heard .hear .ensures .tally-is)
+returns c = steps-own _ _ _ _ _ _ (c .before .before .before .before .read-for .ensures) _ (c .before .if1 .taken) (c .count-event .ensures)
 
 returns-2 : tie.Need-returns-2
-returns-2 c = steps-nowhere _ _ _ _ _ (sym (c .before .before .next-in .ensures .is) ∙ c .enum-told .given .1) refl
-
-returns-3 : tie.Need-returns-3
-returns-3 c = steps-nowhere _ _ _ _ _ (sym (c .before .before .next-in .ensures .is) ∙ c .enum-told2 .given .1) refl
+returns-2 c = steps-past _ _ _ _ _ _ (c .before .before .before .read-for .ensures) (c .if1 .left)
 
 pub step-spec : {M : Type 1} → statement M
-step-spec =
-    tie.close
-    (tie.spec
-    next-in-requires
-    enum-known-found
-    hear-requires
-    enum-told
-    enum-told-2
-    returns
-    returns-2
-    returns-3)
+step-spec = tie.close (tie.spec read-for-requires count-event-requires returns returns-2)

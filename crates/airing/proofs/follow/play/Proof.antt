@@ -2,7 +2,7 @@
 use mathlib.Core.Path.{refl}
 use native.Mathlib.Omega.{arith}
 use borrow.Author.Needs.{needs}
-use Rattle.agent.proofs.Reading.{PlayedTo, not-begun, played-on, all-played, left, falls}
+use Rattle.logs.proofs.Reading.{PlayedTo, not-begun, played-on, all-played, left, falls}
 use Rattle.airing.specs.inner.Steps.{heardMarks}
 use Rattle.airing.proofs.Reading.{ready, kept-length}
 use Rattle.airing.proofs.follow.play.Statement.{statement}
@@ -14,16 +14,16 @@ Inv-loop pool log title marks₀ played₀ marks played = PlayedTo (heardMarks t
 abbrev μ-loop : tie.MeasureT-loop
 μ-loop pool log title marks₀ played₀ marks played = left log played
 
-fresh-agent-requires : tie.Need-fresh-agent-requires Inv-loop μ-loop
-fresh-agent-requires c κs = search needs
+not-begun-requires : tie.Need-not-begun-requires Inv-loop μ-loop
+not-begun-requires c κs = search needs
 
 loop-holds : tie.Need-loop-holds Inv-loop μ-loop
-loop-holds c = not-begun _ _ _ _ _ _ (c .before .fresh-agent .ensures .1) refl
+loop-holds c = not-begun _ _ _ _ _ _ (c .not-begun .ensures) refl
 
 step-requires : tie.Need-step-requires Inv-loop μ-loop
 step-requires c κs =
     let at-loop = c .before .before in
-    let known = at-loop .before .before .before .before in
+    let known = at-loop .before .before .before in
     ready _ _ _ _ _ _ (at-loop .loop .inv) (λ j. omega (arith, known .shared-slice-known .given j)) (known .before .pre)
 
 loop-less : tie.Need-loop-less Inv-loop μ-loop
@@ -48,7 +48,7 @@ play-spec =
     (tie.spec
     Inv-loop
     μ-loop
-    fresh-agent-requires
+    not-begun-requires
     loop-holds
     step-requires
     loop-less

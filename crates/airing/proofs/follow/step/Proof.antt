@@ -1,50 +1,54 @@
--- `airing::follow::step` meets its contract, by what the reader finds at the place.
-use mathlib.Core.Path.{refl, sym, _∙_}
-use Rattle.agent.proofs.Reading.{steps-on, steps-nowhere}
+-- `airing::follow::step` meets its contract, by whether the read was an accepted event of the title, and that was open.
+use mathlib.Core.Path.{_≡_}
+use Rattle.story.specs.Kept.{openMode}
+use Rattle.logs.proofs.Own.{of-before, steps-own, steps-past}
+use Rattle.airing.specs.inner.Steps.{Markable}
+use Rattle.airing.proofs.Hearing.{marks-open, marks-opening}
 use borrow.Author.Needs.{needs}
 use Rattle.airing.proofs.follow.step.Statement.{statement}
 use Rattle.airing.proofs.follow.step.Tie as tie
 
-next-in-requires : tie.Need-next-in-requires
-next-in-requires c κs = search needs
+read-for-requires : tie.Need-read-for-requires
+read-for-requires c κs = search needs
 
-enum-known-found : tie.Need-enum-known-found
-enum-known-found c = search needs
+tick-at-requires : tie.Need-tick-at-requires
+tick-at-requires c κs =
+    let at-read = c .before .before .before .before in
+    of-before (λ t. t .mode ≡ openMode → Markable t) _ _ _ _ (at-read .read-for .ensures) (at-read .before .before .before .pre .markable) (c .if2 .taken) .film
 
-hear-requires : tie.Need-hear-requires
-hear-requires c κs = search needs
-
-enum-told : tie.Need-enum-told
-enum-told c = search needs
-
-enum-told-2 : tie.Need-enum-told-2
-enum-told-2 c = search needs
+mark-to-requires : tie.Need-mark-to-requires
+mark-to-requires c κs =
+    let at-open = c .before .before in
+    let at-read = at-open .before .before .before .before in
+    of-before (λ t. t .mode ≡ openMode → Markable t) _ _ _ _ (at-read .read-for .ensures) (at-read .before .before .before .pre .markable) (at-open .if2 .taken)
 
 same-length : tie.Need-same-length
 same-length c = search needs
 
 returns : tie.Need-returns
 returns c =
-    let at-hear = c .before .before in
-    let read = at-hear .before .before .before in
-    let heard = at-hear .hear .ensures in
-    steps-on _ _ _ _ _ _ _ _ (sym (read .before .before .next-in .ensures .is) ∙ read .found .given .1) (heard .agent-is) (heard .marks-are)
+    let at-mark-to = c .before .before in
+    let at-tick-at = at-mark-to .before .before in
+    let at-open = at-tick-at .before in
+    let at-own = at-open .before in
+    steps-own _ _ _ _ _ _ (at-own .before .before .before .read-for .ensures) _ (at-own .if1 .taken)
+    (marks-open _ _ _ _ _ (at-open .if2 .taken) (at-tick-at .tick-at .ensures .is) (at-mark-to .mark-to .ensures))
 
 returns-2 : tie.Need-returns-2
-returns-2 c = steps-nowhere _ _ _ _ _ (sym (c .before .before .next-in .ensures .is) ∙ c .enum-told .given .1) refl
+returns-2 c =
+    let at-own = c .before in
+    steps-own _ _ _ _ _ _ (at-own .before .before .before .read-for .ensures) _ (at-own .if1 .taken) (marks-opening _ _ _ (c .if2 .left))
 
 returns-3 : tie.Need-returns-3
-returns-3 c = steps-nowhere _ _ _ _ _ (sym (c .before .before .next-in .ensures .is) ∙ c .enum-told2 .given .1) refl
+returns-3 c = steps-past _ _ _ _ _ _ (c .before .before .before .read-for .ensures) (c .if1 .left)
 
 pub step-spec : {M : Type 1} → statement M
 step-spec =
     tie.close
     (tie.spec
-    next-in-requires
-    enum-known-found
-    hear-requires
-    enum-told
-    enum-told-2
+    read-for-requires
+    tick-at-requires
+    mark-to-requires
     same-length
     returns
     returns-2

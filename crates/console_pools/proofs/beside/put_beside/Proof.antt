@@ -4,7 +4,7 @@ use native.Mathlib.Omega.{arith}
 use Rattle.text.specs.Output.{page}
 use Rattle.text.proofs.Pages.{puts-then}
 use Rattle.console_answers.proofs.Rows.{Passed, passed-none, passed-on, passed-all}
-use Rattle.console_pools.specs.Beside.{entryAt, besideAt}
+use Rattle.console_pools.specs.Beside.{besideAt}
 use borrow.Author.Needs.{needs}
 use Rattle.console_pools.proofs.beside.put_beside.Statement.{statement}
 use Rattle.console_pools.proofs.beside.put_beside.Tie as tie

@@ -1,7 +1,7 @@
 -- The log as far as it was played, read by read: each step is one read more, and where reading stops all of it is played.
 -- Rests on the laws of a log read from its start.
 use mathlib.Core.Path.{_≡_, refl, sym, ap, _∙_}
-use mathlib.Core.Bool.{Bool, true, false}
+use mathlib.Core.Bool.{true, false}
 use mathlib.Core.List.{List, _∷_}
 use Prim.Native.Nat.{ℕ, suc, _-_, _<_}
 use native.Mathlib.Omega.{arith}
@@ -16,14 +16,11 @@ use Rattle.notice.specs.Log.{placeTo, isNotice, withFound, noticesTo}
 use Rattle.notice.proofs.Each.{false-true}
 use Rattle.notice.proofs.There.{inside}
 use Rattle.notice.proofs.Through.{all-read}
 use Rattle.agent.specs.declared.Agent.{Agent}
-use Rattle.agent.specs.declared.PlayedLog.{PlayedLog}
 use Rattle.agent.specs.Turns.{freshAgent, noticed}
 use Rattle.agent.specs.Played.{agentTold}
-use Rattle.agent.specs.inner.Steps.{keptTold, stepped, keptRead, Steps, Plays}
-
-abbrev pub playedOf : Agent → ℕ → Bool → PlayedLog
-playedOf g e b = record { agent = g; place = e; more = b }
+use Rattle.logs.specs.declared.PlayedLog.{PlayedLog}
+use Rattle.logs.specs.Reading.{playedOf, unplayed, keptTold, stepped, keptRead, Steps, Plays}
 
 module _ {A : Type 0} (hear : Agent → Notice → A → A) (pool : ℕ) (log : List ℕ) (x : A) where
   -- so many reads were played
@@ -34,10 +31,10 @@ module _ {A : Type 0} (hear : Agent → Notice → A → A) (pool : ℕ) (log : 
     pub kept-is : y ≡ keptTold hear (freshAgent pool) x (noticesTo log reads)
     pub stopped : p .more ≡ false → isNotice (readAt log (placeTo log reads)) ≡ false
 
-  pub not-begun : (g : Agent) (y : A) → g ≡ freshAgent pool → y ≡ x → PlayedTo (playedOf g 0 true) y
+  pub not-begun : (p : PlayedLog) (y : A) → p ≡ unplayed pool → y ≡ x → PlayedTo p y
   unfolding noticesTo placeTo agentTold keptTold
-  not-begun g y e k =
-      record { reads = 0; agent-is = e; place-is = refl; kept-is = k; stopped = λ h. false-true (sym h) }
+  not-begun p y e k =
+      rw e (record { reads = 0; agent-is = refl; place-is = refl; kept-is = k; stopped = λ h. false-true (sym h) })
 
   -- one read more that finds no notice
   no-more : (p : PlayedLog) (y : A) (f : Found) → readAt log (p .place) ≡ f → isNotice f ≡ false → PlayedTo p y
@@ -79,22 +76,6 @@ module _ {A : Type 0} (hear : Agent → Notice → A → A) (pool : ℕ) (log : 
         place-is = w .place-is ∙ all .0;
         kept-is = w .kept-is ∙ ap (keptTold hear (freshAgent pool) x) (all .1);
       }
-
--- ---- one step, as the code meets its cases
-
-module _ {A : Type 0} (hear : Agent → Notice → A → A) (log : List ℕ) (p : PlayedLog) (y : A) where
-  pub steps-on : (n : Notice) (e : ℕ) (h : Agent) (z : A) → readAt log (p .place) ≡ found.At n e →
-      h ≡ noticed (p .agent) (reading.Whole n) → z ≡ hear (p .agent) n y →
-      Steps hear p y (readAt log (p .place)) (playedOf h e true) z
-  unfolding stepped keptRead
-  steps-on n e h z is agent-is kept-is = rw is (record { played-is = rw agent-is refl; kept-is = kept-is })
-
-  pub steps-nowhere : (f : Found) → readAt log (p .place) ≡ f → isNotice f ≡ false
-      → Steps hear p y (readAt log (p .place)) (playedOf (p .agent) (p .place) false) y
-  unfolding stepped keptRead
-  steps-nowhere (found.At n e) is none = false-true (sym none)
-  steps-nowhere found.End is none = rw is (record { played-is = refl; kept-is = refl })
-  steps-nowhere found.Malformed is none = rw is (record { played-is = refl; kept-is = refl })
 
 -- how much of a log is left to play
 abbrev pub left : List ℕ → PlayedLog → ℕ

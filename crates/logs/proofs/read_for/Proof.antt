@@ -1,0 +1,22 @@
+-- `logs::read_for` meets its contract: one read more, and whether it is an accepted event of the title.
+use Rattle.logs.proofs.Own.{meets}
+use borrow.Author.Needs.{needs}
+use Rattle.logs.proofs.read_for.Statement.{statement}
+use Rattle.logs.proofs.read_for.Tie as tie
+
+title-of-requires : tie.Need-title-of-requires
+title-of-requires c κs = search needs
+
+read-on-requires : tie.Need-read-on-requires
+read-on-requires c κs = search needs
+
+also-requires : tie.Need-also-requires
+also-requires c κs = search needs
+
+returns : tie.Need-returns
+returns c =
+    let at-read-on = c .before .before .before .before in
+    meets _ _ _ _ _ _ (at-read-on .before .title-of .ensures) (at-read-on .read-on .ensures) (c .also .ensures)
+
+pub read-for-spec : {M : Type 1} → statement M
+read-for-spec = tie.close (tie.spec title-of-requires read-on-requires also-requires returns)

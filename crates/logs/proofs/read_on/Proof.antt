@@ -1,0 +1,58 @@
+-- `logs::read_on` meets its contract, by what the reader finds at the place.
+use mathlib.Core.Path.{sym, _∙_}
+use Rattle.logs.proofs.Own.{reads-notice, reads-end, reads-none}
+use borrow.Author.Needs.{needs}
+use Rattle.logs.proofs.read_on.Statement.{statement}
+use Rattle.logs.proofs.read_on.Tie as tie
+
+next-in-requires : tie.Need-next-in-requires
+next-in-requires c κs = search needs
+
+enum-known-found : tie.Need-enum-known-found
+enum-known-found c = search needs
+
+heed-requires : tie.Need-heed-requires
+heed-requires c κs = search needs
+
+cast-t12 : tie.Need-cast-t12
+cast-t12 c = search needs
+
+enum-told : tie.Need-enum-told
+enum-told c = search needs
+
+nothing-read-requires : tie.Need-nothing-read-requires
+nothing-read-requires c κs = search needs
+
+enum-told-2 : tie.Need-enum-told-2
+enum-told-2 c = search needs
+
+nothing-read-requires-2 : tie.Need-nothing-read-requires-2
+nothing-read-requires-2 c κs = search needs
+
+returns : tie.Need-returns
+returns c =
+    let at-heed = c .before .before in
+    let read = at-heed .before .before in
+    reads-notice _ _ _ _ _ _ (sym (read .before .before .next-in .ensures .is) ∙ read .found .given .1) (at-heed .heed .ensures)
+
+returns-2 : tie.Need-returns-2
+returns-2 c = reads-end _ _ _ (sym (c .before .before .before .next-in .ensures .is) ∙ c .before .enum-told .given .1) (c .nothing-read .ensures)
+
+returns-3 : tie.Need-returns-3
+returns-3 c = reads-none _ _ _ (sym (c .before .before .before .next-in .ensures .is) ∙ c .before .enum-told2 .given .1) (c .nothing-read2 .ensures)
+
+pub read-on-spec : {M : Type 1} → statement M
+read-on-spec =
+    tie.close
+    (tie.spec
+    next-in-requires
+    enum-known-found
+    heed-requires
+    cast-t12
+    enum-told
+    nothing-read-requires
+    enum-told-2
+    nothing-read-requires-2
+    returns
+    returns-2
+    returns-3)
