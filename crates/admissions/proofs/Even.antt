@@ -20,9 +20,9 @@ use Rattle.story.specs.Story.{tickLength, momentOf}
 use Rattle.admissions.specs.declared.Stretch.{Stretch}
 use Rattle.admissions.specs.Waits.{letsIn, Next}
 use Rattle.admissions.specs.Stretches.{nextIn}
-use Rattle.admissions.specs.Even.{Settled, Admits, Even, Reached}
+use Rattle.admissions.specs.Even.{Settled, Admits, Even, LetInAt}
 use Rattle.admissions.proofs.GetsIn.{LetIn, let-in}
-use Rattle.admissions.proofs.Below.{NoneIn, Lets}
+use Rattle.admissions.proofs.LetInBelow.{NoneIn, Lets}
 
 -- no fewer slots reach d
 rounded-least : (d g m : ℕ) → 0 < g → d ≤ m * g → roundedUp d g ≤ m
@@ -67,7 +67,7 @@ module _ (L : Life) (s : Stretch) (n k : ℕ) (e : Even L s n k) where
   slots-some : 0 < s .slot
   slots-some = rw (e .slot-is) (mul-le-mul {n₁ = 1} {m₁ = 1} {n₂ = scheme L .slotOf k} {m₂ = tickLength L} (e .slot-some) (e .tick-some))
 
-  pub reached : (x : ℕ) → Reached L s n k x
+  pub reached : (x : ℕ) → LetInAt L s n k x
   unfolding nextIn starts
   reached x =
       let w = scheme L .slotOf k in
@@ -102,7 +102,7 @@ module _ (L : Life) (s : Stretch) (n k : ℕ) (e : Even L s n k) where
 
   module _ (from : ℕ) (here : Settled L n from) where
     -- where count k admits boxes from n up to the tick reached, that tick is the next admission
-    pub reached-next : (x : ℕ) (r : Reached L s n k x) → from ≤ x → ((b : ℕ) → n ≤ b → b ≤ r .tick → Admits L k b) →
+    pub reached-next : (x : ℕ) (r : LetInAt L s n k x) → from ≤ x → ((b : ℕ) → n ≤ b → b ≤ r .tick → Admits L k b) →
         Next L x (r .tick)
     unfolding letsIn isAdmission
     reached-next x r late rules =
@@ -128,7 +128,7 @@ module _ (L : Life) (s : Stretch) (n k : ℕ) (e : Even L s n k) where
     -- ---- a stretch that ends at the start of tick m
 
     module _ (m τ : ℕ) (on-tick : τ ≡ momentOf L m) (up : n ≤ m) (rules : (b : ℕ) → n ≤ b → b < m → Admits L k b) where
-      end : Reached L s n k τ
+      end : LetInAt L s n k τ
       end = reached τ
 
       -- an admission of it is a slot before the first slot start that is not

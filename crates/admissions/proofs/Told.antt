@@ -28,12 +28,12 @@ use Rattle.story.proofs.Turn.{open-ruling}
 use Rattle.story.proofs.Tells.{TellsTitle, absent, present, closed-none, open-some}
 use Rattle.admissions.specs.declared.Tally.{Tally}
 use Rattle.admissions.specs.Waits.{letsIn, TurnedAway, nobody, waited, rowMax, waitMax, Tallied}
-use Rattle.admissions.specs.Stretches.{Few, Playing, nextIn, gathered, stretchOf, fresh, endedIn, settled}
+use Rattle.admissions.specs.Stretches.{Few, Playing, nextIn, gathered, stretchOf, freshTally, endedIn, settled}
 use Rattle.admissions.specs.Stretches.{allSettled, admitting}
 use Rattle.admissions.proofs.Slots.{not-endless, admitting-open}
 use Rattle.admissions.specs.Even.{Settled, Admits, Even}
-use Rattle.admissions.proofs.Below.{plus, gathered-plus, dueBelow, oneBelow, talliedBelow, one-out}
-use Rattle.admissions.proofs.Below.{NoneIn, still-settled, tally-adds, tally-stays, tally-goes-on, tally-ends}
+use Rattle.admissions.proofs.LetInBelow.{plus, gathered-plus, dueBelow, oneBelow, talliedBelow, one-out}
+use Rattle.admissions.proofs.LetInBelow.{NoneIn, still-settled, tally-adds, tally-stays, tally-goes-on, tally-ends}
 use Rattle.admissions.proofs.Even.{reached, reached-next, none-within, lets-within, none-later}
 use Rattle.admissions.proofs.Even.{settled-within}
 
@@ -52,21 +52,21 @@ nobody-in L n xs f (suc j) =
     one-out L n (getD xs j 0) (talliedBelow L n xs j) (f (getD xs j 0)) ∙ nobody-in L n xs f j
 
 none-counted : (L : Life) (n : ℕ) (xs : List ℕ) → ((x a : ℕ) → a < n → letsIn L x a ≡ false) →
-    Counted L n xs (fresh (L .opened))
+    Counted L n xs (freshTally (L .opened))
 none-counted L n xs f =
     record {
       settles = record { low = omega arith; before = λ x lo h. absurd (omega arith); after = λ x late a lt. f x a lt };
       waits = sym (nobody-in L n xs f (length xs));
     }
 
-pub opened-counted : (L : Life) (xs : List ℕ) → Counted L 0 xs (fresh (L .opened))
+pub opened-counted : (L : Life) (xs : List ℕ) → Counted L 0 xs (freshTally (L .opened))
 opened-counted L xs = none-counted L 0 xs (λ x a lt. absurd (omega arith))
 
 never-lets : (x : ℕ) → TurnedAway unopened x
 unfolding letsIn isAdmission
 never-lets x a = ⊎-elim (λ t. rw t) (λ t. rw t) (decide (leb 0 x))
 
-pub never-counted : (n : ℕ) (xs : List ℕ) → Counted unopened n xs (fresh 0)
+pub never-counted : (n : ℕ) (xs : List ℕ) → Counted unopened n xs (freshTally 0)
 never-counted n xs = none-counted unopened n xs (λ x a lt. never-lets x a)
 
 -- ---- another course from tick n on changes nothing below it

@@ -30,7 +30,7 @@ pub record Even (L : Life) (s : Stretch) (n k : ℕ) : Type 0 where
   pub start-is : s .start ≡ momentOf L n
 
 -- the tick at which the stretch, were it endless, lets x in
-pub record Reached (L : Life) (s : Stretch) (n k x : ℕ) : Type 0 where
+pub record LetInAt (L : Life) (s : Stretch) (n k x : ℕ) : Type 0 where
   pub tick : ℕ
   pub moment : momentOf L tick ≡ nextIn s x
   pub at-slot : starts (scheme L) k tick ≡ true

@@ -68,8 +68,8 @@ stretchOf t =
     { opened = t .opened; slot = schemeIn t .slotOf (t .count) * titleTick t; start = t .last }
 
 -- at an opening
-abbrev pub fresh : ℕ → Tally
-fresh τ = record { from = τ; waits = nobody }
+abbrev pub freshTally : ℕ → Tally
+freshTally τ = record { from = τ; waits = nobody }
 
 -- the last admission of a stretch that ends at τ is a slot before the first one at or after τ; there may be none
 unfoldable pub endedIn : Stretch → ℕ → List ℕ → Tally → Tally

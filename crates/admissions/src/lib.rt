@@ -20,7 +20,7 @@ ghost use Rattle.admissions.specs.Stretches.{
   gather,
   gathered,
   stretchOf,
-  fresh,
+  freshTally,
   settled,
   allSettled,
   admitting as isAdmitting,
@@ -132,7 +132,7 @@ pub fn admitting(t: Title) -> bool
 
 // An opening: nobody who came before it gets in.
 pub fn opened(time: u64) -> Tally
-    ensures { λ r. ⌜ r ≡ fresh time ⌝ }
+    ensures { λ r. ⌜ r ≡ freshTally time ⌝ }
 {
     let waits = Waits {
         admitted: 0,

@@ -19,7 +19,7 @@ use Rattle.notice.specs.declared.Reading.the-variants as reading
 use Rattle.notice.specs.Log.{Typed, KindTyped, FitsFields, AllFit, noticesOf, isWholeLog}
 use Rattle.notice.proofs.RoundTrip.{written-reads}
 use Rattle.notice.proofs.Typed.{typed-fits}
-use Rattle.notice.proofs.Through.{log-read}
+use Rattle.notice.proofs.ReadThrough.{log-read}
 use Rattle.scheme.specs.Scheme.{paddedKind, steadyKind}
 use Rattle.story.specs.declared.Film.{Film}
 use Rattle.story.specs.declared.Act.{Act}
@@ -31,7 +31,7 @@ use Rattle.story.specs.Runs.{stateAfter, lanesOf}
 use Rattle.story.proofs.Passed.{in-limits}
 use Rattle.story.proofs.Reached.{accepted-is, accepted-all}
 use Rattle.agent.specs.Turns.{actOf, eventOf}
-use Rattle.agent.specs.Series.{agentAfter, hearing, heard, eventsHeard, kindFor, noticeFor, numbered, sent, logKept}
+use Rattle.agent.specs.Series.{agentAfter, hearing, heard, eventsHeard, kindFor, noticeFor, noticesFor, sent, logKept}
 use Rattle.agent.specs.Played.{heardOf, eventsPlayed, ReadAs, none-read, one-read}
 use Rattle.agent.proofs.Order.{follows}
 use Rattle.agent.proofs.Alike.{alike}
@@ -117,53 +117,53 @@ same-event lanes es q e h =
     (same-act (e .act) (withinLimits e) (in-limits lanes es (e .title) (e .time) (e .act) h))
 
 -- the notices of accepted events, as many as there are sequences, are all heard
-events-numbered : (lanes : ℕ) (es : List Event) → Accepted lanes es → map eventOf (numbered es) ≡ es
-unfolding numbered
+events-numbered : (lanes : ℕ) (es : List Event) → Accepted lanes es → map eventOf (noticesFor es) ≡ es
+unfolding noticesFor
 events-numbered lanes es none = refl
 events-numbered lanes es (more {e = e} {es = es′} acc h) =
     λ i. same-event lanes es′ (suc (length es′)) e h i ∷ events-numbered lanes es′ acc i
 
-length-numbered : (es : List Event) → length (numbered es) ≡ length es
-unfolding numbered
+length-numbered : (es : List Event) → length (noticesFor es) ≡ length es
+unfolding noticesFor
 length-numbered [] = refl
 length-numbered (e ∷ es) = ap suc (length-numbered es)
 
-hears-next : (lanes : ℕ) (ns : List Notice) (es : List Event) (e : Event) → Accepted lanes es → ns ≡ numbered es → answer lanes es e ≡ 0 →
-    hearing lanes ns (reading.Whole (noticeFor (suc (length es)) e)) ≡ noticeFor (suc (length es)) e ∷ numbered es
+hears-next : (lanes : ℕ) (ns : List Notice) (es : List Event) (e : Event) → Accepted lanes es → ns ≡ noticesFor es → answer lanes es e ≡ 0 →
+    hearing lanes ns (reading.Whole (noticeFor (suc (length es)) e)) ≡ noticeFor (suc (length es)) e ∷ noticesFor es
 hears-next lanes ns es e acc is h =
     let n : Notice = noticeFor (suc (length es)) e in
-    let turn : suc (length es) ≡ suc (length (numbered es)) = ap suc (sym (length-numbered es)) in
-    let done : answer lanes (map eventOf (numbered es)) (eventOf n) ≡ 0 =
+    let turn : suc (length es) ≡ suc (length (noticesFor es)) = ap suc (sym (length-numbered es)) in
+    let done : answer lanes (map eventOf (noticesFor es)) (eventOf n) ≡ 0 =
     ap (λ x. answer lanes x (eventOf n)) (events-numbered lanes es acc)
     ∙ ap (answer lanes es) (same-event lanes es (suc (length es)) e h) ∙ h in
     rw is
-    (pick-true (both (eqb (suc (length es)) (suc (length (numbered es)))) (eqb (answer lanes (map eventOf (numbered es)) (eventOf n)) 0))
-    (n ∷ numbered es) (numbered es)
-    (both-in (eqb (suc (length es)) (suc (length (numbered es)))) (eqb (answer lanes (map eventOf (numbered es)) (eventOf n)) 0)
-    (eq-eqb (suc (length es)) (suc (length (numbered es))) turn) (eq-eqb (answer lanes (map eventOf (numbered es)) (eventOf n)) 0 done)))
+    (pick-true (both (eqb (suc (length es)) (suc (length (noticesFor es)))) (eqb (answer lanes (map eventOf (noticesFor es)) (eventOf n)) 0))
+    (n ∷ noticesFor es) (noticesFor es)
+    (both-in (eqb (suc (length es)) (suc (length (noticesFor es)))) (eqb (answer lanes (map eventOf (noticesFor es)) (eventOf n)) 0)
+    (eq-eqb (suc (length es)) (suc (length (noticesFor es))) turn) (eq-eqb (answer lanes (map eventOf (noticesFor es)) (eventOf n)) 0 done)))
 
 -- told one after the other,
-told-all : (lanes : ℕ) (es : List Event) → Accepted lanes es → heardOf lanes (numbered es) ≡ numbered es
-unfolding heardOf numbered
+told-all : (lanes : ℕ) (es : List Event) → Accepted lanes es → heardOf lanes (noticesFor es) ≡ noticesFor es
+unfolding heardOf noticesFor
 told-all lanes es none = refl
 told-all lanes es (more {e = e} {es = es′} acc h) =
-    hears-next lanes (heardOf lanes (numbered es′)) es′ e acc (told-all lanes es′ acc) h
+    hears-next lanes (heardOf lanes (noticesFor es′)) es′ e acc (told-all lanes es′ acc) h
 
 -- each fits its fields,
 pub fits : (lanes : ℕ) (es : List Event) (e : Event) (q : ℕ) → q < 2 ^ 32 → answer lanes es e ≡ 0 → FitsFields (noticeFor q e)
 fits lanes es e q small h = typed-fits (noticeFor q e) (typed lanes es e q small h)
 
 -- so the byte strings that are sent read as those notices,
-reads-sent : (lanes : ℕ) (es : List Event) → Accepted lanes es → length es < 2 ^ 32 → ReadAs (sent es) (numbered es)
-unfolding numbered
+reads-sent : (lanes : ℕ) (es : List Event) → Accepted lanes es → length es < 2 ^ 32 → ReadAs (sent es) (noticesFor es)
+unfolding noticesFor
 reads-sent lanes es none small = none-read
 reads-sent lanes es (more {e = e} {es = es′} acc h) small =
     one-read (written-reads (noticeFor (suc (length es′)) e) (fits lanes es′ e (suc (length es′)) small h))
     (reads-sent lanes es′ acc (omega arith))
 
-hears-all : (lanes : ℕ) (es : List Event) → Accepted lanes es → length es < 2 ^ 32 → heard lanes (sent es) ≡ numbered es
+hears-all : (lanes : ℕ) (es : List Event) → Accepted lanes es → length es < 2 ^ 32 → heard lanes (sent es) ≡ noticesFor es
 hears-all lanes es acc small =
-    heard-alike lanes (sent es) (numbered es) (reads-sent lanes es acc small) ∙ told-all lanes es acc
+    heard-alike lanes (sent es) (noticesFor es) (reads-sent lanes es acc small) ∙ told-all lanes es acc
 
 module _ (pool : ℕ) (cs : List Event) (few : length (accepted (lanesOf pool) cs) < 2 ^ 32) where
   -- the agent hears exactly the accepted events
@@ -193,22 +193,22 @@ fits-last : (ns : List Notice) (n : Notice) → AllFit ns → FitsFields n → A
 fits-last [] n fit f = AllFit.more f AllFit.none
 fits-last (m ∷ ns) n (AllFit.more g fit) f = AllFit.more g (fits-last ns n fit f)
 
-kept-fits : (lanes : ℕ) (es : List Event) → Accepted lanes es → length es < 2 ^ 32 → AllFit (reverse (numbered es))
-unfolding numbered
+kept-fits : (lanes : ℕ) (es : List Event) → Accepted lanes es → length es < 2 ^ 32 → AllFit (reverse (noticesFor es))
+unfolding noticesFor
 kept-fits lanes es none small = AllFit.none
 kept-fits lanes es (more {e = e} {es = es′} acc h) small =
-    rw (reverse-cons (noticeFor (suc (length es′)) e) (numbered es′))
-    (fits-last (reverse (numbered es′)) (noticeFor (suc (length es′)) e) (kept-fits lanes es′ acc (omega arith))
+    rw (reverse-cons (noticeFor (suc (length es′)) e) (noticesFor es′))
+    (fits-last (reverse (noticesFor es′)) (noticeFor (suc (length es′)) e) (kept-fits lanes es′ acc (omega arith))
     (fits lanes es′ e (suc (length es′)) small h))
 
 -- it is whole, its notices are those of the events, and played into a fresh agent of the pool it gives the events again
 pub kept-whole : (lanes : ℕ) (es : List Event) → Accepted lanes es → length es < 2 ^ 32 → isWholeLog (logKept es) ≡ true
-kept-whole lanes es acc few = log-read (reverse (numbered es)) (kept-fits lanes es acc few) .1
+kept-whole lanes es acc few = log-read (reverse (noticesFor es)) (kept-fits lanes es acc few) .1
 
 pub kept-notices : (lanes : ℕ) (es : List Event) → Accepted lanes es → length es < 2 ^ 32 →
-    noticesOf (logKept es) ≡ numbered es
+    noticesOf (logKept es) ≡ noticesFor es
 kept-notices lanes es acc few =
-    log-read (reverse (numbered es)) (kept-fits lanes es acc few) .0 ∙ reverse-reverse (numbered es)
+    log-read (reverse (noticesFor es)) (kept-fits lanes es acc few) .0 ∙ reverse-reverse (noticesFor es)
 
 pub kept-events : (pool : ℕ) (es : List Event) → Accepted (lanesOf pool) es → length es < 2 ^ 32 →
     eventsPlayed pool (logKept es) ≡ es

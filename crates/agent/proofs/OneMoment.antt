@@ -25,7 +25,7 @@ use Rattle.story.proofs.Reached.{reached}
 use Rattle.story.proofs.OneMoment.{either-after}
 use Rattle.story.proofs.Demands.{tells-the-story, orders-that-matter, order-is-all-one}
 use Rattle.agent.specs.Turns.{eventOf, noticeAnswer, noticed, Stops}
-use Rattle.agent.specs.Series.{agentAfter, hearing, heard, eventsHeard, noticeFor, numbered, sent, logKept}
+use Rattle.agent.specs.Series.{agentAfter, hearing, heard, eventsHeard, noticeFor, noticesFor, sent, logKept}
 use Rattle.agent.specs.Played.{lifeIn}
 use Rattle.notice.proofs.RoundTrip.{written-reads}
 use Rattle.agent.proofs.Turns.{in-turn, goes-no-further}
@@ -57,7 +57,7 @@ module _ (pool : ℕ) (es : List Event) (acc : Accepted (lanesOf pool) es) (e f 
   -- with more events behind the two, all of them numbered on
   pub logs-alike : (new : List Event) →
       agentAfter pool (sent (new ++ f ∷ e ∷ es)) ≡ agentAfter pool (sent (new ++ e ∷ f ∷ es))
-  unfolding numbered agentAfter
+  unfolding noticesFor agentAfter
   logs-alike [] = orders-alike
   logs-alike (d ∷ new) =
       ap (λ n. noticed (agentAfter pool (sent (new ++ f ∷ e ∷ es))) (readOf (bytesOf (noticeFor (suc n) d)))) (as-many new es e f)

@@ -53,17 +53,17 @@ abbrev pub noticeFor : ℕ → Event → Notice
 noticeFor q e = record { sequence = q; title = e .title; time = e .time; kind = kindFor (e .act) }
 
 -- the notices of its accepted events, newest first, numbered from 1 on,
-unfoldable pub numbered : List Event → List Notice
-numbered [] = []
-numbered (e ∷ es) = noticeFor (suc (length es)) e ∷ numbered es
+unfoldable pub noticesFor : List Event → List Notice
+noticesFor [] = []
+noticesFor (e ∷ es) = noticeFor (suc (length es)) e ∷ noticesFor es
 
 -- the byte strings that it sends of them,
 abbrev pub sent : List Event → List (List ℕ)
-sent es = map bytesOf (numbered es)
+sent es = map bytesOf (noticesFor es)
 
 -- and the log that it keeps, oldest first
 abbrev pub logKept : List Event → List ℕ
-logKept es = logOf (reverse (numbered es))
+logKept es = logOf (reverse (noticesFor es))
 
 -- sequences 1, 2, 3, .. with none left out
 pub data InTurn : List Notice → Type 0 where

@@ -23,7 +23,7 @@ use Rattle.agent.specs.Played.{lifeIn}
 use Rattle.judging.specs.Record.{nothingSeen}
 use Rattle.airing.specs.Air.{inLimits, hasRoom, isFilmTitle, allCells, airAnswer}
 use Rattle.airing.proofs.Starves.{film-numbers}
-use Rattle.air_io.specs.Record.{noCell, cellOf, sound, noNumber, notTwelve, more, SoFar, ending, closing, failing, longer, dashed, spelling, taking, takenTo, allTaken}
+use Rattle.air_io.specs.Record.{noCell, cellSpelt, sound, noNumber, notTwelve, oneMore, SoFar, endingCell, closing, failing, longer, dashed, spelling, takingByte, takenTo, allTaken}
 
 -- a text read into a row with room for two ticks
 abbrev readInto : String → SoFar
@@ -37,25 +37,25 @@ Tells s fault line words =
 -- ---- lines with too few or too many numbers
 
 pub eleven : Tells "0 1 2 3 4 5 6 7 8 9 10\n" notTwelve 1 11
-unfolding text takenTo taking ending closing failing longer dashed spelling cellOf more put
+unfolding text takenTo takingByte endingCell closing failing longer dashed spelling cellSpelt oneMore put
 eleven = (refl, (refl, refl))
 
 pub thirteen : Tells "- - - - - - - - - - - -\n\n0 1 2 3 4 5 6 7 8 9 10 11 12\n" notTwelve 3 13
-unfolding text takenTo taking ending closing failing longer dashed spelling cellOf more put
+unfolding text takenTo takingByte endingCell closing failing longer dashed spelling cellSpelt oneMore put
 thirteen = (refl, (refl, refl))
 
 -- ---- words that are no numbers: a letter, a digit behind a dash, a dash behind a digit
 
 pub letter : Tells "- - - - - - - - - - - -\n0 1 x 3" noNumber 2 3
-unfolding text takenTo taking ending closing failing longer dashed spelling cellOf more put
+unfolding text takenTo takingByte endingCell closing failing longer dashed spelling cellSpelt oneMore put
 letter = (refl, (refl, refl))
 
 pub below-zero : Tells "0 -1 2" noNumber 1 2
-unfolding text takenTo taking ending closing failing longer dashed spelling cellOf more put
+unfolding text takenTo takingByte endingCell closing failing longer dashed spelling cellSpelt oneMore put
 below-zero = (refl, (refl, refl))
 
 pub dash-behind : Tells "5-" noNumber 1 1
-unfolding text takenTo taking ending closing failing longer dashed spelling cellOf more put
+unfolding text takenTo takingByte endingCell closing failing longer dashed spelling cellSpelt oneMore put
 dash-behind = (refl, (refl, refl))
 
 -- ---- blank lines, tabs, carriage returns, and a last line that no newline ends
@@ -64,14 +64,14 @@ abbrev twoTicks : String
 twoTicks = "\n0 1 2 3 4 5\t6 7 8 9 10 11\r\n \t\r\n- - - - - - - - - - - 7"
 
 pub two-ticks : Tells twoTicks sound 5 0
-unfolding text takenTo taking ending closing failing longer dashed spelling cellOf more put
+unfolding text takenTo takingByte endingCell closing failing longer dashed spelling cellSpelt oneMore put
 two-ticks = (refl, (refl, refl))
 
 pub two-ticks-row : (readInto twoTicks .scan .count ≡ 24)
     × ((getD (readInto twoTicks .row) 11 0 ≡ 11)
     × ((getD (readInto twoTicks .row) 12 0 ≡ nothingSeen)
     × (getD (readInto twoTicks .row) 23 0 ≡ 7)))
-unfolding text takenTo taking ending closing failing longer dashed spelling cellOf more put
+unfolding text takenTo takingByte endingCell closing failing longer dashed spelling cellSpelt oneMore put
 two-ticks-row = (refl, (refl, (refl, refl)))
 
 -- ---- numbers that 16 bits do not hold, or 64
@@ -80,13 +80,13 @@ abbrev largeNumbers : String
 largeNumbers = "65535 65536 99999999999999999999 - - - - - - - - -"
 
 pub large : Tells largeNumbers sound 2 0
-unfolding text takenTo taking ending closing failing longer dashed spelling cellOf more put
+unfolding text takenTo takingByte endingCell closing failing longer dashed spelling cellSpelt oneMore put
 large = (refl, (refl, refl))
 
 pub large-row : (getD (readInto largeNumbers .row) 0 0 ≡ nothingSeen)
     × ((getD (readInto largeNumbers .row) 1 0 ≡ noCell)
     × (getD (readInto largeNumbers .row) 2 0 ≡ noCell))
-unfolding text takenTo taking ending closing failing longer dashed spelling cellOf more put
+unfolding text takenTo takingByte endingCell closing failing longer dashed spelling cellSpelt oneMore put
 large-row = (refl, (refl, refl))
 
 -- ---- such a number is no cell

@@ -29,7 +29,7 @@ use Rattle.judging.proofs.Plays.{result-missed}
 use Rattle.airing.specs.declared.Judgement.{Judgement}
 use Rattle.airing.specs.Air.{inLimits, hasRoom, isFilmTitle, allCells, airAnswer, judgementOf}
 use Rattle.airing.proofs.Accepted.{accepted-few, accepted-numbers}
-use Rattle.air_io.specs.Lines.{cellText, admissionLine, roomMost, linesTo, totalLines, airText}
+use Rattle.air_io.specs.Lines.{cellText, admissionLine, reportRoom, linesTo, totalLines, airText}
 
 -- ---- how long a number of few digits is
 
@@ -150,7 +150,7 @@ module _ (pool : ℕ) (log : List ℕ) (title : ℕ) (r : List ℕ) where
       go false false false false false = omega arith
 
   told-length : answer ≡ done → Bytes log →
-      length (linesTo (lifeIn pool log title) r (ticksIn r) ++ totalLines (judgementOf (lifeIn pool log title) r)) ≤ roomMost
+      length (linesTo (lifeIn pool log title) r (ticksIn r) ++ totalLines (judgementOf (lifeIn pool log title) r)) ≤ reportRoom
   told-length ok small =
       let L : Life = lifeIn pool log title in
       let few : ticksIn r ≤ ticksMax = accepted-few pool log title r ticksMax ok in
@@ -162,7 +162,7 @@ module _ (pool : ℕ) (log : List ℕ) (title : ℕ) (r : List ℕ) where
         totals-length (judgementOf L r),
       )
 
-  pub report-fits : Bytes log → length (airText pool log title r) ≤ roomMost
+  pub report-fits : Bytes log → length (airText pool log title r) ≤ reportRoom
   unfolding airText
   report-fits small =
       ⊎-elim
@@ -171,7 +171,7 @@ module _ (pool : ℕ) (log : List ℕ) (title : ℕ) (r : List ℕ) where
       (decide (eqb answer done))
 
   -- so what is written of the room is the whole report
-  pub report-whole : Bytes log → (out after : List ℕ) (size : ℕ) → length out ≡ roomMost →
+  pub report-whole : Bytes log → (out after : List ℕ) (size : ℕ) → length out ≡ reportRoom →
       Written out 0 (airText pool log title r) after size → take size after ≡ airText pool log title r
   report-whole small out after size room is =
       stands (airText pool log title r) out after size is (omega (arith, report-fits small)) .whole

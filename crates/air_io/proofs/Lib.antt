@@ -5,4 +5,4 @@ pub mod Told
 pub mod Printed
 pub mod Fits
 pub mod Placing
-pub mod Quiet
+pub mod JudgedComplaints

@@ -5,14 +5,14 @@ use Prim.Native.Nat.{ℕ}
 use borrow.Author.Tests.{eq-eqb, ne-eqb}
 use Rattle.text.specs.Bytes.{newline, separator}
 use Rattle.air_io.specs.declared.places.Passed.{Passed}
-use Rattle.air_io.specs.Record.{more}
+use Rattle.air_io.specs.Record.{oneMore}
 use Rattle.air_io.specs.Places.{passing}
 
 abbrev passedOf : ℕ → Bool → ℕ → Passed
 passedOf words inside line = record { words = words; inside = inside; line = line }
 
 module _ (p : Passed) (b : ℕ) where
-  pub passes-line : b ≡ newline → (n : ℕ) → n ≡ more (p .line) → passedOf (p .words) false n ≡ passing p b
+  pub passes-line : b ≡ newline → (n : ℕ) → n ≡ oneMore (p .line) → passedOf (p .words) false n ≡ passing p b
   unfolding passing
   passes-line h n e = rw (eq-eqb b newline h) (ap (passedOf (p .words) false) e)
 
@@ -26,6 +26,6 @@ module _ (p : Passed) (b : ℕ) where
       unfolding passing
       passes-inside i = rw (ne-eqb b newline h, s, i) refl
 
-      pub passes-word : p .inside ≡ false → (n : ℕ) → n ≡ more (p .words) → passedOf n true (p .line) ≡ passing p b
+      pub passes-word : p .inside ≡ false → (n : ℕ) → n ≡ oneMore (p .words) → passedOf n true (p .line) ≡ passing p b
       unfolding passing
       passes-word i n e = rw (ne-eqb b newline h, s, i) (ap (λ x. passedOf x true (p .line)) e)

@@ -22,28 +22,28 @@ use Rattle.plans.proofs.Row.{written-length, written-first}
 use Rattle.story.specs.Life.{Life, isAdmission}
 use Rattle.agent.specs.Played.{lifeIn}
 use Rattle.judging.specs.Record.{ticksMax, ticksIn}
-use Rattle.judging.specs.Judged.{isWhole, isJudged, judgedIn, resultOf, resultsIn}
+use Rattle.judging.specs.Judged.{isCovered, isJudged, judgedIn, resultOf, resultsIn}
 use Rattle.judging.proofs.Laws.{place-of, whole-before}
 use Rattle.judging.proofs.Lives.{mark-read}
 use Rattle.airing.specs.declared.Judgement.{Judgement}
-use Rattle.airing.specs.Air.{airAnswer, airGives, airLeaves, refusedWith, judgementOf, inLimits, isFilmTitle, ticksAnswer, markOf, ticksLeaves}
+use Rattle.airing.specs.Air.{airAnswer, airGives, airLeaves, refusedJudgement, judgementOf, inLimits, isFilmTitle, ticksAnswer, markOf, ticksLeaves}
 use Rattle.airing.proofs.Accepted.{accepted-limits, accepted-few, accepted-whole, accepted-film}
 use Rattle.air_io.specs.Lines.{admissionLine, linesTo, totalLines, airText}
-use Rattle.air_io.specs.inner.Steps.{isMarked, judgedLine, markedLines, reportText}
+use Rattle.air_io.specs.inner.Steps.{isMarked, judgedLine, markedLines, airReport}
 
 module _ (L : Life) (r : List ℕ) where
   -- ---- who is judged
 
-  whole-in : (a : ℕ) → isWhole L r a ≡ true → a < ticksIn r
-  unfolding isWhole
+  whole-in : (a : ℕ) → isCovered L r a ≡ true → a < ticksIn r
+  unfolding isCovered
   whole-in a h = omega (arith, leb-true (a + cells (L .film .cap)) (ticksIn r) h, pow-pos (L .film .cap))
 
   judged-in : (a : ℕ) → isJudged L r a ≡ true → a < ticksIn r
   unfolding isJudged
-  judged-in a h = whole-in a (both-r (isAdmission L a) (isWhole L r a) h)
+  judged-in a h = whole-in a (both-r (isAdmission L a) (isCovered L r a) h)
 
   -- before a tick whose play ticks lie in the record, every admission is
-  all-judged : (a : ℕ) → isWhole L r a ≡ true → howMany (isAdmission L) a ≡ howMany (isJudged L r) a
+  all-judged : (a : ℕ) → isCovered L r a ≡ true → howMany (isAdmission L) a ≡ howMany (isJudged L r) a
   unfolding isJudged
   all-judged a h =
       howMany-ext (isAdmission L) (isJudged L r) a
@@ -54,20 +54,20 @@ module _ (L : Life) (r : List ℕ) where
       both-true false = refl
 
   -- from one on whose play ticks do not, none is
-  none-judged : (a : ℕ) → isWhole L r a ≡ false → judgedIn L r ≤ howMany (isJudged L r) a
+  none-judged : (a : ℕ) → isCovered L r a ≡ false → judgedIn L r ≤ howMany (isJudged L r) a
   unfolding isJudged
   none-judged a h =
       let none : (i : ℕ) → a ≤ i → isJudged L r i ≡ false =
       λ i l.
       fails (isJudged L r i)
-      (λ t. false≢true (sym h ∙ whole-before L r a i l (both-r (isAdmission L i) (isWhole L r i) t))) in
+      (λ t. false≢true (sym h ∙ whole-before L r a i l (both-r (isAdmission L i) (isCovered L r i) t))) in
       let flat = howMany-flat (isJudged L r) a (ticksIn r) none in
       let more = howMany-mono (isJudged L r) (ticksIn r) (a + ticksIn r) (omega arith) in
       omega (arith, flat, more)
 
   few-judged : (n : ℕ) → howMany (isJudged L r) n ≤ howMany (isAdmission L) n
   unfolding isJudged
-  few-judged n = howMany-wider (isJudged L r) (isAdmission L) n (λ i l h. both-l (isAdmission L i) (isWhole L r i) h)
+  few-judged n = howMany-wider (isJudged L r) (isAdmission L) n (λ i l h. both-l (isAdmission L i) (isCovered L r i) h)
 
   -- ---- the lines, from marks of the admissions and the row of results
 
@@ -86,14 +86,14 @@ module _ (L : Life) (r : List ℕ) where
           judgedLine row (judgedIn L r) a (howMany (isMarked marks) a) ≡ admissionLine a (resultOf L r a)
       unfolding judgedLine isJudged
       line-in a l h =
-          let whole : isWhole L r a ≡ true = both-r (isAdmission L a) (isWhole L r a) h in
+          let whole : isCovered L r a ≡ true = both-r (isAdmission L a) (isCovered L r a) h in
           let j : howMany (isMarked marks) a ≡ howMany (isJudged L r) a = counted a (omega arith) ∙ all-judged a whole in
           let one = howMany-hit (isJudged L r) a h in
           let few = howMany-mono (isJudged L r) (suc a) (ticksIn r) (whole-in a whole) in
           let judged : howMany (isJudged L r) a < judgedIn L r = omega (arith, one, few) in
           rw (j, lt-ltb (howMany (isJudged L r) a) (judgedIn L r) judged, placed a h) refl
 
-      line-out : (a : ℕ) → a < ticksMax → isWhole L r a ≡ false → judgedLine row (judgedIn L r) a (howMany (isMarked marks) a) ≡ []
+      line-out : (a : ℕ) → a < ticksMax → isCovered L r a ≡ false → judgedLine row (judgedIn L r) a (howMany (isMarked marks) a) ≡ []
       unfolding judgedLine
       line-out a l h =
           let over : judgedIn L r ≤ howMany (isMarked marks) a =
@@ -108,19 +108,19 @@ module _ (L : Life) (r : List ℕ) where
           ⊎-elim
           (λ (h : isAdmission L a ≡ true).
           ⊎-elim
-          (λ (w : isWhole L r a ≡ true).
-          let judged : both (isAdmission L a) (isWhole L r a) ≡ true = both-in (isAdmission L a) (isWhole L r a) h w in
+          (λ (w : isCovered L r a ≡ true).
+          let judged : both (isAdmission L a) (isCovered L r a) ≡ true = both-in (isAdmission L a) (isCovered L r a) h w in
           pick-true (isMarked marks a) _ _ (is-marked a l ∙ h)
           ∙ line-in a l judged
-          ∙ sym (pick-true (both (isAdmission L a) (isWhole L r a)) _ _ judged))
-          (λ (w : isWhole L r a ≡ false).
+          ∙ sym (pick-true (both (isAdmission L a) (isCovered L r a)) _ _ judged))
+          (λ (w : isCovered L r a ≡ false).
           pick-true (isMarked marks a) _ _ (is-marked a l ∙ h)
           ∙ line-out a l w
-          ∙ sym (pick-false (both (isAdmission L a) (isWhole L r a)) _ _ (rw (h, w) refl)))
-          (decide (isWhole L r a)))
+          ∙ sym (pick-false (both (isAdmission L a) (isCovered L r a)) _ _ (rw (h, w) refl)))
+          (decide (isCovered L r a)))
           (λ (h : isAdmission L a ≡ false).
           pick-false (isMarked marks a) _ _ (is-marked a l ∙ h)
-          ∙ sym (pick-false (both (isAdmission L a) (isWhole L r a)) _ _ (rw h refl)))
+          ∙ sym (pick-false (both (isAdmission L a) (isCovered L r a)) _ _ (rw h refl)))
           (decide (isAdmission L a))
 
       lines-same : (n : ℕ) → n ≤ ticksMax → markedLines marks row (judgedIn L r) n ≡ linesTo L r n
@@ -184,26 +184,26 @@ module _ (pool : ℕ) (log : List ℕ) (title : ℕ) (r marks row : List ℕ) (s
         (λ a l. written-first (markOf L) marks ticksMax a (omega (arith, many)) l)
         (λ a h. place-of L r row a (omega (arith, few, size)) (judged-in L r a h) h) few)
 
-    pub told-done : reportText (judgementOf L r) (written (markOf L) marks (length marks)) (resultsIn L r row) ≡ airText pool log title r
-    unfolding reportText airText
+    pub told-done : airReport (judgementOf L r) (written (markOf L) marks (length marks)) (resultsIn L r row) ≡ airText pool log title r
+    unfolding airReport airText
     told-done =
         ap (λ s. s ++ totalLines (judgementOf L r)) lines-left
         ∙ sym (pick-true (eqb answer done) _ _ (eq-eqb _ _ ok))
 
   module _ (no : answer ≡ done → ⊥) where
-    refused : airGives pool log title r (length row) ≡ refusedWith answer
+    refused : airGives pool log title r (length row) ≡ refusedJudgement answer
     unfolding airGives
     refused =
-        rw (← size) (pick-false (eqb answer done) (judgementOf L r) (refusedWith answer) (ne-eqb answer done no))
+        rw (← size) (pick-false (eqb answer done) (judgementOf L r) (refusedJudgement answer) (ne-eqb answer done no))
 
-    pub told-refused : (after left : List ℕ) → reportText (refusedWith answer) after left ≡ airText pool log title r
-    unfolding reportText airText
+    pub told-refused : (after left : List ℕ) → airReport (refusedJudgement answer) after left ≡ airText pool log title r
+    unfolding airReport airText
     told-refused after left = rw (ne-eqb answer done no) refl
 
   pub printed : (g : Judgement) (after left : List ℕ) → g ≡ airGives pool log title r (length row) →
       left ≡ airLeaves pool log title r row →
       after ≡ ticksLeaves pool log title marks →
-      reportText g after left ≡ airText pool log title r
+      airReport g after left ≡ airText pool log title r
   printed g after left gives leaves told =
       ⊎-elim
       (λ (t : eqb answer done ≡ true).

@@ -18,56 +18,56 @@ use Rattle.text.specs.Output.{Page, page, put}
 use Rattle.text.proofs.Pages.{put-length, put-within}
 use Rattle.judging.specs.Record.{nothingSeen}
 use Rattle.air_io.specs.declared.record.Scan.{Scan}
-use Rattle.air_io.specs.Record.{noCell, cellOf, noNumber, notTwelve, dash, sound, more, SoFar, soFar, ending, closing, failing, longer, dashed, spelling, taking, takenTo, allTaken}
+use Rattle.air_io.specs.Record.{noCell, cellSpelt, noNumber, notTwelve, dash, sound, oneMore, SoFar, soFar, endingCell, closing, failing, longer, dashed, spelling, takingByte, takenTo, allTaken}
 
 -- ---- a number as the record has it, and one more
 
-pub cell-large : (v : ℕ) → nothingSeen < v → noCell ≡ cellOf v
-unfolding cellOf
+pub cell-large : (v : ℕ) → nothingSeen < v → noCell ≡ cellSpelt v
+unfolding cellSpelt
 cell-large v h = rw (lt-ltb nothingSeen v h)
 
-pub cell-small : (v : ℕ) → v ≤ nothingSeen → v ≡ cellOf v
-unfolding cellOf
+pub cell-small : (v : ℕ) → v ≤ nothingSeen → v ≡ cellSpelt v
+unfolding cellSpelt
 cell-small v h = rw (le-ltb nothingSeen v h)
 
-pub more-within : (n : ℕ) → n < top → n + 1 ≡ more n
-unfolding more
+pub more-within : (n : ℕ) → n < top → n + 1 ≡ oneMore n
+unfolding oneMore
 more-within n h = omega arith
 
-pub more-top : (n : ℕ) → top ≤ n → top ≡ more n
-unfolding more
+pub more-top : (n : ℕ) → top ≤ n → top ≡ oneMore n
+unfolding oneMore
 more-top n h = omega arith
 
 -- ---- the end of a word
 
 module _ (row : List ℕ) (s : Scan) where
-  pub ends-in : (after : List ℕ) (n cell words : ℕ) → s .inside ≡ true → cell ≡ cellOf (s .value) → page after n ≡ put (page row (s .count)) cell
-      → words ≡ more (s .words)
+  pub ends-in : (after : List ℕ) (n cell words : ℕ) → s .inside ≡ true → cell ≡ cellSpelt (s .value) → page after n ≡ put (page row (s .count)) cell
+      → words ≡ oneMore (s .words)
       → soFar after (record { count = n; value = 0; inside = false; dash = false; words = words; line = s .line; fault = s .fault })
-      ≡ ending (soFar row s)
-  unfolding ending
+      ≡ endingCell (soFar row s)
+  unfolding endingCell
   ends-in after n cell words h is e m =
       rw (h, ← is, m)
       (ap
       (λ (p : Page).
       soFar (p .row)
-      (record { count = p .at; value = 0; inside = false; dash = false; words = more (s .words); line = s .line; fault = s .fault }))
+      (record { count = p .at; value = 0; inside = false; dash = false; words = oneMore (s .words); line = s .line; fault = s .fault }))
       e)
 
-  pub ends-out : s .inside ≡ false → soFar row s ≡ ending (soFar row s)
-  unfolding ending
+  pub ends-out : s .inside ≡ false → soFar row s ≡ endingCell (soFar row s)
+  unfolding endingCell
   ends-out h = rw h
 
 -- ---- the end of a line
 
 module _ (s : Scan) where
-  pub closes-none : (line : ℕ) → s .words ≡ 0 → line ≡ more (s .line)
+  pub closes-none : (line : ℕ) → s .words ≡ 0 → line ≡ oneMore (s .line)
       → record { count = s .count; value = s .value; inside = s .inside; dash = s .dash; words = s .words; line = line; fault = s .fault }
       ≡ closing s
   unfolding closing
   closes-none line h e = rw (h, e)
 
-  pub closes-all : (line : ℕ) → (s .words ≡ 0 → ⊥) → s .words ≡ lanePlaces → line ≡ more (s .line)
+  pub closes-all : (line : ℕ) → (s .words ≡ 0 → ⊥) → s .words ≡ lanePlaces → line ≡ oneMore (s .line)
       → record { count = s .count; value = s .value; inside = s .inside; dash = s .dash; words = 0; line = line; fault = s .fault } ≡ closing s
   unfolding closing
   closes-all line none h e = rw (ne-eqb _ _ none, eq-eqb _ _ h, e)
@@ -78,7 +78,7 @@ module _ (s : Scan) where
   unfolding closing
   closes-other none h = rw (ne-eqb _ _ none, ne-eqb _ _ h)
 
-  pub fails : (words : ℕ) → words ≡ more (s .words)
+  pub fails : (words : ℕ) → words ≡ oneMore (s .words)
       → record { count = s .count; value = s .value; inside = s .inside; dash = s .dash; words = words; line = s .line; fault = noNumber }
       ≡ failing s
   unfolding failing
@@ -119,23 +119,23 @@ module _ (s : Scan) where
 -- ---- a byte of the text
 
 module _ (row : List ℕ) (s : Scan) (b : ℕ) where
-  pub takes-none : (s .fault ≡ sound → ⊥) → soFar row s ≡ taking (soFar row s) b
-  unfolding taking
+  pub takes-none : (s .fault ≡ sound → ⊥) → soFar row s ≡ takingByte (soFar row s) b
+  unfolding takingByte
   takes-none h = sym (pick-false (eqb (s .fault) sound) _ _ (ne-eqb _ _ h))
 
   module _ (ok : s .fault ≡ sound) where
-    pub takes-newline : (after : List ℕ) (q r : Scan) → b ≡ newline → soFar after q ≡ ending (soFar row s) → r ≡ closing q
-        → soFar after r ≡ taking (soFar row s) b
-    unfolding taking
+    pub takes-newline : (after : List ℕ) (q r : Scan) → b ≡ newline → soFar after q ≡ endingCell (soFar row s) → r ≡ closing q
+        → soFar after r ≡ takingByte (soFar row s) b
+    unfolding takingByte
     takes-newline after q r h e f =
         ap (soFar after) f
         ∙ ap (λ (o : SoFar). soFar (o .row) (closing (o .scan))) e
         ∙ sym (pick-true (eqb (s .fault) sound) _ _ (eq-eqb _ _ ok) ∙ pick-true (eqb b newline) _ _ (eq-eqb _ _ h))
 
     module _ (other : b ≡ newline → ⊥) where
-      pub takes-separator : (after : List ℕ) (q : Scan) → separator b ≡ true → soFar after q ≡ ending (soFar row s)
-          → soFar after q ≡ taking (soFar row s) b
-      unfolding taking
+      pub takes-separator : (after : List ℕ) (q : Scan) → separator b ≡ true → soFar after q ≡ endingCell (soFar row s)
+          → soFar after q ≡ takingByte (soFar row s) b
+      unfolding takingByte
       takes-separator after q h e =
           e
           ∙ sym
@@ -143,8 +143,8 @@ module _ (row : List ℕ) (s : Scan) (b : ℕ) where
           ∙ pick-false (eqb b newline) _ _ (ne-eqb _ _ other)
           ∙ pick-true (separator b) _ _ h)
 
-      pub takes-other : (q : Scan) → separator b ≡ false → q ≡ spelling s b → soFar row q ≡ taking (soFar row s) b
-      unfolding taking
+      pub takes-other : (q : Scan) → separator b ≡ false → q ≡ spelling s b → soFar row q ≡ takingByte (soFar row s) b
+      unfolding takingByte
       takes-other q h e =
           ap (soFar row) e
           ∙ sym
@@ -154,18 +154,18 @@ module _ (row : List ℕ) (s : Scan) (b : ℕ) where
 
 -- ---- the row keeps its length
 
-pub ending-length : (s : SoFar) → length (ending s .row) ≡ length (s .row)
-unfolding ending
+pub ending-length : (s : SoFar) → length (endingCell s .row) ≡ length (s .row)
+unfolding endingCell
 ending-length s =
-    ⊎-elim (λ h. rw h (put-length (page (s .row) (s .scan .count)) (cellOf (s .scan .value)))) (λ h. rw h) (decide (s .scan .inside))
+    ⊎-elim (λ h. rw h (put-length (page (s .row) (s .scan .count)) (cellSpelt (s .scan .value)))) (λ h. rw h) (decide (s .scan .inside))
 
-pub taking-length : (s : SoFar) (b : ℕ) → length (taking s b .row) ≡ length (s .row)
-unfolding taking
+pub taking-length : (s : SoFar) (b : ℕ) → length (takingByte s b .row) ≡ length (s .row)
+unfolding takingByte
 taking-length s b = go (eqb (s .scan .fault) sound) (eqb b newline) (separator b)
   where
     go : (ok n g : Bool) →
         length
-        (pick ok (pick n (soFar (ending s .row) (closing (ending s .scan))) (pick g (ending s) (soFar (s .row) (spelling (s .scan) b)))) s .row)
+        (pick ok (pick n (soFar (endingCell s .row) (closing (endingCell s .scan))) (pick g (endingCell s) (soFar (s .row) (spelling (s .scan) b)))) s .row)
         ≡ length (s .row)
     go true true g = ending-length s
     go true false true = ending-length s
@@ -177,10 +177,10 @@ taking-length s b = go (eqb (s .scan .fault) sound) (eqb b newline) (separator b
 abbrev Within : SoFar → Type 0
 Within s = s .scan .count ≤ length (s .row)
 
-ending-within : (s : SoFar) → Within s → Within (ending s)
-unfolding ending
+ending-within : (s : SoFar) → Within s → Within (endingCell s)
+unfolding endingCell
 ending-within s h =
-    ⊎-elim (λ t. rw t (put-within (page (s .row) (s .scan .count)) (cellOf (s .scan .value)) h)) (λ t. rw t h) (decide (s .scan .inside))
+    ⊎-elim (λ t. rw t (put-within (page (s .row) (s .scan .count)) (cellSpelt (s .scan .value)) h)) (λ t. rw t h) (decide (s .scan .inside))
 
 closing-count : (s : Scan) → closing s .count ≡ s .count
 unfolding closing
@@ -197,14 +197,14 @@ spelling-count s b = go (digit b) (eqb b dash) (s .dash) (s .inside)
     go false true k false = refl
     go false false k i = refl
 
-taking-within : (s : SoFar) (b : ℕ) → Within s → Within (taking s b)
-unfolding taking
+taking-within : (s : SoFar) (b : ℕ) → Within s → Within (takingByte s b)
+unfolding takingByte
 taking-within s b h = go (eqb (s .scan .fault) sound) (eqb b newline) (separator b)
   where
     go : (ok n g : Bool) →
         Within
-        (pick ok (pick n (soFar (ending s .row) (closing (ending s .scan))) (pick g (ending s) (soFar (s .row) (spelling (s .scan) b)))) s)
-    go true true g = rw (closing-count (ending s .scan)) (ending-within s h)
+        (pick ok (pick n (soFar (endingCell s .row) (closing (endingCell s .scan))) (pick g (endingCell s) (soFar (s .row) (spelling (s .scan) b)))) s)
+    go true true g = rw (closing-count (endingCell s .scan)) (ending-within s h)
     go true false true = ending-within s h
     go true false false = rw (spelling-count (s .scan) b) h
     go false n g = h

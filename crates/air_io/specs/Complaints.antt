@@ -34,7 +34,7 @@ unfoldable pub strayText : List ℕ → ℕ → ℕ → List ℕ
 strayText text k size = pick (ltb k size) (strayLine text k) []
 
 -- what is said of a log and of a text that spells a record
-unfoldable pub complaintsText : ℕ → List ℕ → ℕ → List ℕ → List ℕ → List ℕ
-complaintsText pool log title r text =
+unfoldable pub airComplaints : ℕ → List ℕ → ℕ → List ℕ → List ℕ → List ℕ
+airComplaints pool log title r text =
     ((unheardLine pool log ++ longLine r) ++ skipLine pool log title)
     ++ strayText text (strayIn pool log title r) (length r)

@@ -25,8 +25,8 @@ unfoldable pub admissionLine : ℕ → ℕ → List ℕ
 admissionLine tick cell = (lineOf [] tick (text " ") ++ cellText cell) ++ text "\n"
 
 -- the bytes of the room that all of it is written in
-abbrev pub roomMost : ℕ
-roomMost = 65_536
+abbrev pub reportRoom : ℕ
+reportRoom = 65_536
 
 -- the lines of the first n ticks of a record, one for each admission that is judged
 unfoldable pub linesTo : Life → List ℕ → ℕ → List ℕ
@@ -50,7 +50,7 @@ airText pool log title r =
 unfoldable pub placeText : List ℕ → ℕ → List ℕ → ℕ → List ℕ
 placeText wrong line between words = lineOf wrong line between ++ decimal words
 
-unfoldable pub faultText : Scan → List ℕ
-faultText s =
+unfoldable pub recordFault : Scan → List ℕ
+recordFault s =
     pick (eqb (s .fault) noNumber) (placeText (text ": no number at line ") (s .line) (text ", word ") (s .words))
     (placeText (text ": not twelve numbers at line ") (s .line) (text ", but ") (s .words))

@@ -7,7 +7,7 @@ use lib.ListN.{length, getD}
 use Rattle.rules.specs.Refusals.{pick}
 use Rattle.text.specs.Bytes.{newline, separator}
 use Rattle.air_io.specs.declared.places.Passed.{Passed}
-use Rattle.air_io.specs.Record.{more}
+use Rattle.air_io.specs.Record.{oneMore}
 
 abbrev pub passedBy : ℕ → ℕ → Passed
 passedBy words line = record { words = words; inside = false; line = line }
@@ -15,9 +15,9 @@ passedBy words line = record { words = words; inside = false; line = line }
 -- one byte more: a newline ends the word and the line, a separator the word, and any other begins a word unless it is inside one
 unfoldable pub passing : Passed → ℕ → Passed
 passing p b =
-    pick (eqb b newline) (passedBy (p .words) (more (p .line)))
+    pick (eqb b newline) (passedBy (p .words) (oneMore (p .line)))
     (pick (separator b) (passedBy (p .words) (p .line))
-    (record { words = pick (p .inside) (p .words) (more (p .words)); inside = true; line = p .line }))
+    (record { words = pick (p .inside) (p .words) (oneMore (p .words)); inside = true; line = p .line }))
 
 -- a text as far as its first n bytes
 unfoldable pub passedTo : List ℕ → ℕ → Passed

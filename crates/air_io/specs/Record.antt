@@ -17,8 +17,8 @@ use Rattle.air_io.specs.declared.record.Scan.{Scan}
 abbrev pub noCell : ℕ
 noCell = 65_534
 
-unfoldable pub cellOf : ℕ → ℕ
-cellOf v = pick (ltb nothingSeen v) noCell v
+unfoldable pub cellSpelt : ℕ → ℕ
+cellSpelt v = pick (ltb nothingSeen v) noCell v
 
 -- the byte that stands for nothing seen
 abbrev pub dash : ℕ
@@ -35,8 +35,8 @@ abbrev pub notTwelve : ℕ
 notTwelve = 2
 
 -- one more line or word, as far as 64 bits count them
-unfoldable pub more : ℕ → ℕ
-more n = min (n + 1) top
+unfoldable pub oneMore : ℕ → ℕ
+oneMore n = min (n + 1) top
 
 -- a text as far as it was read, with the row that its numbers go into
 pub record SoFar : Type 0 where
@@ -51,16 +51,16 @@ abbrev pub nothingRead : Scan
 nothingRead = record { count = 0; value = 0; inside = false; dash = false; words = 0; line = 1; fault = sound }
 
 -- the word ends: its number goes into the row, where there is room for it
-unfoldable pub ending : SoFar → SoFar
-ending s =
+unfoldable pub endingCell : SoFar → SoFar
+endingCell s =
     pick (s .scan .inside)
-    (soFar (put (page (s .row) (s .scan .count)) (cellOf (s .scan .value)) .row)
+    (soFar (put (page (s .row) (s .scan .count)) (cellSpelt (s .scan .value)) .row)
     (record {
-      count = put (page (s .row) (s .scan .count)) (cellOf (s .scan .value)) .at;
+      count = put (page (s .row) (s .scan .count)) (cellSpelt (s .scan .value)) .at;
       value = 0;
       inside = false;
       dash = false;
-      words = more (s .scan .words);
+      words = oneMore (s .scan .words);
       line = s .scan .line;
       fault = s .scan .fault;
     }))
@@ -76,7 +76,7 @@ closing s =
       inside = s .inside;
       dash = s .dash;
       words = 0;
-      line = more (s .line);
+      line = oneMore (s .line);
       fault = s .fault;
     })
     (record {
@@ -97,7 +97,7 @@ failing s =
       value = s .value;
       inside = s .inside;
       dash = s .dash;
-      words = more (s .words);
+      words = oneMore (s .words);
       line = s .line;
       fault = noNumber;
     }
@@ -134,18 +134,18 @@ spelling s b =
     (pick (eqb b dash) (pick (s .inside) (failing s) (dashed s)) (failing s))
 
 -- one byte more of a text; the first fault ends it
-unfoldable pub taking : SoFar → ℕ → SoFar
-taking s b =
+unfoldable pub takingByte : SoFar → ℕ → SoFar
+takingByte s b =
     pick (eqb (s .scan .fault) sound)
-    (pick (eqb b newline) (soFar (ending s .row) (closing (ending s .scan)))
-    (pick (separator b) (ending s) (soFar (s .row) (spelling (s .scan) b))))
+    (pick (eqb b newline) (soFar (endingCell s .row) (closing (endingCell s .scan)))
+    (pick (separator b) (endingCell s) (soFar (s .row) (spelling (s .scan) b))))
     s
 
 -- the first n bytes
 unfoldable pub takenTo : List ℕ → List ℕ → ℕ → SoFar
 takenTo text row zero = soFar row nothingRead
-takenTo text row (suc n) = taking (takenTo text row n) (getD text n 0)
+takenTo text row (suc n) = takingByte (takenTo text row n) (getD text n 0)
 
 -- and all, whose end ends the last line
 abbrev pub allTaken : List ℕ → List ℕ → SoFar
-allTaken text row = taking (takenTo text row (length text)) newline
+allTaken text row = takingByte (takenTo text row (length text)) newline

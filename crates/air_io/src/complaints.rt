@@ -9,7 +9,7 @@ use judging::TICKS_MAX;
 use rules::LANE_PLACES;
 use unheard_io::put_unheard;
 ghost use Rattle.text.specs.Output.{Written};
-ghost use Rattle.air_io.specs.Complaints.{longLine, skipLine, strayLine, strayText, complaintsText};
+ghost use Rattle.air_io.specs.Complaints.{longLine, skipLine, strayLine, strayText, airComplaints};
 
 // A record that is too long.
 fn put_long(out: &mut [u8], at: usize, record: &[u16]) -> usize
@@ -78,7 +78,7 @@ pub fn put_complaints(
     text: &[u8],
 ) -> usize
     ensures { λ r. ⌜ Written (now (out .entry)) 0
-        (complaintsText pool (now (log .entry)) title (now («record» .entry)) (now (text .entry))) (now (out .exit)) r ⌝ }
+        (airComplaints pool (now (log .entry)) title (now («record» .entry)) (now (text .entry))) (now (out .exit)) r ⌝ }
 {
     let stray = first_stray(pool, log, title, record);
     let a = put_unheard(out, 0, pool, log);

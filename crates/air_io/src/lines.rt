@@ -14,8 +14,8 @@ use words::put_refusal;
 ghost use mathlib.Core.Path.{_≡_};
 ghost use lib.ListN.{length, getD};
 ghost use Rattle.text.specs.Output.{Written};
-ghost use Rattle.air_io.specs.Lines.{cellText, admissionLine, totalLines, placeText, faultText};
-ghost use Rattle.air_io.specs.inner.Steps.{judgedLine, markedLines, reportText};
+ghost use Rattle.air_io.specs.Lines.{cellText, admissionLine, totalLines, placeText, recordFault};
+ghost use Rattle.air_io.specs.inner.Steps.{judgedLine, markedLines, airReport};
 
 // The cell that was missed, or a dash.
 fn put_result(out: &mut [u8], at: usize, cell: u16) -> usize
@@ -84,7 +84,7 @@ fn put_totals(out: &mut [u8], at: usize, judgement: Judgement) -> usize
 
 // A line for each admission that is judged and three in all, or the refusal's one.
 pub fn put_report(out: &mut [u8], judgement: Judgement, marks: &[u8], row: &[u16]) -> usize
-    ensures { λ r. ⌜ Written (now (out .entry)) 0 (reportText judgement (now (marks .entry)) (now (row .entry))) (now (out .exit)) r ⌝ }
+    ensures { λ r. ⌜ Written (now (out .entry)) 0 (airReport judgement (now (marks .entry)) (now (row .entry))) (now (out .exit)) r ⌝ }
 {
     let answer = judgement.answer;
     let judged = judgement.judged;
@@ -105,7 +105,7 @@ fn put_place(out: &mut [u8], wrong: &[u8], line: u64, between: &[u8], words: u64
 
 // What is wrong with a text of a record, and where.
 pub fn put_fault(out: &mut [u8], scan: Scan) -> usize
-    ensures { λ r. ⌜ Written (now (out .entry)) 0 (faultText scan) (now (out .exit)) r ⌝ }
+    ensures { λ r. ⌜ Written (now (out .entry)) 0 (recordFault scan) (now (out .exit)) r ⌝ }
 {
     let line = scan.line;
     let words = scan.words;

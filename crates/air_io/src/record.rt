@@ -10,7 +10,7 @@ use text::numbers::TOP;
 use text::numbers::grow;
 ghost use mathlib.Core.Path.{_≡_};
 ghost use Rattle.text.specs.Output.{page, put as laid};
-ghost use Rattle.air_io.specs.Record.{soFar, cellOf, more, ending, closing, spelling, taking, allTaken};
+ghost use Rattle.air_io.specs.Record.{soFar, cellSpelt, oneMore, endingCell, closing, spelling, takingByte, allTaken};
 
 // What a number that 16 bits do not hold is handed on as: no title has such a cell.
 const NO_CELL: u16 = 65_534;
@@ -35,7 +35,7 @@ pub struct Scan {
 }
 
 fn cell_of(value: u64) -> u16
-    ensures { λ r. ⌜ r ≡ cellOf value ⌝ }
+    ensures { λ r. ⌜ r ≡ cellSpelt value ⌝ }
 {
     if value > NOTHING_SEEN as u64 {
         return NO_CELL;
@@ -44,7 +44,7 @@ fn cell_of(value: u64) -> u16
 }
 
 pub fn one_more(n: u64) -> u64
-    ensures { λ r. ⌜ r ≡ more n ⌝ }
+    ensures { λ r. ⌜ r ≡ oneMore n ⌝ }
 {
     if n < TOP {
         return n + 1;
@@ -65,7 +65,7 @@ fn put_cell(row: &mut [u16], at: usize, cell: u16) -> usize
 
 // A word ends: the number that was being spelt, if one was, goes into the row.
 fn end_word(scan: Scan, row: &mut [u16]) -> Scan
-    ensures { λ r. ⌜ soFar (now (row .exit)) r ≡ ending (soFar (now (row .entry)) scan) ⌝ }
+    ensures { λ r. ⌜ soFar (now (row .exit)) r ≡ endingCell (soFar (now (row .entry)) scan) ⌝ }
 {
     let count = scan.count;
     let value = scan.value;
@@ -154,7 +154,7 @@ fn spell(scan: Scan, b: u8) -> Scan
 
 // One byte more of the text.
 fn take_byte(scan: Scan, b: u8, row: &mut [u16]) -> Scan
-    ensures { λ r. ⌜ soFar (now (row .exit)) r ≡ taking (soFar (now (row .entry)) scan) b ⌝ }
+    ensures { λ r. ⌜ soFar (now (row .exit)) r ≡ takingByte (soFar (now (row .entry)) scan) b ⌝ }
 {
     let fault = scan.fault;
     if fault == SOUND {

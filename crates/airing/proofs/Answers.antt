@@ -21,8 +21,8 @@ use Rattle.logs.specs.Reading.{Plays}
 use Rattle.agent.proofs.Played.{log-series}
 use Rattle.airing.specs.declared.follow.Ending.{Ending}
 use Rattle.airing.specs.Air.{inLimits, isFilmTitle, markOf}
-use Rattle.airing.specs.Reasons.{isSteadyTitle}
-use Rattle.airing.specs.inner.Steps.{markedTo, Markable, heardMarks, toldMarks, Standing, logAnswer, isFilmSlot, isSteadySlot, answerOf, Follows}
+use Rattle.airing.specs.Reasons.{isSteadyLife}
+use Rattle.airing.specs.inner.Steps.{markedTo, Markable, heardMarks, toldMarks, SameFilm, logAnswer, isFilmSlot, isSteadySlot, followedAnswer, Follows}
 use Rattle.airing.proofs.Marking.{told-length, told-film, told-steady, told-markable, told-standing, told-all}
 
 abbrev pub endingOf : ℕ → Title → Ending
@@ -37,7 +37,7 @@ module _ (pool i : ℕ) (fits : inLimits pool i ≡ true) where
   -- ---- a log that was played to where its reading stops
 
   module _ (log row : List ℕ) (p : PlayedLog) (m : List ℕ) (all : Plays (heardMarks i) pool log row p m) (small : Bytes log) (t : Title)
-      (at : t ≡ titleAt (p .agent .state) i) (a : ℕ) (is : a ≡ answerOf (p .place) (length log) t) where
+      (at : t ≡ titleAt (p .agent .state) i) (a : ℕ) (is : a ≡ followedAnswer (p .place) (length log) t) where
     abbrev stands : Title
     stands = titleAt (agentPlayed pool log .state) i
 
@@ -47,11 +47,11 @@ module _ (pool i : ℕ) (fits : inLimits pool i ≡ true) where
     film : isFilmTitle (lifeIn pool log i) ≡ isFilmSlot stands
     film = told-film pool i id-low row _ (noticesOf log) (log-series log small (length log))
 
-    steady : isSteadyTitle (lifeIn pool log i) ≡ isSteadySlot t
+    steady : isSteadyLife (lifeIn pool log i) ≡ isSteadySlot t
     steady = rw here (told-steady pool i id-low row _ (noticesOf log) (log-series log small (length log)))
 
     answers : a ≡ logAnswer pool log i
-    unfolding answerOf logAnswer firstHit
+    unfolding followedAnswer logAnswer firstHit
     answers =
         is ∙ rw (all .place-is, here, ← film) (go (isWholeLog log) (isFilmTitle (lifeIn pool log i)))
       where
@@ -62,7 +62,7 @@ module _ (pool i : ℕ) (fits : inLimits pool i ≡ true) where
 
     -- an answer that is done is a film's
     slot-film : a ≡ done → isFilmSlot stands ≡ true
-    unfolding answerOf
+    unfolding followedAnswer
     slot-film ok = go (leb (length log) (p .place)) (isFilmSlot stands) (rw here at (sym is ∙ ok))
       where
         go : (x y : Bool) → pick x (pick y done notThere) malformed ≡ done → y ≡ true
@@ -88,7 +88,7 @@ module _ (pool i : ℕ) (fits : inLimits pool i ≡ true) where
           marks-are = λ h. marked ∙ rw (here, all .kept-is, told-length pool i row (noticesOf log)) whole;
         }
       where
-        stood : Standing (lifeIn pool log i) t
+        stood : SameFilm (lifeIn pool log i) t
         stood =
             rw here (told-standing pool i id-low row _ (noticesOf log) (log-series log small (length log)) (slot-film ok))
 

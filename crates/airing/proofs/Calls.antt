@@ -21,8 +21,8 @@ use Rattle.judging.specs.Record.{ticksMax, ticksIn}
 use Rattle.judging.specs.Judge.{Judgeable, MarkedBy, Judges}
 use Rattle.airing.specs.declared.Judgement.{Judgement}
 use Rattle.airing.specs.declared.follow.Ending.{Ending}
-use Rattle.airing.specs.Air.{inLimits, hasRoom, isFilmTitle, allCells, airAnswer, refusedWith, airGives, airLeaves, ticksAnswer, markOf, ticksLeaves}
-use Rattle.airing.specs.inner.Steps.{Standing, logAnswer, Follows, firstAnswer}
+use Rattle.airing.specs.Air.{inLimits, hasRoom, isFilmTitle, allCells, airAnswer, refusedJudgement, airGives, airLeaves, ticksAnswer, markOf, ticksLeaves}
+use Rattle.airing.specs.inner.Steps.{SameFilm, logAnswer, Follows, rowsAnswer}
 
 -- ---- the call that tells the admissions
 
@@ -62,7 +62,7 @@ counted c = record { answer = done; judged = c .judged; played = c .played; outl
 
 module _ (pool : ℕ) (log : List ℕ) (title : ℕ) (r : List ℕ) (row : List ℕ) where
   abbrev first : ℕ
-  first = firstAnswer pool title r (length row)
+  first = rowsAnswer pool title r (length row)
 
   abbrev answer : ℕ
   answer = airAnswer pool log title r (length row)
@@ -71,7 +71,7 @@ module _ (pool : ℕ) (log : List ℕ) (title : ℕ) (r : List ℕ) (row : List 
   abbrev Airs : Judgement → List ℕ → Type 0
   Airs j after = (j ≡ airGives pool log title r (length row)) × (after ≡ airLeaves pool log title r row)
 
-  refused-air : (a : ℕ) (j : Judgement) → a ≡ answer → (a ≡ done → ⊥) → j ≡ refusedWith a → Airs j row
+  refused-air : (a : ℕ) (j : Judgement) → a ≡ answer → (a ≡ done → ⊥) → j ≡ refusedJudgement a → Airs j row
   unfolding airGives airLeaves
   refused-air a j is not-ok e =
       let off = ne-eqb answer done (λ h. not-ok (is ∙ h)) in (e ∙ rw (off, ← is) refl, rw off refl)
@@ -87,7 +87,7 @@ module _ (pool : ℕ) (log : List ℕ) (title : ℕ) (r : List ℕ) (row : List 
   lastRules = refuse outsideLimits (not (allCells (lifeIn pool log title .film .cap) r)) ∷ []
 
   in-two : answer ≡ pick (eqb first 0) (firstHit (logRules ++ lastRules)) first
-  unfolding airAnswer firstAnswer numbered
+  unfolding airAnswer rowsAnswer numbered
   in-two = hit-append firstRules (logRules ++ lastRules) refl
 
   then-log : firstHit (logRules ++ lastRules) ≡ pick (eqb (logAnswer pool log title) 0) (firstHit lastRules) (logAnswer pool log title)
@@ -103,18 +103,18 @@ module _ (pool : ℕ) (log : List ℕ) (title : ℕ) (r : List ℕ) (row : List 
   numbers-pass good = rw good refl
 
   -- one that does not hang on the log
-  pub air-first : (j : Judgement) → (first ≡ done → ⊥) → j ≡ refusedWith first → Airs j row
+  pub air-first : (j : Judgement) → (first ≡ done → ⊥) → j ≡ refusedJudgement first → Airs j row
   air-first j not-ok e =
       refused-air first j (sym (in-two ∙ pick-false (eqb first 0) _ first (ne-eqb first 0 not-ok))) not-ok e
 
   module _ (none : first ≡ done) where
     -- what a question that passes those has
     pub fits : inLimits pool title ≡ true
-    unfolding firstAnswer hitsOf numbered
+    unfolding rowsAnswer hitsOf numbered
     fits = not-false (inLimits pool title) (cleared firstRules refl none outsideLimits)
 
     room : hasRoom r (length row) ≡ true
-    unfolding firstAnswer hitsOf numbered
+    unfolding rowsAnswer hitsOf numbered
     room = not-false (hasRoom r (length row)) (cleared firstRules refl none wrongRows)
 
     sized : both (leb (ticksIn r) ticksMax) (leb (ticksIn r) (length row)) ≡ true
@@ -133,7 +133,7 @@ module _ (pool : ℕ) (log : List ℕ) (title : ℕ) (r : List ℕ) (row : List 
     -- the log, followed over a row of marks
     module _ (marks : List ℕ) (f : Ending) (k : List ℕ) (w : Follows pool log title marks f k) where
       -- one that the log decides
-      pub air-log : (j : Judgement) → (f .answer ≡ done → ⊥) → j ≡ refusedWith (f .answer) → Airs j row
+      pub air-log : (j : Judgement) → (f .answer ≡ done → ⊥) → j ≡ refusedJudgement (f .answer) → Airs j row
       air-log j not-ok e = refused-air (f .answer) j is not-ok e
         where
           some : logAnswer pool log title ≡ 0 → ⊥
@@ -146,7 +146,7 @@ module _ (pool : ℕ) (log : List ℕ) (title : ℕ) (r : List ℕ) (row : List 
         abbrev L : Life
         L = lifeIn pool log title
 
-        stood : Standing L (f .title)
+        stood : SameFilm L (f .title)
         stood = w .ends .standing ok
 
         pub cap-high : f .title .film .cap ≤ countMax
@@ -158,7 +158,7 @@ module _ (pool : ℕ) (log : List ℕ) (title : ℕ) (r : List ℕ) (row : List 
             ∙ pick-true (eqb (logAnswer pool log title) 0) _ (logAnswer pool log title) (eq-eqb (logAnswer pool log title) 0 (sym (w .ends .answer-is) ∙ ok))
 
         -- a number that the title can't have
-        pub air-number : (j : Judgement) → allCells (f .title .film .cap) r ≡ false → j ≡ refusedWith outsideLimits → Airs j row
+        pub air-number : (j : Judgement) → allCells (f .title .film .cap) r ≡ false → j ≡ refusedJudgement outsideLimits → Airs j row
         air-number j bad e = refused-air outsideLimits j (sym last-one′) (λ h. omega arith) e
           where
             last-one′ : answer ≡ outsideLimits

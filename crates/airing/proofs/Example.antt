@@ -27,7 +27,7 @@ use Rattle.notice.specs.Numbers.{bigEndian}
 use Rattle.notice.specs.Encode.{bytesOf, bytesTo, rowBytes, fieldBytes}
 use Rattle.notice.specs.Log.{Bytes, AllFit, none, more, logOf, noticesOf, isWholeLog}
 use Rattle.notice.proofs.Typed.{typed-fits}
-use Rattle.notice.proofs.Through.{log-read}
+use Rattle.notice.proofs.ReadThrough.{log-read}
 use Rattle.story.specs.Life.{Life, isAdmission, isActive, droppedAt, isAwaited, isOwed, reach, owedWithin, isNth, nthOwed}
 use Rattle.story.specs.Life.{sends, onAir, isHeld}
 use Rattle.story.specs.declared.Act.the-variants.{Changes}
@@ -36,7 +36,7 @@ use Rattle.story.specs.Story.{opens, event, tickIn, lifeOf, latestOf, tunedOf, 
 use Rattle.agent.specs.Turns.{eventOf}
 use Rattle.agent.specs.Played.{heardOf, eventsPlayed, lifeIn}
 use Rattle.judging.specs.Record.{ticksIn}
-use Rattle.judging.specs.Judged.{isWhole, isJudged, judgedIn}
+use Rattle.judging.specs.Judged.{isCovered, isJudged, judgedIn}
 use Rattle.airing.specs.Air.{isFilmTitle, airAnswer, airGives}
 use Rattle.airing.specs.Own.{ownRecord}
 use Rattle.airing.proofs.OwnRecord.{own-ticks}
@@ -103,7 +103,7 @@ taken = own-record-starves-none 3 log 0 small refl 12 12 film (omega arith) (ome
 
 judged-of : (L : Life) (r : List ℕ) (n : ℕ) → ticksIn r ≡ n
     → judgedIn L r ≡ howMany (λ a. both (isAdmission L a) (leb (a + cells (L .film .cap)) n)) n
-unfolding isJudged isWhole
+unfolding isJudged isCovered
 judged-of L r n is = ap (λ (m : ℕ). howMany (λ a. both (isAdmission L a) (leb (a + cells (L .film .cap)) m)) m) is
 
 -- the admissions at ticks 0 to 4, the last of them with two lanes

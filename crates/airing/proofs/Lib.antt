@@ -4,7 +4,7 @@ pub mod Hearing
 pub mod Marking
 pub mod Reading
 pub mod Answers
-pub mod Ends
+pub mod RefusalReasons
 pub mod Calls
 pub mod Unique
 pub mod OwnAnswers
@@ -12,6 +12,6 @@ pub mod OwnCells
 pub mod OwnRecord
 pub mod Starves
 pub mod Accepted
-pub mod More
+pub mod MoreShown
 pub mod OneMoment
 pub mod Example

@@ -35,10 +35,10 @@ use Rattle.admissions.specs.Stretches.{admitting}
 use Rattle.agent.specs.Turns.{eventOf, freshAgent}
 use Rattle.agent.specs.Played.{agentTold, heardOf, ReadAs}
 use Rattle.airing.specs.Air.{isFilmTitle, markOf}
-use Rattle.airing.specs.Reasons.{isSteadyTitle}
+use Rattle.airing.specs.Reasons.{isSteadyLife}
 use Rattle.logs.specs.Reading.{keptTold}
 use Rattle.logs.proofs.Lives.{FollowsLife, told-kept, told-title}
-use Rattle.airing.specs.inner.Steps.{markIn, markedTo, Markable, toldMarks, Ready, Standing, isFilmSlot, isSteadySlot}
+use Rattle.airing.specs.inner.Steps.{markIn, markedTo, Markable, toldMarks, ReadyToMark, SameFilm, isFilmSlot, isSteadySlot}
 use Rattle.airing.proofs.Ticks.{to-length, to-before, to-at}
 use Rattle.airing.proofs.Hearing.{heard-length}
 
@@ -128,10 +128,10 @@ module _ (L : Life) (m : ℕ) (t : Title) (told : TellsTitle L m t) (film : isFi
       go (absent e f g) = absurd (never-blank g)
       go (present r e f p) = present-markable t r p
 
-  film-standing : Standing L t
+  film-standing : SameFilm L t
   film-standing = go told
     where
-      go : TellsTitle L m t → Standing L t
+      go : TellsTitle L m t → SameFilm L t
       go (absent e f g) = absurd (never-blank g)
       go (present r e f p) =
           rw e
@@ -175,7 +175,7 @@ module _ (pool i : ℕ) (id : i ≤ idMax) (row : List ℕ) (bss : List (List �
 
   -- ---- what the code builds on, and what it comes to
 
-  pub told-ready : Ready (agentTold (freshAgent pool) ns) i
+  pub told-ready : ReadyToMark (agentTold (freshAgent pool) ns) i
   told-ready = record { id = id; markable = go told }
     where
       go : TellsTitle (lifeOf events i) (latestOf events i) standing → standing .mode ≡ openMode → Markable standing
@@ -198,8 +198,8 @@ module _ (pool i : ℕ) (id : i ≤ idMax) (row : List ℕ) (bss : List (List �
   unfolding isFilmTitle
   told-film = told-kind paddedKind
 
-  pub told-steady : isSteadyTitle (lifeOf events i) ≡ isSteadySlot standing
-  unfolding isSteadyTitle
+  pub told-steady : isSteadyLife (lifeOf events i) ≡ isSteadySlot standing
+  unfolding isSteadyLife
   told-steady = told-kind steadyKind
 
   -- no event follows
@@ -207,7 +207,7 @@ module _ (pool i : ℕ) (id : i ≤ idMax) (row : List ℕ) (bss : List (List �
     pub told-markable : Markable standing
     told-markable = film-markable (lifeOf events i) (latestOf events i) standing told film
 
-    pub told-standing : Standing (lifeOf events i) standing
+    pub told-standing : SameFilm (lifeOf events i) standing
     told-standing = film-standing (lifeOf events i) (latestOf events i) standing told film
 
     pub told-all : markedTo standing (length row) (toldMarks pool i row ns) ≡ written (markOf (lifeOf events i)) row (length row)

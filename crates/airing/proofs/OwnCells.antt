@@ -18,7 +18,7 @@ use Rattle.grid.specs.Lanes.{laneCell}
 use Rattle.grid.proofs.Channels.{cell-within}
 use Rattle.grid.proofs.Lanes.{cell-of-lane}
 use Rattle.scheme.specs.Scheme.{Scheme, paddedKind}
-use Rattle.scheme.proofs.Which.{padded-scheme}
+use Rattle.scheme.proofs.ByKind.{padded-scheme}
 use Rattle.story.specs.declared.State.{State}
 use Rattle.story.specs.declared.Title.{Title}
 use Rattle.story.specs.Life.{Life}

@@ -8,11 +8,11 @@ use Rattle.notice.specs.Log.{Bytes, noticesTo}
 use Rattle.logs.specs.declared.PlayedLog.{PlayedLog}
 use Rattle.agent.proofs.Played.{log-series}
 use Rattle.logs.proofs.Reading.{PlayedTo}
-use Rattle.airing.specs.inner.Steps.{heardMarks, Ready}
+use Rattle.airing.specs.inner.Steps.{heardMarks, ReadyToMark}
 use Rattle.airing.proofs.Marking.{told-length, told-ready}
 
 module _ (pool : ℕ) (log : List ℕ) (i : ℕ) (row : List ℕ) (p : PlayedLog) (m : List ℕ) (w : PlayedTo (heardMarks i) pool log row p m) where
-  pub ready : Bytes log → i ≤ idMax → Ready (p .agent) i
+  pub ready : Bytes log → i ≤ idMax → ReadyToMark (p .agent) i
   ready small id =
       rw (w .agent-is) (told-ready pool i id row _ (noticesTo log (w .reads)) (log-series log small (w .reads)))
 

@@ -22,7 +22,7 @@ use Rattle.story.specs.Runs.{Reached}
 use Rattle.agent.specs.Played.{agentPlayed, eventsPlayed, lifeIn}
 use Rattle.agent.proofs.Played.{log-reached}
 use Rattle.judging.specs.Record.{nothingSeen, ticksMax, ticksIn}
-use Rattle.judging.specs.Judged.{resultOf, isWhole, isJudged, isPlayed, judgedIn, playedIn}
+use Rattle.judging.specs.Judged.{resultOf, isCovered, isJudged, isPlayed, judgedIn, playedIn}
 use Rattle.judging.proofs.Plays.{plays-through, played-in, played-out}
 use Rattle.airing.specs.Air.{inLimits, hasRoom, isFilmTitle, allCells, airAnswer, airGives}
 use Rattle.airing.specs.Own.{OwnAnswers, ownRecord}
@@ -72,7 +72,7 @@ module _ (pool : ℕ) (log : List ℕ) (title : ℕ) (small : Bytes log) (limits
 
     -- each admission that is judged gets "none missed"
     pub own-result : (a : ℕ) → isJudged (lifeIn pool log title) r a ≡ true → resultOf (lifeIn pool log title) r a ≡ nothingSeen
-    unfolding isJudged isWhole
+    unfolding isJudged isCovered
     own-result a h =
         let L : Life = lifeIn pool log title in
         let ends : ℕ = a + cells (L .film .cap) in

@@ -51,8 +51,8 @@ unfoldable pub airAnswer : ℕ → List ℕ → ℕ → List ℕ → ℕ → ℕ
 airAnswer pool log title r room = firstHit (airRules pool log title r room)
 
 -- beside a refusal the other numbers are 0
-abbrev pub refusedWith : ℕ → Judgement
-refusedWith n = record { answer = n; judged = 0; played = 0; outlast = 0 }
+abbrev pub refusedJudgement : ℕ → Judgement
+refusedJudgement n = record { answer = n; judged = 0; played = 0; outlast = 0 }
 
 -- how many admissions of a life a record judges, how many of those played through, and how many outlast it
 abbrev pub judgementOf : Life → List ℕ → Judgement
@@ -62,7 +62,7 @@ judgementOf L r = record { answer = done; judged = judgedIn L r; played = played
 unfoldable pub airGives : ℕ → List ℕ → ℕ → List ℕ → ℕ → Judgement
 airGives pool log title r room =
     pick (eqb (airAnswer pool log title r room) done) (judgementOf (lifeIn pool log title) r)
-    (refusedWith (airAnswer pool log title r room))
+    (refusedJudgement (airAnswer pool log title r room))
 
 -- and what it leaves in the room: a refusal writes nothing
 unfoldable pub airLeaves : ℕ → List ℕ → ℕ → List ℕ → List ℕ → List ℕ

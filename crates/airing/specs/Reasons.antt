@@ -14,12 +14,12 @@ use Rattle.agent.specs.Played.{lifeIn}
 use Rattle.airing.specs.Air.{isCellOf, ticksAnswer}
 
 -- the title was opened, and last as a skip-forward title
-unfoldable pub isSteadyTitle : Life → Bool
-isSteadyTitle L = both (ltb 0 (L .film .cap)) (eqb (L .film .kind) steadyKind)
+unfoldable pub isSteadyLife : Life → Bool
+isSteadyLife L = both (ltb 0 (L .film .cap)) (eqb (L .film .kind) steadyKind)
 
 -- so it was in a whole log, which has no film title of that id
 unfoldable pub isSkipForward : ℕ → List ℕ → ℕ → Bool
-isSkipForward pool log title = both (eqb (ticksAnswer pool log title) notThere) (isSteadyTitle (lifeIn pool log title))
+isSkipForward pool log title = both (eqb (ticksAnswer pool log title) notThere) (isSteadyLife (lifeIn pool log title))
 
 -- the place of the first number of a record that is no cell of a title with cap K, or the record's end
 unfoldable pub firstStray : ℕ → List ℕ → ℕ

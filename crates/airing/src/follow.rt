@@ -17,9 +17,9 @@ ghost use mathlib.Core.Path.{_≡_};
 ghost use mathlib.Core.Bool.{true};
 ghost use Rattle.rules.specs.Limits.{idMax};
 ghost use Rattle.notice.specs.Decode.{readAt};
-ghost use Rattle.logs.specs.Reading.{Steps, Plays};
+ghost use Rattle.logs.specs.Reading.{PlayedStep, Plays};
 ghost use Rattle.airing.specs.Air.{inLimits};
-ghost use Rattle.airing.specs.inner.Steps.{heardMarks, Ready, answerOf, Ends, Follows};
+ghost use Rattle.airing.specs.inner.Steps.{heardMarks, ReadyToMark, followedAnswer, Ends, Follows};
 
 // What a log answers, and the title as it stands at its end.
 pub struct Ending {
@@ -30,8 +30,8 @@ pub struct Ending {
 // One read more of the log. An accepted event of the title while it is open settles its ticks so far; any other is an opening, with
 // which they begin anew.
 fn step(played: PlayedLog, log: &[u8], title: u64, marks: &mut [u8]) -> PlayedLog
-    requires { ⌜ Ready (played .agent) title ⌝ }
-    ensures { λ r. ⌜ Steps (heardMarks title) played (now (marks .entry)) (readAt (now (log .entry)) (played .place)) r (now (marks .exit)) ⌝ }
+    requires { ⌜ ReadyToMark (played .agent) title ⌝ }
+    ensures { λ r. ⌜ PlayedStep (heardMarks title) played (now (marks .entry)) (readAt (now (log .entry)) (played .place)) r (now (marks .exit)) ⌝ }
 {
     let read = read_for(played, log, title);
     let next = read.played;
@@ -60,7 +60,7 @@ fn play(pool: u64, log: &[u8], title: u64, marks: &mut [u8]) -> PlayedLog
 
 // What a log answers of a title as it stands at the log's end.
 fn answer_of(place: usize, size: usize, t: Title) -> u8
-    ensures { λ r. ⌜ r ≡ answerOf place size t ⌝ }
+    ensures { λ r. ⌜ r ≡ followedAnswer place size t ⌝ }
 {
     let cap = t.film.cap;
     let kind = t.film.kind;

@@ -20,13 +20,13 @@ ghost use mathlib.Core.Path.{_≡_};
 ghost use lib.ListN.{length};
 ghost use Rattle.judging.specs.Record.{ticksMax};
 ghost use Rattle.airing.specs.Air.{
-  refusedWith,
+  refusedJudgement,
   airGives,
   airLeaves,
   ticksAnswer,
   ticksLeaves,
 };
-ghost use Rattle.airing.specs.inner.Steps.{firstAnswer};
+ghost use Rattle.airing.specs.inner.Steps.{rowsAnswer};
 
 // What the call gives back: how many admissions the record judges, how many of those were played through, and how many begin in
 // it but outlast it. Beside a refusal the counts are 0.
@@ -38,7 +38,7 @@ pub struct Judgement {
 }
 
 fn refused(answer: u8) -> Judgement
-    ensures { λ r. ⌜ r ≡ refusedWith answer ⌝ }
+    ensures { λ r. ⌜ r ≡ refusedJudgement answer ⌝ }
 {
     Judgement {
         answer: answer,
@@ -74,7 +74,7 @@ fn judge_log(
     marks: &mut [u8],
     row: &mut [u16],
 ) -> Judgement
-    requires { ⌜ firstAnswer pool title (now «record») (length (now row)) ≡ 0 ⌝ }
+    requires { ⌜ rowsAnswer pool title (now «record») (length (now row)) ≡ 0 ⌝ }
     requires { ⌜ ticksMax ≤ length (now marks) ⌝ }
     ensures { λ r. ⌜ (r ≡ airGives pool (now (log .entry)) title (now («record» .entry)) (length (now (row .entry))))
         × (now (row .exit) ≡ airLeaves pool (now (log .entry)) title (now («record» .entry)) (now (row .entry))) ⌝ }

@@ -17,7 +17,7 @@ ghost use Prim.Native.Nat.{_≤_};
 ghost use mathlib.Core.Path.{_≡_};
 ghost use Rattle.rules.specs.Limits.{countMax};
 ghost use Rattle.airing.specs.Air.{inLimits, hasRoom, allCells};
-ghost use Rattle.airing.specs.inner.Steps.{firstAnswer};
+ghost use Rattle.airing.specs.inner.Steps.{rowsAnswer};
 
 // Whether pool and title are within their limits.
 pub fn in_limits(pool: u64, title: u64) -> bool
@@ -39,7 +39,7 @@ fn has_room(record: &[u16], room: usize) -> bool
 
 // The refusals before the log is read, in their order.
 pub fn first_answer(pool: u64, title: u64, record: &[u16], room: usize) -> u8
-    ensures { λ r. ⌜ r ≡ firstAnswer pool title (now («record» .entry)) room ⌝ }
+    ensures { λ r. ⌜ r ≡ rowsAnswer pool title (now («record» .entry)) room ⌝ }
 {
     if in_limits(pool, title) {
         if has_room(record, room) {

@@ -16,7 +16,7 @@ use Rattle.text.specs.Output.{Page, puts}
 use Rattle.console_answers.specs.Faults.{faultText}
 use Rattle.text.proofs.Pages.{puts-append}
 use Rattle.console_acts.specs.Acts.{agentActed}
-use Rattle.console_desk.specs.Desk.{mayChange, actText, askText, newline, wholeText, afterWhole, lineText, afterLine, Left}
+use Rattle.console_desk.specs.Desk.{mayChange, actText, askText, lineEnd, wholeText, afterWhole, lineText, afterLine, Left}
 
 -- a line that is too long is read as such
 too-long : (s : List ℕ) → ltb longest (length s) ≡ true → (meaning s) .fault ≡ Commands.tooLong
@@ -41,7 +41,7 @@ module _ (g : Agent) (l : Line) (s : List ℕ) (p : Page) where
 
   module _ (something : l .command ≡ Commands.none → ⊥) (t : Bool) (e : t ≡ mayChange (l .command)) (after : Agent)
       (q r : Page) where
-    pub it-acts : t ≡ true → Leaves (agentActed g l s) p (actText g l s) after q → r ≡ puts q newline
+    pub it-acts : t ≡ true → Leaves (agentActed g l s) p (actText g l s) after q → r ≡ puts q lineEnd
         → Leaves (afterWhole g l s) p (wholeText g l s) after r
     unfolding afterWhole wholeText
     it-acts y d f =
@@ -50,7 +50,7 @@ module _ (g : Agent) (l : Line) (s : List ℕ) (p : Page) where
           written = rw (ne-eqb _ _ something, sym e ∙ y, puts-append, ← d .written) f;
         }
 
-    pub it-asks : t ≡ false → q ≡ puts p (askText (g .state) l s) → r ≡ puts q newline
+    pub it-asks : t ≡ false → q ≡ puts p (askText (g .state) l s) → r ≡ puts q lineEnd
         → Leaves (afterWhole g l s) p (wholeText g l s) g r
     unfolding afterWhole wholeText
     it-asks y d f =
@@ -67,7 +67,7 @@ module _ (g : Agent) (s : List ℕ) (l : Line) (is : l ≡ meaning s) (p : Page)
   it-is-whole h after q d = rw (← is, eq-eqb _ _ h) d
 
   pub it-is-faulty : (l .fault ≡ Commands.noFault → ⊥) → (q r : Page) → q ≡ puts p (faultText (l .fault) (l .place))
-      → r ≡ puts q newline
+      → r ≡ puts q lineEnd
       → Leaves (afterLine g s) p (lineText g s) g r
   unfolding afterLine lineText
   it-is-faulty h q r d f =

@@ -62,14 +62,14 @@ askText t l s =
     (pick (Commands.asksPlan (l .command)) (planIn l)
     (tellText l s))))))
 
-abbrev pub newline : List ℕ
-newline = 10 ∷ []
+abbrev pub lineEnd : List ℕ
+lineEnd = 10 ∷ []
 
 -- a line with nothing wrong: no answer to one that asks nothing, else one that ends in a newline
 unfoldable pub wholeText : Agent → Line → List ℕ → List ℕ
 wholeText g l s =
     pick (eqb (l .command) Commands.none) []
-    (pick (mayChange (l .command)) (actText g l s) (askText (g .state) l s) ++ newline)
+    (pick (mayChange (l .command)) (actText g l s) (askText (g .state) l s) ++ lineEnd)
 
 unfoldable pub afterWhole : Agent → Line → List ℕ → Agent
 afterWhole g l s = pick (mayChange (l .command)) (agentActed g l s) g
@@ -78,7 +78,7 @@ afterWhole g l s = pick (mayChange (l .command)) (agentActed g l s) g
 unfoldable pub lineText : Agent → List ℕ → List ℕ
 lineText g s =
     pick (eqb ((meaning s) .fault) Commands.noFault) (wholeText g (meaning s) s)
-    (faultText ((meaning s) .fault) ((meaning s) .place) ++ newline)
+    (faultText ((meaning s) .fault) ((meaning s) .place) ++ lineEnd)
 
 -- the agent after the line s: as it was after a line that cannot be read, and after a question
 unfoldable pub afterLine : Agent → List ℕ → Agent

@@ -5,7 +5,7 @@
 
 use agent::Agent;
 use console_lines::commands::PLACES_MOST;
-use console_lines::lines::LONGEST;
+use console_lines::lines::LONGEST_LINE;
 use streams::Filled;
 use streams::refill;
 use text::bytes;
@@ -134,7 +134,7 @@ fn keep(stand: Stand, buffer: &mut [u8], to: usize, out: &mut [u8]) -> Stand {
     }
     if to <= buffer.len() {
         if from <= to {
-            if LONGEST < to - from {
+            if LONGEST_LINE < to - from {
                 let passing = skip(take_line(session, &buffer[from..to], out));
                 return Stand {
                     session: passing,

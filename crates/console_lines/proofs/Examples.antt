@@ -27,7 +27,7 @@ use Rattle.console_lines.specs.declared.lines.Line.{Line}
 use Rattle.console_lines.specs.Lines.{
   blank,
   withFault,
-  ended,
+  lineEnded,
   goOn,
   withNumber,
   withKind,
@@ -46,7 +46,7 @@ told l = l .command ∷ l .fault ∷ l .place ∷ take (l .count) (l .numbers)
 
 unfoldable pub each : List String → List (List ℕ)
 unfolding told isSort run runEnd amount tooLarge text same commandTable commandOf nameOf seek verbOf leastOf mostOf enough takesHex takesKind asksPlan
-    limitOf crowded oversized blank withFault ended goOn withNumber withKind withHex wordAt withWord step withVerb begun
+    limitOf crowded oversized blank withFault lineEnded goOn withNumber withKind withHex wordAt withWord step withVerb begun
     readOn meaning
 each [] = []
 each (s ∷ rest) = told (meaning (text s)) ∷ each rest
@@ -118,6 +118,6 @@ meanings =
 -- the lines above, one after the other, mean what the list says
 pub shown : each lines ≡ meanings
 unfolding told each isSort run runEnd amount tooLarge text same commandTable commandOf nameOf seek verbOf leastOf mostOf enough takesHex takesKind asksPlan
-    limitOf crowded oversized blank withFault ended goOn withNumber withKind withHex wordAt withWord step withVerb begun
+    limitOf crowded oversized blank withFault lineEnded goOn withNumber withKind withHex wordAt withWord step withVerb begun
     readOn meaning
 shown = refl

@@ -19,7 +19,7 @@ use Rattle.console_lines.proofs.Rows.{most-few}
 use Rattle.console_lines.specs.declared.lines.Line.{Line}
 use Rattle.console_lines.specs.Lines.{
   withFault,
-  ended,
+  lineEnded,
   goOn,
   withNumber,
   withKind,
@@ -132,7 +132,7 @@ word-falls s l a =
     (λ k. number-falls s l a (runEnd Word s a) h)))
 
 step-falls : (s : List ℕ) (l : Line) → Falls l (step s l)
-unfolding step ended
+unfolding step lineEnded
 step-falls s l =
     pick-case (Falls l) (ltb (runEnd Separator s (l .place)) (length s)) _ _
     (λ t. word-falls s l (runEnd Separator s (l .place)))

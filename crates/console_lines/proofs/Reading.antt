@@ -33,7 +33,7 @@ use Rattle.console_lines.specs.Commands.{
 use Rattle.console_lines.specs.Lines.{
   blank,
   withFault,
-  ended,
+  lineEnded,
   goOn,
   withNumber,
   withKind,
@@ -145,7 +145,7 @@ module _ (s : List ℕ) (l : Line) (a : ℕ) (q : a ≡ runEnd Separator s (l .p
   unfolding step
   step-word h = rw (← q, lt-ltb _ _ h)
 
-  pub step-end : length s ≤ a → ended l a ≡ step s l
+  pub step-end : length s ≤ a → lineEnded l a ≡ step s l
   unfolding step
   step-end h = rw (← q, le-ltb _ _ h)
 

@@ -17,7 +17,7 @@ use Rattle.text.specs.Texts.{text, same}
 use Rattle.text.specs.Bytes.{run, runEnd}
 use Rattle.text.proofs.Runs.{run-end-high}
 use Rattle.console_lines.specs.declared.commands.Command.{Command}
-use Rattle.console_lines.specs.Commands.{nobody, commandTable, commandOf, nameOf, seek, verbOf, wordsMost}
+use Rattle.console_lines.specs.Commands.{noCommand, commandTable, commandOf, nameOf, seek, verbOf, wordsMost}
 
 -- how many commands there are
 abbrev pub commands : ℕ
@@ -73,7 +73,7 @@ inside i h = h
 pub sought-on : (w : List ℕ) (i found r : ℕ) → i < commands → found ≡ seek w (suc i) (drop (suc i) commandTable)
     → r ≡ pick (same w (nameOf (commandOf i))) i found → r ≡ seek w i (drop i commandTable)
 unfolding seek commandOf
-sought-on w i found r h e f = rw (drop-cons commandTable i nobody (inside i h), ← e) f
+sought-on w i found r h e f = rw (drop-cons commandTable i noCommand (inside i h), ← e) f
 
 -- the same from a place that is not the first back to the one before it, and at the first
 pub sought-back : (w : List ℕ) (left found r : ℕ) → 0 < left → left ≤ commands → found ≡ seek w left (drop left commandTable)

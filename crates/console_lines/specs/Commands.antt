@@ -134,46 +134,46 @@ free = any ∷ any ∷ any ∷ any ∷ any ∷ any ∷ any ∷ []
 -- a row: the word, with spaces behind it, and blank where no word alone names the command; the fewest words after it and the
 -- most; and by place the largest value of a number, where a larger one is an error of the line. Of a notice's fields (01,
 -- "Notices"), and of the places lent for a plan and for a planner's list
-abbrev pub row : String → ℕ → ℕ → List ℕ → Command
-row w least most limits = record { word = text w; least = least; most = most; limits = limits }
+abbrev pub commandRow : String → ℕ → ℕ → List ℕ → Command
+commandRow w least most limits = record { word = text w; least = least; most = most; limits = limits }
 
 -- a row for each command, by its number; the last are the kinds of a write
 unfoldable pub commandTable : List Command
 commandTable =
-    row "        " 0 0 free
-    ∷ row "fresh   " 1 1 free
-    ∷ row "open    " 6 6 free
-    ∷ row "change  " 3 3 free
-    ∷ row "close   " 2 2 free
-    ∷ row "hold    " 2 2 free
-    ∷ row "lift    " 2 2 free
-    ∷ row "skip    " 4 4 free
-    ∷ row "lane    " 3 3 free
-    ∷ row "status  " 1 (1 + idsMost) free
-    ∷ row "plan    " 4 5 (any ∷ any ∷ any ∷ any ∷ placesMost ∷ any ∷ any ∷ [])
-    ∷ row "share   " 1 wordsMost free
-    ∷ row "read    " 1 1 free
-    ∷ row "notice  " 1 1 free
-    ∷ row "romlane " 3 3 free
-    ∷ row "romplan " 4 5 (any ∷ any ∷ any ∷ any ∷ placesMost ∷ any ∷ any ∷ [])
-    ∷ row "planner " 2 (2 + titlesMost) (any ∷ roomMost ∷ any ∷ any ∷ any ∷ any ∷ any ∷ [])
-    ∷ row "skipplan" 2 3 (any ∷ any ∷ placesMost ∷ any ∷ any ∷ any ∷ any ∷ [])
-    ∷ row "write   " 2 2 (fourBytesMost ∷ any ∷ any ∷ any ∷ any ∷ any ∷ any ∷ [])
-    ∷ row "help    " 0 0 free
-    ∷ row "        " 7 7 (fourBytesMost ∷ byteMost ∷ top ∷ fourBytesMost ∷ byteMost ∷ byteMost ∷ byteMost ∷ [])
-    ∷ row "        " 4 4 (fourBytesMost ∷ byteMost ∷ top ∷ byteMost ∷ any ∷ any ∷ any ∷ [])
-    ∷ row "        " 3 3 (fourBytesMost ∷ byteMost ∷ top ∷ any ∷ any ∷ any ∷ any ∷ [])
-    ∷ row "        " 3 3 (fourBytesMost ∷ byteMost ∷ top ∷ any ∷ any ∷ any ∷ any ∷ [])
-    ∷ row "        " 3 3 (fourBytesMost ∷ byteMost ∷ top ∷ any ∷ any ∷ any ∷ any ∷ [])
-    ∷ row "        " 5 5 (fourBytesMost ∷ byteMost ∷ top ∷ fourBytesMost ∷ byteMost ∷ any ∷ any ∷ [])
+    commandRow "        " 0 0 free
+    ∷ commandRow "fresh   " 1 1 free
+    ∷ commandRow "open    " 6 6 free
+    ∷ commandRow "change  " 3 3 free
+    ∷ commandRow "close   " 2 2 free
+    ∷ commandRow "hold    " 2 2 free
+    ∷ commandRow "lift    " 2 2 free
+    ∷ commandRow "skip    " 4 4 free
+    ∷ commandRow "lane    " 3 3 free
+    ∷ commandRow "status  " 1 (1 + idsMost) free
+    ∷ commandRow "plan    " 4 5 (any ∷ any ∷ any ∷ any ∷ placesMost ∷ any ∷ any ∷ [])
+    ∷ commandRow "share   " 1 wordsMost free
+    ∷ commandRow "read    " 1 1 free
+    ∷ commandRow "notice  " 1 1 free
+    ∷ commandRow "romlane " 3 3 free
+    ∷ commandRow "romplan " 4 5 (any ∷ any ∷ any ∷ any ∷ placesMost ∷ any ∷ any ∷ [])
+    ∷ commandRow "planner " 2 (2 + titlesMost) (any ∷ roomMost ∷ any ∷ any ∷ any ∷ any ∷ any ∷ [])
+    ∷ commandRow "skipplan" 2 3 (any ∷ any ∷ placesMost ∷ any ∷ any ∷ any ∷ any ∷ [])
+    ∷ commandRow "write   " 2 2 (fourBytesMost ∷ any ∷ any ∷ any ∷ any ∷ any ∷ any ∷ [])
+    ∷ commandRow "help    " 0 0 free
+    ∷ commandRow "        " 7 7 (fourBytesMost ∷ byteMost ∷ top ∷ fourBytesMost ∷ byteMost ∷ byteMost ∷ byteMost ∷ [])
+    ∷ commandRow "        " 4 4 (fourBytesMost ∷ byteMost ∷ top ∷ byteMost ∷ any ∷ any ∷ any ∷ [])
+    ∷ commandRow "        " 3 3 (fourBytesMost ∷ byteMost ∷ top ∷ any ∷ any ∷ any ∷ any ∷ [])
+    ∷ commandRow "        " 3 3 (fourBytesMost ∷ byteMost ∷ top ∷ any ∷ any ∷ any ∷ any ∷ [])
+    ∷ commandRow "        " 3 3 (fourBytesMost ∷ byteMost ∷ top ∷ any ∷ any ∷ any ∷ any ∷ [])
+    ∷ commandRow "        " 5 5 (fourBytesMost ∷ byteMost ∷ top ∷ fourBytesMost ∷ byteMost ∷ any ∷ any ∷ [])
     ∷ []
 
 -- the row of a command; past the last, that of a line that asks nothing
-abbrev pub nobody : Command
-nobody = row "        " 0 0 free
+abbrev pub noCommand : Command
+noCommand = commandRow "        " 0 0 free
 
 unfoldable pub commandOf : ℕ → Command
-commandOf c = getD commandTable c nobody
+commandOf c = getD commandTable c noCommand
 
 -- the word of a row
 unfoldable pub nameOf : Command → List ℕ
@@ -227,8 +227,8 @@ unknownWord = 2
 abbrev pub tooFew : ℕ
 tooFew = 3
 
-abbrev pub tooMany : ℕ
-tooMany = 4
+abbrev pub tooManyNumbers : ℕ
+tooManyNumbers = 4
 
 abbrev pub notNumber : ℕ
 notNumber = 5
@@ -257,7 +257,7 @@ unread = 12
 
 -- the fault of a word too many, by command
 unfoldable pub crowded : ℕ → ℕ
-crowded c = pick (eqb c doStatus) tooManyIds (pick (eqb c doShare) tooManyTitles tooMany)
+crowded c = pick (eqb c doStatus) tooManyIds (pick (eqb c doShare) tooManyTitles tooManyNumbers)
 
 -- the fault of a number above its limit, by command
 unfoldable pub oversized : ℕ → ℕ

@@ -36,8 +36,8 @@ unfoldable pub withFault : Line → ℕ → ℕ → Line
 withFault l f p = record { command = l .command; fault = f; place = p; count = l .count; numbers = l .numbers }
 
 -- no word is left
-unfoldable pub ended : Line → ℕ → Line
-ended l p = withFault l (pick (Commands.enough (l .command) (l .count)) Commands.noFault Commands.tooFew) p
+unfoldable pub lineEnded : Line → ℕ → Line
+lineEnded l p = withFault l (pick (Commands.enough (l .command) (l .count)) Commands.noFault Commands.tooFew) p
 
 -- the next number of the command is v, and the reading goes on at e
 unfoldable pub goOn : Line → ℕ → ℕ → Line
@@ -100,7 +100,7 @@ withWord s l a =
 unfoldable pub step : List ℕ → Line → Line
 step s l =
     pick (ltb (runEnd Separator s (l .place)) (length s)) (withWord s l (runEnd Separator s (l .place)))
-    (ended l (runEnd Separator s (l .place)))
+    (lineEnded l (runEnd Separator s (l .place)))
 
 -- the first word, at a, is the command v
 unfoldable pub withVerb : ℕ → ℕ → ℕ → Line

@@ -10,7 +10,7 @@ ghost use lib.ListN.{length};
 ghost use Rattle.console_lines.specs.Lines.{
   blank,
   withFault,
-  ended,
+  lineEnded,
   withNumber,
   withKind,
   withHex,
@@ -23,7 +23,7 @@ ghost use Rattle.console_lines.specs.Lines.{
 };
 
 // No line is longer than this, its newline not counted.
-pub const LONGEST: usize = 4095;
+pub const LONGEST_LINE: usize = 4095;
 
 // Room for the numbers of a line; no command has so many.
 pub const NUMBERS_MOST: usize = 72;
@@ -62,7 +62,7 @@ fn faulted(line: Line, fault: u8, place: usize) -> Line
 
 // The line has no further word.
 fn end(line: Line, place: usize) -> Line
-    ensures { λ r. ⌜ r ≡ ended line place ⌝ }
+    ensures { λ r. ⌜ r ≡ lineEnded line place ⌝ }
 {
     if commands::enough(line.command, line.count) {
         return faulted(line, commands::NO_FAULT, place);
@@ -180,8 +180,8 @@ fn take_verb(v: u8, a: usize, e: usize) -> Line
 fn begin(s: &[u8]) -> Line
     ensures { λ r. ⌜ r ≡ begun (now (s .entry)) ⌝ }
 {
-    if LONGEST < s.len() {
-        return faulted(empty(), commands::TOO_LONG, LONGEST);
+    if LONGEST_LINE < s.len() {
+        return faulted(empty(), commands::TOO_LONG, LONGEST_LINE);
     }
     let a = bytes::run_end(s, 0, Sort::Separator);
     if a < s.len() {

@@ -10,7 +10,7 @@ ghost use Rattle.text.specs.Digits.{hexText};
 pub fn put_bytes(out: &mut [u8], at: usize, n: Notice) -> usize
     ensures { λ r. ⌜ Written (now (out .entry)) at (hexText (bytesOf n)) (now (out .exit)) r ⌝ }
 {
-    let mut room = [0u8; notice::LONGEST];
+    let mut room = [0u8; notice::LONGEST_NOTICE];
     notice::write(n, &mut room);
     let size = notice::size(n);
     digits::put_hex(out, at, &room[..size])

@@ -9,7 +9,7 @@ use lib.ListN.{length}
 use Rattle.rules.specs.Refusals.{pick, done}
 use Rattle.story.specs.declared.State.{State}
 use Rattle.story.specs.Calls.{statusAnswer, statusCount, statusHeld, statusMark}
-use Rattle.sharing.specs.Verdict.{Answered}
+use Rattle.sharing.specs.Verdict.{ShareAnswered}
 use Rattle.text.specs.Output.{Page, puts}
 use Rattle.console_answers.specs.Entries.{numbersText}
 use Rattle.console_answers.specs.Outcomes.{doneText}
@@ -41,7 +41,7 @@ module _ (p q r : Page) where
         (rw (rw (eq-eqb _ _ z) at ec, rw (eq-eqb _ _ z) at eh, rw (eq-eqb _ _ z) at em) at f))
 
   module _ (pool n : ℕ) (rates lengths floors caps row row' : List ℕ)
-      (e : Answered pool rates lengths floors caps row n row')
+      (e : ShareAnswered pool rates lengths floors caps row n row')
       (g : q ≡ puts p (doneText n 0)) where
     pub share-refused : (n ≡ done → ⊥) → q ≡ puts p (shareText pool rates lengths floors caps row)
     unfolding shareText

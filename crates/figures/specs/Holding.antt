@@ -10,18 +10,18 @@ use Rattle.story.specs.Calls.{freshNext, laneAnswer}
 use Rattle.story.specs.declared.Act.the-variants.{Changes}
 use Rattle.story.specs.Story.{opens, event}
 use Rattle.story.specs.Runs.{called}
-use Rattle.figures.specs.Times.{film}
+use Rattle.figures.specs.Times.{twoHours}
 
 -- opened with count k at 0, and changed to one lane less at the start of a tick
 unfoldable pub returnedAt : ℕ → ℕ → ℕ → State
 returnedAt A k drop =
-    called (called (freshNext k) (event 0 0 (opens film A k k)))
-    (record { time = drop * tickOf film A k; title = 0; act = Changes (k - 1) })
+    called (called (freshNext k) (event 0 0 (opens twoHours A k k)))
+    (record { time = drop * tickOf twoHours A k; title = 0; act = Changes (k - 1) })
 
 -- in how many of the first n ticks from the drop on the lane is held
 unfoldable pub heldOf : ℕ → ℕ → ℕ → ℕ → ℕ
 heldOf A k drop n =
-    howMany (λ i. eqb (laneAnswer (returnedAt A k drop) 0 (k - 1) ((drop + i) * tickOf film A k)) 0) n
+    howMany (λ i. eqb (laneAnswer (returnedAt A k drop) 0 (k - 1) ((drop + i) * tickOf twoHours A k)) 0) n
 
 -- no list is longer than a period, 2^(k-1) ticks
 abbrev pub heldTicks : ℕ → ℕ → ℕ → ℕ

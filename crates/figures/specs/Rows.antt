@@ -16,6 +16,6 @@ unfoldable pub agree : List ℕ → List ℕ → Bool
 agree a b = both (eqb (length a) (length b)) (agreeTo a b (length a))
 
 -- a row of n places holds the first values of f
-pub record Holds (f : ℕ → ℕ) (n : ℕ) (row : List ℕ) : Type 0 where
+pub record RowOf (f : ℕ → ℕ) (n : ℕ) (row : List ℕ) : Type 0 where
   pub size : length row ≡ n
   pub value : (i : ℕ) → i < n → getD row i 0 ≡ f i

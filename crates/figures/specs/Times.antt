@@ -5,8 +5,8 @@ use Rattle.rules.specs.Refusals.{pick}
 use Rattle.grid.specs.Ticks.{tickOf}
 
 -- 120 minutes in ms
-abbrev pub film : ℕ
-film = 7_200_000
+abbrev pub twoHours : ℕ
+twoHours = 7_200_000
 
 -- how many units of so many ms a time is, to the nearest, halves up
 abbrev pub roundTo : ℕ → ℕ → ℕ
@@ -16,5 +16,5 @@ roundTo unit ms = (ms + unit / 2) / unit
 -- segments, as with floor k and cap k
 unfoldable pub increaseOf : ℕ → ℕ → ℕ
 increaseOf floor count =
-    pick (ltb (tickOf film floor count) (tickOf film count count)) 0
-    (roundTo 1200 (tickOf film floor count - tickOf film count count))
+    pick (ltb (tickOf twoHours floor count) (tickOf twoHours count count)) 0
+    (roundTo 1200 (tickOf twoHours floor count - tickOf twoHours count count))

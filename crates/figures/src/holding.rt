@@ -14,7 +14,7 @@ ghost use Rattle.rules.specs.Refusals.{pick};
 ghost use Rattle.story.specs.Calls.{laneAnswer};
 ghost use Rattle.grid.specs.Bounds.{FloorCap, Exactly};
 ghost use Rattle.grid.specs.Ticks.{tickOf};
-ghost use Rattle.figures.specs.Times.{film, roundTo};
+ghost use Rattle.figures.specs.Times.{twoHours, roundTo};
 ghost use Rattle.figures.specs.Holding.{returnedAt, heldTicks, longestHeld, drops};
 
 // The state once the last of `count` lanes was given back at a tick.
@@ -84,7 +84,7 @@ fn longest_held(floor: u64, count: u64) -> u64
 // The same in tenths of a minute.
 pub fn holding_tenths(floor: u64, count: u64) -> u64
     requires { ⌜ FloorCap floor count ⌝ }
-    ensures { λ r. ⌜ r ≡ roundTo 6000 (longestHeld floor count (drops count) * tickOf film floor count) ⌝ }
+    ensures { λ r. ⌜ r ≡ roundTo 6000 (longestHeld floor count (drops count) * tickOf twoHours floor count) ⌝ }
 {
     (longest_held(floor, count) * slot_ms(floor, count) + 3000) / 6000
 }

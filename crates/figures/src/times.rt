@@ -6,14 +6,14 @@ ghost use mathlib.Core.Path.{_≡_};
 ghost use Rattle.rules.specs.Limits.{lengthMax};
 ghost use Rattle.grid.specs.Ticks.{tickOf};
 ghost use Rattle.grid.specs.Bounds.{FloorCap, Exactly};
-ghost use Rattle.figures.specs.Times.{film, roundTo, increaseOf};
+ghost use Rattle.figures.specs.Times.{twoHours, roundTo, increaseOf};
 
 pub const FILM: u64 = 7_200_000;
 
 // The slot, in ms: the longest wait.
 pub fn slot_ms(floor: u64, count: u64) -> u64
     requires { ⌜ FloorCap floor count ⌝ }
-    ensures { λ r. ⌜ Exactly (tickOf film floor count) 1 film r ⌝ }
+    ensures { λ r. ⌜ Exactly (tickOf twoHours floor count) 1 twoHours r ⌝ }
 {
     grid::tick(FILM, floor, count)
 }
@@ -29,7 +29,7 @@ pub fn longest_slot(floor: u64, count: u64) -> u64
 // The slot in hundredths of a second.
 pub fn slot_seconds(floor: u64, count: u64) -> u64
     requires { ⌜ FloorCap floor count ⌝ }
-    ensures { λ r. ⌜ r ≡ roundTo 10 (tickOf film floor count) ⌝ }
+    ensures { λ r. ⌜ r ≡ roundTo 10 (tickOf twoHours floor count) ⌝ }
 {
     (slot_ms(floor, count) + 5) / 10
 }
@@ -37,7 +37,7 @@ pub fn slot_seconds(floor: u64, count: u64) -> u64
 // The slot in tenths of a second.
 pub fn slot_tenths(floor: u64, count: u64) -> u64
     requires { ⌜ FloorCap floor count ⌝ }
-    ensures { λ r. ⌜ r ≡ roundTo 100 (tickOf film floor count) ⌝ }
+    ensures { λ r. ⌜ r ≡ roundTo 100 (tickOf twoHours floor count) ⌝ }
 {
     (slot_ms(floor, count) + 50) / 100
 }
@@ -45,7 +45,7 @@ pub fn slot_tenths(floor: u64, count: u64) -> u64
 // Half the slot, the average wait, in hundredths of a minute.
 pub fn average_wait(floor: u64, count: u64) -> u64
     requires { ⌜ FloorCap floor count ⌝ }
-    ensures { λ r. ⌜ r ≡ roundTo 1200 (tickOf film floor count) ⌝ }
+    ensures { λ r. ⌜ r ≡ roundTo 1200 (tickOf twoHours floor count) ⌝ }
 {
     (slot_ms(floor, count) + 600) / 1200
 }

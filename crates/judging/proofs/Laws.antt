@@ -17,7 +17,7 @@ use Rattle.rules.proofs.Search.{below-suc, howMany-le, howMany-hit, howMany-ste
 use Rattle.grid.specs.Ticks.{cells}
 use Rattle.story.specs.Life.{Life, isAdmission}
 use Rattle.judging.specs.Record.{ticksIn}
-use Rattle.judging.specs.Judged.{resultOf, isWhole, isJudged, isOutlasting, judgedIn, outlastingIn, resultsTo, resultsIn}
+use Rattle.judging.specs.Judged.{resultOf, isCovered, isJudged, isOutlasting, judgedIn, outlastingIn, resultsTo, resultsIn}
 
 module _ (L : Life) (r : List ℕ) where
   -- ---- the row
@@ -71,15 +71,15 @@ module _ (L : Life) (r : List ℕ) where
 
   -- ---- the order
 
-  pub whole-before : (a b : ℕ) → a ≤ b → isWhole L r b ≡ true → isWhole L r a ≡ true
-  unfolding isWhole
+  pub whole-before : (a b : ℕ) → a ≤ b → isCovered L r b ≡ true → isCovered L r a ≡ true
+  unfolding isCovered
   whole-before a b l h =
       let fits : b + cells (L .film .cap) ≤ ticksIn r = leb-true (b + cells (L .film .cap)) (ticksIn r) h in
       le-leb (a + cells (L .film .cap)) (ticksIn r) (omega arith)
 
   -- those that outlast the record come after all that are judged
   pub in-order : (a b : ℕ) → isJudged L r a ≡ true → isOutlasting L r b ≡ true → a < b
-  unfolding isJudged isOutlasting isWhole
+  unfolding isJudged isOutlasting isCovered
   in-order a b j o =
       let fits : a + cells (L .film .cap) ≤ ticksIn r = leb-true _ _ (both-r (isAdmission L a) _ j) in
       let lasts : ticksIn r < b + cells (L .film .cap) = leb-false _ _ (is-false _ (both-r (isAdmission L b) _ o)) in omega arith
@@ -93,7 +93,7 @@ module _ (L : Life) (r : List ℕ) where
   all-to : (n : ℕ) → howMany (isJudged L r) n + howMany (isOutlasting L r) n ≡ howMany (isAdmission L) n
   unfolding howMany isJudged isOutlasting
   all-to zero = refl
-  all-to (suc a) = omega (arith, all-to a, one (isAdmission L a) (isWhole L r a))
+  all-to (suc a) = omega (arith, all-to a, one (isAdmission L a) (isCovered L r a))
     where
       one : (x y : Bool) → pick (both x y) 1 0 + pick (both x (not y)) 1 0 ≡ pick x 1 0
       one true true = refl

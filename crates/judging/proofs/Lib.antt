@@ -5,4 +5,4 @@ pub mod Told
 pub mod Lives
 pub mod Laws
 pub mod Plays
-pub mod More
+pub mod MoreShown

@@ -18,9 +18,9 @@ use Rattle.story.specs.declared.Title.{Title}
 use Rattle.story.specs.Life.{Life, isFilm, isAdmission}
 use Rattle.judging.specs.declared.Counts.{Counts}
 use Rattle.judging.specs.Record.{nothingSeen, lowest, ticksIn, isInTime}
-use Rattle.judging.specs.Judged.{isMissed, resultOf, isWhole, isJudged, isOutlasting, isPlayed, resultsTo}
+use Rattle.judging.specs.Judged.{isMissed, resultOf, isCovered, isJudged, isOutlasting, isPlayed, resultsTo}
 use Rattle.judging.specs.Judge.{MarkedBy, Judges}
-use Rattle.judging.specs.inner.Walk.{isUnseen, Results, rowAfter, countsAfter, rowTo, countsTo, Tells}
+use Rattle.judging.specs.inner.Walk.{isUnseen, Results, resultPut, countsAfter, rowTo, countsTo, TellsResults}
 use Rattle.judging.proofs.Walked.{lowest-ext}
 use Rattle.judging.proofs.Told.{counts-same}
 
@@ -34,8 +34,8 @@ module _ (t : Title) (r marks : List ℕ) (L : Life) (M : MarkedBy t marks (tick
   admission-is a l = ap (λ x. eqb x 1) (M .mark a l) ∙ mark-read (isAdmission L a)
 
   module _ (m τ : ℕ) (cut : m ≡ 2 ^ t .film .cap) (timed : τ ≡ tickFor paddedKind (t .film .length) (t .film .floor) (t .film .cap)) where
-    whole-is : (a : ℕ) → leb (a + m) (ticksIn r) ≡ isWhole L r a
-    unfolding isWhole
+    whole-is : (a : ℕ) → leb (a + m) (ticksIn r) ≡ isCovered L r a
+    unfolding isCovered
     whole-is a = ap (λ k. leb (a + k) (ticksIn r)) (cut ∙ sym (ap (λ k. 2 ^ k) (M .same-cap)))
 
     film-is : (c : ℕ) → filmIn (t .film .length) τ c ≡ isFilm L c
@@ -65,7 +65,7 @@ module _ (t : Title) (r marks : List ℕ) (L : Life) (M : MarkedBy t marks (tick
       found-is : (a : ℕ) → a < ticksIn r → isJudged L r a ≡ true → getD found a 0 ≡ resultOf L r a
       unfolding isJudged
       found-is a l h =
-          R .result a (omega arith) (leb-true _ _ (whole-is a ∙ both-r (isAdmission L a) (isWhole L r a) h)) l ∙ result-is a
+          R .result a (omega arith) (leb-true _ _ (whole-is a ∙ both-r (isAdmission L a) (isCovered L r a) h)) l ∙ result-is a
 
       played-is : (a : ℕ) → a < ticksIn r →
           both (both (eqb (getD marks a 0) 1) (leb (a + m) (ticksIn r))) (eqb (getD found a 0) nothingSeen) ≡ isPlayed L r a
@@ -88,7 +88,7 @@ module _ (t : Title) (r marks : List ℕ) (L : Life) (M : MarkedBy t marks (tick
           (ap (λ b. howMany (isOutlasting L r) a + pick b 1 0) (outlast-is a (omega arith))))
 
       row-is : (row : List ℕ) (a : ℕ) → a ≤ ticksIn r → rowTo found marks m (ticksIn r) row a ≡ resultsTo L r row a
-      unfolding rowTo rowAfter resultsTo
+      unfolding rowTo resultPut resultsTo
       row-is row zero l = refl
       row-is row (suc a) l =
           rw (row-is row a (omega arith), counts-are a (omega arith), judged-is a (omega arith))
@@ -98,7 +98,7 @@ module _ (t : Title) (r marks : List ℕ) (L : Life) (M : MarkedBy t marks (tick
 -- what the two walks come to
 pub judges : (t : Title) (r marks row after : List ℕ) (w : Counts) (m τ : ℕ) (found : List ℕ) → m ≡ 2 ^ t .film .cap →
     τ ≡ tickFor paddedKind (t .film .length) (t .film .floor) (t .film .cap) → Results r m (t .film .length) τ 0 found →
-    Tells found marks m (ticksIn r) row after w → Judges t r marks row after w
+    TellsResults found marks m (ticksIn r) row after w → Judges t r marks row after w
 judges t r marks row after w m τ found cut timed R T =
     record {
       results = λ L M. T .left ∙ row-is t r marks L M m τ cut timed found R row (ticksIn r) (omega arith);

@@ -12,7 +12,7 @@ use Rattle.rules.specs.Limits.{both}
 use Rattle.rules.specs.Refusals.{pick}
 use Rattle.judging.specs.declared.Counts.{Counts}
 use Rattle.judging.specs.Record.{nothingSeen, ticksMax}
-use Rattle.judging.specs.inner.Walk.{OneMore, Few, rowAfter, countsAfter, rowTo, countsTo}
+use Rattle.judging.specs.inner.Walk.{OneMore, FewCounts, resultPut, countsAfter, rowTo, countsTo}
 
 pub counts-same : {a b c x y z : ℕ} → a ≡ x → b ≡ y → c ≡ z →
     _≡_ {A = Counts} (record { judged = a; played = b; outlast = c }) (record { judged = x; played = y; outlast = z })
@@ -24,7 +24,7 @@ module _ (x : ℕ) (w : Counts) (row : List ℕ) (one : ℕ) where
   pub one-judged : (admission whole : Bool) → both admission whole ≡ true → one ≡ pick (eqb x nothingSeen) 1 0 →
       OneMore x admission whole w row (set row (w .judged) x)
       (record { judged = w .judged + 1; played = w .played + one; outlast = w .outlast })
-  unfolding rowAfter countsAfter
+  unfolding resultPut countsAfter
   one-judged true true h e =
       record { left = refl; counts = counts-same refl (ap (λ n. w .played + n) e) (sym (add-zero (w .outlast))) }
   one-judged true false h e = absurd (false≢true h)
@@ -32,7 +32,7 @@ module _ (x : ℕ) (w : Counts) (row : List ℕ) (one : ℕ) where
 
   pub none-judged : (admission whole : Bool) → both admission whole ≡ false → one ≡ pick admission 1 0 →
       OneMore x admission whole w row row (record { judged = w .judged; played = w .played; outlast = w .outlast + one })
-  unfolding rowAfter countsAfter
+  unfolding resultPut countsAfter
   none-judged true true h e = absurd (false≢true (sym h))
   none-judged true false h e =
       record { left = refl; counts = counts-same (sym (add-zero (w .judged))) (sym (add-zero (w .played))) (ap (λ n. w .outlast + n) e) }
@@ -65,7 +65,7 @@ module _ (found marks : List ℕ) (m n : ℕ) where
 
   module _ (row : List ℕ) where
     pub row-length : (a : ℕ) → length (rowTo found marks m n row a) ≡ length row
-    unfolding rowTo rowAfter
+    unfolding rowTo resultPut
     row-length zero = refl
     row-length (suc a) =
         elim (both (eqb (getD marks a 0) 1) (leb (a + m) n)) as (λ b. length (pick b (set (rowTo found marks m n row a) (countsTo found marks m n a .judged) (getD found a 0)) (rowTo found marks m n row a)) ≡ length row)
@@ -73,7 +73,7 @@ module _ (found marks : List ℕ) (m n : ℕ) where
 
     -- there is room for one more
     pub room-left : (a : ℕ) (now : List ℕ) (w : Counts) → now ≡ rowTo found marks m n row a → w ≡ countsTo found marks m n a →
-        a < n → n ≤ length row → n ≤ ticksMax → Few w (length now)
+        a < n → n ≤ length row → n ≤ ticksMax → FewCounts w (length now)
     room-left a now w e f l room few =
         let c = counts-few a in
         let size : length now ≡ length row = ap length e ∙ row-length a in

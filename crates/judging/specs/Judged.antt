@@ -26,15 +26,15 @@ unfoldable pub resultOf : Life → List ℕ → ℕ → ℕ
 resultOf L r a = lowest (isMissed L r a) (cells (L .film .cap))
 
 -- the play ticks of a box that begins at tick a lie in the record
-unfoldable pub isWhole : Life → List ℕ → ℕ → Bool
-isWhole L r a = leb (a + cells (L .film .cap)) (ticksIn r)
+unfoldable pub isCovered : Life → List ℕ → ℕ → Bool
+isCovered L r a = leb (a + cells (L .film .cap)) (ticksIn r)
 
 -- an admission that is judged, and one that outlasts the record
 unfoldable pub isJudged : Life → List ℕ → ℕ → Bool
-isJudged L r a = both (isAdmission L a) (isWhole L r a)
+isJudged L r a = both (isAdmission L a) (isCovered L r a)
 
 unfoldable pub isOutlasting : Life → List ℕ → ℕ → Bool
-isOutlasting L r a = both (isAdmission L a) (not (isWhole L r a))
+isOutlasting L r a = both (isAdmission L a) (not (isCovered L r a))
 
 -- one that was played through
 unfoldable pub isPlayed : Life → List ℕ → ℕ → Bool

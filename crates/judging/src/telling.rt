@@ -9,11 +9,11 @@ ghost use Prim.Native.Nat.{_≤_, _<_};
 ghost use lib.ListN.{length};
 ghost use Rattle.rules.specs.Limits.{planPlaces};
 ghost use Rattle.judging.specs.Record.{ticksMax};
-ghost use Rattle.judging.specs.inner.Walk.{OneMore, Few, Tells};
+ghost use Rattle.judging.specs.inner.Walk.{OneMore, FewCounts, TellsResults};
 
 // One tick more: an admission that is judged has its result put in the next place.
 fn put(result: u16, admission: bool, whole: bool, counts: Counts, row: &mut [u16]) -> Counts
-    requires { ⌜ Few counts (length (now row)) ⌝ }
+    requires { ⌜ FewCounts counts (length (now row)) ⌝ }
     ensures { λ w. ⌜ OneMore result admission whole counts (now (row .entry)) (now (row .exit)) w ⌝ }
 {
     let judged = counts.judged;
@@ -38,7 +38,7 @@ fn put(result: u16, admission: bool, whole: bool, counts: Counts, row: &mut [u16
 pub fn tell(results: &[u16], marks: &[u8], cells: usize, ticks: usize, row: &mut [u16]) -> Counts
     requires { ⌜ (cells ≤ planPlaces) × (ticks ≤ ticksMax) ⌝ }
     requires { ⌜ (ticks ≤ length (now results)) × (ticks ≤ length (now marks)) × (ticks ≤ length (now row)) ⌝ }
-    ensures { λ w. ⌜ Tells (now (results .entry)) (now (marks .entry)) cells ticks (now (row .entry)) (now (row .exit)) w ⌝ }
+    ensures { λ w. ⌜ TellsResults (now (results .entry)) (now (marks .entry)) cells ticks (now (row .entry)) (now (row .exit)) w ⌝ }
 {
     let mut counts = Counts {
         judged: 0,

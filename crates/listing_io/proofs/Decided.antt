@@ -1,5 +1,5 @@
 -- A step on a buffer at a place that is decided is the step on the log: what is found is the same, counted further on.
--- Rests on the definitions alone; `notice` proofs/Seen says that the buffer has what the log has.
+-- Rests on the definitions alone; `notice` proofs/Windows says that the buffer has what the log has.
 use mathlib.Core.Path.{_≡_, refl}
 use mathlib.Core.List.{[]}
 use Prim.Native.Nat.{ℕ, _+_}

@@ -1,9 +1,9 @@
 -- What holds of the listing's steps.
 pub mod Stepping
-pub mod Short
-pub mod Onward
+pub mod LinesFit
+pub mod StepPlaces
 pub mod Decided
-pub mod Whole
-pub mod Ends
+pub mod WholeLog
+pub mod RunEnds
 pub mod Held
 pub mod Unique

@@ -14,8 +14,8 @@ use Rattle.agent.specs.declared.Agent.{Agent}
 use Rattle.agent.specs.Turns.{noticeAnswer, noticed}
 use Rattle.agent.specs.Played.{agentTold}
 use Rattle.text.specs.Output.{page, puts}
-use Rattle.listing_io.specs.declared.steps.Listed.{Listed}
-use Rattle.listing_io.specs.Lines.{lineOf, lastLine}
+use Rattle.listing_io.specs.declared.steps.ListedStep.{ListedStep}
+use Rattle.listing_io.specs.Lines.{listingLine, lastLine}
 use Rattle.listing_io.specs.Step.{heldAfter, noticeLine, cutLine, Lists}
 
 -- no byte more
@@ -29,7 +29,7 @@ module _ (g : Agent) (room after : List ℕ) (size : ℕ) where
   pub notice-step : (n : Notice) (e a k held : ℕ) (h : Agent)
       → (a ≡ noticeAnswer g (reading.Whole n)) × (h ≡ noticed g (reading.Whole n))
       → held ≡ heldAfter h a (n .time) → k ≡ kindOf (n .kind)
-      → page after size ≡ puts (page room 0) (lineOf (n .sequence) k (n .title) a held)
+      → page after size ≡ puts (page room 0) (listingLine (n .sequence) k (n .title) a held)
       → Lists g (found.At n e) e room (record { agent = h; place = e; size = size; more = true }) after
   unfolding agentTold noticeLine
   notice-step n e a k held h told lanes kind line =
@@ -53,12 +53,12 @@ module _ (g : Agent) (room after : List ℕ) (size : ℕ) where
       }
 
 -- a step of what is found is the step at its place
-pub found-step : (g : Agent) (f q : Found) (p : ℕ) (room after : List ℕ) (r : Listed) → q ≡ f
+pub found-step : (g : Agent) (f q : Found) (p : ℕ) (room after : List ℕ) (r : ListedStep) → q ≡ f
     → Lists g f p room r after → Lists g q p room r after
 found-step g f q p room after r is s = rw is s
 
 -- a notice's own step is that of any place where it is found
-pub notice-at : (g : Agent) (n : Notice) (e p : ℕ) (q : Found) (room after : List ℕ) (r : Listed) → q ≡ found.At n e
+pub notice-at : (g : Agent) (n : Notice) (e p : ℕ) (q : Found) (room after : List ℕ) (r : ListedStep) → q ≡ found.At n e
     → Lists g (found.At n e) e room r after → Lists g q p room r after
 notice-at g n e p q room after r is s =
     let h = s .hears in

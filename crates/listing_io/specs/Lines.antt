@@ -10,17 +10,17 @@ abbrev pub space : ℕ
 space = 32
 
 -- a number in decimal, and the byte that ends it
-unfoldable pub ended : ℕ → ℕ → List ℕ
-ended n b = decimal n ++ b ∷ []
+unfoldable pub numberThen : ℕ → ℕ → List ℕ
+numberThen n b = decimal n ++ b ∷ []
 
 -- the line of a notice
-unfoldable pub lineOf : (sequence kind title answer held : ℕ) → List ℕ
-lineOf sequence kind title answer held =
-    (((ended sequence space ++ ended kind space) ++ ended title space) ++ ended answer space) ++ ended held newline
+unfoldable pub listingLine : (sequence kind title answer held : ℕ) → List ℕ
+listingLine sequence kind title answer held =
+    (((numberThen sequence space ++ numberThen kind space) ++ numberThen title space) ++ numberThen answer space) ++ numberThen held newline
 
 -- a malformed or cut notice: no sequence, kind and title, 11, and the lanes held
 unfoldable pub lastLine : ℕ → List ℕ
-lastLine held = (text "- - - " ++ ended malformed space) ++ ended held newline
+lastLine held = (text "- - - " ++ numberThen malformed space) ++ numberThen held newline
 
 -- five numbers of 20 digits at most, and the byte that ends each: no line is longer
 abbrev pub lineRoom : ℕ

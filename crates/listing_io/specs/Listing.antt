@@ -11,7 +11,7 @@ use Rattle.notice.specs.Log.{placeTo, isNotice, noticesTo, noticesOf, isWholeLo
 use Rattle.notice.specs.Window.{isDecided, Seen}
 use Rattle.agent.specs.declared.Agent.{Agent}
 use Rattle.agent.specs.Played.{agentTold}
-use Rattle.listing_io.specs.declared.steps.Listed.{Listed}
+use Rattle.listing_io.specs.declared.steps.ListedStep.{ListedStep}
 use Rattle.listing_io.specs.declared.input.Printed.{Printed}
 use Rattle.listing_io.specs.declared.input.Shown.{Shown}
 use Rattle.listing_io.specs.Step.{noticeLine, cutLine, Shows}
@@ -29,14 +29,14 @@ listingOf g log =
 -- a run of steps over a log, each on whatever buffer sees the place where the one before went on: the agent, the place in the
 -- log, whether there is more, and all that was printed
 pub data Run (g : Agent) (log : List ℕ) : Agent → ℕ → Bool → List ℕ → Type 0 where
-  starts : Run g log g 0 true []
-  goes : {h : Agent} {place p : ℕ} {text buffer : List ℕ} {r : Shown}
+  nothing-listed : Run g log g 0 true []
+  step-listed : {h : Agent} {place p : ℕ} {text buffer : List ℕ} {r : Shown}
       → Run g log h place true text → (s : Seen log place buffer p) → Shows h (readAt buffer p) p r
       → Run g log (r .listed .agent) (length (s .before) + r .listed .place) (r .listed .more)
       (text ++ take (r .listed .size) (r .row))
 
 -- the agent of a listing is the agent after the notices up to its place, and it has ended only where no notice is found
-pub record UpTo (g : Agent) (log : List ℕ) (r : Listed) : Type 0 where
+pub record UpTo (g : Agent) (log : List ℕ) (r : ListedStep) : Type 0 where
   pub reads : ℕ
   pub place-is : r .place ≡ placeTo log reads
   pub agent-is : r .agent ≡ agentTold g (noticesTo log reads)

@@ -17,9 +17,9 @@ use Rattle.agent.specs.declared.Agent.{Agent}
 use Rattle.agent.specs.Turns.{noticeAnswer, noticed}
 use Rattle.agent.specs.Played.{agentTold}
 use Rattle.text.specs.Output.{page, puts}
-use Rattle.listing_io.specs.declared.steps.Listed.{Listed}
+use Rattle.listing_io.specs.declared.steps.ListedStep.{ListedStep}
 use Rattle.listing_io.specs.declared.input.Shown.{Shown}
-use Rattle.listing_io.specs.Lines.{lineOf, lastLine}
+use Rattle.listing_io.specs.Lines.{listingLine, lastLine}
 
 -- lanes held: at the notice's time, after a refusal at the last accepted event's time
 unfoldable pub heldAfter : Agent → ℕ → ℕ → ℕ
@@ -28,7 +28,7 @@ heldAfter g answer time = heldShown (g .state) (pick (eqb answer done) time (g .
 -- the line of a notice that an agent is told
 unfoldable pub noticeLine : Agent → Notice → List ℕ
 noticeLine g n =
-    lineOf (n .sequence) (kindOf (n .kind)) (n .title) (noticeAnswer g (reading.Whole n))
+    listingLine (n .sequence) (kindOf (n .kind)) (n .title) (noticeAnswer g (reading.Whole n))
     (heldAfter (noticed g (reading.Whole n)) (noticeAnswer g (reading.Whole n)) (n .time))
 
 -- the line where a log is malformed or cut
@@ -42,13 +42,13 @@ lineAfter g found.End = []
 lineAfter g found.Malformed = cutLine g
 
 -- what a step makes of what is found at a place: the agent, where it goes on, and whether, refused or not
-pub record Hears (g : Agent) (f : Found) (p : ℕ) (r : Listed) : Type 0 where
+pub record Hears (g : Agent) (f : Found) (p : ℕ) (r : ListedStep) : Type 0 where
   pub agent-is : r .agent ≡ agentTold g (withFound f [])
   pub place-is : r .place ≡ placeAfter f p
   pub more-is : r .more ≡ isNotice f
 
 -- with the line written at the start of a lent row
-pub record Lists (g : Agent) (f : Found) (p : ℕ) (room : List ℕ) (r : Listed) (after : List ℕ) : Type 0 where
+pub record Lists (g : Agent) (f : Found) (p : ℕ) (room : List ℕ) (r : ListedStep) (after : List ℕ) : Type 0 where
   pub hears : Hears g f p r
   pub line-is : page after (r .size) ≡ puts (page room 0) (lineAfter g f)
 

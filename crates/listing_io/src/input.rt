@@ -1,11 +1,11 @@
 // From standard input to standard output, for input of any length. What was read is kept in a buffer; a place of it is listed
 // once it is decided, so a notice may lie in two reads, and what is left moves to the buffer's front before the next read.
 // A read or a write that fails is said on standard error and ends the listing: nothing more is read, and no line more written.
-// No contract can say what is read and written: `drain` says the agent and the place that it leaves, and proofs/Whole that the
+// No contract can say what is read and written: `drain` says the agent and the place that it leaves, and proofs/WholeLog that the
 // lines of such steps are the log's listing.
 
 use super::lines::LINE_ROOM;
-use super::steps::Listed;
+use super::steps::ListedStep;
 use super::steps::list_at;
 use agent::Agent;
 use agent::fresh_agent;
@@ -31,13 +31,13 @@ struct Fed {
 
 // A step with its whole line.
 struct Shown {
-    listed: Listed,
+    listed: ListedStep,
     row: [u8; LINE_ROOM],
 }
 
 // A step, and whether its line was written.
 struct Printed {
-    listed: Listed,
+    listed: ListedStep,
     written: bool,
 }
 
@@ -72,7 +72,7 @@ fn show(agent: Agent, bytes: &[u8], place: usize) -> Printed
 fn drain(agent: Agent, bytes: &[u8], over: bool) -> Printed
     ensures { λ r. ⌜ Drained agent (now (bytes .entry)) over r ⌝ }
 {
-    let mut listed = Listed {
+    let mut listed = ListedStep {
         agent: agent,
         place: 0,
         size: 0,

@@ -6,7 +6,7 @@ use text::output::put;
 use text::output::put_byte;
 ghost use mathlib.Core.Path.{_≡_};
 ghost use Rattle.text.specs.Output.{page, puts};
-ghost use Rattle.listing_io.specs.Lines.{ended, lineOf, lastLine};
+ghost use Rattle.listing_io.specs.Lines.{numberThen, listingLine, lastLine};
 
 // Room for any line: five numbers of 20 digits at most, and the byte that ends each.
 pub const LINE_ROOM: usize = 105;
@@ -17,7 +17,7 @@ const NEWLINE: u8 = 10;
 
 // A number, and the byte that ends it.
 fn put_ended(out: &mut [u8], at: usize, n: u64, end: u8) -> usize
-    ensures { λ r. ⌜ page (now (out .exit)) r ≡ puts (page (now (out .entry)) at) (ended n end) ⌝ }
+    ensures { λ r. ⌜ page (now (out .exit)) r ≡ puts (page (now (out .entry)) at) (numberThen n end) ⌝ }
 {
     let a = put_number(out, at, n);
     put_byte(out, a, end)
@@ -25,7 +25,7 @@ fn put_ended(out: &mut [u8], at: usize, n: u64, end: u8) -> usize
 
 // The line of a notice: sequence, kind, title, answer and lanes held.
 pub fn put_line(out: &mut [u8], sequence: u32, kind: u8, title: u8, answer: u8, held: u64) -> usize
-    ensures { λ r. ⌜ page (now (out .exit)) r ≡ puts (page (now (out .entry)) 0) (lineOf sequence kind title answer held) ⌝ }
+    ensures { λ r. ⌜ page (now (out .exit)) r ≡ puts (page (now (out .entry)) 0) (listingLine sequence kind title answer held) ⌝ }
 {
     let a = put_ended(out, 0, sequence as u64, SPACE);
     let b = put_ended(out, a, kind as u64, SPACE);

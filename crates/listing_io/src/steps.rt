@@ -16,7 +16,7 @@ ghost use Rattle.notice.specs.Decode.{readAt};
 ghost use Rattle.listing_io.specs.Step.{heldAfter, Lists};
 
 // What a step gives back.
-pub struct Listed {
+pub struct ListedStep {
     pub agent: Agent,
     // where the listing goes on
     pub place: usize,
@@ -38,7 +38,7 @@ fn held_after(agent: Agent, answer: u8, time: u64) -> u64
 }
 
 // The step of a notice, after which the log goes on at a place.
-fn list_notice(agent: Agent, n: Notice, end: usize, out: &mut [u8]) -> Listed
+fn list_notice(agent: Agent, n: Notice, end: usize, out: &mut [u8]) -> ListedStep
     ensures { λ r. ⌜ Lists agent (found.At n end) end (now (out .entry)) r (now (out .exit)) ⌝ }
 {
     let followed = heed(agent, n);
@@ -47,7 +47,7 @@ fn list_notice(agent: Agent, n: Notice, end: usize, out: &mut [u8]) -> Listed
     let held = held_after(next, answer, n.time);
     let kind = n.kind;
     let size = put_line(out, n.sequence, kind_number(kind), n.title, answer, held);
-    Listed {
+    ListedStep {
         agent: next,
         place: end,
         size: size,
@@ -56,13 +56,13 @@ fn list_notice(agent: Agent, n: Notice, end: usize, out: &mut [u8]) -> Listed
 }
 
 // The step at a place of a log, which its reader reads once.
-pub fn list_at(agent: Agent, log: &[u8], place: usize, out: &mut [u8]) -> Listed
+pub fn list_at(agent: Agent, log: &[u8], place: usize, out: &mut [u8]) -> ListedStep
     ensures { λ r. ⌜ Lists agent (readAt (now (log .entry)) place) place (now (out .entry)) r (now (out .exit)) ⌝ }
 {
     let found = notice::next_in(log, place);
     match found {
         Found::At(n, end) => list_notice(agent, n, end, out),
-        Found::End => Listed {
+        Found::End => ListedStep {
             agent: agent,
             place: place,
             size: 0,
@@ -70,7 +70,7 @@ pub fn list_at(agent: Agent, log: &[u8], place: usize, out: &mut [u8]) -> Listed
         },
         Found::Malformed => {
             let size = put_last(out, held_after(agent, MALFORMED, 0));
-            Listed {
+            ListedStep {
                 agent: agent,
                 place: place,
                 size: size,

@@ -30,7 +30,7 @@ use Rattle.agent.proofs.Turns.{Turn}
 use Rattle.logs.specs.declared.PlayedLog.{PlayedLog}
 use Rattle.logs.specs.declared.ReadOn.{ReadOn}
 use Rattle.logs.specs.declared.OwnRead.{OwnRead}
-use Rattle.logs.specs.Reading.{playedOf, nothingRead, stepped, keptRead, readNext, heardOwn, ownRead, Steps, Meets}
+use Rattle.logs.specs.Reading.{playedOf, noneRead, stepped, keptRead, readNext, heardOwn, ownRead, PlayedStep, Meets}
 
 -- ---- one read, as the code meets its cases
 
@@ -41,11 +41,11 @@ module _ (log : List ℕ) (p : PlayedLog) where
   unfolding readNext stepped
   reads-notice n e a h is told = rw (is, told .0, told .1) refl
 
-  pub reads-end : (r : ReadOn) → readAt log (p .place) ≡ found.End → r ≡ nothingRead p → r ≡ readNext p (readAt log (p .place))
+  pub reads-end : (r : ReadOn) → readAt log (p .place) ≡ found.End → r ≡ noneRead p → r ≡ readNext p (readAt log (p .place))
   unfolding readNext
   reads-end r is e = rw is e
 
-  pub reads-none : (r : ReadOn) → readAt log (p .place) ≡ found.Malformed → r ≡ nothingRead p → r ≡ readNext p (readAt log (p .place))
+  pub reads-none : (r : ReadOn) → readAt log (p .place) ≡ found.Malformed → r ≡ noneRead p → r ≡ readNext p (readAt log (p .place))
   unfolding readNext
   reads-none r is e = rw is e
 
@@ -113,17 +113,17 @@ module _ {A : Type 0} (turn : ℕ → A → A) (p : PlayedLog) (x : A) (f : Foun
   kept-told found.End = refl
   kept-told found.Malformed = refl
 
-  told : (y : A) → y ≡ pick (r .played .more) (turn (r .answer) x) x → Steps hear p x f (r .played) y
+  told : (y : A) → y ≡ pick (r .played .more) (turn (r .answer) x) x → PlayedStep hear p x f (r .played) y
   told y e =
       record {
         played-is = ap (λ (q : ReadOn). q .played) is ∙ read-played p f;
         kept-is = e ∙ ap (λ (q : ReadOn). pick (q .played .more) (turn (q .answer) x) x) is ∙ kept-told f;
       }
 
-  pub steps-told : (y : A) → r .played .more ≡ true → y ≡ turn (r .answer) x → Steps hear p x f (r .played) y
+  pub steps-told : (y : A) → r .played .more ≡ true → y ≡ turn (r .answer) x → PlayedStep hear p x f (r .played) y
   steps-told y more e = told y (rw more e)
 
-  pub steps-nowhere : r .played .more ≡ false → Steps hear p x f (r .played) x
+  pub steps-nowhere : r .played .more ≡ false → PlayedStep hear p x f (r .played) x
   steps-nowhere none = told x (rw none refl)
 
 -- by the accepted events of one title
@@ -138,15 +138,15 @@ module _ {A : Type 0} (turn : Title → ℕ → A → A) (i : ℕ) (p : PlayedLo
   kept-own found.End = refl
   kept-own found.Malformed = refl
 
-  own : (y : A) → y ≡ pick (r .own) (turn (r .before) (r .time) x) x → Steps (heardOwn turn i) p x f (r .played) y
+  own : (y : A) → y ≡ pick (r .own) (turn (r .before) (r .time) x) x → PlayedStep (heardOwn turn i) p x f (r .played) y
   own y e =
       record {
         played-is = ap (λ (q : OwnRead). q .played) (met .is) ∙ read-played p f;
         kept-is = e ∙ ap (λ (q : OwnRead). pick (q .own) (turn (q .before) (q .time) x) x) (met .is) ∙ kept-own f;
       }
 
-  pub steps-own : (y : A) → r .own ≡ true → y ≡ turn (r .before) (r .time) x → Steps (heardOwn turn i) p x f (r .played) y
+  pub steps-own : (y : A) → r .own ≡ true → y ≡ turn (r .before) (r .time) x → PlayedStep (heardOwn turn i) p x f (r .played) y
   steps-own y mine e = own y (rw mine e)
 
-  pub steps-past : r .own ≡ false → Steps (heardOwn turn i) p x f (r .played) x
+  pub steps-past : r .own ≡ false → PlayedStep (heardOwn turn i) p x f (r .played) x
   steps-past other = own x (rw other refl)

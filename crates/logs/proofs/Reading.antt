@@ -13,14 +13,14 @@ use Rattle.notice.specs.declared.Found.{Found}
 use Rattle.notice.specs.declared.Found.the-variants as found
 use Rattle.notice.specs.Decode.{readAt, placeAfter}
 use Rattle.notice.specs.Log.{placeTo, isNotice, withFound, noticesTo}
-use Rattle.notice.proofs.Each.{false-true}
-use Rattle.notice.proofs.There.{inside}
-use Rattle.notice.proofs.Through.{all-read}
+use Rattle.notice.proofs.CaseSplits.{false-true}
+use Rattle.notice.proofs.NoticePlaces.{inside}
+use Rattle.notice.proofs.ReadThrough.{all-read}
 use Rattle.agent.specs.declared.Agent.{Agent}
 use Rattle.agent.specs.Turns.{freshAgent, noticed}
 use Rattle.agent.specs.Played.{agentTold}
 use Rattle.logs.specs.declared.PlayedLog.{PlayedLog}
-use Rattle.logs.specs.Reading.{playedOf, unplayed, keptTold, stepped, keptRead, Steps, Plays}
+use Rattle.logs.specs.Reading.{playedOf, unplayed, keptTold, stepped, keptRead, PlayedStep, Plays}
 
 module _ {A : Type 0} (hear : Agent → Notice → A → A) (pool : ℕ) (log : List ℕ) (x : A) where
   -- so many reads were played
@@ -64,7 +64,7 @@ module _ {A : Type 0} (hear : Agent → Notice → A → A) (pool : ℕ) (log : 
   one-read-more p y found.End is w = no-more p y found.End is refl w
   one-read-more p y found.Malformed is w = no-more p y found.Malformed is refl w
 
-  pub played-on : (p q : PlayedLog) (y z : A) → Steps hear p y (readAt log (p .place)) q z → PlayedTo p y → PlayedTo q z
+  pub played-on : (p q : PlayedLog) (y z : A) → PlayedStep hear p y (readAt log (p .place)) q z → PlayedTo p y → PlayedTo q z
   played-on p q y z s w = rw (s .played-is, s .kept-is) (one-read-more p y (readAt log (p .place)) refl w)
 
   -- once no notice is found all of the log is played

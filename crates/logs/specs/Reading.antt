@@ -46,7 +46,7 @@ keptRead hear g x (found.At n e) = hear g n x
 keptRead hear g x found.End = x
 keptRead hear g x found.Malformed = x
 
-pub record Steps {A : Type 0} (hear : Agent → Notice → A → A) (p : PlayedLog) (x : A) (f : Found) (q : PlayedLog) (y : A) : Type 0 where
+pub record PlayedStep {A : Type 0} (hear : Agent → Notice → A → A) (p : PlayedLog) (x : A) (f : Found) (q : PlayedLog) (y : A) : Type 0 where
   pub played-is : q ≡ stepped p f
   pub kept-is : y ≡ keptRead hear (p .agent) x f
 
@@ -57,15 +57,15 @@ pub record Plays {A : Type 0} (hear : Agent → Notice → A → A) (pool : ℕ)
   pub kept-is : y ≡ keptTold hear (freshAgent pool) x (noticesOf log)
 
 -- what is answered, and of a notice its title and its time; what is no notice is malformed
-abbrev pub nothingRead : PlayedLog → ReadOn
-nothingRead p = record { played = playedOf (p .agent) (p .place) false; answer = malformed; title = 0; time = 0 }
+abbrev pub noneRead : PlayedLog → ReadOn
+noneRead p = record { played = playedOf (p .agent) (p .place) false; answer = malformed; title = 0; time = 0 }
 
 unfoldable pub readNext : PlayedLog → Found → ReadOn
 readNext p (found.At n e) =
     record
     { played = stepped p (found.At n e); answer = noticeAnswer (p .agent) (reading.Whole n); title = n .title; time = n .time }
-readNext p found.End = nothingRead p
-readNext p found.Malformed = nothingRead p
+readNext p found.End = noneRead p
+readNext p found.Malformed = noneRead p
 
 -- ---- what is kept of one title
 

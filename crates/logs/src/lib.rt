@@ -15,7 +15,7 @@ ghost use Prim.Native.Nat.{_≤_};
 ghost use mathlib.Core.Path.{_≡_};
 ghost use Rattle.rules.specs.Limits.{idMax};
 ghost use Rattle.notice.specs.Decode.{readAt};
-ghost use Rattle.logs.specs.Reading.{unplayed, nothingRead, readNext, Meets};
+ghost use Rattle.logs.specs.Reading.{unplayed, noneRead, readNext, Meets};
 
 // A log as far as it was played into an agent: the place of the next notice, and whether one may follow.
 pub struct PlayedLog {
@@ -55,7 +55,7 @@ pub fn not_begun(pool: u64) -> PlayedLog
 
 // No notice is there, which is answered as malformed.
 fn nothing_read(played: PlayedLog) -> ReadOn
-    ensures { λ r. ⌜ r ≡ nothingRead played ⌝ }
+    ensures { λ r. ⌜ r ≡ noneRead played ⌝ }
 {
     let mut still = played;
     still.more = false;

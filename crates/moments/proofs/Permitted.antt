@@ -18,7 +18,7 @@ use Rattle.grid.proofs.Numbers.{mod-unique, ne-zero-pos}
 use Rattle.grid.proofs.Ticks.{slot-ms}
 use Rattle.scheme.specs.Scheme.{steadyKind, schemeOf, starts}
 use Rattle.scheme.proofs.Clock.{tick-pos, tick-high}
-use Rattle.scheme.proofs.Both.{lawful}
+use Rattle.scheme.proofs.LawfulKinds.{lawful}
 use Rattle.story.specs.declared.Title.{Title}
 use Rattle.story.specs.Kept.{schemeIn, titleTick, tickAt, atTickStart, settledAt}
 use Rattle.story.specs.Calls.{atSlotStart}

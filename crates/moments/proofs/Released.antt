@@ -18,7 +18,7 @@ use Rattle.story.specs.declared.Title.{Title}
 use Rattle.story.specs.declared.State.{State}
 use Rattle.story.specs.Kept.{absentMode, titleTick, titleAt, tickAt, ruling, keptHeld, titleHeld, lanesHeld}
 use Rattle.story.specs.Calls.{tooMany}
-use Rattle.moments.specs.inner.Steps.{Timed, AllTimed, releaseOf, soonerOf, lanesRelease, titleRelease, releaseIn}
+use Rattle.moments.specs.inner.Steps.{Timed, AllTimed, releaseMoment, soonerOf, lanesRelease, titleRelease, releaseIn}
 use Rattle.moments.specs.inner.Steps.{Frees}
 
 -- r is no later than a, comes after τ where a does, and where b does it is no later than b
@@ -40,19 +40,19 @@ module _ (t : Title) (τ a : ℕ) where
   unfolding lanesRelease
   lanes-first zero = omega arith
   lanes-first (suc n) =
-      let s = sooner-of τ (lanesRelease t τ a n) (releaseOf t n) in
+      let s = sooner-of τ (lanesRelease t τ a n) (releaseMoment t n) in
       omega (arith, s .first, lanes-first n)
 
   lanes-low : (n : ℕ) → τ < a → τ < lanesRelease t τ a n
   unfolding lanesRelease
   lanes-low zero l = l
-  lanes-low (suc n) l = sooner-of τ (lanesRelease t τ a n) (releaseOf t n) .low (lanes-low n l)
+  lanes-low (suc n) l = sooner-of τ (lanesRelease t τ a n) (releaseMoment t n) .low (lanes-low n l)
 
-  lanes-each : (n l : ℕ) → l < n → τ < releaseOf t l → lanesRelease t τ a n ≤ releaseOf t l
+  lanes-each : (n l : ℕ) → l < n → τ < releaseMoment t l → lanesRelease t τ a n ≤ releaseMoment t l
   unfolding lanesRelease
   lanes-each zero l b h = absurd (omega arith)
   lanes-each (suc n) l b h =
-      let s = sooner-of τ (lanesRelease t τ a n) (releaseOf t n) in
+      let s = sooner-of τ (lanesRelease t τ a n) (releaseMoment t n) in
       ⊎-elim (λ below. omega (arith, s .first, lanes-each n l below h))
       (λ e. rw e (s .second (rw e at h)))
       (Search.below-suc l n b)
@@ -75,7 +75,7 @@ module _ (t : Title) (τ a : ℕ) where
       go true = l
       go false = lanes-low t τ a (t .film .cap) l
 
-  title-each : (t .mode ≡ absentMode → ⊥) → (l : ℕ) → l < t .film .cap → τ < releaseOf t l → titleRelease t τ a ≤ releaseOf t l
+  title-each : (t .mode ≡ absentMode → ⊥) → (l : ℕ) → l < t .film .cap → τ < releaseMoment t l → titleRelease t τ a ≤ releaseMoment t l
   unfolding titleRelease
   title-each there l b h = rw (ne-eqb (t .mode) absentMode there) (lanes-each t τ a (t .film .cap) l b h)
 
@@ -91,7 +91,7 @@ module _ (s : State) (τ : ℕ) where
   release-low (suc n) l = title-low (titleAt s n) τ (releaseIn s τ n) (release-low n l)
 
   release-each : (n i : ℕ) → i < n → (titleAt s i .mode ≡ absentMode → ⊥) → (l : ℕ) → l < titleAt s i .film .cap →
-      τ < releaseOf (titleAt s i) l → releaseIn s τ n ≤ releaseOf (titleAt s i) l
+      τ < releaseMoment (titleAt s i) l → releaseIn s τ n ≤ releaseMoment (titleAt s i) l
   unfolding releaseIn
   release-each zero i b there l c h = absurd (omega arith)
   release-each (suc n) i b there l c h =
@@ -115,9 +115,9 @@ still-sends B p τ υ n pos early h until =
     omega arith
 
 module _ (t : Title) (timed : Timed t) (τ υ : ℕ) (early : τ ≤ eventTimeMax) where
-  lane-steady : (l : ℕ) → (τ < releaseOf t l → υ < releaseOf t l) → keptHeld t l (tickAt t τ) ≡ true →
+  lane-steady : (l : ℕ) → (τ < releaseMoment t l → υ < releaseMoment t l) → keptHeld t l (tickAt t τ) ≡ true →
       keptHeld t l (tickAt t υ) ≡ true
-  unfolding keptHeld tickAt releaseOf
+  unfolding keptHeld tickAt releaseMoment
   lane-steady l until h =
       let n : ℕ = getD (t .dropped) l 0 + getD (t .owed) l 0 in
       let p : ℕ = titleTick t in

@@ -15,7 +15,7 @@ ghost use lib.Dec.{leb};
 ghost use Rattle.rules.specs.Limits.{both, countMax, lengthMax, eventTimeMax, titlesMax};
 ghost use Rattle.story.specs.Kept.{absentMode, titleTick};
 ghost use Rattle.story.specs.Calls.{tooMany};
-ghost use Rattle.moments.specs.inner.Steps.{Timed, AllTimed, releaseOf, soonerOf, lanesRelease, titleRelease};
+ghost use Rattle.moments.specs.inner.Steps.{Timed, AllTimed, releaseMoment, soonerOf, lanesRelease, titleRelease};
 ghost use Rattle.moments.specs.inner.Steps.{releaseIn, Frees};
 
 // The sooner of two moments, where the second lies after a time.
@@ -32,7 +32,7 @@ fn sooner(time: u64, a: u64, b: u64) -> u64
 fn release_of(t: Title, tick: u64, lane: u64) -> u64
     requires { ⌜ Timed t ⌝ }
     requires { ⌜ (lane < countMax) × ((tick ≡ titleTick t) × (tick ≤ lengthMax)) ⌝ }
-    ensures { λ r. ⌜ r ≡ releaseOf t lane ⌝ }
+    ensures { λ r. ⌜ r ≡ releaseMoment t lane ⌝ }
 {
     let from = t.dropped[lane as usize];
     let owed = t.owed[lane as usize];

@@ -24,7 +24,7 @@ use Rattle.notice.specs.Decode.{readAt, further, readOf}
 use Rattle.rules.proofs.Tests.{both-l}
 use Rattle.notice_fields.proofs.Table.{value-inside}
 use Rattle.notice.proofs.Made.{Shows, notice-back, kind-same, values-same}
-use Rattle.notice.proofs.There.{there, inside}
+use Rattle.notice.proofs.NoticePlaces.{there, inside}
 
 -- the m bytes from p on in bs are those from q on in cs
 abbrev pub Agree : List ℕ → ℕ → List ℕ → ℕ → ℕ → Type 0

@@ -3,7 +3,7 @@ pub mod Alike
 pub mod Answers
 pub mod Bytes
 pub mod Cases
-pub mod Each
+pub mod CaseSplits
 pub mod Has
 pub mod Held
 pub mod Made
@@ -11,10 +11,10 @@ pub mod Part
 pub mod ReadBack
 pub mod Refused
 pub mod RoundTrip
-pub mod Seen
+pub mod Windows
 pub mod Table
-pub mod There
-pub mod Through
+pub mod NoticePlaces
+pub mod ReadThrough
 pub mod Typed
 pub mod Unique
 pub mod Worked

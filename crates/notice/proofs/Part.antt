@@ -16,7 +16,7 @@ use Rattle.notice.specs.Decode.{kindAt, readAt, placeAfter, further}
 use Rattle.notice_fields.proofs.Each.{by-order, same-order}
 use Rattle.notice_fields.proofs.Table.{longest-kind}
 use Rattle.notice.proofs.Cases.{at-end}
-use Rattle.notice.proofs.There.{there, inside}
+use Rattle.notice.proofs.NoticePlaces.{there, inside}
 use Rattle.notice.proofs.Alike.{found-alike}
 
 module _ (before bs : List ℕ) (p : ℕ) where

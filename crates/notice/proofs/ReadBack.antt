@@ -24,7 +24,7 @@ use Rattle.notice.specs.Log.{Bytes}
 use Rattle.rules.proofs.Tests.{both-l, both-r}
 use Rattle.notice_bytes.proofs.Whole.{stood}
 use Rattle.notice.proofs.Made.{Shows, kind-same, values-same}
-use Rattle.notice.proofs.There.{there}
+use Rattle.notice.proofs.NoticePlaces.{there}
 use Rattle.notice.proofs.Alike.{by-itself}
 use Rattle.notice_fields.proofs.Digits.{length-big}
 use Rattle.notice_bytes.proofs.Laid.{length-bytes}

@@ -64,7 +64,7 @@ pub const LIFT: u8 = 5;
 pub const SKIP: u8 = 6;
 
 // The bytes of the longest notice, an open.
-pub const LONGEST: usize = notice_fields::fields::LONGEST;
+pub const LONGEST_NOTICE: usize = notice_fields::fields::LONGEST;
 
 pub fn kind_number(kind: Kind) -> u8
     ensures { λ r. ⌜ r ≡ kindOf kind ⌝ }

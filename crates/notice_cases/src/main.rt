@@ -339,7 +339,7 @@ fn changed(at: usize, to: u8)
 fn survives(n: Notice) -> Reading
     ensures { λ r. ⌜ r ≡ Reading.Whole n ⌝ }
 {
-    let mut room = [0u8; notice::LONGEST];
+    let mut room = [0u8; notice::LONGEST_NOTICE];
     let size = notice::size(n);
     notice::write(n, &mut room);
     notice::read(&room[..size])

@@ -14,7 +14,7 @@ use Rattle.rules.specs.Limits.{both}
 use Rattle.rules.specs.Refusals.{pick}
 use Rattle.rules.proofs.Tests.{both-l, both-r}
 use Rattle.notice_fields.specs.declared.fields.Field.{Field}
-use Rattle.notice_fields.specs.Fields.{lastKind, table, rows, row, fieldOf, isCarried, isKnown, spanOf, startOf, lengthOf}
+use Rattle.notice_fields.specs.Fields.{lastKind, table, rows, fieldRow, fieldOf, isCarried, isKnown, spanOf, startOf, lengthOf}
 use Rattle.notice_fields.specs.Fields.{openKind, changeKind, closeKind, holdKind, liftKind, skipKind, longestNotice}
 use Rattle.notice_fields.proofs.Each.{by-order, each, false-true}
 
@@ -24,7 +24,7 @@ every t [] = true
 every t (x ∷ xs) = both (t x) (every t xs)
 
 at : (t : Field → Bool) (xs : List Field) → every t xs ≡ true → (i : ℕ) → i < length xs
-    → t (getD xs i (row 0 0 0)) ≡ true
+    → t (getD xs i (fieldRow 0 0 0)) ≡ true
 unfolding every
 at t [] e i h = absurd (not-suc-le-zero h)
 at t (x ∷ xs) e zero h = both-l _ _ e

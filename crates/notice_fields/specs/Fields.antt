@@ -32,8 +32,8 @@ abbrev pub lastKind : ℕ
 lastKind = skipKind
 
 -- one row: the tag, the bytes of its value, and the sum of 2 ^ k over the kinds k that carry it
-abbrev pub row : ℕ → ℕ → ℕ → Field
-row t s ks = record { tag = t; size = s; kinds = ks }
+abbrev pub fieldRow : ℕ → ℕ → ℕ → Field
+fieldRow t s ks = record { tag = t; size = s; kinds = ks }
 
 abbrev pub allKinds : ℕ
 allKinds = 2 ^ openKind + 2 ^ changeKind + 2 ^ closeKind + 2 ^ holdKind + 2 ^ liftKind + 2 ^ skipKind
@@ -41,14 +41,14 @@ allKinds = 2 ^ openKind + 2 ^ changeKind + 2 ^ closeKind + 2 ^ holdKind + 2 ^ li
 -- kind, sequence, title id, time, length, floor, cap, count
 unfoldable pub table : List Field
 table =
-    row 1 1 allKinds
-    ∷ row 2 4 allKinds
-    ∷ row 3 1 allKinds
-    ∷ row 4 8 allKinds
-    ∷ row 5 4 (2 ^ openKind + 2 ^ skipKind)
-    ∷ row 6 1 (2 ^ openKind)
-    ∷ row 7 1 (2 ^ openKind)
-    ∷ row 8 1 (2 ^ openKind + 2 ^ changeKind + 2 ^ skipKind)
+    fieldRow 1 1 allKinds
+    ∷ fieldRow 2 4 allKinds
+    ∷ fieldRow 3 1 allKinds
+    ∷ fieldRow 4 8 allKinds
+    ∷ fieldRow 5 4 (2 ^ openKind + 2 ^ skipKind)
+    ∷ fieldRow 6 1 (2 ^ openKind)
+    ∷ fieldRow 7 1 (2 ^ openKind)
+    ∷ fieldRow 8 1 (2 ^ openKind + 2 ^ changeKind + 2 ^ skipKind)
     ∷ []
 
 -- the rows by what they hold, the first being the kind
@@ -81,7 +81,7 @@ abbrev pub rows : ℕ
 rows = 8
 
 abbrev pub fieldOf : ℕ → Field
-fieldOf i = getD table i (row 0 0 0)
+fieldOf i = getD table i (fieldRow 0 0 0)
 
 abbrev pub tagOf : ℕ → ℕ
 tagOf i = fieldOf i .tag

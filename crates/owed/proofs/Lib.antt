@@ -1,6 +1,6 @@
 -- Laws of titles that are changed and closed, and of what their boxes want.
 pub mod Fixed
-mod Wanted
+mod OneChannel
 mod OnLanes
 pub mod Shown
 pub mod Nth

@@ -13,7 +13,7 @@ use Rattle.rules.proofs.Tests.{both-l, both-r, both-true}
 use Rattle.grid.proofs.Carriers.{some-one}
 use Rattle.scheme.specs.Scheme.{steadyKind, steadyCell, period}
 use Rattle.scheme.proofs.SteadyLanes.{one-lane}
-use Rattle.scheme.proofs.Which.{steady-scheme}
+use Rattle.scheme.proofs.ByKind.{steady-scheme}
 use Rattle.story.specs.declared.Title.{Title}
 use Rattle.story.specs.Kept.{schemeIn, wantsFrom, wants, keptAwaited}
 

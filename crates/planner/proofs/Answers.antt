@@ -16,7 +16,7 @@ use Rattle.story.specs.Kept.{stateOk}
 use Rattle.wishes.specs.Wishes.{ratesOk, floorsOf, sharedPool, wishes}
 use Rattle.planner.specs.Moves.{Move, fallsPast}
 use Rattle.planner.specs.Outcome.{moves, plannerAnswer, given, roomOf, rowFrom, Answered}
-use Rattle.planner.specs.inner.Steps.{numbersOk, standingRules, standingAnswer}
+use Rattle.planner.specs.inner.Steps.{questionOk, standingList, standingAnswer}
 
 -- what a question has that is not refused before its wishes
 pub record Stands (s : State) (τ : ℕ) (rates : List ℕ) : Type 0 where
@@ -27,20 +27,20 @@ pub record Stands (s : State) (τ : ℕ) (rates : List ℕ) : Type 0 where
 
 module _ (s : State) (τ : ℕ) (rates : List ℕ) where
   -- of the numbers within their limits, the state's
-  pub numbers-state : numbersOk s τ rates ≡ true → stateOk s ≡ true
-  unfolding numbersOk
+  pub numbers-state : questionOk s τ rates ≡ true → stateOk s ≡ true
+  unfolding questionOk
   numbers-state ok = both-l (stateOk s) (both (leb τ eventTimeMax) (ratesOk rates)) ok
 
   pub stands : standingAnswer s τ rates ≡ 0 → Stands s τ rates
-  unfolding standingAnswer numbersOk hitsOf numbered
+  unfolding standingAnswer questionOk hitsOf numbered
   stands none =
-      let ok : numbersOk s τ rates ≡ true =
-      not-false (numbersOk s τ rates) (cleared (standingRules s τ rates) refl none outsideLimits) in
+      let ok : questionOk s τ rates ≡ true =
+      not-false (questionOk s τ rates) (cleared (standingList s τ rates) refl none outsideLimits) in
       record {
         state = numbers-state ok;
         time = leb-true τ eventTimeMax (search (both-l, both-r));
         rated = search (both-l, both-r);
-        floors = ltb-false (sharedPool s) (floorsOf s) (cleared (standingRules s τ rates) refl none noLanes);
+        floors = ltb-false (sharedPool s) (floorsOf s) (cleared (standingList s τ rates) refl none noLanes);
       }
 
   -- the rules behind: 10 18
@@ -53,8 +53,8 @@ module _ (s : State) (τ : ℕ) (rates : List ℕ) where
   in-two : (room : ℕ) →
       plannerAnswer s τ rates room
       ≡ pick (eqb (standingAnswer s τ rates) 0) (firstHit (rowsRules room)) (standingAnswer s τ rates)
-  unfolding plannerAnswer standingAnswer numbersOk numbered
-  in-two room = hit-append (standingRules s τ rates) (rowsRules room) refl
+  unfolding plannerAnswer standingAnswer questionOk numbered
+  in-two room = hit-append (standingList s τ rates) (rowsRules room) refl
 
   pub refused-before : (room : ℕ) → (standingAnswer s τ rates ≡ 0 → ⊥) → plannerAnswer s τ rates room ≡ standingAnswer s τ rates
   refused-before room some = rw (ne-eqb (standingAnswer s τ rates) 0 some) at (in-two room)

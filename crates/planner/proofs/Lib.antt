@@ -6,10 +6,10 @@ pub mod Running
 pub mod Lists
 pub mod Unique
 pub mod Accepted
-pub mod Sometime
-pub mod Underway
+pub mod DueChanges
+pub mod WishesLeft
 pub mod Passed
-pub mod Fares
+pub mod Carried
 pub mod Goals
 pub mod Started
 pub mod Promise

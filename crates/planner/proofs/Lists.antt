@@ -16,14 +16,14 @@ use Rattle.wishes.proofs.Wished.{Each, Wished}
 use Rattle.planner.specs.declared.times.Times.{Times}
 use Rattle.planner.specs.Moves.{Move, listed, fallsPast}
 use Rattle.planner.specs.Outcome.{moves, roomOf, rowFrom, Answered}
-use Rattle.planner.specs.inner.Steps.{standingAnswer, AllFit, lastMoment, firstOf, Timed}
+use Rattle.planner.specs.inner.Steps.{standingAnswer, WishesFit, lastMoment, firstOf, ListTimed}
 use Rattle.planner.proofs.Steps.{falls-last, listed-length, listed-titles, listed-counts, wishes-length, wishes-titles}
 use Rattle.planner.proofs.Steps.{wishes-counts, each-at}
 use Rattle.planner.proofs.Answers.{stands, no-room, past-clock, all-listed, refused-answered, listed-answered}
 
 module _ (s : State) (rates : List ℕ) (w : Wishes) (is-wished : wishesIn w ≡ wishes s rates) where
   -- the wishes of a sharing fit the state
-  pub all-fit : Each (Wished s rates) (wishes s rates) → AllFit s w
+  pub all-fit : Each (Wished s rates) (wishes s rates) → WishesFit s w
   all-fit all j below =
       let x = each-at (Wished s rates) (w .titles) (w .counts) (w .many) j (rw is-wished all) below in
       record { an-id = omega (arith, x .an-id); is-open = x .is-open; low = x .low; high = x .high }
@@ -66,7 +66,7 @@ module _ (s : State) (rates : List ℕ) (w : Wishes) (is-wished : wishesIn w ≡
           z
           (λ x. omega arith)
 
-      module _ (t : Times) (timed : Timed s τ w t) (fit : w .many ≤ roomOf is ts ks) where
+      module _ (t : Times) (timed : ListTimed s τ w t) (fit : w .many ≤ roomOf is ts ks) where
         falls : fallsPast (moves s τ rates) ≡ ltb eventTimeMax (t .last)
         falls =
             falls-last s τ (wishes s rates) (stands s τ rates none .time)

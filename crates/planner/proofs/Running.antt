@@ -15,7 +15,7 @@ use Rattle.measures.specs.Readable.{Changeable}
 use Rattle.measures.proofs.Within.{changeable}
 use Rattle.wishes.specs.Wishes.{Wish}
 use Rattle.planner.specs.Moves.{momentFor, moveAt, listed, allMoved}
-use Rattle.planner.specs.inner.Steps.{Fits, lastMoment, firstOf}
+use Rattle.planner.specs.inner.Steps.{WishFits, lastMoment, firstOf}
 use Rattle.planner.proofs.Kept.{Frame, Framed, next-ok, next-framed}
 use Rattle.planner.proofs.Steps.{listed-more, moved-more, last-more, first-write}
 
@@ -32,7 +32,7 @@ unfolding allMoved lastMoment
 running-none s τ ok l = record { state = refl; moment = refl; ok = ok; framed = λ i. refl; high = omega arith }
 
 -- a wish that fits one state fits another with the same frames
-pub still-fits : (s q : State) (w : Wish) → Framed s q → Fits s w → Fits q w
+pub still-fits : (s q : State) (w : Wish) → Framed s q → WishFits s w → WishFits q w
 still-fits s q w same f =
     let e = same (w .title) in
     record {
@@ -43,14 +43,14 @@ still-fits s q w same f =
     }
 
 -- a title that a wish fits can change
-pub fit-changeable : (q : State) (w : Wish) → stateOk q ≡ true → Fits q w → Changeable (titleAt q (w .title))
+pub fit-changeable : (q : State) (w : Wish) → stateOk q ≡ true → WishFits q w → Changeable (titleAt q (w .title))
 fit-changeable q w ok f =
     changeable (titleAt q (w .title)) (title-ok q ok (w .title) (omega (arith, f .an-id))) (λ e. omega (arith, f .is-open))
 
 -- one wish more, which comes true at m
 module _ (s : State) (τ : ℕ) (ws : List Wish) (w : Wish) (q : State) (l m : ℕ) (r : Running s τ ws q l)
     (is : m ≡ momentFor q l w) where
-  pub running-more : (z : State) → Fits s w → m ≤ suc eventTimeMax → z ≡ changeNext q (w .title) m (w .count) →
+  pub running-more : (z : State) → WishFits s w → m ≤ suc eventTimeMax → z ≡ changeNext q (w .title) m (w .count) →
       Running s τ (ws ++ (w ∷ [])) z m
   running-more z fit high next =
       let f = still-fits s q w (r .framed) fit in

@@ -1,5 +1,5 @@
 -- Before the first event of the list: in a reached state with the four refusals passed, the wishes are under way, what all titles are
--- to have fits the pool, and so the list is carried out or falls past the clock. Rests on Fares, and on the wishes' laws.
+-- to have fits the pool, and so the list is carried out or falls past the clock. Rests on Carried, and on the wishes' laws.
 use mathlib.Core.Path.{_≡_, refl, sym, _∙_}
 use mathlib.Core.Bool.{true, false≢true}
 use mathlib.Core.Logic.{_⊎_, ⊎-elim}
@@ -20,9 +20,9 @@ use Rattle.wishes.proofs.Wished.{Each, each-none, each-more, Without, Wished, a
 use Rattle.planner.specs.Outcome.{plannerAnswer, Standing}
 use Rattle.planner.specs.Carried.{Past, goalOf}
 use Rattle.planner.proofs.Passed.{standing-done, standing-past, in-clock, past-clock}
-use Rattle.planner.proofs.Underway.{Left, Underway, pool-is, held-fits}
+use Rattle.planner.proofs.WishesLeft.{Left, Underway, pool-is, held-fits}
 use Rattle.planner.proofs.Goals.{goal-share, part-rules, goals-fit}
-use Rattle.planner.proofs.Fares.{Fared, Fails, fares}
+use Rattle.planner.proofs.Carried.{Fared, Fails, fares}
 
 module _ (pool : ℕ) (es : List Event) (s : State) (run : Reached pool es s) (rates : List ℕ) where
   wish-left : (w : Wish) → Wished s rates w → Left (goalOf s rates) s w

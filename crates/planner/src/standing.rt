@@ -12,11 +12,11 @@ use wishes::floors;
 use wishes::rates_ok;
 use wishes::shared_pool;
 ghost use mathlib.Core.Path.{_≡_};
-ghost use Rattle.planner.specs.inner.Steps.{numbersOk, standingAnswer};
+ghost use Rattle.planner.specs.inner.Steps.{questionOk, standingAnswer};
 
 // Every number of the question is within its limits.
 fn numbers_ok(s: State, time: u64, rates: &[u32]) -> bool
-    ensures { λ r. ⌜ r ≡ numbersOk s time (now (rates .entry)) ⌝ }
+    ensures { λ r. ⌜ r ≡ questionOk s time (now (rates .entry)) ⌝ }
 {
     also(state_ok(s), also(time <= EVENT_TIME_MAX, rates_ok(rates)))
 }

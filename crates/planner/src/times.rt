@@ -15,7 +15,7 @@ ghost use Rattle.rules.specs.Limits.{idMax, askedMax, eventTimeMax, titlesMax};
 ghost use Rattle.story.specs.Kept.{titleAt, stateOk};
 ghost use Rattle.story.specs.Next.{changeNext};
 ghost use Rattle.measures.specs.Readable.{Changeable};
-ghost use Rattle.planner.specs.inner.Steps.{AllFit, Timed};
+ghost use Rattle.planner.specs.inner.Steps.{WishesFit, ListTimed};
 
 // The moments of a list of wishes in its first places, and the last of them; the given time where there are none.
 pub struct Times {
@@ -35,9 +35,9 @@ fn moved(s: State, id: u64, time: u64, count: u64) -> State
 // The moments of the wishes, one behind the other.
 pub fn times_of(s: State, time: u64, w: Wishes) -> Times
     requires { ⌜ stateOk s ≡ true ⌝ }
-    requires { ⌜ AllFit s w ⌝ }
+    requires { ⌜ WishesFit s w ⌝ }
     requires { ⌜ (time ≤ eventTimeMax) × (w .many ≤ titlesMax) ⌝ }
-    ensures { λ r. ⌜ Timed s time w r ⌝ }
+    ensures { λ r. ⌜ ListTimed s time w r ⌝ }
 {
     let many = w.many;
     let ids = w.titles;

@@ -14,11 +14,11 @@ use Rattle.rules.proofs.Former.{formerly-done, renumbered, former-hit, joined, 
 use Rattle.grid.specs.Ticks.{cells}
 use Rattle.scheme.specs.Scheme.{padded, starts}
 use Rattle.plans.specs.Padded.{planRules, planAnswer}
-use Rattle.plans.specs.Former.{formerRules}
+use Rattle.plans.specs.Former.{formerPlanRules}
 
 module _ (A K k a n : ℕ) where
   -- no other place of the order moved
-  pub same-place : formerly (planAnswer A K k a n) ≡ firstHit (formerRules A K k a n)
+  pub same-place : formerly (planAnswer A K k a n) ≡ firstHit (formerPlanRules A K k a n)
   unfolding planAnswer renumbered
   same-place =
       let rest : List Rule = refuse notAtSlot (not (starts (padded A K) k a)) ∷ refuse wrongRows (ltb n (cells K)) ∷ [] in
@@ -30,5 +30,5 @@ module _ (A K k a n : ℕ) where
       ∙ joined 6 (ltb K A) (either (ltb k A) (ltb K k)) rest))
 
   -- the test by which the lent row is written or left
-  pub same-calls : eqb (firstHit (formerRules A K k a n)) done ≡ eqb (planAnswer A K k a n) done
+  pub same-calls : eqb (firstHit (formerPlanRules A K k a n)) done ≡ eqb (planAnswer A K k a n) done
   same-calls = sym (ap (λ m. eqb m done) same-place) ∙ formerly-done (planAnswer A K k a n)

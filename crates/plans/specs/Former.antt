@@ -10,8 +10,8 @@ use Rattle.scheme.specs.Scheme.{padded, starts}
 use Rattle.plans.specs.Padded.{planLimits}
 
 -- 1 6 8 10
-abbrev pub formerRules : ℕ → ℕ → ℕ → ℕ → ℕ → List Rule
-formerRules A K k a n =
+abbrev pub formerPlanRules : ℕ → ℕ → ℕ → ℕ → ℕ → List Rule
+formerPlanRules A K k a n =
     refuse outsideLimits (not (planLimits A K k a))
     ∷ refuse 6 (either (ltb K A) (not (within A K k)))
     ∷ refuse notAtSlot (not (starts (padded A K) k a))

@@ -16,12 +16,12 @@ abbrev pub skipAt : ℕ → ℕ → ℕ → ℕ
 skipAt k a c = takenAfter steady k k a c
 
 -- the call's two numbers are within their limits
-abbrev pub skipLimits : ℕ → ℕ → Bool
-skipLimits k a = both (within countMin steadyMax k) (leb a askedMax)
+abbrev pub skipPlanLimits : ℕ → ℕ → Bool
+skipPlanLimits k a = both (within countMin steadyMax k) (leb a askedMax)
 
 -- the call's order of refusals and its answer, for a lent row of n places
 abbrev pub skipRules : ℕ → ℕ → ℕ → List Rule
-skipRules k a n = refuse outsideLimits (not (skipLimits k a)) ∷ refuse wrongRows (ltb n (blocks k)) ∷ []
+skipRules k a n = refuse outsideLimits (not (skipPlanLimits k a)) ∷ refuse wrongRows (ltb n (blocks k)) ∷ []
 
 unfoldable pub skipAnswer : ℕ → ℕ → ℕ → ℕ
 skipAnswer k a n = firstHit (skipRules k a n)

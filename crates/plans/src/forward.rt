@@ -3,7 +3,7 @@
 ghost use Prim.Native.Nat.{_-_, _^_, _≤_, _<_};
 ghost use mathlib.Core.Path.{_≡_};
 ghost use Rattle.rules.specs.Limits.{countMin, steadyMax, askedMax};
-ghost use Rattle.plans.specs.Forward.{skipAt, skipLimits, skipAnswer};
+ghost use Rattle.plans.specs.Forward.{skipAt, skipPlanLimits, skipAnswer};
 use grid::pow2;
 use rules::ASKED_MAX;
 use rules::COUNT_MIN;
@@ -15,7 +15,7 @@ use rules::within;
 
 // Whether the two numbers are within their limits.
 fn in_limits(count: u64, arrival: u64) -> bool
-    ensures { λ r. ⌜ r ≡ skipLimits count arrival ⌝ }
+    ensures { λ r. ⌜ r ≡ skipPlanLimits count arrival ⌝ }
 {
     if within(COUNT_MIN, STEADY_MAX, count) {
         return arrival <= ASKED_MAX;

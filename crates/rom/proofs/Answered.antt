@@ -14,7 +14,7 @@ use Rattle.rules.proofs.Tests.{decide, either-false-l, either-false-r}
 use Rattle.grid.specs.Lanes.{laneCell}
 use Rattle.grid.specs.Bounds.{IsCell}
 use Rattle.scheme.specs.Scheme.{steadyKind, tickFor, filmIn}
-use Rattle.scheme.proofs.Which.{padded-scheme}
+use Rattle.scheme.proofs.ByKind.{padded-scheme}
 use Rattle.story.specs.declared.Title.{Title}
 use Rattle.story.specs.declared.State.{State}
 use Rattle.story.specs.Life.{reach}
@@ -24,7 +24,7 @@ use Rattle.owed.proofs.Shown.{shows-active, shows-sending}
 use Rattle.verdicts.proofs.Event.{lane-id, lane-slot}
 use Rattle.rom.specs.Table.{romFloor, romCap, romPeriod, isOther}
 use Rattle.rom.specs.Lanes.{isForeign, romLaneAnswer, romLaneShows, Own}
-use Rattle.rom.proofs.Other.{own, own-numbers}
+use Rattle.rom.proofs.OwnNumbers.{own, own-numbers}
 
 -- ---- which titles the box has
 

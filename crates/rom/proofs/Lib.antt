@@ -1,6 +1,6 @@
 -- Laws of the small box, each file on those above it.
 pub mod Entries
-pub mod Other
+pub mod OwnNumbers
 pub mod Showing
 pub mod Noted
 pub mod Planned

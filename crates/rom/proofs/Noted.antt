@@ -23,15 +23,15 @@ use Rattle.plans.specs.Padded.{planAt, never}
 use Rattle.plans.specs.Row.{written}
 use Rattle.plans.proofs.Row.{written-first}
 use Rattle.rom.specs.Table.{romFloor, romCap, romPeriod}
-use Rattle.rom.specs.Plan.{noted, notedLanes, notedTicks}
+use Rattle.rom.specs.Plan.{notedOnce, notedLanes, notedTicks}
 use Rattle.rom.proofs.Entries.{lane-within}
-use Rattle.rom.specs.Showing.{isShown, shownAfter, seen}
+use Rattle.rom.specs.Showing.{isOnLanes, shownAfter, seenWithin}
 use Rattle.rom.proofs.Showing.{seen-plan}
 
 -- ---- lengths, and one step more
 
-pub noted-length : (row : List ℕ) (c o : ℕ) → length (noted row c o) ≡ length row
-unfolding noted
+pub noted-length : (row : List ℕ) (c o : ℕ) → length (notedOnce row c o) ≡ length row
+unfolding notedOnce
 noted-length row c o =
     elim (eqb (getD row c 0) never) as (λ b. length (pick b (set row c o) row) ≡ length row)
     [ true ↦ length-set row c o | false ↦ refl ]
@@ -43,7 +43,7 @@ lanes-length row t o (suc l) =
     noted-length (notedLanes row t o l) (laneCell romFloor romCap l t) o ∙ lanes-length row t o l
 
 pub lanes-more : (row r q : List ℕ) (t o l x : ℕ) → r ≡ notedLanes row t o l → x ≡ laneCell romFloor romCap l t
-    → q ≡ noted r x o → q ≡ notedLanes row t o (l + 1)
+    → q ≡ notedOnce r x o → q ≡ notedLanes row t o (l + 1)
 unfolding notedLanes
 lanes-more row r q t o l x e f g = g ∙ rw (add-one l, e, f) refl
 
@@ -100,8 +100,8 @@ noting-there : (f : ℕ → ℕ) (c o i : ℕ) → (i ≡ c → ⊥) → noting 
 noting-there f c o i n = rw (ne-eqb i c n) refl
 
 pub noted-written : (f : ℕ → ℕ) (row : List ℕ) (n c o : ℕ) → n ≤ length row → c < n
-    → noted (written f row n) c o ≡ written (noting f c o) row n
-unfolding noted
+    → notedOnce (written f row n) c o ≡ written (noting f c o) row n
+unfolding notedOnce
 noted-written f row n c o room l =
     rw (written-first f row n c room l)
     (⊎-elim
@@ -125,26 +125,26 @@ module _ (k a : ℕ) where
 
   -- the number of a cell's place after n ticks and the first l lanes of the next
   partly : ℕ → ℕ → ℕ → ℕ
-  partly n l c = pick (ltb (after n c) n) (after n c) (pick (isShown romFloor romCap l (a + n) c) n never)
+  partly n l c = pick (ltb (after n c) n) (after n c) (pick (isOnLanes romFloor romCap l (a + n) c) n never)
 
   -- no tick yet
-  seen-none : (c : ℕ) → never ≡ seen romFloor romCap k a 0 c
-  unfolding seen shownAfter first
+  seen-none : (c : ℕ) → never ≡ seenWithin romFloor romCap k a 0 c
+  unfolding seenWithin shownAfter first
   seen-none c = refl
 
   -- no lane yet
-  partly-none : (n c : ℕ) → seen romFloor romCap k a n c ≡ partly n 0 c
-  unfolding seen partly isShown some
+  partly-none : (n c : ℕ) → seenWithin romFloor romCap k a n c ≡ partly n 0 c
+  unfolding seenWithin partly isOnLanes some
   partly-none n c = refl
 
   -- one lane more
   partly-shown : (n l c : ℕ) → laneCell romFloor romCap l (a + n) ≡ c
       → partly n (suc l) c ≡ pick (ltb (after n c) n) (after n c) n
-  unfolding partly isShown some
+  unfolding partly isOnLanes some
   partly-shown n l c e = rw (eq-eqb (laneCell romFloor romCap l (a + n)) c e) refl
 
   partly-same : (n l c : ℕ) → (laneCell romFloor romCap l (a + n) ≡ c → ⊥) → partly n (suc l) c ≡ partly n l c
-  unfolding partly isShown some
+  unfolding partly isOnLanes some
   partly-same n l c e = rw (ne-eqb (laneCell romFloor romCap l (a + n)) c e) refl
 
   partly-more : (n l c : ℕ) → n < never →
@@ -155,7 +155,7 @@ module _ (k a : ℕ) where
       ⊎-elim
       (λ e. let q : c ≡ x = eqb-true c x e in
       noting-at (partly n l) x n c q
-      ∙ here (after n c) n (isShown romFloor romCap l (a + n) c) low
+      ∙ here (after n c) n (isOnLanes romFloor romCap l (a + n) c) low
       ∙ sym (partly-shown n l c (sym q)))
       (λ e. let q = eqb-false c x e in
       noting-there (partly n l) x n c q ∙ sym (partly-same n l c (λ d. q (sym d))))
@@ -171,9 +171,9 @@ module _ (k a : ℕ) where
           (decide (ltb f n))
 
   -- all lanes
-  partly-all : (n c : ℕ) → partly n k c ≡ seen romFloor romCap k a (suc n) c
-  unfolding partly seen shownAfter first
-  partly-all n c = go (after n c) n (isShown romFloor romCap k (a + n) c)
+  partly-all : (n c : ℕ) → partly n k c ≡ seenWithin romFloor romCap k a (suc n) c
+  unfolding partly seenWithin shownAfter first
+  partly-all n c = go (after n c) n (isOnLanes romFloor romCap k (a + n) c)
     where
       go : (f n : ℕ) (s : Bool) →
           pick (ltb f n) f (pick s n never) ≡ pick (ltb (keepFirst f n s) (suc n)) (keepFirst f n s) never
@@ -185,26 +185,26 @@ module _ (k a : ℕ) where
 
   module _ (row : List ℕ) (room : 2 ^ romCap ≤ length row) (count : k ≤ romCap) where
     lanes-written : (n l : ℕ) → n < never → l ≤ k →
-        notedLanes (written (seen romFloor romCap k a n) row (2 ^ romCap)) (a + n) n l
+        notedLanes (written (seenWithin romFloor romCap k a n) row (2 ^ romCap)) (a + n) n l
         ≡ written (partly n l) row (2 ^ romCap)
     unfolding notedLanes
     lanes-written n zero low b =
-        written-ext (seen romFloor romCap k a n) (partly n 0) row (2 ^ romCap) (λ c _. partly-none n c)
+        written-ext (seenWithin romFloor romCap k a n) (partly n 0) row (2 ^ romCap) (λ c _. partly-none n c)
     lanes-written n (suc l) low b =
         let x : ℕ = laneCell romFloor romCap l (a + n) in
-        ap (λ r. noted r x n) (lanes-written n l low (omega arith))
+        ap (λ r. notedOnce r x n) (lanes-written n l low (omega arith))
         ∙ noted-written (partly n l) row (2 ^ romCap) x n room (lane-within l (a + n) (omega arith))
         ∙ written-ext (noting (partly n l) x n) (partly n (suc l)) row (2 ^ romCap) (λ c _. partly-more n l c low)
 
     pub ticks-written : (n : ℕ) → n ≤ never →
-        notedTicks (written (λ c. never) row (2 ^ romCap)) k a n ≡ written (seen romFloor romCap k a n) row (2 ^ romCap)
+        notedTicks (written (λ c. never) row (2 ^ romCap)) k a n ≡ written (seenWithin romFloor romCap k a n) row (2 ^ romCap)
     unfolding notedTicks
     ticks-written zero low =
-        written-ext (λ c. never) (seen romFloor romCap k a 0) row (2 ^ romCap) (λ c _. seen-none c)
+        written-ext (λ c. never) (seenWithin romFloor romCap k a 0) row (2 ^ romCap) (λ c _. seen-none c)
     ticks-written (suc n) low =
         ap (λ r. notedLanes r (a + n) n k) (ticks-written n (omega arith))
         ∙ lanes-written n k (omega arith) (omega arith)
-        ∙ written-ext (partly n k) (seen romFloor romCap k a (suc n)) row (2 ^ romCap) (λ c _. partly-all n c)
+        ∙ written-ext (partly n k) (seenWithin romFloor romCap k a (suc n)) row (2 ^ romCap) (λ c _. partly-all n c)
 
     -- one period leaves the plan
     pub ticks-plan : Counted romFloor romCap k → starts (padded romFloor romCap) k a ≡ true →
@@ -212,5 +212,5 @@ module _ (k a : ℕ) where
         ≡ written (planAt romFloor romCap k a) row (2 ^ romCap)
     ticks-plan h start =
         ticks-written romPeriod (omega arith)
-        ∙ written-ext (seen romFloor romCap k a romPeriod) (planAt romFloor romCap k a) row (2 ^ romCap)
+        ∙ written-ext (seenWithin romFloor romCap k a romPeriod) (planAt romFloor romCap k a) row (2 ^ romCap)
         (λ c _. seen-plan romFloor romCap k (h .floor) (h .fit) a c (omega arith) start)

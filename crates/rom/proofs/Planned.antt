@@ -15,7 +15,7 @@ use Rattle.plans.proofs.padded.Refusals.{Accepted, accepted-only}
 use Rattle.plans.proofs.padded.Row.{row-done, row-refused}
 use Rattle.rom.specs.Table.{romFloor, romCap, isOther}
 use Rattle.rom.specs.Plan.{romPlanAnswer, romPlanRow, RomPlanned}
-use Rattle.rom.proofs.Other.{own, own-numbers, plan-own, plan-other}
+use Rattle.rom.proofs.OwnNumbers.{own, own-numbers, plan-own, plan-other}
 
 -- a call that is not refused
 pub record RomAccepted (A K k a n : ℕ) : Type 0 where

@@ -22,17 +22,17 @@ use Rattle.scheme.proofs.Takes.{Taken, taken-out, window-end}
 use Rattle.scheme.proofs.Padded.{spans-fit}
 use Rattle.scheme.proofs.Waits.{once}
 use Rattle.plans.proofs.padded.Places.{plan-in, plan-never}
-use Rattle.rom.specs.Showing.{isShown, shownAfter, seen}
+use Rattle.rom.specs.Showing.{isOnLanes, shownAfter, seenWithin}
 
 module _ (A K k : ℕ) (low : A ≤ k) (high : k ≤ K) where
-  shown-in : (t c : ℕ) → InG A K k t c → isShown A K k t c ≡ true
-  unfolding isShown
+  shown-in : (t c : ℕ) → InG A K k t c → isOnLanes A K k t c ≡ true
+  unfolding isOnLanes
   shown-in t c m =
       let r = lane-of-cell A K k t c low high m in
       some-in (λ i. eqb (laneCell A K i t) c) k (r .0) (r .1) (eq-eqb (laneCell A K (r .0) t) c (r .2))
 
-  shown-out : (t c : ℕ) → isShown A K k t c ≡ true → InG A K k t c
-  unfolding isShown
+  shown-out : (t c : ℕ) → isOnLanes A K k t c ≡ true → InG A K k t c
+  unfolding isOnLanes
   shown-out t c h =
       let r = some-out (λ i. eqb (laneCell A K i t) c) k h in
       let m = cell-of-lane A K k (r .0) t low high (r .1) in
@@ -48,7 +48,7 @@ module _ (A K k : ℕ) (low : A ≤ k) (high : k ≤ K) where
 
   module _ (a c : ℕ) (floor : 0 < A) (start : starts (padded A K) k a ≡ true) where
     abbrev shownAt : ℕ → Bool
-    shownAt o = isShown A K k (a + o) c
+    shownAt o = isOnLanes A K k (a + o) c
 
     -- before a cell is taken, no lane shows it
     taken-first : (o f d : ℕ) → Taken (padded A K) k a c (a + o) d → f ≤ o → shownAt f ≡ true → f ≡ o
@@ -60,8 +60,8 @@ module _ (A K k : ℕ) (low : A ≤ k) (high : k ≤ K) where
         record { channel = chan; from = omega arith; before = omega (arith, h .before); carries = rw same at (m .2) } in
         omega (arith, once A K k a c (a + f) d (a + o) d start early h .0)
 
-    taken-seen : c < 2 ^ K - slot K k → seen A K k a (2 ^ (K - 1)) c ≡ planAt A K k a c
-    unfolding seen shownAfter
+    taken-seen : c < 2 ^ K - slot K k → seenWithin A K k a (2 ^ (K - 1)) c ≡ planAt A K k a c
+    unfolding seenWithin shownAfter
     taken-seen l =
         let n : ℕ = 2 ^ (K - 1) in
         let o : ℕ = planAt A K k a c in
@@ -73,8 +73,8 @@ module _ (A K k : ℕ) (low : A ≤ k) (high : k ≤ K) where
         let i : first shownAt n < n = omega arith in
         rw (lt-ltb (first shownAt n) n i) (taken-first o (first shownAt n) (r .0) (r .1) f (first-hit shownAt n i))
 
-    never-seen : 2 ^ K - slot K k ≤ c → seen A K k a (2 ^ (K - 1)) c ≡ planAt A K k a c
-    unfolding seen shownAfter
+    never-seen : 2 ^ K - slot K k ≤ c → seenWithin A K k a (2 ^ (K - 1)) c ≡ planAt A K k a c
+    unfolding seenWithin shownAfter
     never-seen l =
         let n : ℕ = 2 ^ (K - 1) in
         let f : ℕ = first shownAt n in
@@ -83,7 +83,7 @@ module _ (A K k : ℕ) (low : A ≤ k) (high : k ≤ K) where
         (sym (plan-never A K k a c high start l))
 
     -- half as many ticks as there are cells show all that a box takes
-    pub seen-plan : seen A K k a (2 ^ (K - 1)) c ≡ planAt A K k a c
+    pub seen-plan : seenWithin A K k a (2 ^ (K - 1)) c ≡ planAt A K k a c
     seen-plan =
         ⊎-elim (λ t. taken-seen (ltb-true c (2 ^ K - slot K k) t)) (λ t. never-seen (ltb-false c (2 ^ K - slot K k) t))
         (decide (ltb c (2 ^ K - slot K k)))

@@ -28,13 +28,13 @@ pub record RomPlanned (A K k a : ℕ) (row : List ℕ) (r : ℕ) (after : List �
   pub left : after ≡ romPlanRow A K k a row
 
 -- o goes into the place of cell c, where it has no tick yet
-unfoldable pub noted : List ℕ → ℕ → ℕ → List ℕ
-noted row c o = pick (eqb (getD row c 0) never) (set row c o) row
+unfoldable pub notedOnce : List ℕ → ℕ → ℕ → List ℕ
+notedOnce row c o = pick (eqb (getD row c 0) never) (set row c o) row
 
 -- the same for the cells of lanes 0 to l - 1 at tick t
 unfoldable pub notedLanes : List ℕ → ℕ → ℕ → ℕ → List ℕ
 notedLanes row t o zero = row
-notedLanes row t o (suc l) = noted (notedLanes row t o l) (laneCell romFloor romCap l t) o
+notedLanes row t o (suc l) = notedOnce (notedLanes row t o l) (laneCell romFloor romCap l t) o
 
 -- and of the n ticks from a on, with the ticks counted from a
 unfoldable pub notedTicks : List ℕ → ℕ → ℕ → ℕ → List ℕ

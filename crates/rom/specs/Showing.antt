@@ -8,13 +8,13 @@ use Rattle.grid.specs.Lanes.{laneCell}
 use Rattle.plans.specs.Padded.{never}
 
 -- one of lanes 0 to l - 1 shows cell c at tick t
-unfoldable pub isShown : ℕ → ℕ → ℕ → ℕ → ℕ → Bool
-isShown A K l t c = some (λ i. eqb (laneCell A K i t) c) l
+unfoldable pub isOnLanes : ℕ → ℕ → ℕ → ℕ → ℕ → Bool
+isOnLanes A K l t c = some (λ i. eqb (laneCell A K i t) c) l
 
 -- how many ticks after a that is first so, of n ticks; n where it is at none
 unfoldable pub shownAfter : ℕ → ℕ → ℕ → ℕ → ℕ → ℕ → ℕ
-shownAfter A K k a n c = first (λ o. isShown A K k (a + o) c) n
+shownAfter A K k a n c = first (λ o. isOnLanes A K k (a + o) c) n
 
 -- the number of its place after n ticks
-unfoldable pub seen : ℕ → ℕ → ℕ → ℕ → ℕ → ℕ → ℕ
-seen A K k a n c = pick (ltb (shownAfter A K k a n c) n) (shownAfter A K k a n c) never
+unfoldable pub seenWithin : ℕ → ℕ → ℕ → ℕ → ℕ → ℕ → ℕ
+seenWithin A K k a n c = pick (ltb (shownAfter A K k a n c) n) (shownAfter A K k a n c) never

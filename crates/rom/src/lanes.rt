@@ -1,9 +1,9 @@
 // The lane question from the table: a lane's usual cell and what a dropped one still sends are looked up. `lane` is a
 // customer's call and has no `requires`; the others require a title of the box's scheme, floor and cap.
 
-use crate::table::CAP;
-use crate::table::FLOOR;
 use crate::table::PERIOD;
+use crate::table::ROM_CAP;
+use crate::table::ROM_FLOOR;
 use crate::table::cell_at;
 use crate::table::is_other;
 use measures::lanes::ruling;
@@ -40,7 +40,7 @@ fn is_owed(t: Title, lane: u64, tick: u64) -> bool
     ensures { λ r. ⌜ r ≡ keptOwed t lane tick ⌝ }
 {
     let cell = cell_at(lane, tick);
-    if holds_film(t.film.kind, t.film.length, FLOOR, CAP, cell) {
+    if holds_film(t.film.kind, t.film.length, ROM_FLOOR, ROM_CAP, cell) {
         return is_awaited(t, lane, cell, tick);
     }
     false

@@ -21,7 +21,7 @@ ghost use Rattle.rom.specs.Table.{romFloor, romCap, romPeriod};
 ghost use Rattle.rom.specs.Plan.{
   romPlanAnswer,
   RomPlanned,
-  noted as notedOf,
+  notedOnce as notedOf,
   notedLanes,
   notedTicks,
 };

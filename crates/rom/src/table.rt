@@ -7,9 +7,9 @@ ghost use Rattle.grid.specs.Bounds.{IsCell};
 ghost use Rattle.grid.specs.Lanes.{laneCell};
 ghost use Rattle.rom.specs.Table.{romFloor, romCap, romEntries, romEntry, isOther};
 
-pub const FLOOR: u64 = 3;
+pub const ROM_FLOOR: u64 = 3;
 
-pub const CAP: u64 = 10;
+pub const ROM_CAP: u64 = 10;
 
 // After so many ticks every lane begins anew.
 pub const PERIOD: u64 = 512;
@@ -18,8 +18,8 @@ pub const PERIOD: u64 = 512;
 pub fn is_other(floor: u64, cap: u64) -> bool
     ensures { λ r. ⌜ r ≡ isOther floor cap ⌝ }
 {
-    if floor == FLOOR {
-        if cap == CAP {
+    if floor == ROM_FLOOR {
+        if cap == ROM_CAP {
             return false;
         }
     }

@@ -58,7 +58,7 @@ pub const NOT_THERE: u8 = 3;
 
 pub const ID_TAKEN: u8 = 4;
 
-pub const CLOSING: u8 = 5;
+pub const IS_CLOSING: u8 = 5;
 
 pub const UNCHANGED: u8 = 6;
 
@@ -88,7 +88,7 @@ pub const DOORS_UNCHANGED: u8 = 17;
 pub const PAST_CLOCK: u8 = 18;
 
 // A skip-forward title is not changed, held or lifted.
-pub const STEADY: u8 = 19;
+pub const IS_STEADY: u8 = 19;
 
 // Whether x lies from lo to hi, both ends allowed.
 pub fn within(lo: u64, hi: u64, x: u64) -> bool

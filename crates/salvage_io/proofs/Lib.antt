@@ -1,8 +1,8 @@
 -- What holds of the program's lines and blocks.
 pub mod Seams
-pub mod Short
+pub mod LinesFit
 pub mod Saying
 pub mod Walking
-pub mod Whole
+pub mod InBlocks
 pub mod Passing
 pub mod Unique

@@ -7,7 +7,7 @@ use Prim.Native.Nat.{ℕ, _-_, _≤_, _<_}
 use native.Mathlib.Omega.{arith}
 use lib.ListN.{length}
 use Rattle.notice.specs.Fields.{table, startOf, spanOf, longestNotice}
-use Rattle.notice.proofs.Each.{false-true}
+use Rattle.notice.proofs.CaseSplits.{false-true}
 use Rattle.text.specs.Feed.{count}
 use Rattle.text.proofs.Moving.{count-low}
 use Rattle.salvaging.specs.declared.steps.Progress.{Progress}

@@ -15,7 +15,7 @@ use Rattle.salvaging.specs.declared.steps.Progress.{Progress}
 use Rattle.salvaging.specs.inner.Steps.{isOpen}
 use Rattle.salvage_io.specs.Lines.{twoNumbers, stretchLine, followsLine, gapLine, openLine, endText, endRoom}
 use Rattle.salvage_io.specs.Report.{seamText, saidIn}
-use Rattle.salvage_io.proofs.Short.{end-short}
+use Rattle.salvage_io.proofs.LinesFit.{end-short}
 
 module _ (g : Page) where
   -- ---- a gap

@@ -11,14 +11,14 @@ use borrow.Author.Tests.{lt-ltb, le-ltb}
 use lib.Dec.{eqb}
 use lib.ListN.{length}
 use Rattle.rules.specs.Refusals.{pick}
-use Rattle.notice.proofs.There.{inside}
+use Rattle.notice.proofs.NoticePlaces.{inside}
 use Rattle.salvaging.specs.declared.scan.Move.{Move}
 use Rattle.salvaging.specs.declared.scan.Move.the-variants.{Take, Skip, Stop}
 use Rattle.salvaging.specs.declared.steps.Progress.{Progress}
-use Rattle.salvaging.specs.Scan.{Stretch, endOf, Scan, lastOf, after, moveIn, scanTo}
+use Rattle.salvaging.specs.Scan.{Stretch, endOf, Scan, lastOf, scanAfter, moveIn, scanTo}
 use Rattle.salvaging.specs.inner.Steps.{progressOf, isOpen}
 use Rattle.salvaging.specs.Pours.{closed}
-use Rattle.salvaging.proofs.Through as through
+use Rattle.salvaging.proofs.ScanThrough as through
 use Rattle.salvaging.proofs.Laying.{closed-joined, closed-past}
 use Rattle.salvaging.proofs.Pieces.{split-to}
 use Rattle.salvage_io.specs.Report.{Seam, isSeam, seamOf, seamsTo, seamText, seamsText, toldTo, saidIn}
@@ -101,15 +101,15 @@ stretches-told bs (suc n) = go (moveIn bs s) refl (stretches-told bs n)
 
     go : (m : Move) → moveIn bs s ≡ m → stretches (seamsTo bs n) ≡ closed (s .place) (s .skipped)
         → stretches
-        (pick (isSeam (progressOf s) (progressOf (after bs s m))) (seamOf (progressOf s) (progressOf (after bs s m)) ∷ seamsTo bs n)
+        (pick (isSeam (progressOf s) (progressOf (scanAfter bs s m))) (seamOf (progressOf s) (progressOf (scanAfter bs s m)) ∷ seamsTo bs n)
         (seamsTo bs n))
-        ≡ closed (after bs s m .place) (after bs s m .skipped)
+        ≡ closed (scanAfter bs s m .place) (scanAfter bs s m .skipped)
     go (Take m e) is before =
         let i = inside bs (s .place) m e (through.takes bs (lastOf (s .taken)) (s .place) m e is .found) in
         let all : closed e (s .skipped) ≡ s .skipped =
         closed-past (s .place) e (s .skipped) (split-to bs n .apart) (omega (arith, i .ahead)) in
         rw (lt-ltb (length (s .taken)) (suc (length (s .taken))) (omega arith), all)
-        (with-open s (progressOf (after bs s (Take m e))) (seamsTo bs n) before)
+        (with-open s (progressOf (scanAfter bs s (Take m e))) (seamsTo bs n) before)
     go Skip is before =
         rw (le-ltb (length (s .taken)) (length (s .taken)) (omega arith), closed-joined (s .place) (s .skipped)) before
     go Stop is before = rw (le-ltb (length (s .taken)) (length (s .taken)) (omega arith)) before

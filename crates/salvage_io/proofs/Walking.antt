@@ -12,8 +12,8 @@ use Rattle.text.specs.Output.{Page, page, puts}
 use Rattle.text.proofs.Pages.{puts-then, puts-length, puts-low}
 use Rattle.notice.specs.Fields.{table, startOf, spanOf, longestNotice}
 use Rattle.notice.specs.Window.{isDecided}
-use Rattle.notice.proofs.Each.{false-true}
-use Rattle.notice.proofs.Seen.{few-left, at-end-decided}
+use Rattle.notice.proofs.CaseSplits.{false-true}
+use Rattle.notice.proofs.Windows.{few-left, at-end-decided}
 use Rattle.salvaging.specs.declared.steps.Progress.{Progress}
 use Rattle.salvaging.specs.Scan.{moveIn, scanTo}
 use Rattle.salvaging.specs.inner.Steps.{progressOf, Counts, Within, Between, Advances}
@@ -21,9 +21,9 @@ use Rattle.salvaging.specs.Pours.{tookOne, takenIn, Stands}
 use Rattle.salvaging.proofs.Laying.{part, adds-part, part-few, step-in, part-in}
 use Rattle.salvage_io.specs.Report.{toldTo, saidIn}
 use Rattle.salvage_io.specs.Blocks.{toldMost}
-use Rattle.salvage_io.specs.Walks.{Tells, Walks}
+use Rattle.salvage_io.specs.Walks.{TellsOn, Walks}
 use Rattle.salvage_io.proofs.Seams.{tells-more}
-use Rattle.salvage_io.proofs.Short.{said-few}
+use Rattle.salvage_io.proofs.LinesFit.{said-few}
 
 module _ (window : List ℕ) (over : Bool) (start : Progress) (area told : List ℕ) where
   -- so far what a log's scan took and told stands in the area and the row
@@ -36,7 +36,7 @@ module _ (window : List ℕ) (over : Bool) (start : Progress) (area told : List 
     pub at-low : at ≤ length area-now
     pub said-low : said ≤ length told-now
     pub tells : (log : List ℕ) (k : ℕ) → Stands log (start .place) window over → start ≡ progressOf (scanTo log k)
-        → Tells log k p at said area told area-now told-now
+        → TellsOn log k p at said area told area-now told-now
 
   pub not-begun : Counts start → WalkedTo start 0 0 area told
   unfolding puts
@@ -82,7 +82,7 @@ module _ (window : List ℕ) (over : Bool) (start : Progress) (area told : List 
       (h : p .place - start .place < length window)
       (decided : isDecided (length window) (p .place - start .place) over ≡ true) where
     told-on : (log : List ℕ) (k : ℕ) → Stands log (start .place) window over → start ≡ progressOf (scanTo log k)
-        → Tells log k q at-next said-next area told area-next told-next
+        → TellsOn log k q at-next said-next area told area-next told-next
     unfolding scanTo
     told-on log k st is =
         let g = f .tells log k st is in

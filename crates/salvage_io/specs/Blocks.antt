@@ -7,7 +7,7 @@ use lib.ListN.{length, take}
 use Rattle.notice.specs.Fields.{longestNotice}
 use Rattle.salvaging.specs.declared.steps.Progress.{Progress}
 use Rattle.salvaging.specs.Scan.{scanTo, scanOf}
-use Rattle.salvaging.specs.inner.Steps.{progressOf, fresh, Counts}
+use Rattle.salvaging.specs.inner.Steps.{progressOf, freshProgress, Counts}
 use Rattle.salvaging.specs.Pours.{Stands}
 use Rattle.salvage_io.specs.declared.blocks.Block.{Block}
 use Rattle.salvage_io.specs.Lines.{endText}
@@ -24,8 +24,8 @@ abbrev pub toldRoom : ℕ
 toldRoom = toldMost * blockRoom
 
 -- the bytes that a block takes, and what it tells
-abbrev pub bytesIn : Block → List ℕ
-bytesIn b = take (b .at) (b .area)
+abbrev pub blockBytes : Block → List ℕ
+blockBytes b = take (b .at) (b .area)
 
 abbrev pub toldIn : Block → List ℕ
 toldIn b = take (b .said) (b .told)
@@ -34,7 +34,7 @@ toldIn b = take (b .said) (b .told)
 pub record Adds (log : List ℕ) (k : ℕ) (b : Block) : Type 0 where
   pub steps : ℕ
   pub is : b .progress ≡ progressOf (scanTo log steps)
-  pub kept-is : scanTo log steps .kept ≡ scanTo log k .kept ++ bytesIn b
+  pub kept-is : scanTo log steps .kept ≡ scanTo log k .kept ++ blockBytes b
   pub told-is : toldTo log steps ≡ toldTo log k ++ toldIn b
 
 -- a block that begins at p: in whatever log its window stands, it holds what the log's scan adds
@@ -56,11 +56,11 @@ pub record Passes (window : List ℕ) (over : Bool) (p r : Progress) : Type 0 wh
 
 -- a run over the blocks of a log, each beginning where the one before ended: how far it has come, all bytes that were taken, and
 -- all that was told
-pub data Run (log : List ℕ) : Progress → List ℕ → List ℕ → Type 0 where
-  starts : Run log fresh [] []
-  goes : {p : Progress} {out told window : List ℕ} {over : Bool} {b : Block}
-      → Run log p out told → Stands log (p .place) window over → Blocks window over p b
-      → Run log (b .progress) (out ++ bytesIn b) (told ++ toldIn b)
+pub data SalvageRun (log : List ℕ) : Progress → List ℕ → List ℕ → Type 0 where
+  nothing-passed : SalvageRun log freshProgress [] []
+  block-passed : {p : Progress} {out told window : List ℕ} {over : Bool} {b : Block}
+      → SalvageRun log p out told → Stands log (p .place) window over → Blocks window over p b
+      → SalvageRun log (b .progress) (out ++ blockBytes b) (told ++ toldIn b)
 
 -- a run that has come to the log's end counted and wrote what the scan of the whole has, and told what is told of it
 pub record All (log : List ℕ) (p : Progress) (out told : List ℕ) : Type 0 where

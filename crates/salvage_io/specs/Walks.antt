@@ -15,7 +15,7 @@ use Rattle.salvage_io.specs.Report.{toldTo}
 use Rattle.salvage_io.specs.Blocks.{toldMost}
 
 -- from step k on a log's scan came to p, and what it took and told meanwhile stands at the start of an area and a row
-pub record Tells (log : List ℕ) (k : ℕ) (p : Progress) (at said : ℕ) (area told area-now told-now : List ℕ) : Type 0 where
+pub record TellsOn (log : List ℕ) (k : ℕ) (p : Progress) (at said : ℕ) (area told area-now told-now : List ℕ) : Type 0 where
   pub steps : ℕ
   pub is : p ≡ progressOf (scanTo log steps)
   pub bytes : List ℕ
@@ -38,4 +38,4 @@ pub record Walks (window : List ℕ) (over : Bool) (p : Progress) (r : Walked) (
   pub at-low : r .at ≤ length area-after
   pub said-low : r .said ≤ length told-after
   pub tells : (log : List ℕ) (k : ℕ) → Stands log (p .place) window over → p ≡ progressOf (scanTo log k)
-      → Tells log k (r .progress) (r .at) (r .said) area told area-after told-after
+      → TellsOn log k (r .progress) (r .at) (r .said) area told area-after told-after

@@ -1,7 +1,7 @@
 // From standard input to two streams, for input of any length. What was read is kept in a buffer; what of it a block does not
 // decide moves to the buffer's front before the next read. A read or a write that fails is said on standard error, as far as that
 // can be written, and ends the program: nothing more is read or written. No contract can say what is read and written: `pass_on`
-// says that what it writes is a block's, and proofs/Whole that such blocks together are the scan of all the input.
+// says that what it writes is a block's, and proofs/InBlocks that such blocks together are the scan of all the input.
 
 use super::blocks::BLOCK_ROOM;
 use super::blocks::scan_block;

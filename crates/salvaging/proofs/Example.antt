@@ -15,11 +15,11 @@ use Rattle.notice.specs.Fields.{table, startOf, spanOf}
 use Rattle.notice.specs.Numbers.{numberAt}
 use Rattle.notice.specs.Decode.{headStands, rowStands, standsTo, valueAt, kindIn, noticeIn, isWhole, readAt}
 use Rattle.notice.specs.Log.{Gives, ends, next}
-use Rattle.notice.proofs.Each.{by-order, false-true}
-use Rattle.notice.proofs.There.{there}
+use Rattle.notice.proofs.CaseSplits.{by-order, false-true}
+use Rattle.notice.proofs.NoticePlaces.{there}
 use Rattle.salvaging.specs.Scan.{lastOf, scanTo}
 use Rattle.salvaging.specs.Claims.{Clear, ComeOut}
-use Rattle.salvaging.proofs.Through.{takes}
+use Rattle.salvaging.proofs.ScanThrough.{takes}
 use Rattle.salvaging.proofs.Tails.{tail-comes-out}
 
 -- a close of title 3 at time 0

@@ -16,17 +16,17 @@ use Rattle.notice.specs.Decode.{readAt, further}
 use Rattle.notice.specs.Encode.{bytesOf}
 use Rattle.notice.specs.Log.{Bytes, logOf, Gives, ends, next}
 use Rattle.notice.proofs.Cases.{at-end}
-use Rattle.notice.proofs.There.{inside, ended}
+use Rattle.notice.proofs.NoticePlaces.{inside, ended}
 use Rattle.notice.proofs.Alike.{by-itself}
 use Rattle.notice.proofs.Part.{at-last, whole-stays}
 use Rattle.notice.proofs.RoundTrip.{log-append}
 use Rattle.notice.proofs.ReadBack.{read-stands, read-writes-at, alone-at}
 use Rattle.salvaging.specs.declared.scan.Move.{Move}
 use Rattle.salvaging.specs.declared.scan.Move.the-variants.{Take, Skip, Stop}
-use Rattle.salvaging.specs.Scan.{isLater, Scan, lastOf, after, moveIn, scanTo, scanOf}
+use Rattle.salvaging.specs.Scan.{isLater, Scan, lastOf, scanAfter, moveIn, scanTo, scanOf}
 use Rattle.salvaging.specs.Claims.{Below, Rising}
 use Rattle.salvaging.proofs.Parts.{part-is}
-use Rattle.salvaging.proofs.Through as through
+use Rattle.salvaging.proofs.ScanThrough as through
 use Rattle.salvaging.proofs.Tails.{whole}
 
 -- ---- a part of a log by itself
@@ -85,10 +85,10 @@ pub record Log (s : Scan) : Type 0 where
   pub rising : Rising (reverse (s .taken))
   pub under : (q : ℕ) → isLater (lastOf (s .taken)) q ≡ true → Under (reverse (s .taken)) q
 
-log-on : (bs : List ℕ) (s : Scan) → Log s → Log (after bs s (moveIn bs s))
+log-on : (bs : List ℕ) (s : Scan) → Log s → Log (scanAfter bs s (moveIn bs s))
 log-on bs s w = go (moveIn bs s) refl
   where
-    go : (m : Move) → moveIn bs s ≡ m → Log (after bs s m)
+    go : (m : Move) → moveIn bs s ≡ m → Log (scanAfter bs s m)
     go (Take n e) is =
         let t = through.takes bs (lastOf (s .taken)) (s .place) n e is in
         let part = slice (s .place) e bs in
@@ -136,7 +136,7 @@ module _ (bs : List ℕ) where
 -- each taken notice is unchanged: what is kept is their bytes
 module _ (bs : List ℕ) (small : Bytes bs) where
   unchanged-on : (s : Scan) → s .kept ≡ logOf (reverse (s .taken)) → (m : Move) → moveIn bs s ≡ m
-      → after bs s m .kept ≡ logOf (reverse (after bs s m .taken))
+      → scanAfter bs s m .kept ≡ logOf (reverse (scanAfter bs s m .taken))
   unfolding logOf
   unchanged-on s w (Take n e) is =
       let t = through.takes bs (lastOf (s .taken)) (s .place) n e is in

@@ -19,28 +19,28 @@ use Rattle.notice.specs.declared.Found.the-variants as found
 use Rattle.notice.specs.Fields.{table, startOf, spanOf, longestNotice}
 use Rattle.notice.specs.Decode.{readAt, further}
 use Rattle.notice.specs.Window.{isDecided, Seen}
-use Rattle.notice.proofs.Each.{false-true}
-use Rattle.notice.proofs.There.{inside}
-use Rattle.notice.proofs.Seen.{seen-reads, few-left, at-end-decided}
+use Rattle.notice.proofs.CaseSplits.{false-true}
+use Rattle.notice.proofs.NoticePlaces.{inside}
+use Rattle.notice.proofs.Windows.{seen-reads, few-left, at-end-decided}
 use Rattle.salvaging.specs.declared.scan.Move.{Move}
 use Rattle.salvaging.specs.declared.scan.Move.the-variants.{Take, Skip, Stop}
 use Rattle.salvaging.specs.declared.steps.Progress.{Progress}
 use Rattle.salvaging.specs.declared.rows.Laid.{Laid}
 use Rattle.salvaging.specs.declared.rows.Poured.{Poured}
-use Rattle.salvaging.specs.Scan.{isLater, moveOf, Stretch, stretch, endOf, joined, Scan, lastOf, after, moveIn}
+use Rattle.salvaging.specs.Scan.{isLater, moveOf, Stretch, stretch, endOf, stretchJoined, Scan, lastOf, scanAfter, moveIn}
 use Rattle.salvaging.specs.Scan.{scanTo, scanOf}
 use Rattle.salvaging.specs.Claims.{Apart}
-use Rattle.salvaging.specs.inner.Steps.{progressOf, isOpen, ending, fresh, moved, Counts, Within, Between, Advances}
+use Rattle.salvaging.specs.inner.Steps.{progressOf, isOpen, endingStretch, freshProgress, progressMoved, Counts, Within, Between, Advances}
 use Rattle.salvaging.specs.Rows.{flat}
-use Rattle.salvaging.specs.Pours.{tookOne, takenIn, Lays, closed, endedIn, Stands, Follows, Pours, Fills}
+use Rattle.salvaging.specs.Pours.{tookOne, takenIn, Lays, closed, stretchesEnded, Stands, PoursOn, Pours, Fills}
 use Rattle.salvaging.proofs.Parts.{part-is}
-use Rattle.salvaging.proofs.Through as through
+use Rattle.salvaging.proofs.ScanThrough as through
 use Rattle.salvaging.proofs.Pieces.{split-to}
 use Rattle.salvaging.proofs.Stepping.{fresh-place, same-step}
 
 -- ---- stretches that have ended
 
-pub closed-joined : (p : ℕ) (ts : List Stretch) → closed (suc p) (joined p ts) ≡ closed p ts
+pub closed-joined : (p : ℕ) (ts : List Stretch) → closed (suc p) (stretchJoined p ts) ≡ closed p ts
 closed-joined p [] = rw (eq-eqb (p + 1) (suc p) (omega arith)) refl
 closed-joined p (t ∷ ts) = go (eqb (endOf t) p) refl
   where
@@ -58,14 +58,14 @@ closed-past p e (t ∷ ts) a h =
     rw (ne-eqb (endOf t) e (λ q. omega arith)) refl
 
 -- with the one that is open, they are all
-pub with-open : (s : Scan) → flat (closed (s .place) (s .skipped)) ++ ending (progressOf s) ≡ flat (s .skipped)
+pub with-open : (s : Scan) → flat (closed (s .place) (s .skipped)) ++ endingStretch (progressOf s) ≡ flat (s .skipped)
 unfolding flat isOpen
 with-open s = go (s .skipped)
   where
     scan : List Stretch → Scan
     scan ts = record { place = s .place; taken = s .taken; kept = s .kept; skipped = ts }
 
-    go : (ts : List Stretch) → flat (closed (s .place) ts) ++ ending (progressOf (scan ts)) ≡ flat ts
+    go : (ts : List Stretch) → flat (closed (s .place) ts) ++ endingStretch (progressOf (scan ts)) ≡ flat ts
     go [] = refl
     go (t ∷ ts) = rw (lt-ltb 0 (suc (length ts)) (omega arith)) (by (eqb (endOf t) (s .place)))
       where
@@ -81,20 +81,20 @@ abbrev pub part : List ℕ → Progress → Progress → List ℕ
 part bs p q = pick (tookOne p q) (slice (p .place) (q .place) bs) []
 
 abbrev ended : Progress → Progress → List ℕ
-ended p q = pick (tookOne p q) (ending p) []
+ended p q = pick (tookOne p q) (endingStretch p) []
 
 not-more : (n : ℕ) → ltb n n ≡ false
 not-more n = le-ltb n n (omega arith)
 
 pub adds-part : (bs : List ℕ) (s : Scan) (m : Move)
-    → after bs s m .kept ≡ s .kept ++ part bs (progressOf s) (progressOf (after bs s m))
+    → scanAfter bs s m .kept ≡ s .kept ++ part bs (progressOf s) (progressOf (scanAfter bs s m))
 adds-part bs s (Take n e) = rw (lt-ltb (length (s .taken)) (suc (length (s .taken))) (omega arith)) refl
 adds-part bs s Skip = rw (not-more (length (s .taken)), append-nil) refl
 adds-part bs s Stop = rw (not-more (length (s .taken)), append-nil) refl
 
 adds-ended : (bs : List ℕ) (s : Scan) → Apart (suc (s .place)) (s .skipped) → (m : Move) → moveIn bs s ≡ m
-    → flat (closed (after bs s m .place) (after bs s m .skipped))
-    ≡ flat (closed (s .place) (s .skipped)) ++ ended (progressOf s) (progressOf (after bs s m))
+    → flat (closed (scanAfter bs s m .place) (scanAfter bs s m .skipped))
+    ≡ flat (closed (s .place) (s .skipped)) ++ ended (progressOf s) (progressOf (scanAfter bs s m))
 adds-ended bs s a (Take n e) is =
     let i = inside bs (s .place) n e (through.takes bs (lastOf (s .taken)) (s .place) n e is .found) in
     let all : closed e (s .skipped) ≡ s .skipped = closed-past (s .place) e (s .skipped) a (omega (arith, i .ahead)) in
@@ -104,7 +104,7 @@ adds-ended bs s a Stop is = rw (not-more (length (s .taken)), append-nil) refl
 
 -- neither has more numbers than the step passes bytes
 pub part-few : (bs : List ℕ) (s : Scan) (m : Move) → moveIn bs s ≡ m
-    → length (part bs (progressOf s) (progressOf (after bs s m))) ≤ after bs s m .place - s .place
+    → length (part bs (progressOf s) (progressOf (scanAfter bs s m))) ≤ scanAfter bs s m .place - s .place
 part-few bs s (Take n e) is =
     let i = inside bs (s .place) n e (through.takes bs (lastOf (s .taken)) (s .place) n e is .found) in
     rw (lt-ltb (length (s .taken)) (suc (length (s .taken))) (omega arith), length-slice (s .place) e bs (i .within))
@@ -112,7 +112,7 @@ part-few bs s (Take n e) is =
 part-few bs s Skip is = rw (not-more (length (s .taken))) (omega arith)
 part-few bs s Stop is = rw (not-more (length (s .taken))) (omega arith)
 
-ending-few : (p : Progress) → length (ending p) ≤ 2
+ending-few : (p : Progress) → length (endingStretch p) ≤ 2
 ending-few p = go (isOpen p)
   where
     go : (b : Bool) → length (pick b (p .start ∷ p .size ∷ []) []) ≤ 2
@@ -120,7 +120,7 @@ ending-few p = go (isOpen p)
     go false = omega arith
 
 ended-few : (bs : List ℕ) (s : Scan) (m : Move) → moveIn bs s ≡ m
-    → length (ended (progressOf s) (progressOf (after bs s m))) ≤ after bs s m .place - s .place
+    → length (ended (progressOf s) (progressOf (scanAfter bs s m))) ≤ scanAfter bs s m .place - s .place
 ended-few bs s (Take n e) is =
     let i = inside bs (s .place) n e (through.takes bs (lastOf (s .taken)) (s .place) n e is .found) in
     rw (lt-ltb (length (s .taken)) (suc (length (s .taken))) (omega arith))
@@ -132,11 +132,11 @@ ended-few bs s Stop is = rw (not-more (length (s .taken))) (omega arith)
 
 -- the stretch that is open, written as two numbers
 pub open-put : (p : Progress) (g h k : Page) → isOpen p ≡ true → h ≡ put g (p .start) → k ≡ put h (p .size)
-    → k ≡ puts g (ending p)
+    → k ≡ puts g (endingStretch p)
 unfolding puts
 open-put p g h k is first second = rw is (second ∙ ap (λ (x : Page). put x (p .size)) first)
 
-pub none-put : (p : Progress) (g : Page) → isOpen p ≡ false → g ≡ puts g (ending p)
+pub none-put : (p : Progress) (g : Page) → isOpen p ≡ false → g ≡ puts g (endingStretch p)
 unfolding puts
 none-put p g none = rw none refl
 
@@ -152,7 +152,7 @@ puts-none window d p q g same = rw (le-ltb (p .notices) (q .notices) same) refl
 module _ (window : List ℕ) (d : ℕ) (p q : Progress) (to r : Laid) (area row area-after : List ℕ)
     (taken : page area-after (r .at) ≡ puts (page area (to .at)) (takenIn window d p q)) where
   pub lays-taken : (row-after : List ℕ) → p .notices < q .notices
-      → page row-after (r .cells) ≡ puts (page row (to .cells)) (ending p)
+      → page row-after (r .cells) ≡ puts (page row (to .cells)) (endingStretch p)
       → Lays window d p q to r area row area-after row-after
   lays-taken row-after more w = record { area-is = taken; row-is = w ∙ rw (lt-ltb (p .notices) (q .notices) more) refl }
 
@@ -180,10 +180,10 @@ part-amid before window later a b h =
 
 -- a move counted from where the window begins is the log's
 moved-further : (d : ℕ) (p : Progress) (f : Found)
-    → moved d p (moveOf (p .last) f) ≡ moved 0 p (moveOf (p .last) (further d f))
+    → progressMoved d p (moveOf (p .last) f) ≡ progressMoved 0 p (moveOf (p .last) (further d f))
 moved-further d p (found.At n e) = go (isLater (p .last) (n .sequence))
   where
-    go : (b : Bool) → moved d p (pick b (Take n e) Skip) ≡ moved 0 p (pick b (Take n (d + e)) Skip)
+    go : (b : Bool) → progressMoved d p (pick b (Take n e) Skip) ≡ progressMoved 0 p (pick b (Take n (d + e)) Skip)
     go true = rw (zero-add (d + e)) refl
     go false = refl
 moved-further d p found.End = refl
@@ -210,11 +210,11 @@ module _ (log window : List ℕ) (over : Bool) (d : ℕ) (st : Stands log d wind
       let found : further d (readAt window (p .place - d)) ≡ readAt log (p .place) =
       ap (λ k. further k (readAt window (p .place - d))) size
       ∙ sym (seen-reads log window (p .place) (p .place - d) seen) in
-      let same : moved 0 p (moveOf (p .last) (readAt log (p .place))) ≡ moved 0 (progressOf s) (moveIn log s) =
+      let same : progressMoved 0 p (moveOf (p .last) (readAt log (p .place))) ≡ progressMoved 0 (progressOf s) (moveIn log s) =
       rw is refl in
       a .is
       ∙ moved-further d p (readAt window (p .place - d))
-      ∙ ap (λ f. moved 0 p (moveOf (p .last) f)) found
+      ∙ ap (λ f. progressMoved 0 p (moveOf (p .last) f)) found
       ∙ same
       ∙ same-step log s (moveIn log s) refl
 
@@ -246,7 +246,7 @@ module _ (window : List ℕ) (over : Bool) (start : Progress) (area row : List �
     pub at-low : to .at ≤ length area-now
     pub cells-low : to .cells ≤ length row-now
     pub follows : (log : List ℕ) (k : ℕ) → Stands log (start .place) window over → start ≡ progressOf (scanTo log k)
-        → Follows log k p to area row area-now row-now
+        → PoursOn log k p to area row area-now row-now
 
   pub empty : Counts start → Pouring start (record { at = 0; cells = 0 }) area row
   unfolding puts
@@ -269,7 +269,7 @@ module _ (window : List ℕ) (over : Bool) (start : Progress) (area row : List �
               area-is = refl;
               cells = [];
               cells-few = omega arith;
-              ended-is = sym (append-nil (endedIn (scanTo log k)));
+              ended-is = sym (append-nil (stretchesEnded (scanTo log k)));
               row-is = refl;
             };
       }
@@ -291,7 +291,7 @@ module _ (window : List ℕ) (over : Bool) (start : Progress) (area row : List �
       (h : p .place - start .place < length window)
       (decided : isDecided (length window) (p .place - start .place) over ≡ true) where
     followed : (log : List ℕ) (k : ℕ) → Stands log (start .place) window over → start ≡ progressOf (scanTo log k)
-        → Follows log k q r area row area-next row-next
+        → PoursOn log k q r area row area-next row-next
     unfolding scanTo
     followed log k st is =
         let g = f .follows log k st is in
@@ -302,7 +302,7 @@ module _ (window : List ℕ) (over : Bool) (start : Progress) (area row : List �
         let more = part log p q in
         let bytes : scanTo log (suc n) .kept ≡ s .kept ++ more =
         adds-part log s (moveIn log s) ∙ rw (g .is, next) refl in
-        let cells : endedIn (scanTo log (suc n)) ≡ endedIn s ++ ended p q =
+        let cells : stretchesEnded (scanTo log (suc n)) ≡ stretchesEnded s ++ ended p q =
         adds-ended log s (split-to log n .apart) (moveIn log s) refl ∙ rw (g .is, next) refl in
         let first : start .place ≡ scanTo log k .place = ap (λ (x : Progress). x .place) is in
         let here : p .place ≡ s .place = ap (λ (x : Progress). x .place) (g .is) in
@@ -323,7 +323,7 @@ module _ (window : List ℕ) (over : Bool) (start : Progress) (area row : List �
           cells = g .cells ++ ended p q;
           cells-few = omega (arith, length-append (g .cells) (ended p q), g .cells-few, cells-low, on, low);
           ended-is = cells ∙ ap (λ x. x ++ ended p q) (g .ended-is)
-              ∙ append-assoc (endedIn (scanTo log k)) (g .cells) (ended p q);
+              ∙ append-assoc (stretchesEnded (scanTo log k)) (g .cells) (ended p q);
           row-is = puts-then (page row 0) (g .cells) (ended p q) (g .row-is) (l .row-is);
         }
 
@@ -388,8 +388,8 @@ whole-log log =
 
 -- both hold the scan's, with the stretch that ends at the log's end
 pub all-laid : (log area row : List ℕ) (p : Progress) (r : Poured) (area-now row-now row-next : List ℕ) (behind : ℕ)
-    → p ≡ fresh → Pours log true p r area row area-now row-now
-    → page row-next behind ≡ puts (page row-now (r .to .cells)) (ending (r .progress))
+    → p ≡ freshProgress → Pours log true p r area row area-now row-now
+    → page row-next behind ≡ puts (page row-now (r .to .cells)) (endingStretch (r .progress))
     → Fills (scanOf log) area row area-now row-next
 unfolding scanTo flat
 all-laid log area row p r area-now row-now row-next behind new f last =
@@ -398,9 +398,9 @@ all-laid log area row p r area-now row-now row-next behind new f last =
     let s = scanTo log (g .steps) in
     let place : r .progress .place ≡ s .place = ap (λ (q : Progress). q .place) (g .is) in
     let all : s ≡ scanOf log = through.all-scanned log (g .steps) (omega (arith, f .all refl)) in
-    let cells = puts-then (page row 0) (g .cells) (ending (r .progress)) (g .row-is) last in
-    let ends : g .cells ++ ending (r .progress) ≡ flat (s .skipped) =
-    ap (λ x. x ++ ending (r .progress)) (sym (g .ended-is)) ∙ rw (g .is) (with-open s) in
+    let cells = puts-then (page row 0) (g .cells) (endingStretch (r .progress)) (g .row-is) last in
+    let ends : g .cells ++ endingStretch (r .progress) ≡ flat (s .skipped) =
+    ap (λ x. x ++ endingStretch (r .progress)) (sym (g .ended-is)) ∙ rw (g .is) (with-open s) in
     record {
       area-is = ap (λ (g : Page). g .row) (g .area-is)
           ∙ ap (λ x. puts (page area 0) x .row) (sym (g .kept-is) ∙ rw all refl);

@@ -1,7 +1,7 @@
 -- What holds of a scan.
 pub mod Moves
 pub mod Parts
-pub mod Through
+pub mod ScanThrough
 pub mod Stepping
 pub mod Reaching
 pub mod Laying

@@ -14,13 +14,13 @@ use lib.Seq.{slice, slice-empty, length-slice}
 use Rattle.rules.specs.Limits.{both}
 use Rattle.rules.specs.Refusals.{pick}
 use Rattle.rules.proofs.Tests.{either-false}
-use Rattle.notice.proofs.There.{inside}
+use Rattle.notice.proofs.NoticePlaces.{inside}
 use Rattle.salvaging.specs.declared.scan.Move.{Move}
 use Rattle.salvaging.specs.declared.scan.Move.the-variants.{Take, Skip, Stop}
-use Rattle.salvaging.specs.Scan.{Stretch, stretch, endOf, joined, Scan, lastOf, after, moveIn, scanTo, scanOf}
-use Rattle.salvaging.specs.Claims.{isSkipped, outside, sizeOf, Apart}
+use Rattle.salvaging.specs.Scan.{Stretch, stretch, endOf, stretchJoined, Scan, lastOf, scanAfter, moveIn, scanTo, scanOf}
+use Rattle.salvaging.specs.Claims.{isSkipped, outside, skippedBytes, Apart}
 use Rattle.salvaging.proofs.Parts.{slice-suc}
-use Rattle.salvaging.proofs.Through.{takes, at-last}
+use Rattle.salvaging.proofs.ScanThrough.{takes, at-last}
 
 -- ---- which bytes lie in stretches
 
@@ -51,7 +51,7 @@ none-past q i (s ∷ ss) a h =
 
 -- one more skipped byte is skipped, and the bytes before it are as they were
 module _ (p : ℕ) where
-  joined-here : (ss : List Stretch) → isSkipped (joined p ss) p ≡ true
+  joined-here : (ss : List Stretch) → isSkipped (stretchJoined p ss) p ≡ true
   unfolding isSkipped
   joined-here [] = rw (lies-in (stretch p 1) p (omega arith) (omega arith))
   joined-here (s ∷ ss) = go (eqb (endOf s) p) refl
@@ -63,7 +63,7 @@ module _ (p : ℕ) where
           rw (lies-in (stretch (s .start) (suc (s .size))) p (omega arith) (omega arith))
       go false e = rw (lies-in (stretch p 1) p (omega arith) (omega arith))
 
-  joined-before : (ss : List Stretch) (i : ℕ) → i < p → isSkipped (joined p ss) i ≡ isSkipped ss i
+  joined-before : (ss : List Stretch) (i : ℕ) → i < p → isSkipped (stretchJoined p ss) i ≡ isSkipped ss i
   unfolding isSkipped
   joined-before [] i h = rw (lies-not-before (stretch p 1) i h)
   joined-before (s ∷ ss) i h = go (eqb (endOf s) p) refl
@@ -80,7 +80,7 @@ module _ (p : ℕ) where
       go false e = rw (lies-not-before (stretch p 1) i h)
 
   -- stretches stay apart
-  joined-apart : (ss : List Stretch) → Apart (suc p) ss → Apart (suc (suc p)) (joined p ss)
+  joined-apart : (ss : List Stretch) → Apart (suc p) ss → Apart (suc (suc p)) (stretchJoined p ss)
   joined-apart [] a = (omega arith, (omega arith, tt))
   joined-apart (s ∷ ss) a = go (eqb (endOf s) p) refl
     where
@@ -97,13 +97,13 @@ module _ (p : ℕ) where
           before f l = omega arith
 
   -- and have one byte more
-  joined-size : (ss : List Stretch) → sizeOf (joined p ss) ≡ suc (sizeOf ss)
-  unfolding sizeOf
+  joined-size : (ss : List Stretch) → skippedBytes (stretchJoined p ss) ≡ suc (skippedBytes ss)
+  unfolding skippedBytes
   joined-size [] = refl
   joined-size (s ∷ ss) = go (eqb (endOf s) p)
     where
       go : (b : Bool)
-          → sizeOf (pick b (stretch (s .start) (suc (s .size)) ∷ ss) (stretch p 1 ∷ s ∷ ss)) ≡ suc (sizeOf ss + s .size)
+          → skippedBytes (pick b (stretch (s .start) (suc (s .size)) ∷ ss) (stretch p 1 ∷ s ∷ ss)) ≡ suc (skippedBytes ss + s .size)
       go true = omega arith
       go false = omega arith
 
@@ -128,10 +128,10 @@ outside-more bs ss p (suc d) a h =
     rw (add-suc p d, free, rest, part) (append-assoc (outside bs ss p) (slice p (p + d) bs) (getD bs (p + d) 0 ∷ []))
 
 -- and a skipped byte adds none
-one-skipped : (bs : List ℕ) (ss : List Stretch) (p : ℕ) → outside bs ss p ≡ outside bs (joined p ss) (suc p)
+one-skipped : (bs : List ℕ) (ss : List Stretch) (p : ℕ) → outside bs ss p ≡ outside bs (stretchJoined p ss) (suc p)
 unfolding outside
 one-skipped bs ss p =
-    rw (joined-here p ss) (same-outside bs ss (joined p ss) p (λ i lt. sym (joined-before p ss i lt)))
+    rw (joined-here p ss) (same-outside bs ss (stretchJoined p ss) p (λ i lt. sym (joined-before p ss i lt)))
 
 -- ---- a scan
 
@@ -139,16 +139,16 @@ one-skipped bs ss p =
 pub record Split (bs : List ℕ) (s : Scan) : Type 0 where
   pub apart : Apart (suc (s .place)) (s .skipped)
   pub others : s .kept ≡ outside bs (s .skipped) (s .place)
-  pub all : length (s .kept) + sizeOf (s .skipped) ≡ s .place
+  pub all : length (s .kept) + skippedBytes (s .skipped) ≡ s .place
 
 wider : (p q : ℕ) (ss : List Stretch) → Apart p ss → p ≤ q → Apart q ss
 wider p q [] a h = tt
 wider p q (s ∷ ss) a h = (omega (arith, a .0), a .1)
 
-split-on : (bs : List ℕ) (s : Scan) → Split bs s → Split bs (after bs s (moveIn bs s))
+split-on : (bs : List ℕ) (s : Scan) → Split bs s → Split bs (scanAfter bs s (moveIn bs s))
 split-on bs s w = go (moveIn bs s) refl
   where
-    go : (m : Move) → moveIn bs s ≡ m → Split bs (after bs s m)
+    go : (m : Move) → moveIn bs s ≡ m → Split bs (scanAfter bs s m)
     go (Take n e) is =
         let p = s .place in
         let i = inside bs p n e (takes bs (lastOf (s .taken)) p n e is .found) in
@@ -170,7 +170,7 @@ split-on bs s w = go (moveIn bs s) refl
     go Stop is = w
 
 pub split-to : (bs : List ℕ) (n : ℕ) → Split bs (scanTo bs n)
-unfolding scanTo outside sizeOf
+unfolding scanTo outside skippedBytes
 split-to bs zero = record { apart = tt; others = refl; all = refl }
 split-to bs (suc n) = split-on bs (scanTo bs n) (split-to bs n)
 
@@ -186,5 +186,5 @@ module _ (bs : List ℕ) where
   apart = rw (at-last bs) at (split-to bs (length bs) .apart)
 
   -- kept and skipped bytes are as many as the input has
-  pub all-bytes : length (scanOf bs .kept) + sizeOf (scanOf bs .skipped) ≡ length bs
+  pub all-bytes : length (scanOf bs .kept) + skippedBytes (scanOf bs .skipped) ≡ length bs
   all-bytes = split-to bs (length bs) .all ∙ at-last bs

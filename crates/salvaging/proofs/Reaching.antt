@@ -9,8 +9,8 @@ use lib.ListN.{length}
 use Rattle.notice.specs.Decode.{readAt}
 use Rattle.salvaging.specs.declared.steps.Progress.{Progress}
 use Rattle.salvaging.specs.Scan.{moveOf, moveIn, scanTo, scanOf}
-use Rattle.salvaging.specs.inner.Steps.{progressOf, fresh, moved, Counts, Within, Advances}
-use Rattle.salvaging.proofs.Through as through
+use Rattle.salvaging.specs.inner.Steps.{progressOf, freshProgress, progressMoved, Counts, Within, Advances}
+use Rattle.salvaging.proofs.ScanThrough as through
 use Rattle.salvaging.proofs.Stepping.{fresh-counts, same-step}
 
 -- so many steps have come here
@@ -20,7 +20,7 @@ pub record Reached (bs : List ℕ) (p : Progress) : Type 0 where
   pub counts : Counts p
 
 module _ (bs : List ℕ) where
-  pub not-begun : (p : Progress) → p ≡ fresh → Reached bs p
+  pub not-begun : (p : Progress) → p ≡ freshProgress → Reached bs p
   unfolding scanTo
   not-begun p is =
       record { steps = 0; is = is; counts = fresh-counts p is }
@@ -40,7 +40,7 @@ module _ (bs : List ℕ) where
   unfolding scanTo
   stepped p q n is a =
       let s = scanTo bs n in
-      let same : moved 0 p (moveOf (p .last) (readAt bs (p .place - 0))) ≡ moved 0 (progressOf s) (moveIn bs s) =
+      let same : progressMoved 0 p (moveOf (p .last) (readAt bs (p .place - 0))) ≡ progressMoved 0 (progressOf s) (moveIn bs s) =
       rw (is, sub-zero) refl in
       a .is ∙ same ∙ same-step bs s (moveIn bs s) refl
 

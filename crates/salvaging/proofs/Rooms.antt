@@ -17,8 +17,8 @@ use Rattle.salvaging.specs.declared.Salvaged.{Salvaged}
 use Rattle.salvaging.specs.declared.steps.Progress.{Progress}
 use Rattle.salvaging.specs.Scan.{Stretch, scanOf}
 use Rattle.salvaging.specs.inner.Steps.{progressOf}
-use Rattle.salvaging.specs.Rows.{flat, isShort, noRoom, filled, Salvages}
-use Rattle.salvaging.specs.Pours.{counted, Fills}
+use Rattle.salvaging.specs.Rows.{flat, lacksRoom, noRoom, filled, Salvages}
+use Rattle.salvaging.specs.Pours.{salvagedTo, Fills}
 
 -- two places for each stretch
 length-flat : (ss : List Stretch) → length (flat ss) ≡ 2 * length ss
@@ -33,7 +33,7 @@ from-start xs room h =
     ap (λ (g : Page). g .row) put ∙ rw zero-add refl
 
 module _ (log area row : List ℕ) where
-  refuses : isShort (scanOf log) area row ≡ true → (r : Salvaged) → r ≡ noRoom → Salvages log area row r area row
+  refuses : lacksRoom (scanOf log) area row ≡ true → (r : Salvaged) → r ≡ noRoom → Salvages log area row r area row
   unfolding firstHit
   refuses short r made =
       record {
@@ -58,7 +58,7 @@ module _ (log area row : List ℕ) where
         refuses (either-r (ltb (length area) (length (scanOf log .kept))) _ (lt-ltb _ _ short))
 
     pub both-fit : p .bytes ≤ length area → p .stretches ≤ length row / 2
-        → (r : Salvaged) (area-after row-after : List ℕ) → r ≡ counted p
+        → (r : Salvaged) (area-after row-after : List ℕ) → r ≡ salvagedTo p
         → Fills (scanOf log) area row area-after row-after → Salvages log area row r area-after row-after
     unfolding firstHit
     both-fit room cells r area-after row-after made f =
@@ -67,10 +67,10 @@ module _ (log area row : List ℕ) where
         let many : p .stretches ≡ length (s .skipped) = ap (λ (q : Progress). q .stretches) is in
         let area-long : length (s .kept) ≤ length area = omega arith in
         let row-long : length (flat (s .skipped)) ≤ length row = omega (arith, length-flat (s .skipped)) in
-        let fit : isShort s area row ≡ false = either-false _ _ (le-ltb _ _ area-long) (le-ltb _ _ row-long) in
+        let fit : lacksRoom s area row ≡ false = either-false _ _ (le-ltb _ _ area-long) (le-ltb _ _ row-long) in
         record {
           answers = ap (λ (x : Salvaged). x .answer) made ∙ rw fit refl;
-          gives = made ∙ ap counted is ∙ rw fit refl;
+          gives = made ∙ ap salvagedTo is ∙ rw fit refl;
           area-is = f .area-is ∙ from-start (s .kept) area area-long ∙ rw fit refl;
           row-is = f .row-is ∙ from-start (flat (s .skipped)) row row-long ∙ rw fit refl;
         }

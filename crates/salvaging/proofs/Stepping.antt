@@ -15,14 +15,14 @@ use lib.Seq.{slice, length-slice}
 use Rattle.rules.specs.Refusals.{pick}
 use Rattle.notice.specs.declared.Notice.{Notice}
 use Rattle.notice.specs.Decode.{readAt}
-use Rattle.notice.proofs.There.{inside}
+use Rattle.notice.proofs.NoticePlaces.{inside}
 use Rattle.salvaging.specs.declared.scan.Move.{Move}
 use Rattle.salvaging.specs.declared.scan.Move.the-variants.{Take, Skip, Stop}
 use Rattle.salvaging.specs.declared.steps.Progress.{Progress}
-use Rattle.salvaging.specs.Scan.{moveOf, Stretch, stretch, endOf, Scan, lastOf, after, moveIn}
-use Rattle.salvaging.specs.inner.Steps.{progressOf, fresh, isOpen, taking, joining, starting}
-use Rattle.salvaging.specs.inner.Steps.{skipping, moved, Counts, Within, Advances}
-use Rattle.salvaging.proofs.Through as through
+use Rattle.salvaging.specs.Scan.{moveOf, Stretch, stretch, endOf, Scan, lastOf, scanAfter, moveIn}
+use Rattle.salvaging.specs.inner.Steps.{progressOf, freshProgress, isOpen, takingNotice, joining, starting}
+use Rattle.salvaging.specs.inner.Steps.{skipping, progressMoved, Counts, Within, Advances}
+use Rattle.salvaging.proofs.ScanThrough as through
 
 -- ---- is a stretch open
 
@@ -45,9 +45,9 @@ starts p h = rw h
 
 -- ---- counts
 
-pub fresh-counts : (p : Progress) → p ≡ fresh → Counts p
+pub fresh-counts : (p : Progress) → p ≡ freshProgress → Counts p
 fresh-counts p is =
-    let made : Counts fresh =
+    let made : Counts freshProgress =
     record {
       notices-low = omega arith;
       bytes-low = omega arith;
@@ -56,10 +56,10 @@ fresh-counts p is =
     } in
     rw is made
 
-pub fresh-place : (p : Progress) → p ≡ fresh → p .place ≡ 0
+pub fresh-place : (p : Progress) → p ≡ freshProgress → p .place ≡ 0
 fresh-place p is = ap (λ (q : Progress). q .place) is
 
-taking-counts : (p : Progress) (s e : ℕ) → Counts p → p .place < e → Counts (taking p s e)
+taking-counts : (p : Progress) (s e : ℕ) → Counts p → p .place < e → Counts (takingNotice p s e)
 taking-counts p s e c h =
     record {
       notices-low = omega (arith, c .notices-low);
@@ -112,13 +112,13 @@ module _ (window : List ℕ) (d : ℕ) (p : Progress) (c : Counts p) (w : Within
   pub skip-room : move ≡ Skip → p .place < d + length window
   skip-room is = omega (arith, w .from, through.skips window (p .last) (p .place - d) is)
 
-  pub advances-take : (n : Notice) (e : ℕ) → move ≡ Take n e → (r : Progress) → r ≡ taking p (n .sequence) (d + e)
+  pub advances-take : (n : Notice) (e : ℕ) → move ≡ Take n e → (r : Progress) → r ≡ takingNotice p (n .sequence) (d + e)
       → Advances window d p r
   advances-take n e is r made =
       let ends = take-ends n e is in
       let place : r .place ≡ d + e = ap (λ (q : Progress). q .place) made in
       record {
-        is = made ∙ ap (moved d p) (sym is);
+        is = made ∙ ap (progressMoved d p) (sym is);
         counts = rw made (taking-counts p (n .sequence) (d + e) c (ends .0));
         ahead = λ _. rw place (ends .0);
         within = rw place (omega (arith, ends .1));
@@ -128,7 +128,7 @@ module _ (window : List ℕ) (d : ℕ) (p : Progress) (c : Counts p) (w : Within
   advances-skip is r made =
       let place : r .place ≡ p .place + 1 = ap (λ (q : Progress). q .place) made ∙ skipping-place p in
       record {
-        is = made ∙ ap (moved d p) (sym is);
+        is = made ∙ ap (progressMoved d p) (sym is);
         counts = rw made (skipping-counts p c);
         ahead = λ _. omega arith;
         within = omega (arith, skip-room is);
@@ -137,7 +137,7 @@ module _ (window : List ℕ) (d : ℕ) (p : Progress) (c : Counts p) (w : Within
   pub advances-stop : move ≡ Stop → Advances window d p p
   advances-stop is =
       record {
-        is = ap (moved d p) (sym is);
+        is = ap (progressMoved d p) (sym is);
         counts = c;
         ahead = λ h. absurd (omega (arith, w .from, through.stops window (p .last) (p .place - d) is));
         within = w .to;
@@ -150,7 +150,7 @@ scan place taken kept skipped = record { place = place; taken = taken; kept = ke
 
 -- a skipped byte, counted, is what is counted of the stretches with that byte
 skip-same : (place : ℕ) (taken : List Notice) (kept : List ℕ) (ss : List Stretch) (bs : List ℕ)
-    → skipping (progressOf (scan place taken kept ss)) ≡ progressOf (after bs (scan place taken kept ss) Skip)
+    → skipping (progressOf (scan place taken kept ss)) ≡ progressOf (scanAfter bs (scan place taken kept ss) Skip)
 unfolding skipping isOpen
 skip-same place taken kept [] bs = rw add-one refl
 skip-same place taken kept (t ∷ ss) bs =
@@ -166,7 +166,7 @@ skip-same place taken kept (t ∷ ss) bs =
     by false = rw (add-one, add-one) refl
 
 pub same-step : (bs : List ℕ) (s : Scan) (m : Move) → moveIn bs s ≡ m
-    → moved 0 (progressOf s) m ≡ progressOf (after bs s m)
+    → progressMoved 0 (progressOf s) m ≡ progressOf (scanAfter bs s m)
 same-step bs s (Take n e) is =
     let i = inside bs (s .place) n e (through.takes bs (lastOf (s .taken)) (s .place) n e is .found) in
     let size : length (s .kept ++ slice (s .place) e bs) ≡ length (s .kept) + (e - s .place) =

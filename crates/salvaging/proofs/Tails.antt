@@ -15,17 +15,17 @@ use Rattle.notice.specs.declared.Notice.{Notice}
 use Rattle.notice.specs.declared.Found.the-variants as found
 use Rattle.notice.specs.Decode.{readAt, further}
 use Rattle.notice.specs.Log.{logOf, Gives, ends, next, AllFit}
-use Rattle.notice.proofs.Each.{by-order}
-use Rattle.notice.proofs.There.{inside, ended}
+use Rattle.notice.proofs.CaseSplits.{by-order}
+use Rattle.notice.proofs.NoticePlaces.{inside, ended}
 use Rattle.notice.proofs.Part.{at-last}
 use Rattle.notice.proofs.RoundTrip.{log-gives}
 use Rattle.salvaging.specs.declared.scan.Move.{Move}
 use Rattle.salvaging.specs.declared.scan.Move.the-variants.{Take, Skip, Stop}
-use Rattle.salvaging.specs.Scan.{isLater, Scan, lastOf, after, moveIn, scanTo}
-use Rattle.salvaging.specs.Claims.{Below, Rising, Clear, ComeOut, Whole}
+use Rattle.salvaging.specs.Scan.{isLater, Scan, lastOf, scanAfter, moveIn, scanTo}
+use Rattle.salvaging.specs.Claims.{Below, Rising, Clear, ComeOut, KeptWhole}
 use Rattle.salvaging.proofs.Moves.{in-turn}
 use Rattle.salvaging.proofs.Parts.{part-rest}
-use Rattle.salvaging.proofs.Through as through
+use Rattle.salvaging.proofs.ScanThrough as through
 
 -- ---- notices in turn
 
@@ -48,7 +48,7 @@ module _ (bs : List ℕ) where
     pub skipped-is : t .skipped ≡ s .skipped
 
   came-on : (s : Scan) (n : Notice) (e : ℕ) (ns : List Notice) (t : Scan) → s .place ≤ e → e ≤ length bs
-      → Came (after bs s (Take n e)) e ns t → Came s (s .place) (n ∷ ns) t
+      → Came (scanAfter bs s (Take n e)) e ns t → Came s (s .place) (n ∷ ns) t
   came-on s n e ns t low within c =
       record {
         place-is = c .place-is;
@@ -75,7 +75,7 @@ module _ (bs : List ℕ) where
       let here : readAt bs (s .place) ≡ found.At n e = rw at is in
       let i = inside bs (s .place) n e here in
       let move : moveIn bs s ≡ Take n e = sym (in-turn _ _ n e here (later (s .taken) n ns low)) in
-      let step : scanTo bs (suc k) ≡ after bs s (Take n e) = ap (after bs s) move in
+      let step : scanTo bs (suc k) ≡ scanAfter bs s (Take n e) = ap (scanAfter bs s) move in
       let low′ : Low (scanTo bs (suc k) .taken) ns = rw step (rising .0) in
       let rest = comes (suc k) e ns (ap (λ (t : Scan). t .place) step) more low′ (rising .1) in
       let far : k + suc (length ns) ≡ suc k + length ns = omega arith in
@@ -98,7 +98,7 @@ module _ (bs : List ℕ) where
 -- ---- a log whose sequences rise
 
 -- it comes out whole
-pub whole : (bs : List ℕ) (ns : List Notice) → Gives bs 0 ns → Rising ns → Whole bs ns
+pub whole : (bs : List ℕ) (ns : List Notice) → Gives bs 0 ns → Rising ns → KeptWhole bs ns
 unfolding scanTo
 whole bs ns gives rising =
     let c = comes bs 0 0 ns refl gives tt rising in
@@ -165,7 +165,7 @@ tail-comes-out pre tail ns gives rising clear =
 
 -- ---- the same of notices as they are written
 
-pub written-whole : (ns : List Notice) → AllFit ns → Rising ns → Whole (logOf ns) ns
+pub written-whole : (ns : List Notice) → AllFit ns → Rising ns → KeptWhole (logOf ns) ns
 written-whole ns fit rising = whole (logOf ns) ns (log-gives ns fit) rising
 
 pub written-tail : (pre : List ℕ) (ns : List Notice) → AllFit ns → Rising ns → Clear (pre ++ logOf ns) (length pre) ns

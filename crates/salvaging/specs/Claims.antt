@@ -22,9 +22,9 @@ outside bs ss zero = []
 outside bs ss (suc i) = pick (isSkipped ss i) (outside bs ss i) (outside bs ss i ++ getD bs i 0 ∷ [])
 
 -- how many bytes lie in stretches
-unfoldable pub sizeOf : List Stretch → ℕ
-sizeOf [] = 0
-sizeOf (s ∷ ss) = sizeOf ss + s .size
+unfoldable pub skippedBytes : List Stretch → ℕ
+skippedBytes [] = 0
+skippedBytes (s ∷ ss) = skippedBytes ss + s .size
 
 -- stretches, newest first, that rise and never touch, none empty, each ending before a place
 abbrev pub Apart : ℕ → List Stretch → Type 0
@@ -42,7 +42,7 @@ Rising [] = Unit {0}
 Rising (n ∷ ns) = Below (n .sequence) ns × Rising ns
 
 -- a log of these notices comes out whole: all of them are taken, every byte is kept, and none is skipped
-pub record Whole (bs : List ℕ) (ns : List Notice) : Type 0 where
+pub record KeptWhole (bs : List ℕ) (ns : List Notice) : Type 0 where
   pub taken-is : scanOf bs .taken ≡ reverse ns
   pub kept-is : scanOf bs .kept ≡ bs
   pub skipped-is : scanOf bs .skipped ≡ []

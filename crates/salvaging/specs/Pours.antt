@@ -15,11 +15,11 @@ use Rattle.salvaging.specs.declared.rows.Laid.{Laid}
 use Rattle.salvaging.specs.declared.rows.Poured.{Poured}
 use Rattle.salvaging.specs.declared.steps.Progress.{Progress}
 use Rattle.salvaging.specs.Scan.{Stretch, endOf, Scan, scanTo}
-use Rattle.salvaging.specs.inner.Steps.{progressOf, ending, Counts}
+use Rattle.salvaging.specs.inner.Steps.{progressOf, endingStretch, Counts}
 use Rattle.salvaging.specs.Rows.{flat}
 
-abbrev pub counted : Progress → Salvaged
-counted p = record { answer = done; notices = p .notices; bytes = p .bytes; stretches = p .stretches }
+abbrev pub salvagedTo : Progress → Salvaged
+salvagedTo p = record { answer = done; notices = p .notices; bytes = p .bytes; stretches = p .stretches }
 
 -- a notice was taken
 abbrev pub tookOne : Progress → Progress → Bool
@@ -33,15 +33,15 @@ takenIn window d p q = pick (tookOne p q) (slice (p .place - d) (q .place - d) w
 pub record Lays (window : List ℕ) (d : ℕ) (p q : Progress) (to r : Laid) (area row area-after row-after : List ℕ)
     : Type 0 where
   pub area-is : page area-after (r .at) ≡ puts (page area (to .at)) (takenIn window d p q)
-  pub row-is : page row-after (r .cells) ≡ puts (page row (to .cells)) (pick (tookOne p q) (ending p) [])
+  pub row-is : page row-after (r .cells) ≡ puts (page row (to .cells)) (pick (tookOne p q) (endingStretch p) [])
 
 -- the stretches that have ended: all but the one that ends at the place
 abbrev pub closed : ℕ → List Stretch → List Stretch
 closed p [] = []
 closed p (t ∷ ts) = pick (eqb (endOf t) p) ts (t ∷ ts)
 
-abbrev pub endedIn : Scan → List ℕ
-endedIn s = flat (closed (s .place) (s .skipped))
+abbrev pub stretchesEnded : Scan → List ℕ
+stretchesEnded s = flat (closed (s .place) (s .skipped))
 
 -- a window of a log begins at a place, and ends the log if no byte will follow
 pub record Stands (log : List ℕ) (place : ℕ) (window : List ℕ) (over : Bool) : Type 0 where
@@ -52,7 +52,7 @@ pub record Stands (log : List ℕ) (place : ℕ) (window : List ℕ) (over : Boo
   pub last : over ≡ true → later ≡ []
 
 -- from step k on a log's scan came to p, and what it took and ended meanwhile stands at the start of an area and a row
-pub record Follows (log : List ℕ) (k : ℕ) (p : Progress) (to : Laid) (area row area-now row-now : List ℕ) : Type 0 where
+pub record PoursOn (log : List ℕ) (k : ℕ) (p : Progress) (to : Laid) (area row area-now row-now : List ℕ) : Type 0 where
   pub steps : ℕ
   pub is : p ≡ progressOf (scanTo log steps)
   pub bytes : List ℕ
@@ -61,7 +61,7 @@ pub record Follows (log : List ℕ) (k : ℕ) (p : Progress) (to : Laid) (area r
   pub area-is : page area-now (to .at) ≡ puts (page area 0) bytes
   pub cells : List ℕ
   pub cells-few : length cells ≤ scanTo log steps .place - scanTo log k .place
-  pub ended-is : endedIn (scanTo log steps) ≡ endedIn (scanTo log k) ++ cells
+  pub ended-is : stretchesEnded (scanTo log steps) ≡ stretchesEnded (scanTo log k) ++ cells
   pub row-is : page row-now (to .cells) ≡ puts (page row 0) cells
 
 -- what a window adds: in whatever log it stands, this is the log's own scan, up to where the window no longer decides
@@ -75,7 +75,7 @@ pub record Pours (window : List ℕ) (over : Bool) (p : Progress) (r : Poured) (
   pub cells-low : r .to .cells ≤ length row-after
   pub all : over ≡ true → r .progress .place ≡ p .place + length window
   pub follows : (log : List ℕ) (k : ℕ) → Stands log (p .place) window over → p ≡ progressOf (scanTo log k)
-      → Follows log k (r .progress) (r .to) area row area-after row-after
+      → PoursOn log k (r .progress) (r .to) area row area-after row-after
 
 -- all of a scan, from the start of each
 pub record Fills (s : Scan) (area row area-after row-after : List ℕ) : Type 0 where

@@ -16,8 +16,8 @@ flat [] = []
 flat (s ∷ ss) = flat ss ++ s .start ∷ s .size ∷ []
 
 -- either room is too short
-abbrev pub isShort : Scan → List ℕ → List ℕ → Bool
-isShort s area row = either (ltb (length area) (length (s .kept))) (ltb (length row) (length (flat (s .skipped))))
+abbrev pub lacksRoom : Scan → List ℕ → List ℕ → Bool
+lacksRoom s area row = either (ltb (length area) (length (s .kept))) (ltb (length row) (length (flat (s .skipped))))
 
 -- how many notices, bytes and stretches; nothing but the number beside a refusal
 abbrev pub salvaged : Scan → Salvaged
@@ -33,7 +33,7 @@ filled xs room = xs ++ drop (length xs) room
 
 -- what the call promises
 pub record Salvages (log area row : List ℕ) (r : Salvaged) (area-after row-after : List ℕ) : Type 0 where
-  pub answers : r .answer ≡ firstHit (refuse wrongRows (isShort (scanOf log) area row) ∷ [])
-  pub gives : r ≡ pick (isShort (scanOf log) area row) noRoom (salvaged (scanOf log))
-  pub area-is : area-after ≡ pick (isShort (scanOf log) area row) area (filled (scanOf log .kept) area)
-  pub row-is : row-after ≡ pick (isShort (scanOf log) area row) row (filled (flat (scanOf log .skipped)) row)
+  pub answers : r .answer ≡ firstHit (refuse wrongRows (lacksRoom (scanOf log) area row) ∷ [])
+  pub gives : r ≡ pick (lacksRoom (scanOf log) area row) noRoom (salvaged (scanOf log))
+  pub area-is : area-after ≡ pick (lacksRoom (scanOf log) area row) area (filled (scanOf log .kept) area)
+  pub row-is : row-after ≡ pick (lacksRoom (scanOf log) area row) row (filled (flat (scanOf log .skipped)) row)

@@ -40,9 +40,9 @@ abbrev pub endOf : Stretch → ℕ
 endOf s = s .start + s .size
 
 -- the stretches, newest first, with one more byte: it joins the stretch that it stands behind
-abbrev pub joined : ℕ → List Stretch → List Stretch
-joined p [] = stretch p 1 ∷ []
-joined p (s ∷ ss) = pick (eqb (endOf s) p) (stretch (s .start) (suc (s .size)) ∷ ss) (stretch p 1 ∷ s ∷ ss)
+abbrev pub stretchJoined : ℕ → List Stretch → List Stretch
+stretchJoined p [] = stretch p 1 ∷ []
+stretchJoined p (s ∷ ss) = pick (eqb (endOf s) p) (stretch (s .start) (suc (s .size)) ∷ ss) (stretch p 1 ∷ s ∷ ss)
 
 -- how far a scan has come: its place, the taken notices and the skipped stretches, both newest first, and the taken bytes
 pub record Scan : Type 0 where
@@ -55,12 +55,12 @@ abbrev pub lastOf : List Notice → Last
 lastOf [] = Nothing
 lastOf (n ∷ ns) = Taken (n .sequence)
 
-abbrev pub after : List ℕ → Scan → Move → Scan
-after bs s (Take n e) =
+abbrev pub scanAfter : List ℕ → Scan → Move → Scan
+scanAfter bs s (Take n e) =
     record { place = e; taken = n ∷ s .taken; kept = s .kept ++ slice (s .place) e bs; skipped = s .skipped }
-after bs s Skip =
-    record { place = suc (s .place); taken = s .taken; kept = s .kept; skipped = joined (s .place) (s .skipped) }
-after bs s Stop = s
+scanAfter bs s Skip =
+    record { place = suc (s .place); taken = s .taken; kept = s .kept; skipped = stretchJoined (s .place) (s .skipped) }
+scanAfter bs s Stop = s
 
 -- what the scan does next
 abbrev pub moveIn : List ℕ → Scan → Move
@@ -72,7 +72,7 @@ begin = record { place = 0; taken = []; kept = []; skipped = [] }
 -- after n steps
 unfoldable pub scanTo : List ℕ → ℕ → Scan
 scanTo bs zero = begin
-scanTo bs (suc n) = after bs (scanTo bs n) (moveIn bs (scanTo bs n))
+scanTo bs (suc n) = scanAfter bs (scanTo bs n) (moveIn bs (scanTo bs n))
 
 -- all of a log: each step passes a byte at least, so a step for each is enough
 abbrev pub scanOf : List ℕ → Scan

@@ -8,7 +8,7 @@ use steps::Progress;
 use steps::measure;
 ghost use mathlib.Core.Path.{_≡_};
 ghost use Rattle.salvaging.specs.Rows.{noRoom, Salvages};
-ghost use Rattle.salvaging.specs.Pours.{counted as counts};
+ghost use Rattle.salvaging.specs.Pours.{salvagedTo as counts};
 
 pub mod rows;
 pub mod scan;

@@ -12,7 +12,7 @@ ghost use Prim.Native.Nat.{_+_, _<_, _^_};
 ghost use lib.ListN.{length};
 ghost use Rattle.text.specs.Output.{page, puts};
 ghost use Rattle.salvaging.specs.Scan.{scanOf};
-ghost use Rattle.salvaging.specs.inner.Steps.{Counts, Between, ending};
+ghost use Rattle.salvaging.specs.inner.Steps.{Counts, Between, endingStretch};
 ghost use Rattle.salvaging.specs.Pours.{takenIn, Lays, Pours, Fills};
 
 // The places behind what was written into the area and into the row.
@@ -30,7 +30,7 @@ struct Poured {
 // The stretch that ends at the place, if one does.
 fn put_ended(row: &mut [u64], at: usize, p: Progress) -> usize
     requires { ⌜ Counts p ⌝ }
-    ensures { λ r. ⌜ page (now (row .exit)) r ≡ puts (page (now (row .entry)) at) (ending p) ⌝ }
+    ensures { λ r. ⌜ page (now (row .exit)) r ≡ puts (page (now (row .entry)) at) (endingStretch p) ⌝ }
 {
     let start = p.start;
     let size = p.size;

@@ -7,7 +7,7 @@ ghost use mathlib.Core.Path.{_≡_};
 ghost use Prim.Native.Nat.{_+_, _<_, _^_};
 ghost use lib.ListN.{length};
 ghost use Rattle.salvaging.specs.Scan.{scanOf};
-ghost use Rattle.salvaging.specs.inner.Steps.{isOpen, taking, skipping, Counts, Within, Advances, progressOf, fresh};
+ghost use Rattle.salvaging.specs.inner.Steps.{isOpen, takingNotice, skipping, Counts, Within, Advances, progressOf, freshProgress};
 
 // How far a scan has come: its place in the input, the last taken notice, how many notices and bytes were taken, how many
 // stretches skipped, and where the latest of these starts and how long it is.
@@ -23,7 +23,7 @@ pub struct Progress {
 
 // At the input's start.
 pub fn begun() -> Progress
-    ensures { λ r. ⌜ r ≡ fresh ⌝ }
+    ensures { λ r. ⌜ r ≡ freshProgress ⌝ }
 {
     Progress {
         place: 0,
@@ -50,7 +50,7 @@ pub fn is_open(p: Progress) -> bool
 // A notice is taken, up to its end.
 fn take(p: Progress, sequence: u32, end: usize) -> Progress
     requires { ⌜ Counts p × (p .place < end) ⌝ }
-    ensures { λ r. ⌜ r ≡ taking p sequence end ⌝ }
+    ensures { λ r. ⌜ r ≡ takingNotice p sequence end ⌝ }
 {
     Progress {
         place: end,

@@ -6,6 +6,6 @@ pub mod Padded
 pub mod SteadyLanes
 pub mod Turns
 pub mod Steady
-pub mod Which
-pub mod Both
+pub mod ByKind
+pub mod LawfulKinds
 pub mod Lawful

@@ -1,5 +1,5 @@
 -- The laws of a scheme by which the story is told, for a film of D ms with a tick of so many ms, floor A and cap K. Each scheme
--- shows that it meets them (proofs/Padded, Steady, Both); what follows from them is shown once, of every scheme that does.
+-- shows that it meets them (proofs/Padded, Steady, LawfulKinds); what follows from them is shown once, of every scheme that does.
 use mathlib.Core.Path.{_≡_}
 use mathlib.Core.Bool.{true}
 use Prim.Native.Nat.{ℕ, _+_, _-_, _^_, _≤_, _<_}

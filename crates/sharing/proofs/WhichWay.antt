@@ -9,13 +9,13 @@ use Rattle.rules.specs.Refusals.{firstHit, done}
 use Rattle.rules.specs.Former.{formerly}
 use Rattle.rules.proofs.Former.{formerly-done, renumbered, former-hit}
 use Rattle.sharing.specs.Verdict.{verdictOf}
-use Rattle.sharing.specs.Former.{formerRules}
+use Rattle.sharing.specs.Former.{formerShareRules}
 
 module _ (pool : ℕ) (rates lengths floors caps : List ℕ) (room : ℕ) where
-  pub same-place : formerly (verdictOf pool rates lengths floors caps room) ≡ firstHit (formerRules pool rates lengths floors caps room)
+  pub same-place : formerly (verdictOf pool rates lengths floors caps room) ≡ firstHit (formerShareRules pool rates lengths floors caps room)
   unfolding verdictOf renumbered
   same-place = former-hit _
 
   -- the test by which the lent row is written or left
-  pub same-calls : eqb (firstHit (formerRules pool rates lengths floors caps room)) done ≡ eqb (verdictOf pool rates lengths floors caps room) done
+  pub same-calls : eqb (firstHit (formerShareRules pool rates lengths floors caps room)) done ≡ eqb (verdictOf pool rates lengths floors caps room) done
   same-calls = sym (ap (λ m. eqb m done) same-place) ∙ formerly-done (verdictOf pool rates lengths floors caps room)

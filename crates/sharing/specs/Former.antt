@@ -9,8 +9,8 @@ use Rattle.sharing_titles.specs.Titles.{titles, rowTotal}
 use Rattle.sharing.specs.Verdict.{rowsFit, allowed, ordered, eachTitle}
 
 -- 10 1 6 9
-abbrev pub formerRules : ℕ → List ℕ → List ℕ → List ℕ → List ℕ → ℕ → List Rule
-formerRules pool rates lengths floors caps room =
+abbrev pub formerShareRules : ℕ → List ℕ → List ℕ → List ℕ → List ℕ → ℕ → List Rule
+formerShareRules pool rates lengths floors caps room =
     refuse wrongRows (not (rowsFit rates lengths floors caps room))
     ∷ refuse outsideLimits
     (not (both (within poolMin poolMax pool) (eachTitle allowed (titles rates lengths floors caps))))

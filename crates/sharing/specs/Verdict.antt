@@ -9,7 +9,7 @@ use Rattle.rules.specs.Limits.{within, both, poolMin, poolMax, rateMin, rateMax
 use Rattle.rules.specs.Limits.{floorMin, floorMax, countMin, countMax, titlesMax}
 use Rattle.rules.specs.Refusals.{pick, refuse, firstHit, done, outsideLimits, floorAboveCap, noLanes, wrongRows}
 use Rattle.sharing_titles.specs.declared.titles.Rated.{Rated}
-use Rattle.sharing.specs.declared.verdict.Tally.{Tally}
+use Rattle.sharing.specs.declared.verdict.TitlesTally.{TitlesTally}
 use Rattle.sharing_titles.specs.Titles.{titles, rowTotal}
 use Rattle.sharing_choice.specs.Choice.{shared}
 
@@ -38,7 +38,7 @@ eachTitle p [] = true
 eachTitle p (t ∷ ts) = both (p t) (eachTitle p ts)
 
 -- what the code's one look at every title tells
-pub record Tallied (ts : List Rated) (r : Tally) : Type 0 where
+pub record TalliesTitles (ts : List Rated) (r : TitlesTally) : Type 0 where
   pub limits : r .allowed ≡ eachTitle allowed ts
   pub order : r .ordered ≡ eachTitle ordered ts
 
@@ -63,6 +63,6 @@ rowAfter pool rates lengths floors caps row =
     row
 
 -- what a sharing gives back: the answer r, and the row it leaves
-pub record Answered (pool : ℕ) (rates lengths floors caps row : List ℕ) (r : ℕ) (after : List ℕ) : Type 0 where
+pub record ShareAnswered (pool : ℕ) (rates lengths floors caps row : List ℕ) (r : ℕ) (after : List ℕ) : Type 0 where
   pub answer : r ≡ verdictOf pool rates lengths floors caps (length row)
   pub counts : after ≡ rowAfter pool rates lengths floors caps row

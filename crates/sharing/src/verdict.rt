@@ -1,15 +1,15 @@
 // Which sharings are refused, and with which number.
 use rules::truth::also;
 ghost use mathlib.Core.Path.{_≡_};
-ghost use Rattle.sharing_titles.specs.Titles.{titles, Even};
-ghost use Rattle.sharing.specs.Verdict.{rowsFit, allowed as allowedOf, Tallied, verdictOf};
+ghost use Rattle.sharing_titles.specs.Titles.{titles, SameLengths};
+ghost use Rattle.sharing.specs.Verdict.{rowsFit, allowed as allowedOf, TalliesTitles, verdictOf};
 use rules::within;
 use sharing_titles::titles::Rated;
 use sharing_titles::titles::floor_total;
 use sharing_titles::titles::title_at;
 
 // What one look at every title tells.
-pub struct Tally {
+pub struct TitlesTally {
     // each number is within its limits
     pub allowed: bool,
     // no floor is above its cap
@@ -41,9 +41,9 @@ fn allowed(t: Rated) -> bool
 }
 
 // One look at every title.
-fn examine(rates: &[u32], lengths: &[u32], floors: &[u32], caps: &[u32]) -> Tally
-    requires { ⌜ Even (now rates) (now lengths) (now floors) (now caps) ⌝ }
-    ensures { λ r. ⌜ Tallied
+fn examine(rates: &[u32], lengths: &[u32], floors: &[u32], caps: &[u32]) -> TitlesTally
+    requires { ⌜ SameLengths (now rates) (now lengths) (now floors) (now caps) ⌝ }
+    ensures { λ r. ⌜ TalliesTitles
         (titles (now (rates .entry)) (now (lengths .entry)) (now (floors .entry)) (now (caps .entry))) r ⌝ }
 {
     let mut good = true;
@@ -55,7 +55,7 @@ fn examine(rates: &[u32], lengths: &[u32], floors: &[u32], caps: &[u32]) -> Tall
         kept = also(kept, t.floor <= t.cap);
         i += 1;
     }
-    Tally {
+    TitlesTally {
         allowed: good,
         ordered: kept,
     }

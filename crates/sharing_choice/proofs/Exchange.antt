@@ -11,7 +11,7 @@ use native.Mathlib.Omega.{arith}
 use lib.ListN.{length, getD, set, length-set}
 use lib.Seq.{getD-set-same, getD-set-other, ext-getD}
 use Rattle.sharing_titles.specs.declared.titles.Rated.{Rated}
-use Rattle.sharing_titles.specs.Titles.{titleAt, rowTotal}
+use Rattle.sharing_titles.specs.Titles.{ratedTitle, rowTotal}
 use Rattle.sharing_titles.specs.Term.{fall}
 use Rattle.sharing_choice.specs.Choice.{sumOf, atLeast, prefers, Way, Choice, Shared}
 use Rattle.sharing_titles.specs.inner.Weighing.{AllWeighable}
@@ -24,18 +24,18 @@ use Rattle.sharing_titles.proofs.term.Laws.{falls, fall-rest}
 -- a lane given to title i at count a was worth at least as much as one withheld from title j at count b, and more where
 -- j comes first
 pub record Given (ts : List Rated) (c : List ℕ) : Type 0 where
-  pub worth-it : (i j a b : ℕ) → i < length ts → j < length ts → titleAt ts i .floor ≤ a → a < getD c i 0
-      → getD c j 0 ≤ b → b < titleAt ts j .cap
-      → fall (titleAt ts j) b ≤ fall (titleAt ts i) a
-  pub first-served : (i j a b : ℕ) → i < length ts → j < i → titleAt ts i .floor ≤ a → a < getD c i 0 → getD c j 0 ≤ b
-      → b < titleAt ts j .cap
-      → fall (titleAt ts j) b < fall (titleAt ts i) a
+  pub worth-it : (i j a b : ℕ) → i < length ts → j < length ts → ratedTitle ts i .floor ≤ a → a < getD c i 0
+      → getD c j 0 ≤ b → b < ratedTitle ts j .cap
+      → fall (ratedTitle ts j) b ≤ fall (ratedTitle ts i) a
+  pub first-served : (i j a b : ℕ) → i < length ts → j < i → ratedTitle ts i .floor ≤ a → a < getD c i 0 → getD c j 0 ≤ b
+      → b < ratedTitle ts j .cap
+      → fall (ratedTitle ts j) b < fall (ratedTitle ts i) a
 
 -- counts so given, until the pool is used or every title is at its cap
 pub record Settled (pool : ℕ) (ts : List Rated) (c : List ℕ) : Type 0 where
   pub choice : Choice pool ts c
   pub given : Given ts c
-  pub full : (rowTotal c ≡ pool) ⊎ ((j : ℕ) → j < length ts → titleAt ts j .cap ≤ getD c j 0)
+  pub full : (rowTotal c ≡ pool) ⊎ ((j : ℕ) → j < length ts → ratedTitle ts j .cap ≤ getD c j 0)
 
 -- ---- where two rows differ
 
@@ -94,7 +94,7 @@ module _ (pool : ℕ) (ts : List Rated) (ok : AllWeighable ts) (c x : List ℕ)
       above : rowTotal (set c i (suc (getD c i 0))) ≤ rowTotal x
       above = raised (length ts) c x (s .choice .way .places) (h .choice .way .places) i l g up
 
-      go : (rowTotal c ≡ pool) ⊎ ((j : ℕ) → j < length ts → titleAt ts j .cap ≤ getD c j 0) → ⊥
+      go : (rowTotal c ≡ pool) ⊎ ((j : ℕ) → j < length ts → ratedTitle ts j .cap ≤ getD c j 0) → ⊥
       go (inl e) = omega (arith, total-set c i (suc (getD c i 0)) place, above, h .choice .room)
       go (inr f) = omega (arith, f i l, h .choice .way .high i l)
 
@@ -118,7 +118,7 @@ module _ (pool : ℕ) (ts : List Rated) (ok : AllWeighable ts) (c x : List ℕ)
           omega (
             arith,
             sum-set ts x j (suc (getD x j 0)) l (h .choice .way .places),
-            falls (titleAt ts j) (ok .each j l) (getD x j 0)
+            falls (ratedTitle ts j) (ok .each j l) (getD x j 0)
                 (omega (arith, ok .each j l .floor-low, h .choice .way .low j l))
                 (omega (arith, s .choice .way .high j l)),
           )
@@ -169,22 +169,22 @@ module _ (pool : ℕ) (ts : List Rated) (ok : AllWeighable ts) (c x : List ℕ)
             );
           }
 
-      sums : sumOf ts y + fall (titleAt ts j) (getD x j 0) ≡ sumOf ts x + fall (titleAt ts i) p
+      sums : sumOf ts y + fall (ratedTitle ts j) (getD x j 0) ≡ sumOf ts x + fall (ratedTitle ts i) p
       sums =
           omega (
             arith,
             sum-set ts x i p li (h .choice .way .places),
             rw kept at (sum-set ts z j (suc (getD x j 0)) lj (z-way .places)),
             rw last at
-                (fall-rest (titleAt ts i) (ok .each i li) p
+                (fall-rest (ratedTitle ts i) (ok .each i li) p
                 (omega (arith, ok .each i li .floor-low, s .choice .way .low i li))
                 (omega (arith, h .choice .way .high i li))),
-            fall-rest (titleAt ts j) (ok .each j lj) (getD x j 0)
+            fall-rest (ratedTitle ts j) (ok .each j lj) (getD x j 0)
                 (omega (arith, ok .each j lj .floor-low, h .choice .way .low j lj))
                 (omega (arith, s .choice .way .high j lj)),
           )
 
-      worth-it : fall (titleAt ts i) p ≤ fall (titleAt ts j) (getD x j 0)
+      worth-it : fall (ratedTitle ts i) p ≤ fall (ratedTitle ts j) (getD x j 0)
       worth-it =
           s .given .worth-it j i (getD x j 0) p lj li (h .choice .way .low j lj) gj (omega arith)
           (omega (arith, h .choice .way .high i li))

@@ -13,7 +13,7 @@ use Rattle.rules.specs.Limits.{both}
 use Rattle.rules.specs.Refusals.{pick}
 use Rattle.rules.proofs.Tests.{decide, both-l, both-r, both-in}
 use Rattle.sharing_titles.specs.declared.titles.Rated.{Rated}
-use Rattle.sharing_titles.specs.Titles.{titleAt, nobody, rowTotal}
+use Rattle.sharing_titles.specs.Titles.{ratedTitle, unrated, rowTotal}
 use Rattle.sharing_choice.specs.Choice.{Way, Choice, Shared, prefers, from, ways, better, bestOf, shared}
 use Rattle.sharing_choice.proofs.Order.{side, prefers-total, prefers-antisym, prefers-trans, prefers-self}
 
@@ -79,11 +79,11 @@ way-cons : (t : Rated) (ts : List Rated) (k : ℕ) (x : List ℕ) → t .floor �
     → Way (t ∷ ts) (k ∷ x)
 way-cons t ts k x l h w = record { places = omega (arith, w .places); low = lows; high = highs }
   where
-    lows : (i : ℕ) → i < length (t ∷ ts) → titleAt (t ∷ ts) i .floor ≤ getD (k ∷ x) i 0
+    lows : (i : ℕ) → i < length (t ∷ ts) → ratedTitle (t ∷ ts) i .floor ≤ getD (k ∷ x) i 0
     lows zero b = l
     lows (suc i) b = w .low i (omega arith)
 
-    highs : (i : ℕ) → i < length (t ∷ ts) → getD (k ∷ x) i 0 ≤ titleAt (t ∷ ts) i .cap
+    highs : (i : ℕ) → i < length (t ∷ ts) → getD (k ∷ x) i 0 ≤ ratedTitle (t ∷ ts) i .cap
     highs zero b = h
     highs (suc i) b = w .high i (omega arith)
 
@@ -186,17 +186,17 @@ module _ (pool : ℕ) (ts : List Rated) where
 -- ---- what the search finds
 
 -- the floors are a choice where they are not above the caps and fit the pool
-pub floors-way : (ts : List Rated) → ((i : ℕ) → i < length ts → titleAt ts i .floor ≤ titleAt ts i .cap)
+pub floors-way : (ts : List Rated) → ((i : ℕ) → i < length ts → ratedTitle ts i .floor ≤ ratedTitle ts i .cap)
     → Way ts (map (λ t. t .floor) ts)
 floors-way ts h =
     record {
       places = length-map ts (λ t. t .floor);
-      low = λ i l. omega (arith, List·getD-map (λ (t : Rated). t .floor) ts i nobody);
-      high = λ i l. omega (arith, List·getD-map (λ (t : Rated). t .floor) ts i nobody, h i l);
+      low = λ i l. omega (arith, List·getD-map (λ (t : Rated). t .floor) ts i unrated);
+      high = λ i l. omega (arith, List·getD-map (λ (t : Rated). t .floor) ts i unrated, h i l);
     }
 
 -- the search finds what is to be preferred to every choice
-pub search-finds : (pool : ℕ) (ts : List Rated) → ((i : ℕ) → i < length ts → titleAt ts i .floor ≤ titleAt ts i .cap)
+pub search-finds : (pool : ℕ) (ts : List Rated) → ((i : ℕ) → i < length ts → ratedTitle ts i .floor ≤ ratedTitle ts i .cap)
     → rowTotal (map (λ t. t .floor) ts) ≤ pool → Shared pool ts (shared pool ts)
 unfolding shared
 search-finds pool ts h r =

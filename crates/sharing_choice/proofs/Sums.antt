@@ -8,7 +8,7 @@ use native.Mathlib.Omega.{arith}
 use lib.ListN.{length, getD, set, length-set}
 use lib.Seq.{getD-set-same, getD-set-other}
 use Rattle.sharing_titles.specs.declared.titles.Rated.{Rated}
-use Rattle.sharing_titles.specs.Titles.{titleAt, rowTotal}
+use Rattle.sharing_titles.specs.Titles.{ratedTitle, rowTotal}
 use Rattle.sharing_titles.specs.Term.{term}
 use Rattle.sharing_choice.specs.Choice.{sumOf, atLeast, Way}
 use Rattle.sharing_choice.proofs.Order.{Trio, less, same, more, trio, or-is, or-more}
@@ -28,7 +28,7 @@ total-mono (k ∷ x) (l ∷ y) e h =
     omega (arith, h 0 (omega arith), total-mono x y (omega arith) (λ i g. h (suc i) (omega arith)))
 
 pub sum-set : (ts : List Rated) (x : List ℕ) (i v : ℕ) → i < length ts → length x ≡ length ts
-    → sumOf ts (set x i v) + term (titleAt ts i) (getD x i 0) ≡ sumOf ts x + term (titleAt ts i) v
+    → sumOf ts (set x i v) + term (ratedTitle ts i) (getD x i 0) ≡ sumOf ts x + term (ratedTitle ts i) v
 unfolding sumOf
 sum-set [] x i v h e = absurd (omega arith)
 sum-set (t ∷ ts) [] i v h e = absurd (omega arith)
@@ -58,19 +58,19 @@ raised n p q a b i l g up =
     (omega (arith, length-set p i (suc (getD p i 0)))))
 
 -- a count set within floor and cap leaves a way a way
-pub way-set : (ts : List Rated) (x : List ℕ) → Way ts x → (i v : ℕ) → i < length ts → titleAt ts i .floor ≤ v
-    → v ≤ titleAt ts i .cap
+pub way-set : (ts : List Rated) (x : List ℕ) → Way ts x → (i v : ℕ) → i < length ts → ratedTitle ts i .floor ≤ v
+    → v ≤ ratedTitle ts i .cap
     → Way ts (set x i v)
 way-set ts x w i v l f c =
     record {
       places = length-set x i v ∙ w .places;
       low =
           λ j h.
-          at-set (λ m k. m < length ts → titleAt ts m .floor ≤ k) x i v (omega (arith, w .places)) (λ _. f)
+          at-set (λ m k. m < length ts → ratedTitle ts m .floor ≤ k) x i v (omega (arith, w .places)) (λ _. f)
           (λ m n g. w .low m g) j h;
       high =
           λ j h.
-          at-set (λ m k. m < length ts → k ≤ titleAt ts m .cap) x i v (omega (arith, w .places)) (λ _. c)
+          at-set (λ m k. m < length ts → k ≤ ratedTitle ts m .cap) x i v (omega (arith, w .places)) (λ _. c)
           (λ m n g. w .high m g) j h;
     }
 

@@ -8,7 +8,7 @@ use lib.ListN.{length, getD}
 use Rattle.rules.specs.Limits.{both, either}
 use Rattle.rules.specs.Refusals.{pick}
 use Rattle.sharing_titles.specs.declared.titles.Rated.{Rated}
-use Rattle.sharing_titles.specs.Titles.{titleAt, rowTotal}
+use Rattle.sharing_titles.specs.Titles.{ratedTitle, rowTotal}
 use Rattle.sharing_titles.specs.Term.{term}
 
 -- the sum that is to be least (01, "Sharing"), over all titles, one count to a title
@@ -35,8 +35,8 @@ prefers ts x y = lessOr (sumOf ts x) (sumOf ts y) (atLeast x y)
 -- a count for each title, from its floor to its cap
 pub record Way (ts : List Rated) (x : List ℕ) : Type 0 where
   pub places : length x ≡ length ts
-  pub low : (i : ℕ) → i < length ts → titleAt ts i .floor ≤ getD x i 0
-  pub high : (i : ℕ) → i < length ts → getD x i 0 ≤ titleAt ts i .cap
+  pub low : (i : ℕ) → i < length ts → ratedTitle ts i .floor ≤ getD x i 0
+  pub high : (i : ℕ) → i < length ts → getD x i 0 ≤ ratedTitle ts i .cap
 
 -- a choice (01, "Sharing"): counts within floors and caps, their total at most the pool
 pub record Choice (pool : ℕ) (ts : List Rated) (x : List ℕ) : Type 0 where

@@ -6,11 +6,11 @@ use lib.ListN.{length, getD}
 use Rattle.sharing_titles.specs.declared.titles.Rated.{Rated}
 
 -- what is read past the last title
-abbrev pub nobody : Rated
-nobody = record { rate = 0; length = 0; floor = 0; cap = 0 }
+abbrev pub unrated : Rated
+unrated = record { rate = 0; length = 0; floor = 0; cap = 0 }
 
-abbrev pub titleAt : List Rated → ℕ → Rated
-titleAt ts i = getD ts i nobody
+abbrev pub ratedTitle : List Rated → ℕ → Rated
+ratedTitle ts i = getD ts i unrated
 
 -- the titles whose rates, lengths, floors and caps stand in four rows, as far as all four go
 unfoldable pub titles : List ℕ → List ℕ → List ℕ → List ℕ → List Rated
@@ -21,7 +21,7 @@ titles (r ∷ rs) (d ∷ ds) (f ∷ fs) [] = []
 titles (r ∷ rs) (d ∷ ds) (f ∷ fs) (c ∷ cs) = record { rate = r; length = d; floor = f; cap = c } ∷ titles rs ds fs cs
 
 -- the four rows are of one length
-pub record Even (rates lengths floors caps : List ℕ) : Type 0 where
+pub record SameLengths (rates lengths floors caps : List ℕ) : Type 0 where
   pub second : length lengths ≡ length rates
   pub third : length floors ≡ length rates
   pub fourth : length caps ≡ length rates

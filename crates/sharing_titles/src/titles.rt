@@ -3,7 +3,7 @@ ghost use mathlib.Core.Path.{_≡_};
 ghost use Prim.Native.Nat.{_≤_, _<_};
 ghost use lib.ListN.{length};
 ghost use Rattle.rules.specs.Limits.{titlesMax};
-ghost use Rattle.sharing_titles.specs.Titles.{titleAt, titles, rowTotal, Even};
+ghost use Rattle.sharing_titles.specs.Titles.{ratedTitle, titles, rowTotal, SameLengths};
 
 // What the sharing knows of a title.
 pub struct Rated {
@@ -15,10 +15,10 @@ pub struct Rated {
 
 // The title at a place of the rows.
 pub fn title_at(rates: &[u32], lengths: &[u32], floors: &[u32], caps: &[u32], i: usize) -> Rated
-    requires { ⌜ Even (now rates) (now lengths) (now floors) (now caps) ⌝ }
+    requires { ⌜ SameLengths (now rates) (now lengths) (now floors) (now caps) ⌝ }
     requires { ⌜ i < length (now rates) ⌝ }
     ensures { λ r. ⌜ r
-        ≡ titleAt (titles (now (rates .entry)) (now (lengths .entry)) (now (floors .entry)) (now (caps .entry))) i ⌝ }
+        ≡ ratedTitle (titles (now (rates .entry)) (now (lengths .entry)) (now (floors .entry)) (now (caps .entry))) i ⌝ }
 {
     Rated {
         rate: rates[i],

@@ -17,7 +17,7 @@ use Rattle.scheme.specs.Scheme.{Scheme, steady, steadyKind, steadyCell, period,
 use Rattle.scheme.proofs.Takes.{taken-in, taken-out}
 use Rattle.scheme.proofs.Clock.{film-within}
 use Rattle.scheme.proofs.SteadyLanes.{one-lane}
-use Rattle.scheme.proofs.Which.{steady-scheme}
+use Rattle.scheme.proofs.ByKind.{steady-scheme}
 use Rattle.scheme.proofs.Turns.{ahead}
 use Rattle.story.specs.Life.{Life, scheme, isFilm, usualCell, isPlanned, isAdmission, isAwaited, isOwed, reach, owedWithin, owes}
 use Rattle.story.specs.declared.Event.{Event}

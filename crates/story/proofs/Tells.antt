@@ -17,7 +17,7 @@ use Rattle.rules.specs.Refusals.{pick}
 use Rattle.rules.specs.Search.{howMany, after}
 use Rattle.rules.proofs.Tests.{decide, fails}
 use Rattle.rules.proofs.Search
-use Rattle.scheme.proofs.Both.{lawful}
+use Rattle.scheme.proofs.LawfulKinds.{lawful}
 use Rattle.story.specs.declared.Film.{Film}
 use Rattle.story.specs.declared.Title.{Title}
 use Rattle.story.specs.declared.State.{State}

@@ -82,7 +82,7 @@ fn standing(t: Title, time: u64) -> u8
 {
     if is_there(t, time) {
         if t.mode == CLOSING {
-            return rules::CLOSING;
+            return rules::IS_CLOSING;
         }
         return DONE;
     }
@@ -127,7 +127,7 @@ fn count_verdict(t: Title, count: u64, time: u64) -> u8
     ensures { λ r. ⌜ r ≡ firstHit (countRules t count time) ⌝ }
 {
     if t.film.kind == STEADY {
-        return rules::STEADY;
+        return rules::IS_STEADY;
     }
     if count < t.film.floor {
         return BELOW_FLOOR;
@@ -181,7 +181,7 @@ fn held_verdict(t: Title, held: bool, time: u64) -> u8
 {
     let kind = t.film.kind;
     if kind == STEADY {
-        return rules::STEADY;
+        return rules::IS_STEADY;
     }
     if same_doors(t, held) {
         return DOORS_UNCHANGED;

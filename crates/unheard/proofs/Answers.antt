@@ -12,20 +12,20 @@ use Rattle.notice.specs.declared.Found.{Found}
 use Rattle.notice.specs.declared.Found.the-variants as found
 use Rattle.notice.specs.Decode.{readAt}
 use Rattle.notice.specs.Log.{noticesOf, stopOf}
-use Rattle.notice.proofs.Each.{false-true}
-use Rattle.notice.proofs.There.{inside}
+use Rattle.notice.proofs.CaseSplits.{false-true}
+use Rattle.notice.proofs.NoticePlaces.{inside}
 use Rattle.logs.specs.declared.PlayedLog.{PlayedLog}
 use Rattle.logs.specs.declared.ReadOn.{ReadOn}
 use Rattle.logs.specs.Reading.{stepped, readNext, Plays}
-use Rattle.unheard.specs.declared.Tally.{Tally}
+use Rattle.unheard.specs.declared.MissedTally.{MissedTally}
 use Rattle.unheard.specs.declared.Unheard.{Unheard}
-use Rattle.unheard.specs.Unheard.{noneTold, refusedWith, unheardAnswer, unheardIn}
-use Rattle.unheard.specs.inner.Steps.{counted, heardCount, Room, Small}
+use Rattle.unheard.specs.Unheard.{noneTold, refusedUnheard, unheardAnswer, unheardIn}
+use Rattle.unheard.specs.inner.Steps.{counted, heardCount, RoomToCount, Small}
 use Rattle.unheard.proofs.Counting.{tally, told-tally}
 
 -- ---- one notice
 
-module _ (t : Tally) (a : ℕ) where
+module _ (t : MissedTally) (a : ℕ) where
   pub counts-heard : a ≡ done → tally (t .notices + 1) (t .missed) (t .first) (t .said) ≡ counted t a
   unfolding counted
   counts-heard ok = rw (eq-eqb a done ok) refl
@@ -40,12 +40,12 @@ module _ (t : Tally) (a : ℕ) where
     counts-later some = rw (ne-eqb a done not-ok, ne-eqb (t .missed) 0 some) refl
 
 -- a notice that a log has at a place leaves room to count it
-pub roomy : (log : List ℕ) (p : PlayedLog) (t : Tally) (r : ReadOn) → Small (p .place) t → r ≡ readNext p (readAt log (p .place))
-    → r .played .more ≡ true → r .played .place < 2 ^ 64 → Room t
+pub roomy : (log : List ℕ) (p : PlayedLog) (t : MissedTally) (r : ReadOn) → Small (p .place) t → r ≡ readNext p (readAt log (p .place))
+    → r .played .more ≡ true → r .played .place < 2 ^ 64 → RoomToCount t
 unfolding readNext stepped
 roomy log p t r s is more typed = go (readAt log (p .place)) refl (rw is at more) (rw is at typed)
   where
-    go : (f : Found) → readAt log (p .place) ≡ f → readNext p f .played .more ≡ true → readNext p f .played .place < 2 ^ 64 → Room t
+    go : (f : Found) → readAt log (p .place) ≡ f → readNext p f .played .more ≡ true → readNext p f .played .place < 2 ^ 64 → RoomToCount t
     go (found.At n e) at going fits =
         let i = inside log (p .place) n e at in
         record { fits = omega (arith, s .few, i .ahead); missed-low = s .missed-low }
@@ -54,20 +54,20 @@ roomy log p t r s is more typed = go (readAt log (p .place)) refl (rw is at more
 
 -- ---- the call
 
-abbrev tells : Tally → Unheard
+abbrev tells : MissedTally → Unheard
 tells t = record { answer = done; tally = t }
 
 module _ (pool : ℕ) (log : List ℕ) where
-  refuses : (a : ℕ) (r : Unheard) → r ≡ refusedWith a → a ≡ unheardAnswer pool log → (a ≡ done → ⊥) → r ≡ unheardIn pool log
+  refuses : (a : ℕ) (r : Unheard) → r ≡ refusedUnheard a → a ≡ unheardAnswer pool log → (a ≡ done → ⊥) → r ≡ unheardIn pool log
   unfolding unheardIn
   refuses a r e is not-ok = rw (ne-eqb (unheardAnswer pool log) done (λ h. not-ok (is ∙ h)), ← is) e
 
-  pub outside : (r : Unheard) → r ≡ refusedWith outsideLimits → within poolMin poolMax pool ≡ false → r ≡ unheardIn pool log
+  pub outside : (r : Unheard) → r ≡ refusedUnheard outsideLimits → within poolMin poolMax pool ≡ false → r ≡ unheardIn pool log
   unfolding unheardAnswer firstHit
   outside r e out = refuses outsideLimits r e (rw out refl) (λ h. omega arith)
 
-  module _ (fits : within poolMin poolMax pool ≡ true) (p : PlayedLog) (t : Tally) (all : Plays heardCount pool log noneTold p t) where
-    pub cut : (r : Unheard) → r ≡ refusedWith malformed → p .place < length log → r ≡ unheardIn pool log
+  module _ (fits : within poolMin poolMax pool ≡ true) (p : PlayedLog) (t : MissedTally) (all : Plays heardCount pool log noneTold p t) where
+    pub cut : (r : Unheard) → r ≡ refusedUnheard malformed → p .place < length log → r ≡ unheardIn pool log
     unfolding unheardAnswer firstHit
     cut r e short =
         let stop : stopOf log < length log = rw (all .place-is) at short in

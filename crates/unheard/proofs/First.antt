@@ -10,13 +10,13 @@ use lib.Dec.{eqb}
 use lib.ListN.{length}
 use Rattle.rules.specs.Refusals.{pick, done}
 use Rattle.notice.specs.declared.Notice.{Notice}
-use Rattle.unheard.specs.Unheard.{answerTo, missedIn, firstIn, saidIn}
+use Rattle.unheard.specs.Unheard.{noticeAnswered, missedIn, firstIn, firstSaid}
 
-module _ (pool : ℕ) (n : Notice) (ns : List Notice) (none : missedIn pool ns ≡ 0) (refused : answerTo pool ns n ≡ done → ⊥) where
+module _ (pool : ℕ) (n : Notice) (ns : List Notice) (none : missedIn pool ns ≡ 0) (refused : noticeAnswered pool ns n ≡ done → ⊥) where
   some-missed : (later : List Notice) → missedIn pool (later ++ n ∷ ns) ≡ 0 → ⊥
   unfolding missedIn
-  some-missed [] h = let z : suc (missedIn pool ns) ≡ 0 = rw (ne-eqb (answerTo pool ns n) done refused) at h in omega arith
-  some-missed (m ∷ later) h = go (eqb (answerTo pool (later ++ n ∷ ns) m) done) (some-missed later) h
+  some-missed [] h = let z : suc (missedIn pool ns) ≡ 0 = rw (ne-eqb (noticeAnswered pool ns n) done refused) at h in omega arith
+  some-missed (m ∷ later) h = go (eqb (noticeAnswered pool (later ++ n ∷ ns) m) done) (some-missed later) h
     where
       go : (b : Bool) → (missedIn pool (later ++ n ∷ ns) ≡ 0 → ⊥)
           → pick b (missedIn pool (later ++ n ∷ ns)) (suc (missedIn pool (later ++ n ∷ ns))) ≡ 0 → ⊥
@@ -30,14 +30,14 @@ module _ (pool : ℕ) (n : Notice) (ns : List Notice) (none : missedIn pool ns �
 
   pub first-is : (later : List Notice) → firstIn pool (later ++ n ∷ ns) ≡ suc (length ns)
   unfolding firstIn
-  first-is [] = rw (ne-eqb (answerTo pool ns n) done refused, eq-eqb (missedIn pool ns) 0 none) refl
+  first-is [] = rw (ne-eqb (noticeAnswered pool ns n) done refused, eq-eqb (missedIn pool ns) 0 none) refl
   first-is (m ∷ later) =
-      rw (stays (missedIn pool (later ++ n ∷ ns)) _ (firstIn pool (later ++ n ∷ ns)) (eqb (answerTo pool (later ++ n ∷ ns) m) done) (some-missed later))
+      rw (stays (missedIn pool (later ++ n ∷ ns)) _ (firstIn pool (later ++ n ∷ ns)) (eqb (noticeAnswered pool (later ++ n ∷ ns) m) done) (some-missed later))
       (first-is later)
 
-  pub said-is : (later : List Notice) → saidIn pool (later ++ n ∷ ns) ≡ answerTo pool ns n
-  unfolding saidIn
-  said-is [] = rw (ne-eqb (answerTo pool ns n) done refused, eq-eqb (missedIn pool ns) 0 none) refl
+  pub said-is : (later : List Notice) → firstSaid pool (later ++ n ∷ ns) ≡ noticeAnswered pool ns n
+  unfolding firstSaid
+  said-is [] = rw (ne-eqb (noticeAnswered pool ns n) done refused, eq-eqb (missedIn pool ns) 0 none) refl
   said-is (m ∷ later) =
-      rw (stays (missedIn pool (later ++ n ∷ ns)) _ (saidIn pool (later ++ n ∷ ns)) (eqb (answerTo pool (later ++ n ∷ ns) m) done) (some-missed later))
+      rw (stays (missedIn pool (later ++ n ∷ ns)) _ (firstSaid pool (later ++ n ∷ ns)) (eqb (noticeAnswered pool (later ++ n ∷ ns) m) done) (some-missed later))
       (said-is later)

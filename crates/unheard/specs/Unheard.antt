@@ -12,34 +12,34 @@ use Rattle.notice.specs.declared.Reading.the-variants as reading
 use Rattle.notice.specs.Log.{noticesOf, isWholeLog}
 use Rattle.agent.specs.Turns.{freshAgent, noticeAnswer}
 use Rattle.agent.specs.Played.{agentTold}
-use Rattle.unheard.specs.declared.Tally.{Tally}
+use Rattle.unheard.specs.declared.MissedTally.{MissedTally}
 use Rattle.unheard.specs.declared.Unheard.{Unheard}
 
 -- what a notice is answered behind these, newest first; it counts where that is done
-abbrev pub answerTo : ℕ → List Notice → Notice → ℕ
-answerTo pool ns n = noticeAnswer (agentTold (freshAgent pool) ns) (reading.Whole n)
+abbrev pub noticeAnswered : ℕ → List Notice → Notice → ℕ
+noticeAnswered pool ns n = noticeAnswer (agentTold (freshAgent pool) ns) (reading.Whole n)
 
 -- of notices, newest first, how many did not count
 unfoldable pub missedIn : ℕ → List Notice → ℕ
 missedIn pool [] = 0
-missedIn pool (n ∷ ns) = pick (eqb (answerTo pool ns n) done) (missedIn pool ns) (suc (missedIn pool ns))
+missedIn pool (n ∷ ns) = pick (eqb (noticeAnswered pool ns n) done) (missedIn pool ns) (suc (missedIn pool ns))
 
 -- the number of the first that did not, counted from 1; 0 where all count
 unfoldable pub firstIn : ℕ → List Notice → ℕ
 firstIn pool [] = 0
 firstIn pool (n ∷ ns) =
-    pick (eqb (answerTo pool ns n) done) (firstIn pool ns) (pick (eqb (missedIn pool ns) 0) (suc (length ns)) (firstIn pool ns))
+    pick (eqb (noticeAnswered pool ns n) done) (firstIn pool ns) (pick (eqb (missedIn pool ns) 0) (suc (length ns)) (firstIn pool ns))
 
 -- and what it was answered
-unfoldable pub saidIn : ℕ → List Notice → ℕ
-saidIn pool [] = done
-saidIn pool (n ∷ ns) =
-    pick (eqb (answerTo pool ns n) done) (saidIn pool ns) (pick (eqb (missedIn pool ns) 0) (answerTo pool ns n) (saidIn pool ns))
+unfoldable pub firstSaid : ℕ → List Notice → ℕ
+firstSaid pool [] = done
+firstSaid pool (n ∷ ns) =
+    pick (eqb (noticeAnswered pool ns n) done) (firstSaid pool ns) (pick (eqb (missedIn pool ns) 0) (noticeAnswered pool ns n) (firstSaid pool ns))
 
-abbrev pub tallyIn : ℕ → List Notice → Tally
-tallyIn pool ns = record { notices = length ns; missed = missedIn pool ns; first = firstIn pool ns; said = saidIn pool ns }
+abbrev pub tallyIn : ℕ → List Notice → MissedTally
+tallyIn pool ns = record { notices = length ns; missed = missedIn pool ns; first = firstIn pool ns; said = firstSaid pool ns }
 
-abbrev pub noneTold : Tally
+abbrev pub noneTold : MissedTally
 noneTold = record { notices = 0; missed = 0; first = 0; said = done }
 
 abbrev pub unheardRules : ℕ → List ℕ → List Rule
@@ -50,11 +50,11 @@ unfoldable pub unheardAnswer : ℕ → List ℕ → ℕ
 unheardAnswer pool log = firstHit (unheardRules pool log)
 
 -- beside a refusal nothing is told
-abbrev pub refusedWith : ℕ → Unheard
-refusedWith a = record { answer = a; tally = noneTold }
+abbrev pub refusedUnheard : ℕ → Unheard
+refusedUnheard a = record { answer = a; tally = noneTold }
 
 -- what the call gives back
 unfoldable pub unheardIn : ℕ → List ℕ → Unheard
 unheardIn pool log =
     pick (eqb (unheardAnswer pool log) done) (record { answer = done; tally = tallyIn pool (noticesOf log) })
-    (refusedWith (unheardAnswer pool log))
+    (refusedUnheard (unheardAnswer pool log))

@@ -12,13 +12,13 @@ use rules::POOL_MIN;
 use rules::within;
 ghost use mathlib.Core.Path.{_≡_};
 ghost use Rattle.notice.specs.Decode.{readAt};
-ghost use Rattle.logs.specs.Reading.{Steps, Plays};
-ghost use Rattle.unheard.specs.Unheard.{noneTold, refusedWith, unheardIn};
-ghost use Rattle.unheard.specs.inner.Steps.{counted as countedOf, heardCount, Room, Small};
+ghost use Rattle.logs.specs.Reading.{PlayedStep, Plays};
+ghost use Rattle.unheard.specs.Unheard.{noneTold, refusedUnheard, unheardIn};
+ghost use Rattle.unheard.specs.inner.Steps.{counted as countedOf, heardCount, RoomToCount, Small};
 
 // How many notices were told, how many of them did not count, and of the first of those its number, from 1 on, and what it was
 // answered; both are 0 where all count.
-pub struct Tally {
+pub struct MissedTally {
     pub notices: u64,
     pub missed: u64,
     pub first: u64,
@@ -28,20 +28,20 @@ pub struct Tally {
 // What the call gives back. Beside a refusal the tally is of no notice.
 pub struct Unheard {
     pub answer: u8,
-    pub tally: Tally,
+    pub tally: MissedTally,
 }
 
 // A log as far as it was played, and the tally of its notices.
 struct Counted {
     played: PlayedLog,
-    tally: Tally,
+    tally: MissedTally,
 }
 
 // Before any notice.
-fn none_told() -> Tally
+fn none_told() -> MissedTally
     ensures { λ r. ⌜ r ≡ noneTold ⌝ }
 {
-    Tally {
+    MissedTally {
         notices: 0,
         missed: 0,
         first: 0,
@@ -50,8 +50,8 @@ fn none_told() -> Tally
 }
 
 // One notice more, with what it was answered.
-fn count(tally: Tally, answer: u8) -> Tally
-    requires { ⌜ Room tally ⌝ }
+fn count(tally: MissedTally, answer: u8) -> MissedTally
+    requires { ⌜ RoomToCount tally ⌝ }
     ensures { λ r. ⌜ r ≡ countedOf tally answer ⌝ }
 {
     let number = tally.notices + 1;
@@ -72,7 +72,7 @@ fn count(tally: Tally, answer: u8) -> Tally
 // One read more of the log: what a notice is answered is counted.
 fn step(counted: Counted, log: &[u8]) -> Counted
     requires { ⌜ Small (counted .played .place) (counted .tally) ⌝ }
-    ensures { λ r. ⌜ Steps heardCount (counted .played) (counted .tally)
+    ensures { λ r. ⌜ PlayedStep heardCount (counted .played) (counted .tally)
         (readAt (now (log .entry)) (counted .played .place)) (r .played) (r .tally) ⌝ }
 {
     let played = counted.played;
@@ -108,9 +108,9 @@ fn play(pool: u64, log: &[u8]) -> Counted
 }
 
 fn refused(answer: u8) -> Unheard
-    ensures { λ r. ⌜ r ≡ refusedWith answer ⌝ }
+    ensures { λ r. ⌜ r ≡ refusedUnheard answer ⌝ }
 {
-    let tally = Tally {
+    let tally = MissedTally {
         notices: 0,
         missed: 0,
         first: 0,

@@ -6,11 +6,11 @@ use Rattle.rules.specs.Refusals.{pick}
 use Rattle.text.specs.Texts.{text}
 use Rattle.files.specs.Lines.{lineOf}
 use Rattle.words.specs.Words.{meaningText}
-use Rattle.unheard.specs.declared.Tally.{Tally}
+use Rattle.unheard.specs.declared.MissedTally.{MissedTally}
 use Rattle.unheard.specs.Unheard.{unheardIn}
 
 -- how many of how many, and of the first its number in the log, counted from 1, and its answer in words
-unfoldable pub missedLine : Tally → List ℕ
+unfoldable pub missedLine : MissedTally → List ℕ
 missedLine t =
     (((lineOf (text "? LOG: ") (t .missed) (text " of ")
     ++ lineOf [] (t .notices) (text " notices did not count, the first is number "))

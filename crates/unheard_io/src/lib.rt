@@ -2,14 +2,14 @@
 
 use files::lines::put_line;
 use text::output::put;
-use unheard::Tally;
+use unheard::MissedTally;
 use unheard::unheard_in;
 use words::put_meaning;
 ghost use Rattle.text.specs.Output.{Written};
 ghost use Rattle.unheard_io.specs.Line.{missedLine, unheardLine};
 
 // How many of how many did not count, and of the first its number in the log and its answer.
-fn put_missed(out: &mut [u8], at: usize, tally: Tally) -> usize
+fn put_missed(out: &mut [u8], at: usize, tally: MissedTally) -> usize
     ensures { λ r. ⌜ Written (now (out .entry)) at (missedLine tally) (now (out .exit)) r ⌝ }
 {
     let a = put_line(out, at, b"? LOG: ", tally.missed, b" of ");

@@ -15,15 +15,15 @@ use Rattle.agent.specs.Played.{agentTold, heardOf, ReadAs}
 use Rattle.logs.proofs.Lives.{FollowsLife, told-kept, told-title}
 use Rattle.admissions.specs.declared.Tally.{Tally}
 use Rattle.admissions.specs.Waits.{Tallied, rowMax}
-use Rattle.admissions.specs.Stretches.{fresh, settled, allSettled}
+use Rattle.admissions.specs.Stretches.{freshTally, settled, allSettled}
 use Rattle.admissions.proofs.Told.{Counted, opened-counted, told-playing, told-few, told-turns, told-stays}
-use Rattle.waiting.specs.inner.Steps.{toldTally, Ready}
+use Rattle.waiting.specs.inner.Steps.{toldTally, ReadyToTally}
 
 -- the tally follows a title's events
 abbrev CountedIn : List ℕ → Life → ℕ → Tally → Type 0
 CountedIn xs L n y = Counted L n xs y
 
-follows : (xs : List ℕ) → FollowsLife (CountedIn xs) (λ t τ y. settled t τ xs y) (λ τ y. fresh τ)
+follows : (xs : List ℕ) → FollowsLife (CountedIn xs) (λ t τ y. settled t τ xs y) (λ τ y. freshTally τ)
 follows xs =
     record {
       at-opening = λ L y. opened-counted L xs;
@@ -36,10 +36,10 @@ module _ (pool i : ℕ) (id : i ≤ idMax) (xs : List ℕ) (bss : List (List ℕ
 
   pub told-counted : Counted (lifeOf events i) (tickIn (lifeOf events i) (latestOf events i)) xs (toldTally pool i xs ns)
   told-counted =
-      told-kept (CountedIn xs) (λ t τ y. settled t τ xs y) (λ τ y. fresh τ) (follows xs) pool i id (fresh 0) (opened-counted unopened xs) bss ns r
+      told-kept (CountedIn xs) (λ t τ y. settled t τ xs y) (λ τ y. freshTally τ) (follows xs) pool i id (freshTally 0) (opened-counted unopened xs) bss ns r
 
   -- what the code builds on, and what it comes to
-  pub told-ready : length xs ≤ rowMax → Ready (agentTold (freshAgent pool) ns) i xs (toldTally pool i xs ns)
+  pub told-ready : length xs ≤ rowMax → ReadyToTally (agentTold (freshAgent pool) ns) i xs (toldTally pool i xs ns)
   told-ready short =
       let told = told-title pool i id bss ns r in
       record {

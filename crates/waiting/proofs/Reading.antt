@@ -9,12 +9,12 @@ use Rattle.agent.proofs.Played.{log-series}
 use Rattle.logs.proofs.Reading.{PlayedTo}
 use Rattle.admissions.specs.declared.Tally.{Tally}
 use Rattle.admissions.specs.Waits.{rowMax}
-use Rattle.admissions.specs.Stretches.{fresh}
-use Rattle.waiting.specs.inner.Steps.{heardTally, Ready}
+use Rattle.admissions.specs.Stretches.{freshTally}
+use Rattle.waiting.specs.inner.Steps.{heardTally, ReadyToTally}
 use Rattle.waiting.proofs.Counting.{told-ready}
 
 pub ready : (pool : ℕ) (log : List ℕ) (i : ℕ) (xs : List ℕ) (p : PlayedLog) (y : Tally) →
-    PlayedTo (heardTally i xs) pool log (fresh 0) p y → Bytes log → i ≤ idMax → length xs ≤ rowMax → Ready (p .agent) i xs y
+    PlayedTo (heardTally i xs) pool log (freshTally 0) p y → Bytes log → i ≤ idMax → length xs ≤ rowMax → ReadyToTally (p .agent) i xs y
 ready pool log i xs p y w small id short =
     rw (w .agent-is, w .kept-is)
     (told-ready pool i id xs _ (noticesTo log (w .reads)) (log-series log small (w .reads)) short)

@@ -18,11 +18,11 @@ use Rattle.agent.proofs.Played.{log-series}
 use Rattle.admissions.specs.declared.Tally.{Tally}
 use Rattle.admissions.specs.declared.Waits.{Waits}
 use Rattle.admissions.specs.Waits.{Tallied}
-use Rattle.admissions.specs.Stretches.{fresh, allSettled}
+use Rattle.admissions.specs.Stretches.{freshTally, allSettled}
 use Rattle.admissions.proofs.GetsIn.{one-tally}
 use Rattle.waiting.specs.declared.Report.{Report}
-use Rattle.waiting.specs.Report.{reportAnswer, refusedWith, Reports}
-use Rattle.waiting.specs.inner.Steps.{heardTally, toldTally, Ready}
+use Rattle.waiting.specs.Report.{reportAnswer, refusedReport, Reports}
+use Rattle.waiting.specs.inner.Steps.{heardTally, toldTally, ReadyToTally}
 use Rattle.waiting.proofs.Answers.{Fits}
 use Rattle.waiting.proofs.Counting.{told-ready, told-tallied}
 
@@ -30,7 +30,7 @@ abbrev pub reportOf : ℕ → ℕ → Waits → Report
 reportOf a n w = record { answer = a; arrivals = n; waits = w }
 
 module _ (pool : ℕ) (log : List ℕ) (title : ℕ) (xs : List ℕ) where
-  pub reports-refusal : (a : ℕ) (r : Report) → r ≡ refusedWith a → a ≡ reportAnswer pool log title xs → (a ≡ done → ⊥) →
+  pub reports-refusal : (a : ℕ) (r : Report) → r ≡ refusedReport a → a ≡ reportAnswer pool log title xs → (a ≡ done → ⊥) →
       Reports pool log title xs r
   reports-refusal a r e is not-done =
       rw e
@@ -41,8 +41,8 @@ module _ (pool : ℕ) (log : List ℕ) (title : ℕ) (xs : List ℕ) where
         refuses = λ h. refl;
       })
 
-  module _ (p : PlayedLog) (y : Tally) (all : Plays (heardTally title xs) pool log (fresh 0) p y) (fit : Fits pool title xs) (small : Bytes log) where
-    pub played-ready : Ready (p .agent) title xs y
+  module _ (p : PlayedLog) (y : Tally) (all : Plays (heardTally title xs) pool log (freshTally 0) p y) (fit : Fits pool title xs) (small : Bytes log) where
+    pub played-ready : ReadyToTally (p .agent) title xs y
     played-ready =
         rw (all .agent-is, all .kept-is)
         (told-ready pool title (fit .id) xs _ (noticesOf log) (log-series log small (length log)) (fit .short))
@@ -76,5 +76,5 @@ module _ (pool : ℕ) (log : List ℕ) (title : ℕ) (xs : List ℕ) where
       λ i. reportOf (same i) (n i) (w i))
       (λ b.
       let not-ok : q .answer ≡ done → ⊥ = eqb-false (q .answer) done b in
-      s .refuses (λ h. not-ok (sym same ∙ h)) ∙ ap refusedWith same ∙ sym (t .refuses not-ok))
+      s .refuses (λ h. not-ok (sym same ∙ h)) ∙ ap refusedReport same ∙ sym (t .refuses not-ok))
       (decide (eqb (q .answer) done))

@@ -32,12 +32,12 @@ unfoldable pub reportAnswer : ℕ → List ℕ → ℕ → List ℕ → ℕ
 reportAnswer pool log title xs = firstHit (reportRules pool log title xs)
 
 -- beside a refusal the other numbers are 0
-abbrev pub refusedWith : ℕ → Report
-refusedWith n = record { answer = n; arrivals = 0; waits = nobody }
+abbrev pub refusedReport : ℕ → Report
+refusedReport n = record { answer = n; arrivals = 0; waits = nobody }
 
 -- what the report promises
 pub record Reports (pool : ℕ) (log : List ℕ) (title : ℕ) (xs : List ℕ) (r : Report) : Type 0 where
   pub answers : r .answer ≡ reportAnswer pool log title xs
   pub all-counted : r .answer ≡ done → r .arrivals ≡ length xs
   pub tallied : r .answer ≡ done → Tallied (lifeIn pool log title) xs (length xs) (r .waits)
-  pub refuses : (r .answer ≡ done → ⊥) → r ≡ refusedWith (r .answer)
+  pub refuses : (r .answer ≡ done → ⊥) → r ≡ refusedReport (r .answer)

@@ -26,10 +26,10 @@ ghost use lib.ListN.{length};
 ghost use Rattle.rules.specs.Limits.{eventTimeMax, idMax};
 ghost use Rattle.notice.specs.Decode.{readAt};
 ghost use Rattle.admissions.specs.Waits.{rowMax};
-ghost use Rattle.admissions.specs.Stretches.{Playing, Few, fresh};
-ghost use Rattle.logs.specs.Reading.{Steps, Plays};
-ghost use Rattle.waiting.specs.inner.Steps.{eventTally, heardTally, Ready, rowAnswer};
-ghost use Rattle.waiting.specs.Report.{rowInLimits, refusedWith, Reports};
+ghost use Rattle.admissions.specs.Stretches.{Playing, Few, freshTally};
+ghost use Rattle.logs.specs.Reading.{PlayedStep, Plays};
+ghost use Rattle.waiting.specs.inner.Steps.{eventTally, heardTally, ReadyToTally, rowAnswer};
+ghost use Rattle.waiting.specs.Report.{rowInLimits, refusedReport, Reports};
 
 // The most arrivals of a row.
 pub const ROW_MAX: usize = 4_096;
@@ -63,8 +63,8 @@ fn count_event(t: Title, time: u64, arrivals: &[u64], tally: Tally) -> Tally
 
 // One read more of the log.
 fn step(counted: Counted, log: &[u8], title: u64, arrivals: &[u64]) -> Counted
-    requires { ⌜ Ready (counted .played .agent) title (now arrivals) (counted .tally) ⌝ }
-    ensures { λ r. ⌜ Steps (heardTally title (now (arrivals .entry))) (counted .played) (counted .tally)
+    requires { ⌜ ReadyToTally (counted .played .agent) title (now arrivals) (counted .tally) ⌝ }
+    ensures { λ r. ⌜ PlayedStep (heardTally title (now (arrivals .entry))) (counted .played) (counted .tally)
         (readAt (now (log .entry)) (counted .played .place)) (r .played) (r .tally) ⌝ }
 {
     let played = counted.played;
@@ -88,7 +88,7 @@ fn step(counted: Counted, log: &[u8], title: u64, arrivals: &[u64]) -> Counted
 fn play(pool: u64, log: &[u8], title: u64, arrivals: &[u64]) -> Counted
     requires { ⌜ title ≤ idMax ⌝ }
     requires { ⌜ length (now arrivals) ≤ rowMax ⌝ }
-    ensures { λ r. ⌜ Plays (heardTally title (now (arrivals .entry))) pool (now (log .entry)) (fresh 0) (r .played) (r .tally) ⌝ }
+    ensures { λ r. ⌜ Plays (heardTally title (now (arrivals .entry))) pool (now (log .entry)) (freshTally 0) (r .played) (r .tally) ⌝ }
 {
     let played = not_begun(pool);
     let tally = opened(0);
@@ -135,7 +135,7 @@ fn refusal(pool: u64, title: u64, arrivals: &[u64]) -> u8
 
 // A refusal, beside which the other numbers are 0.
 fn refused(answer: u8) -> Report
-    ensures { λ r. ⌜ r ≡ refusedWith answer ⌝ }
+    ensures { λ r. ⌜ r ≡ refusedReport answer ⌝ }
 {
     let waits = Waits {
         admitted: 0,

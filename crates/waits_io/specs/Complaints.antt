@@ -12,5 +12,5 @@ use Rattle.admissions.specs.Waits.{rowMax}
 unfoldable pub manyLine : ℕ → List ℕ
 manyLine n = pick (ltb rowMax n) (lineOf (text "? ARRIVALS: more than ") rowMax (text " arrivals\n")) []
 
-unfoldable pub complaintsText : ℕ → List ℕ → ℕ → List ℕ
-complaintsText pool log arrivals = unheardLine pool log ++ manyLine arrivals
+unfoldable pub waitsComplaints : ℕ → List ℕ → ℕ → List ℕ
+waitsComplaints pool log arrivals = unheardLine pool log ++ manyLine arrivals

@@ -6,11 +6,11 @@ use text::numbers::Number;
 use text::numbers::grow;
 use text::output::put_value;
 ghost use mathlib.Core.Path.{_≡_};
-ghost use Rattle.waits_io.specs.Arrivals.{isGap, soFar, ending, taking, allTaken};
+ghost use Rattle.waits_io.specs.Arrivals.{isGap, arrivalsSoFar, endingArrival, takingArrival, allArrivals};
 
 // A text as far as it was read: how many numbers of it are in the row; the number being spelt, and whether one is; and whether
 // every byte was in a number or between two, otherwise which byte was the first that was not, counted from 1.
-pub struct Scan {
+pub struct ArrivalsScan {
     pub count: usize,
     pub value: u64,
     pub inside: bool,
@@ -28,8 +28,8 @@ fn is_gap(b: u8) -> bool
 }
 
 // A word ends: the number that was being spelt, if one was, goes into the row.
-fn end_number(scan: Scan, row: &mut [u64]) -> Scan
-    ensures { λ r. ⌜ soFar (now (row .exit)) r ≡ ending (soFar (now (row .entry)) scan) ⌝ }
+fn end_number(scan: ArrivalsScan, row: &mut [u64]) -> ArrivalsScan
+    ensures { λ r. ⌜ arrivalsSoFar (now (row .exit)) r ≡ endingArrival (arrivalsSoFar (now (row .entry)) scan) ⌝ }
 {
     let inside = scan.inside;
     let value = scan.value;
@@ -38,7 +38,7 @@ fn end_number(scan: Scan, row: &mut [u64]) -> Scan
     let place = scan.place;
     if inside {
         let next = put_value(row, count, value);
-        return Scan {
+        return ArrivalsScan {
             count: next,
             value: 0,
             inside: false,
@@ -50,8 +50,8 @@ fn end_number(scan: Scan, row: &mut [u64]) -> Scan
 }
 
 // One byte more, which stands at a place of the text.
-fn take_byte(scan: Scan, place: usize, b: u8, row: &mut [u64]) -> Scan
-    ensures { λ r. ⌜ soFar (now (row .exit)) r ≡ taking (soFar (now (row .entry)) scan) place b ⌝ }
+fn take_byte(scan: ArrivalsScan, place: usize, b: u8, row: &mut [u64]) -> ArrivalsScan
+    ensures { λ r. ⌜ arrivalsSoFar (now (row .exit)) r ≡ takingArrival (arrivalsSoFar (now (row .entry)) scan) place b ⌝ }
 {
     let ok = scan.ok;
     let count = scan.count;
@@ -65,7 +65,7 @@ fn take_byte(scan: Scan, place: usize, b: u8, row: &mut [u64]) -> Scan
                 over: false,
             };
             let longer = grow(n, b);
-            return Scan {
+            return ArrivalsScan {
                 count: count,
                 value: longer.value,
                 inside: true,
@@ -76,7 +76,7 @@ fn take_byte(scan: Scan, place: usize, b: u8, row: &mut [u64]) -> Scan
         if is_gap(b) {
             return end_number(scan, row);
         }
-        return Scan {
+        return ArrivalsScan {
             count: count,
             value: value,
             inside: inside,
@@ -88,10 +88,10 @@ fn take_byte(scan: Scan, place: usize, b: u8, row: &mut [u64]) -> Scan
 }
 
 // All of a text, its numbers into the start of a row.
-pub fn take_text(text: &[u8], row: &mut [u64]) -> Scan
-    ensures { λ r. ⌜ soFar (now (row .exit)) r ≡ allTaken (now (text .entry)) (now (row .entry)) ⌝ }
+pub fn take_text(text: &[u8], row: &mut [u64]) -> ArrivalsScan
+    ensures { λ r. ⌜ arrivalsSoFar (now (row .exit)) r ≡ allArrivals (now (text .entry)) (now (row .entry)) ⌝ }
 {
-    let mut scan = Scan {
+    let mut scan = ArrivalsScan {
         count: 0,
         value: 0,
         inside: false,

@@ -5,7 +5,7 @@ use files::lines::put_line;
 use unheard_io::put_unheard;
 use waiting::ROW_MAX;
 ghost use Rattle.text.specs.Output.{Written};
-ghost use Rattle.waits_io.specs.Complaints.{manyLine, complaintsText};
+ghost use Rattle.waits_io.specs.Complaints.{manyLine, waitsComplaints};
 
 fn put_many(out: &mut [u8], at: usize, arrivals: usize) -> usize
     ensures { λ r. ⌜ Written (now (out .entry)) at (manyLine arrivals) (now (out .exit)) r ⌝ }
@@ -24,7 +24,7 @@ fn put_many(out: &mut [u8], at: usize, arrivals: usize) -> usize
 
 // Nothing where all notices count and the arrivals are not too many.
 pub fn put_complaints(out: &mut [u8], pool: u64, log: &[u8], arrivals: usize) -> usize
-    ensures { λ r. ⌜ Written (now (out .entry)) 0 (complaintsText pool (now (log .entry)) arrivals) (now (out .exit)) r ⌝ }
+    ensures { λ r. ⌜ Written (now (out .entry)) 0 (waitsComplaints pool (now (log .entry)) arrivals) (now (out .exit)) r ⌝ }
 {
     let a = put_unheard(out, 0, pool, log);
     put_many(out, a, arrivals)

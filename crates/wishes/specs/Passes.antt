@@ -14,12 +14,12 @@ use Rattle.wishes.specs.Wishes.{isSharer}
 use Rattle.wishes.specs.Sharers.{noRow}
 
 -- a title takes part, and its share is above its count, or else below it
-abbrev pub moves : Bool → Title → ℕ → Bool
-moves up t share = both (isSharer t) (pick up (ltb (t .count) share) (ltb share (t .count)))
+abbrev pub wantsMove : Bool → Title → ℕ → Bool
+wantsMove up t share = both (isSharer t) (pick up (ltb (t .count) share) (ltb share (t .count)))
 
 -- the same of an id, by a row of shares
 abbrev pub movesAt : Bool → State → List ℕ → ℕ → Bool
-movesAt up s shares i = moves up (titleAt s i) (getD shares i 0)
+movesAt up s shares i = wantsMove up (titleAt s i) (getD shares i 0)
 
 abbrev pub noWishes : Wishes
 noWishes = record { many = 0; titles = noRow; counts = noRow }

@@ -35,7 +35,7 @@ rowsTo s rates (suc n) =
     pick (takesPart s n) (joined (rowsTo s rates n) (titleAt s n) (getD rates n 0)) (rowsTo s rates n)
 
 -- four rows with a place for each id, of which so many are in use
-pub record Whole (q : Rows) : Type 0 where
+pub record FullRows (q : Rows) : Type 0 where
   pub few : q .many ≤ titlesMax
   pub rates : length (q .rates) ≡ titlesMax
   pub lengths : length (q .lengths) ≡ titlesMax

@@ -12,7 +12,7 @@ ghost use lib.ListN.{getD};
 ghost use Rattle.rules.specs.Limits.{titlesMax};
 ghost use Rattle.rules.specs.Refusals.{pick};
 ghost use Rattle.rules.specs.Search.{howMany};
-ghost use Rattle.wishes.specs.Passes.{moves as movesOf, movesAt, withWish, passTo};
+ghost use Rattle.wishes.specs.Passes.{wantsMove as movesOf, movesAt, withWish, passTo};
 
 // The title takes part, and its share is above its count, or else below it.
 fn moves(up: bool, t: Title, share: u64) -> bool

@@ -15,12 +15,12 @@ ghost use Rattle.rules.specs.Limits.{titlesMax};
 ghost use Rattle.rules.specs.Refusals.{pick};
 ghost use Rattle.story.specs.Kept.{stateOk};
 ghost use Rattle.wishes.specs.Wishes.{isSharer, ratesOk, floorsOf, sharedPool};
-ghost use Rattle.wishes.specs.Sharers.{Whole};
+ghost use Rattle.wishes.specs.Sharers.{FullRows};
 ghost use Rattle.wishes.specs.Shares.{countsOf, sharesTo, ByShare};
 
 // The counts that the sharing writes, in the order of the rows.
 fn shared_counts(pool: u64, q: Rows) -> [u32; TITLES_MAX]
-    requires { ⌜ Whole q ⌝ }
+    requires { ⌜ FullRows q ⌝ }
     ensures { λ r. ⌜ r ≡ countsOf pool q ⌝ }
 {
     let n = q.many;

@@ -15,7 +15,7 @@ use Rattle.rules.specs.Refusals.{pick}
 use Rattle.rules.proofs.Tests.{both-l, both-r}
 use Rattle.text.specs.declared.bytes.Sort.the-variants.{Line}
 use Rattle.text.specs.Bytes.{isSort, run, runEnd}
-use Rattle.words.specs.Lines.{lineOf, afterFirst}
+use Rattle.words.specs.Lines.{lineNumbered, afterFirst}
 
 abbrev pub newline : ℕ
 newline = 10
@@ -45,14 +45,14 @@ past : (t rest : List ℕ) → drop (suc (length t)) (t ++ newline ∷ rest) ≡
 past [] rest = refl
 past (b ∷ t) rest = past t rest
 
-no-line : (k : ℕ) → lineOf [] k ≡ []
-unfolding lineOf afterFirst run
+no-line : (k : ℕ) → lineNumbered [] k ≡ []
+unfolding lineNumbered afterFirst run
 no-line zero = refl
 no-line (suc k) = no-line k
 
 -- so the lines of such a text are the texts
-pub lines : (ts : List (List ℕ)) (k : ℕ) → plain ts ≡ true → lineOf (listed ts) k ≡ getD ts k []
-unfolding lineOf afterFirst listed plain
+pub lines : (ts : List (List ℕ)) (k : ℕ) → plain ts ≡ true → lineNumbered (listed ts) k ≡ getD ts k []
+unfolding lineNumbered afterFirst listed plain
 lines [] k e = no-line k
 lines (t ∷ ts) zero e =
     rw (first-run t (listed ts) (eqb-true _ _ (both-l (eqb (run Line t) (length t)) (plain ts) e))) (take-append-seam t
@@ -79,22 +79,22 @@ module _ (s : List ℕ) (from end : ℕ) (e : end ≡ runEnd Line s from) where
       drop-of-length-le s whole ∙ sym (from-first ∙ drop-of-length-le s most)
 
   -- the line itself
-  pub line-part : take (end - from) (drop from s) ≡ lineOf (drop from s) 0
-  unfolding lineOf runEnd
+  pub line-part : take (end - from) (drop from s) ≡ lineNumbered (drop from s) 0
+  unfolding lineNumbered runEnd
   line-part =
       let n : end - from ≡ run Line (drop from s) = omega (arith, e) in
       rw n
 
 -- a line that is still some lines away is one line nearer behind the first, and at hand where none is left
 module _ (s line : List ℕ) where
-  pub nearer : (rest : List ℕ) (left : ℕ) → rest ≡ afterFirst s → 0 < left → lineOf s left ≡ line
-      → lineOf rest (left - 1) ≡ line
-  unfolding lineOf
+  pub nearer : (rest : List ℕ) (left : ℕ) → rest ≡ afterFirst s → 0 < left → lineNumbered s left ≡ line
+      → lineNumbered rest (left - 1) ≡ line
+  unfolding lineNumbered
   nearer rest zero e h f = absurd (omega arith)
   nearer rest (suc k) e h f =
       let one : suc k - 1 ≡ k = omega arith in
       rw (one, e) f
 
-  pub at-hand : (left : ℕ) → left ≤ 0 → lineOf s left ≡ line → lineOf s 0 ≡ line
+  pub at-hand : (left : ℕ) → left ≤ 0 → lineNumbered s left ≡ line → lineNumbered s 0 ≡ line
   at-hand zero h f = f
   at-hand (suc k) h f = absurd (omega arith)

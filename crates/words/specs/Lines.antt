@@ -10,6 +10,6 @@ unfoldable pub afterFirst : List ℕ → List ℕ
 afterFirst s = drop (suc (run Line s)) s
 
 -- the k-th line, from 0, without its newline; empty where there is none
-unfoldable pub lineOf : List ℕ → ℕ → List ℕ
-lineOf s zero = take (run Line s) s
-lineOf s (suc k) = lineOf (afterFirst s) k
+unfoldable pub lineNumbered : List ℕ → ℕ → List ℕ
+lineNumbered s zero = take (run Line s) s
+lineNumbered s (suc k) = lineNumbered (afterFirst s) k

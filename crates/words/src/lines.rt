@@ -7,7 +7,7 @@ ghost use mathlib.Core.Path.{_≡_};
 ghost use Prim.Native.Nat.{_≤_};
 ghost use lib.ListN.{length, drop};
 ghost use Rattle.text.specs.Output.{Written};
-ghost use Rattle.words.specs.Lines.{lineOf, afterFirst};
+ghost use Rattle.words.specs.Lines.{lineNumbered, afterFirst};
 
 // The place behind the newline that ends the line at a place; the text's end where none does.
 fn behind(text: &[u8], from: usize) -> usize
@@ -23,7 +23,7 @@ fn behind(text: &[u8], from: usize) -> usize
 
 // Where the k-th line begins, from 0.
 fn line_start(text: &[u8], k: u8) -> usize
-    ensures { λ r. ⌜ (lineOf (drop r (now (text .entry))) 0 ≡ lineOf (now (text .entry)) k)
+    ensures { λ r. ⌜ (lineNumbered (drop r (now (text .entry))) 0 ≡ lineNumbered (now (text .entry)) k)
         × (r ≤ length (now (text .entry))) ⌝ }
 {
     let mut from = 0;
@@ -37,7 +37,7 @@ fn line_start(text: &[u8], k: u8) -> usize
 
 // Writes the k-th line, from 0, without its newline; nothing where the text has no such line.
 pub fn put_line(out: &mut [u8], at: usize, text: &[u8], k: u8) -> usize
-    ensures { λ r. ⌜ Written (now (out .entry)) at (lineOf (now (text .entry)) k) (now (out .exit)) r ⌝ }
+    ensures { λ r. ⌜ Written (now (out .entry)) at (lineNumbered (now (text .entry)) k) (now (out .exit)) r ⌝ }
 {
     let from = line_start(text, k);
     let end = bytes::run_end(text, from, Sort::Line);

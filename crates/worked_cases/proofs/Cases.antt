@@ -23,10 +23,10 @@ use Rattle.sharing.specs.Titles.{titles, rowTotal}
 use Rattle.sharing.specs.Term.{term}
 use Rattle.sharing.specs.Choice.{sumOf, lessOr, atLeast, prefers, from, ways, better, bestOf, shared}
 use Rattle.sharing.specs.Verdict.{rowsFit, allowed, ordered, eachTitle, verdictOf, rowAfter}
-use Rattle.worked_cases.specs.Cases.{Case, case, table, upFrom, along, those, sameRow, agree}
+use Rattle.worked_cases.specs.Cases.{Case, case, printedCases, upFrom, along, those, sameRow, allAgree}
 
-pub worked : agree table ≡ true
-unfolding schemeOf starts takes takesFrom takenAfter tickFor filmIn agree table sameRow upFrom along those firstHit some first howMany after total tickOf roundedUp slot cellOf floorRem shift segment channelCell isInG isAdded addedChannel laneCell planAt isAdmission isActive droppedAt isAwaited isOwed reach owedWithin isNth nthOwed sends onAir isHeld tickIn lifeOf latestOf tunedOf upTo heldIn heldOver answerTo accepted flatMap titles rowTotal term sumOf lessOr atLeast prefers from ways better bestOf shared rowsFit allowed ordered eachTitle verdictOf rowAfter
+pub worked : allAgree printedCases ≡ true
+unfolding schemeOf starts takes takesFrom takenAfter tickFor filmIn allAgree printedCases sameRow upFrom along those firstHit some first howMany after total tickOf roundedUp slot cellOf floorRem shift segment channelCell isInG isAdded addedChannel laneCell planAt isAdmission isActive droppedAt isAwaited isOwed reach owedWithin isNth nthOwed sends onAir isHeld tickIn lifeOf latestOf tunedOf upTo heldIn heldOver answerTo accepted flatMap titles rowTotal term sumOf lessOr atLeast prefers from ways better bestOf shared rowsFit allowed ordered eachTitle verdictOf rowAfter
 worked = refl
 
 -- rows that pass the test are equal
@@ -41,12 +41,12 @@ same-row (x ∷ xs) (y ∷ ys) h =
     λ i. p i ∷ q i
 
 -- from the whole table to each entry
-at : (cs : List Case) → agree cs ≡ true → (j : ℕ) → j < length cs →
+at : (cs : List Case) → allAgree cs ≡ true → (j : ℕ) → j < length cs →
     getD cs j (case 0 [] []) .given ≡ getD cs j (case 0 [] []) .printed
-unfolding agree
+unfolding allAgree
 at [] h j b = absurd (omega arith)
-at (c ∷ cs) h zero b = same-row (c .given) (c .printed) (both-l (sameRow (c .given) (c .printed)) (agree cs) h)
-at (c ∷ cs) h (suc j) b = at cs (both-r (sameRow (c .given) (c .printed)) (agree cs) h) j (omega arith)
+at (c ∷ cs) h zero b = same-row (c .given) (c .printed) (both-l (sameRow (c .given) (c .printed)) (allAgree cs) h)
+at (c ∷ cs) h (suc j) b = at cs (both-r (sameRow (c .given) (c .printed)) (allAgree cs) h) j (omega arith)
 
-pub each-case : (j : ℕ) → j < length table → getD table j (case 0 [] []) .given ≡ getD table j (case 0 [] []) .printed
-each-case = at table worked
+pub each-case : (j : ℕ) → j < length printedCases → getD printedCases j (case 0 [] []) .given ≡ getD printedCases j (case 0 [] []) .printed
+each-case = at printedCases worked

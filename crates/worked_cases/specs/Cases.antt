@@ -67,24 +67,24 @@ abbrev pub shown : Air → ℕ
 shown nothing = never
 shown (cell c) = c
 
-abbrev pub event : ℕ → Act → Event
-event τ a = record { time = τ; title = 0; act = a }
+abbrev pub eventAt : ℕ → Act → Event
+eventAt τ a = record { time = τ; title = 0; act = a }
 
 -- the film of the cases, opened with a count
-abbrev pub film : ℕ → Event
-film k = event 0 (opens filmLength floor cap k)
+abbrev pub opensFilm : ℕ → Event
+opensFilm k = eventAt 0 (opens filmLength floor cap k)
 
 -- a film whose list outlives a floor slot of 2 ticks, opened with 5 lanes and dropped to 4
 abbrev pub dropsLong : List Event
-dropsLong = event 2 (Changes 4) ∷ event 0 (opens 30 4 5 5) ∷ []
+dropsLong = eventAt 2 (Changes 4) ∷ eventAt 0 (opens 30 4 5 5) ∷ []
 
 -- any pool that has the lanes of the cases
 abbrev pub pool : ℕ
 pool = 8
 
 -- what an event is answered after calls, newest first
-abbrev pub answerAfter : List Event → Event → ℕ
-answerAfter cs e = answer pool (accepted pool cs) e
+abbrev pub answerBehind : List Event → Event → ℕ
+answerBehind cs e = answer pool (accepted pool cs) e
 
 -- lane l from tick t on, so many ticks, after the accepted ones of the calls
 abbrev pub lane : List Event → ℕ → ℕ → ℕ → List ℕ
@@ -99,8 +99,8 @@ share D lanes rates =
     let row : List ℕ = 0 ∷ 0 ∷ 7 ∷ [] in
     verdictOf lanes rates lengths floors caps 3 ∷ rowAfter lanes rates lengths floors caps row
 
-unfoldable pub table : List Case
-table =
+unfoldable pub printedCases : List Case
+printedCases =
     case 0 (tickOf filmLength floor cap ∷ []) (1 ∷ [])
     ∷ case 0 (those (λ c. not (filmIn filmLength (tickOf filmLength floor cap) c)) filmCells) (12 ∷ 13 ∷ 14 ∷ 15 ∷ [])
     ∷ case 1 (inG 2 0) (0 ∷ 4 ∷ [])
@@ -110,23 +110,23 @@ table =
     ∷ case 3 (upFrom (laneCell floor cap 2) 8) (12 ∷ 13 ∷ 0 ∷ 1 ∷ 4 ∷ 5 ∷ 0 ∷ 1 ∷ [])
     ∷ case 4 (upFrom (planAt floor cap 4 0) filmCells)
     (0 ∷ 1 ∷ 0 ∷ 3 ∷ 0 ∷ 1 ∷ 2 ∷ 3 ∷ 4 ∷ 5 ∷ 6 ∷ 7 ∷ 0 ∷ 1 ∷ 2 ∷ never ∷ [])
-    ∷ case 5 (lane (event 4 (Changes 2) ∷ film 3 ∷ []) 2 4 3) (4 ∷ 5 ∷ never ∷ [])
-    ∷ case 6 (lane (event 4 (Changes 3) ∷ film 4 ∷ []) 3 4 3) (2 ∷ 6 ∷ never ∷ [])
-    ∷ case 6 (answerAfter (event 4 (Changes 3) ∷ film 4 ∷ []) (event 6 (Changes 4)) ∷ []) (tooSoon ∷ [])
+    ∷ case 5 (lane (eventAt 4 (Changes 2) ∷ opensFilm 3 ∷ []) 2 4 3) (4 ∷ 5 ∷ never ∷ [])
+    ∷ case 6 (lane (eventAt 4 (Changes 3) ∷ opensFilm 4 ∷ []) 3 4 3) (2 ∷ 6 ∷ never ∷ [])
+    ∷ case 6 (answerBehind (eventAt 4 (Changes 3) ∷ opensFilm 4 ∷ []) (eventAt 6 (Changes 4)) ∷ []) (tooSoon ∷ [])
     ∷ case 6 (lane dropsLong 4 2 4) (2 ∷ 6 ∷ 14 ∷ never ∷ [])
-    ∷ case 6 (lane (event 4 (Changes 5) ∷ dropsLong) 4 4 5) (6 ∷ 0 ∷ 2 ∷ 0 ∷ 14 ∷ [])
-    ∷ case 7 (lane (event 8 (Changes 3) ∷ film 4 ∷ []) 3 8 2) (2 ∷ never ∷ [])
+    ∷ case 6 (lane (eventAt 4 (Changes 5) ∷ dropsLong) 4 4 5) (6 ∷ 0 ∷ 2 ∷ 0 ∷ 14 ∷ [])
+    ∷ case 7 (lane (eventAt 8 (Changes 3) ∷ opensFilm 4 ∷ []) 3 8 2) (2 ∷ never ∷ [])
     ∷ case 8
-    (answerAfter (film 3 ∷ []) (event 2 (Changes 2))
-    ∷ answerAfter (film 3 ∷ []) (event 4 (Changes 2))
-    ∷ answerAfter (film 3 ∷ []) (event 6 (Changes 2))
+    (answerBehind (opensFilm 3 ∷ []) (eventAt 2 (Changes 2))
+    ∷ answerBehind (opensFilm 3 ∷ []) (eventAt 4 (Changes 2))
+    ∷ answerBehind (opensFilm 3 ∷ []) (eventAt 6 (Changes 2))
     ∷ [])
     (tooSoon ∷ done ∷ notAtSlot ∷ [])
     ∷ case 9
-    (answerAfter (film 4 ∷ []) (event 4 (Changes 4))
-    ∷ answerAfter (film 4 ∷ []) (event 4 (Changes 5))
-    ∷ answerAfter (film 4 ∷ []) (event 4 (Changes 11))
-    ∷ answerAfter (film 4 ∷ []) (event 4 (Changes 13))
+    (answerBehind (opensFilm 4 ∷ []) (eventAt 4 (Changes 4))
+    ∷ answerBehind (opensFilm 4 ∷ []) (eventAt 4 (Changes 5))
+    ∷ answerBehind (opensFilm 4 ∷ []) (eventAt 4 (Changes 11))
+    ∷ answerBehind (opensFilm 4 ∷ []) (eventAt 4 (Changes 13))
     ∷ [])
     (unchanged ∷ aboveCap ∷ aboveCap ∷ outsideLimits ∷ [])
     ∷ case 10 (tickOf 1 floor cap ∷ tickOf 13 floor cap ∷ []) (1 ∷ 2 ∷ [])
@@ -147,6 +147,6 @@ sameRow (x ∷ xs) [] = false
 sameRow (x ∷ xs) (y ∷ ys) = both (eqb x y) (sameRow xs ys)
 
 -- every case gives what is printed
-unfoldable pub agree : List Case → Bool
-agree [] = true
-agree (c ∷ cs) = both (sameRow (c .given) (c .printed)) (agree cs)
+unfoldable pub allAgree : List Case → Bool
+allAgree [] = true
+allAgree (c ∷ cs) = both (sameRow (c .given) (c .printed)) (allAgree cs)

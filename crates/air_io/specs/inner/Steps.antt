@@ -26,6 +26,6 @@ markedLines marks row judged zero = []
 markedLines marks row judged (suc n) =
     markedLines marks row judged n ++ pick (isMarked marks n) (judgedLine row judged n (howMany (isMarked marks) n)) []
 
-unfoldable pub reportText : Judgement → List ℕ → List ℕ → List ℕ
-reportText g marks row =
+unfoldable pub airReport : Judgement → List ℕ → List ℕ → List ℕ
+airReport g marks row =
     pick (eqb (g .answer) done) (markedLines marks row (g .judged) (length marks) ++ totalLines g) (refusalText (g .answer) 0 ++ text "\n")

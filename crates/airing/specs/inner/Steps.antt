@@ -23,7 +23,7 @@ use Rattle.agent.specs.Played.{lifeIn}
 use Rattle.logs.specs.Reading.{keptTold, heardOwn, byMode}
 use Rattle.airing.specs.declared.follow.Ending.{Ending}
 use Rattle.airing.specs.Air.{inLimits, hasRoom, isFilmTitle, markOf}
-use Rattle.airing.specs.Reasons.{isSteadyTitle}
+use Rattle.airing.specs.Reasons.{isSteadyLife}
 
 -- the mark of tick u while a title stays as it stands
 unfoldable pub markIn : Title → ℕ → ℕ
@@ -56,12 +56,12 @@ abbrev pub toldMarks : ℕ → ℕ → List ℕ → List Notice → List ℕ
 toldMarks pool i row ns = keptTold (heardMarks i) (freshAgent pool) row ns
 
 -- what holds of an agent that was told notices
-pub record Ready (g : Agent) (i : ℕ) : Type 0 where
+pub record ReadyToMark (g : Agent) (i : ℕ) : Type 0 where
   pub id : i ≤ idMax
   pub markable : titleAt (g .state) i .mode ≡ openMode → Markable (titleAt (g .state) i)
 
 -- a stored title has the numbers of a life that is sent by the padded grid
-pub record Standing (L : Life) (t : Title) : Type 0 where
+pub record SameFilm (L : Life) (t : Title) : Type 0 where
   pub film : Filmed (t .film)
   pub same-kind : L .film .kind ≡ paddedKind
   pub same-length : L .film .length ≡ t .film .length
@@ -78,8 +78,8 @@ abbrev pub isFilmSlot : Title → Bool
 isFilmSlot t = both (ltb 0 (t .film .cap)) (eqb (t .film .kind) paddedKind)
 
 -- what the code answers of a title as it stands, where the reading of a log of some size stopped at a place
-unfoldable pub answerOf : ℕ → ℕ → Title → ℕ
-answerOf place size t = pick (leb size place) (pick (isFilmSlot t) done notThere) malformed
+unfoldable pub followedAnswer : ℕ → ℕ → Title → ℕ
+followedAnswer place size t = pick (leb size place) (pick (isFilmSlot t) done notThere) malformed
 
 -- so it was opened, and last as a skip-forward title
 abbrev pub isSteadySlot : Title → Bool
@@ -88,8 +88,8 @@ isSteadySlot t = both (ltb 0 (t .film .cap)) (eqb (t .film .kind) steadyKind)
 -- what a log that is followed to its end answers and leaves a title as
 pub record Ends (pool : ℕ) (log : List ℕ) (i : ℕ) (r : Ending) : Type 0 where
   pub answer-is : r .answer ≡ logAnswer pool log i
-  pub standing : r .answer ≡ done → Standing (lifeIn pool log i) (r .title)
-  pub steady-is : isSteadyTitle (lifeIn pool log i) ≡ isSteadySlot (r .title)
+  pub standing : r .answer ≡ done → SameFilm (lifeIn pool log i) (r .title)
+  pub steady-is : isSteadyLife (lifeIn pool log i) ≡ isSteadySlot (r .title)
 
 -- the log has no film title, but a skip-forward title
 unfoldable pub isSteadyEnding : Ending → Bool
@@ -100,6 +100,6 @@ pub record Follows (pool : ℕ) (log : List ℕ) (i : ℕ) (row : List ℕ) (r :
   pub marks-are : r .answer ≡ done → marked ≡ written (markOf (lifeIn pool log i)) row (length row)
 
 -- the refusals that do not hang on the log
-unfoldable pub firstAnswer : ℕ → ℕ → List ℕ → ℕ → ℕ
-firstAnswer pool title r room =
+unfoldable pub rowsAnswer : ℕ → ℕ → List ℕ → ℕ → ℕ
+rowsAnswer pool title r room =
     firstHit (refuse outsideLimits (not (inLimits pool title)) ∷ refuse wrongRows (not (hasRoom r room)) ∷ [])

@@ -46,15 +46,15 @@ countsAfter x admission whole w =
       outlast = w .outlast + pick (both admission (not whole)) 1 0;
     }
 
-unfoldable pub rowAfter : ℕ → Bool → Bool → Counts → List ℕ → List ℕ
-rowAfter x admission whole w row = pick (both admission whole) (set row (w .judged) x) row
+unfoldable pub resultPut : ℕ → Bool → Bool → Counts → List ℕ → List ℕ
+resultPut x admission whole w row = pick (both admission whole) (set row (w .judged) x) row
 
 pub record OneMore (x : ℕ) (admission whole : Bool) (w : Counts) (row after : List ℕ) (v : Counts) : Type 0 where
-  pub left : after ≡ rowAfter x admission whole w row
+  pub left : after ≡ resultPut x admission whole w row
   pub counts : v ≡ countsAfter x admission whole w
 
 -- counts of few ticks, and a row of n places with room for one result more
-pub record Few (w : Counts) (n : ℕ) : Type 0 where
+pub record FewCounts (w : Counts) (n : ℕ) : Type 0 where
   pub judged-few : (w .judged < n) × (w .judged < ticksMax)
   pub played-few : w .played < ticksMax
   pub outlast-few : w .outlast < ticksMax
@@ -69,9 +69,9 @@ countsTo found marks cells n (suc a) =
 unfoldable pub rowTo : List ℕ → List ℕ → ℕ → ℕ → List ℕ → ℕ → List ℕ
 rowTo found marks cells n row zero = row
 rowTo found marks cells n row (suc a) =
-    rowAfter (getD found a 0) (eqb (getD marks a 0) 1) (leb (a + cells) n) (countsTo found marks cells n a)
+    resultPut (getD found a 0) (eqb (getD marks a 0) 1) (leb (a + cells) n) (countsTo found marks cells n a)
     (rowTo found marks cells n row a)
 
-pub record Tells (found marks : List ℕ) (cells n : ℕ) (row after : List ℕ) (w : Counts) : Type 0 where
+pub record TellsResults (found marks : List ℕ) (cells n : ℕ) (row after : List ℕ) (w : Counts) : Type 0 where
   pub left : after ≡ rowTo found marks cells n row n
   pub counts : w ≡ countsTo found marks cells n n

@@ -43,8 +43,8 @@ abbrev pub AllTimed : State → Type 0
 AllTimed s = (i : ℕ) → i < titlesMax → (titleAt s i .mode ≡ absentMode → ⊥) → Timed (titleAt s i)
 
 -- from this moment on the list of lane l has gone; a list of more ticks than the clock has ms goes past the clock
-unfoldable pub releaseOf : Title → ℕ → ℕ
-releaseOf t l =
+unfoldable pub releaseMoment : Title → ℕ → ℕ
+releaseMoment t l =
     t .opened
     + min (getD (t .dropped) l 0 + getD (t .owed) l 0) (suc eventTimeMax) * titleTick t
 
@@ -55,7 +55,7 @@ soonerOf τ a b = pick (leb b τ) a (min a b)
 -- the soonest of a and the releases after τ of the lanes below n
 unfoldable pub lanesRelease : Title → ℕ → ℕ → ℕ → ℕ
 lanesRelease t τ a zero = a
-lanesRelease t τ a (suc n) = soonerOf τ (lanesRelease t τ a n) (releaseOf t n)
+lanesRelease t τ a (suc n) = soonerOf τ (lanesRelease t τ a n) (releaseMoment t n)
 
 unfoldable pub titleRelease : Title → ℕ → ℕ → ℕ
 titleRelease t τ a = pick (eqb (t .mode) absentMode) a (lanesRelease t τ a (t .film .cap))

@@ -15,29 +15,29 @@ use Rattle.planner.specs.declared.times.Times.{Times}
 use Rattle.planner.specs.Moves.{momentFor, movedAt, listed}
 
 -- every number of the question is within its limits
-unfoldable pub numbersOk : State → ℕ → List ℕ → Bool
-numbersOk s τ rates = both (stateOk s) (both (leb τ eventTimeMax) (ratesOk rates))
+unfoldable pub questionOk : State → ℕ → List ℕ → Bool
+questionOk s τ rates = both (stateOk s) (both (leb τ eventTimeMax) (ratesOk rates))
 
 -- the part of the answer that the wishes don't decide: 1 2 9
-abbrev pub standingRules : State → ℕ → List ℕ → List Rule
-standingRules s τ rates =
-    refuse outsideLimits (not (numbersOk s τ rates))
+abbrev pub standingList : State → ℕ → List ℕ → List Rule
+standingList s τ rates =
+    refuse outsideLimits (not (questionOk s τ rates))
     ∷ refuse tooEarly (ltb τ (s .last))
     ∷ refuse noLanes (ltb (sharedPool s) (floorsOf s))
     ∷ []
 
 unfoldable pub standingAnswer : State → ℕ → List ℕ → ℕ
-standingAnswer s τ rates = firstHit (standingRules s τ rates)
+standingAnswer s τ rates = firstHit (standingList s τ rates)
 
 -- a wish that a title of a state can come to: it is open, and the count lies from its floor to its cap
-pub record Fits (s : State) (w : Wish) : Type 0 where
+pub record WishFits (s : State) (w : Wish) : Type 0 where
   pub an-id : w .title ≤ idMax
   pub is-open : titleAt s (w .title) .mode ≡ openMode
   pub low : titleAt s (w .title) .film .floor ≤ w .count
   pub high : w .count ≤ titleAt s (w .title) .film .cap
 
-abbrev pub AllFit : State → Wishes → Type 0
-AllFit s w = (j : ℕ) → j < w .many → Fits s (wishAt (w .titles) (w .counts) j)
+abbrev pub WishesFit : State → Wishes → Type 0
+WishesFit s w = (j : ℕ) → j < w .many → WishFits s (wishAt (w .titles) (w .counts) j)
 
 -- the moment of the last of some wishes, τ where there are none
 unfoldable pub lastMoment : State → ℕ → List Wish → ℕ
@@ -50,6 +50,6 @@ firstOf row zero = []
 firstOf row (suc n) = firstOf row n ++ (getD row n 0 ∷ [])
 
 -- the moments of the wishes, in the first places of a row, and the last of them
-pub record Timed (s : State) (τ : ℕ) (w : Wishes) (r : Times) : Type 0 where
+pub record ListTimed (s : State) (τ : ℕ) (w : Wishes) (r : Times) : Type 0 where
   pub last : r .last ≡ lastMoment s τ (wishesIn w)
   pub row : firstOf (r .row) (w .many) ≡ map (λ m. m .time) (listed s τ (wishesIn w))

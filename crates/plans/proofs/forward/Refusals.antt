@@ -9,14 +9,14 @@ use Rattle.rules.specs.Limits.{within, countMin, steadyMax, askedMax}
 use Rattle.rules.specs.Refusals.{firstHit, done, outsideLimits, wrongRows}
 use Rattle.rules.proofs.Tests.{both-l, both-r}
 use Rattle.rules.proofs.Refusals.{hitsOf, numbered, cleared}
-use Rattle.plans.specs.Forward.{skipLimits, skipRules, skipAnswer}
+use Rattle.plans.specs.Forward.{skipPlanLimits, skipRules, skipAnswer}
 
 module _ (k a n : ℕ) where
-  pub refused-limits : skipLimits k a ≡ false → skipAnswer k a n ≡ outsideLimits
+  pub refused-limits : skipPlanLimits k a ≡ false → skipAnswer k a n ≡ outsideLimits
   unfolding skipAnswer firstHit
   refused-limits h = rw h refl
 
-  module _ (h : skipLimits k a ≡ true) where
+  module _ (h : skipPlanLimits k a ≡ true) where
     pub refused-rows : n < 2 ^ (k - 1) → skipAnswer k a n ≡ wrongRows
     unfolding skipAnswer firstHit
     refused-rows r = rw (h, lt-ltb n (2 ^ (k - 1)) r) refl
@@ -31,7 +31,7 @@ pub record Limits (k a : ℕ) : Type 0 where
   pub high : k ≤ steadyMax
   pub arrival : a ≤ askedMax
 
-pub limits : (k a : ℕ) → skipLimits k a ≡ true → Limits k a
+pub limits : (k a : ℕ) → skipPlanLimits k a ≡ true → Limits k a
 limits k a h =
     let count : within countMin steadyMax k ≡ true = both-l (within countMin steadyMax k) (leb a askedMax) h in
     record {
@@ -51,6 +51,6 @@ unfolding skipAnswer hitsOf numbered
 accepted-only k a n e =
     let clear = cleared (skipRules k a n) refl e in
     record {
-      within = limits k a (not-false (skipLimits k a) (clear outsideLimits));
+      within = limits k a (not-false (skipPlanLimits k a) (clear outsideLimits));
       room = ltb-false n (2 ^ (k - 1)) (clear wrongRows);
     }

@@ -32,20 +32,20 @@ progressOf s =
       size = latest (s .skipped) .size;
     }
 
-abbrev pub fresh : Progress
-fresh = record { place = 0; last = Nothing; notices = 0; bytes = 0; stretches = 0; start = 0; size = 0 }
+abbrev pub freshProgress : Progress
+freshProgress = record { place = 0; last = Nothing; notices = 0; bytes = 0; stretches = 0; start = 0; size = 0 }
 
 -- the latest stretch ends at the place
 unfoldable pub isOpen : Progress → Bool
 isOpen p = both (ltb 0 (p .stretches)) (eqb (p .start + p .size) (p .place))
 
 -- that stretch, which ends there if the next byte is not skipped
-abbrev pub ending : Progress → List ℕ
-ending p = pick (isOpen p) (p .start ∷ p .size ∷ []) []
+abbrev pub endingStretch : Progress → List ℕ
+endingStretch p = pick (isOpen p) (p .start ∷ p .size ∷ []) []
 
 -- a notice is taken
-abbrev pub taking : Progress → ℕ → ℕ → Progress
-taking p s e =
+abbrev pub takingNotice : Progress → ℕ → ℕ → Progress
+takingNotice p s e =
     record {
       place = e;
       last = Taken s;
@@ -86,10 +86,10 @@ unfoldable pub skipping : Progress → Progress
 skipping p = pick (isOpen p) (joining p) (starting p)
 
 -- one move, whose end is counted from place d of the input
-abbrev pub moved : ℕ → Progress → Move → Progress
-moved d p (Take n e) = taking p (n .sequence) (d + e)
-moved d p Skip = skipping p
-moved d p Stop = p
+abbrev pub progressMoved : ℕ → Progress → Move → Progress
+progressMoved d p (Take n e) = takingNotice p (n .sequence) (d + e)
+progressMoved d p Skip = skipping p
+progressMoved d p Stop = p
 
 -- no count is larger than the place
 pub record Counts (p : Progress) : Type 0 where
@@ -112,7 +112,7 @@ pub record Between (size d : ℕ) (p q : Progress) : Type 0 where
 
 -- one step over a window: the move at the place, and how far that comes
 pub record Advances (window : List ℕ) (d : ℕ) (p r : Progress) : Type 0 where
-  pub is : r ≡ moved d p (moveOf (p .last) (readAt window (p .place - d)))
+  pub is : r ≡ progressMoved d p (moveOf (p .last) (readAt window (p .place - d)))
   pub counts : Counts r
   pub ahead : p .place < d + length window → p .place < r .place
   pub within : r .place ≤ d + length window

@@ -1,6 +1,6 @@
 -- `lane_cell` meets its contract: the lane's cell by the scheme of its kind. Rests on the laws of lanes.
 use borrow.Author.Needs.{needs}
-use Rattle.scheme.proofs.Which.{steady-scheme, padded-scheme, steady-within}
+use Rattle.scheme.proofs.ByKind.{steady-scheme, padded-scheme, steady-within}
 use Rattle.scheme.proofs.lane_cell.Statement.{statement}
 use Rattle.scheme.proofs.lane_cell.Tie as tie
 

@@ -1,7 +1,7 @@
 -- `period` meets its contract: one tick on the first lane, and a power of two on another. Rests on what its callee ensures.
 use mathlib.Core.Path.{sym, _∙_}
 use borrow.Author.Needs.{needs}
-use Rattle.scheme.proofs.Which.{period-above}
+use Rattle.scheme.proofs.ByKind.{period-above}
 use Rattle.scheme.proofs.period.Statement.{statement}
 use Rattle.scheme.proofs.period.Tie as tie
 

@@ -2,7 +2,7 @@
 use mathlib.Core.Path.{refl}
 use native.Mathlib.Omega.{arith}
 use borrow.Author.Needs.{needs}
-use Rattle.scheme.proofs.Which.{steady-scheme, padded-scheme}
+use Rattle.scheme.proofs.ByKind.{steady-scheme, padded-scheme}
 use Rattle.scheme.proofs.slot.Statement.{statement}
 use Rattle.scheme.proofs.slot.Tie as tie
 

@@ -5,7 +5,7 @@ use native.Mathlib.Omega.{arith}
 use native.Mathlib.Nat.{mod-lt}
 use borrow.Author.Needs.{needs}
 use Rattle.scheme.specs.Scheme.{steadyCell}
-use Rattle.scheme.proofs.Which.{steady-above}
+use Rattle.scheme.proofs.ByKind.{steady-above}
 use Rattle.scheme.proofs.steady_cell.Statement.{statement}
 use Rattle.scheme.proofs.steady_cell.Tie as tie
 

@@ -1,6 +1,6 @@
 -- `tick` meets its contract: the division rounds up over a title's blocks, or is the grid's. Rests on the laws of kinds.
 use borrow.Author.Needs.{needs}
-use Rattle.scheme.proofs.Which.{steady-tick-exactly, padded-tick}
+use Rattle.scheme.proofs.ByKind.{steady-tick-exactly, padded-tick}
 use Rattle.scheme.proofs.tick.Statement.{statement}
 use Rattle.scheme.proofs.tick.Tie as tie
 

@@ -16,7 +16,7 @@ use Rattle.rules.specs.Limits.{floorMin, floorMax, countMin, titlesMax}
 use Rattle.rules.specs.Refusals.{firstHit, done, wrongRows, outsideLimits, floorAboveCap, noLanes}
 use Rattle.rules.proofs.Tests.{decide, both-l, both-r}
 use Rattle.sharing_titles.specs.declared.titles.Rated.{Rated}
-use Rattle.sharing_titles.specs.Titles.{titleAt, titles, nobody, rowTotal, Even}
+use Rattle.sharing_titles.specs.Titles.{ratedTitle, titles, unrated, rowTotal, SameLengths}
 use Rattle.sharing.specs.Verdict.{eachTitle, allowed, ordered, rowsFit, verdictOf, rowAfter}
 use Rattle.sharing_choice.specs.Choice.{shared}
 use Rattle.sharing_titles.specs.inner.Weighing.{Weighable, Sound}
@@ -34,14 +34,14 @@ both-all false = refl
 
 module _ (p : Rated → Bool) (ts : List Rated) where
   -- what is known after the titles before i, with what the others will add
-  pub passed-next : (a b : Bool) (i : ℕ) → i < length ts → b ≡ both a (p (titleAt ts i))
+  pub passed-next : (a b : Bool) (i : ℕ) → i < length ts → b ≡ both a (p (ratedTitle ts i))
       → both a (eachTitle p (drop i ts)) ≡ eachTitle p ts
       → both b (eachTitle p (drop (i + 1) ts)) ≡ eachTitle p ts
   unfolding eachTitle
   passed-next a b i h e f =
       rw (e, add-one)
-      (both-assoc a (p (titleAt ts i)) (eachTitle p (drop (suc i) ts))
-      ∙ sym (ap (λ l. both a (eachTitle p l)) (drop-cons ts i nobody h))
+      (both-assoc a (p (ratedTitle ts i)) (eachTitle p (drop (suc i) ts))
+      ∙ sym (ap (λ l. both a (eachTitle p l)) (drop-cons ts i unrated h))
       ∙ f)
 
   pub passed-all : (a : Bool) (i : ℕ) → length ts ≤ i → both a (eachTitle p (drop i ts)) ≡ eachTitle p ts
@@ -54,7 +54,7 @@ module _ (p : Rated → Bool) (ts : List Rated) where
 module _ (rates lengths floors caps : List ℕ) (room : ℕ) where
   -- what it means that the rows fit
   pub record Fit : Type 0 where
-    pub even : Even rates lengths floors caps
+    pub even : SameLengths rates lengths floors caps
     pub few : length rates ≤ titlesMax
     pub roomy : length rates ≤ room
 
@@ -111,7 +111,7 @@ module _ (pool : ℕ) (rates lengths floors caps : List ℕ) (room : ℕ) where
 -- ---- where nothing is refused
 
 each-at : (p : Rated → Bool) (ts : List Rated) → eachTitle p ts ≡ true → (i : ℕ) → i < length ts
-    → p (titleAt ts i) ≡ true
+    → p (ratedTitle ts i) ≡ true
 unfolding eachTitle
 each-at p [] e i h = absurd (omega arith)
 each-at p (t ∷ ts) e zero h = both-l (p t) (eachTitle p ts) e
@@ -178,7 +178,7 @@ module _ (pool : ℕ) (rates lengths floors caps row : List ℕ) where
                   weighable =
                       record {
                         each =
-                            λ j h. weighs (titleAt ts j) (each-at allowed ts a j h) (each-at ordered ts o j h);
+                            λ j h. weighs (ratedTitle ts j) (each-at allowed ts a j h) (each-at ordered ts o j h);
                       };
                 };
             few = g .few;

@@ -11,7 +11,7 @@ use lib.ListN.{length, getD, set, List·getD-map}
 use borrow.Author.Tests.{lt-ltb, le-ltb}
 use Rattle.rules.specs.Limits.{countMin}
 use Rattle.sharing_titles.specs.declared.titles.Rated.{Rated}
-use Rattle.sharing_titles.specs.Titles.{titleAt, nobody, rowTotal}
+use Rattle.sharing_titles.specs.Titles.{ratedTitle, unrated, rowTotal}
 use Rattle.sharing_titles.specs.Term.{fall, worth}
 use Rattle.sharing_choice.specs.Choice.{Way, shared}
 use Rattle.sharing_titles.specs.inner.Weighing.{Weighable, AllWeighable}
@@ -43,11 +43,11 @@ worth-some t w k l h =
 pub record Leading (ts : List Rated) (ks : List ℕ) (i r m : ℕ) : Type 0 where
   pub passed : i ≤ length ts
   pub bound : r ≤ length ts
-  pub all : (j : ℕ) → j < i → worth (titleAt ts j) (getD ks j 0) ≤ m
+  pub all : (j : ℕ) → j < i → worth (ratedTitle ts j) (getD ks j 0) ≤ m
   pub none : r ≡ length ts → m ≡ 0
   pub some : r < length ts → (0 < m) × (r < i)
-  pub here : r < length ts → worth (titleAt ts r) (getD ks r 0) ≡ m
-  pub first : r < length ts → (j : ℕ) → j < r → worth (titleAt ts j) (getD ks j 0) < m
+  pub here : r < length ts → worth (ratedTitle ts r) (getD ks r 0) ≡ m
+  pub first : r < length ts → (j : ℕ) → j < r → worth (ratedTitle ts j) (getD ks j 0) < m
 
 module _ (ts : List Rated) (ks : List ℕ) where
   -- what holds of the first i and of the i-th holds of the first i + 1
@@ -72,13 +72,13 @@ module _ (ts : List Rated) (ks : List ℕ) where
       }
 
   module _ {i r m g : ℕ} (l : Leading ts ks i r m)
-      (h : i < length ts) (e : g ≡ worth (titleAt ts i) (getD ks i 0)) where
+      (h : i < length ts) (e : g ≡ worth (ratedTitle ts i) (getD ks i 0)) where
     leads-new : m < g → Leading ts ks (suc i) i g
     leads-new b =
         record {
           passed = h;
           bound = omega arith;
-          all = upto (λ j. worth (titleAt ts j) (getD ks j 0) ≤ g) i (λ j d. omega (arith, l .all j d)) (omega arith);
+          all = upto (λ j. worth (ratedTitle ts j) (getD ks j 0) ≤ g) i (λ j d. omega (arith, l .all j d)) (omega arith);
           none = λ z. absurd (omega arith);
           some = λ _. (omega arith, omega arith);
           here = λ _. sym e;
@@ -90,7 +90,7 @@ module _ (ts : List Rated) (ks : List ℕ) where
         record {
           passed = h;
           bound = l .bound;
-          all = upto (λ j. worth (titleAt ts j) (getD ks j 0) ≤ m) i (l .all) (omega arith);
+          all = upto (λ j. worth (ratedTitle ts j) (getD ks j 0) ≤ m) i (l .all) (omega arith);
           none = l .none;
           some = λ d. (l .some d .0, omega (arith, l .some d .1));
           here = l .here;
@@ -121,7 +121,7 @@ pub record Progress (ts : List Rated) (s : ℕ) (c : List ℕ) : Type 0 where
   pub given : Given ts c
   pub within : rowTotal c ≤ rowTotal (map (λ t. t .floor) ts) + s
   pub used :
-      (rowTotal c ≡ rowTotal (map (λ t. t .floor) ts) + s) ⊎ ((j : ℕ) → j < length ts → titleAt ts j .cap ≤ getD c j 0)
+      (rowTotal c ≡ rowTotal (map (λ t. t .floor) ts) + s) ⊎ ((j : ℕ) → j < length ts → ratedTitle ts j .cap ≤ getD c j 0)
 
 module _ (ts : List Rated) (ok : AllWeighable ts) where
   pub begins : Progress ts 0 (map (λ t. t .floor) ts)
@@ -137,24 +137,24 @@ module _ (ts : List Rated) (ok : AllWeighable ts) where
         used = inl (omega arith);
       }
     where
-      floor-at : (i : ℕ) → getD (map (λ t. t .floor) ts) i 0 ≡ titleAt ts i .floor
-      floor-at i = List·getD-map (λ (t : Rated). t .floor) ts i nobody
+      floor-at : (i : ℕ) → getD (map (λ t. t .floor) ts) i 0 ≡ ratedTitle ts i .floor
+      floor-at i = List·getD-map (λ (t : Rated). t .floor) ts i unrated
 
   module _ {s r : ℕ} {c : List ℕ} (p : Progress ts s c) (n : Neediest ts c r) where
     -- no title can use a lane: all are at their caps
     stays : length ts ≤ r → Progress ts (suc s) c
     stays h = record { way = p .way; given = p .given; within = omega (arith, p .within); used = inr capped }
       where
-        capped : (j : ℕ) → j < length ts → titleAt ts j .cap ≤ getD c j 0
-        capped j l = go (side (getD c j 0) (titleAt ts j .cap))
+        capped : (j : ℕ) → j < length ts → ratedTitle ts j .cap ≤ getD c j 0
+        capped j l = go (side (getD c j 0) (ratedTitle ts j .cap))
           where
-            go : (getD c j 0 < titleAt ts j .cap) ⊎ (titleAt ts j .cap ≤ getD c j 0) → titleAt ts j .cap ≤ getD c j 0
+            go : (getD c j 0 < ratedTitle ts j .cap) ⊎ (ratedTitle ts j .cap ≤ getD c j 0) → ratedTitle ts j .cap ≤ getD c j 0
             go (inl b) =
                 absurd
                 (omega (
                   arith,
                   n .nothing (omega (arith, n .bound)) j l,
-                  worth-some (titleAt ts j) (ok .each j l) (getD c j 0)
+                  worth-some (ratedTitle ts j) (ok .each j l) (getD c j 0)
                       (omega (arith, ok .each j l .floor-low, p .way .low j l)) b,
                 ))
             go (inr b) = b
@@ -163,12 +163,12 @@ module _ (ts : List Rated) (ok : AllWeighable ts) where
       place : r < length c
       place = omega (arith, p .way .places)
 
-      open-at : getD c r 0 < titleAt ts r .cap
-      open-at = go (side (getD c r 0) (titleAt ts r .cap))
+      open-at : getD c r 0 < ratedTitle ts r .cap
+      open-at = go (side (getD c r 0) (ratedTitle ts r .cap))
         where
-          go : (getD c r 0 < titleAt ts r .cap) ⊎ (titleAt ts r .cap ≤ getD c r 0) → getD c r 0 < titleAt ts r .cap
+          go : (getD c r 0 < ratedTitle ts r .cap) ⊎ (ratedTitle ts r .cap ≤ getD c r 0) → getD c r 0 < ratedTitle ts r .cap
           go (inl b) = b
-          go (inr b) = absurd (omega (arith, worth-capped (titleAt ts r) (getD c r 0) b, n .some h))
+          go (inr b) = absurd (omega (arith, worth-capped (ratedTitle ts r) (getD c r 0) b, n .some h))
 
       -- a lane below the new count was there before, or is the lane just given
       lane : (i a : ℕ) → a < getD (set c r (suc (getD c r 0))) i 0 → (a < getD c i 0) ⊎ ((i ≡ r) × (a ≡ getD c r 0))
@@ -185,18 +185,18 @@ module _ (ts : List Rated) (ok : AllWeighable ts) where
       grown j = at-set (λ m k. getD c m 0 ≤ k) c r (suc (getD c r 0)) place (omega arith) (λ m _. omega arith) j
 
       -- a lane still withheld is worth no more than the next one of its title
-      later : (j b : ℕ) → j < length ts → getD c j 0 ≤ b → b < titleAt ts j .cap
-          → fall (titleAt ts j) b ≤ worth (titleAt ts j) (getD c j 0)
+      later : (j b : ℕ) → j < length ts → getD c j 0 ≤ b → b < ratedTitle ts j .cap
+          → fall (ratedTitle ts j) b ≤ worth (ratedTitle ts j) (getD c j 0)
       later j b l d e =
           omega (
             arith,
-            worth-below (titleAt ts j) (getD c j 0) (omega arith),
-            shrinks-on (titleAt ts j) (ok .each j l) (getD c j 0) b
+            worth-below (ratedTitle ts j) (getD c j 0) (omega arith),
+            shrinks-on (ratedTitle ts j) (ok .each j l) (getD c j 0) b
                 (omega (arith, ok .each j l .floor-low, p .way .low j l)) d e,
           )
 
-      worth-here : worth (titleAt ts r) (getD c r 0) ≡ fall (titleAt ts r) (getD c r 0)
-      worth-here = worth-below (titleAt ts r) (getD c r 0) open-at
+      worth-here : worth (ratedTitle ts r) (getD c r 0) ≡ fall (ratedTitle ts r) (getD c r 0)
+      worth-here = worth-below (ratedTitle ts r) (getD c r 0) open-at
 
       still-given : Given ts (set c r (suc (getD c r 0)))
       still-given =
@@ -205,16 +205,16 @@ module _ (ts : List Rated) (ok : AllWeighable ts) where
             first-served = λ i j a b li lj f g d e. serve i j a b li lj f d e (lane i a g);
           }
         where
-          weigh : (i j a b : ℕ) → i < length ts → j < length ts → titleAt ts i .floor ≤ a
-              → getD (set c r (suc (getD c r 0))) j 0 ≤ b → b < titleAt ts j .cap
-              → (a < getD c i 0) ⊎ ((i ≡ r) × (a ≡ getD c r 0)) → fall (titleAt ts j) b ≤ fall (titleAt ts i) a
+          weigh : (i j a b : ℕ) → i < length ts → j < length ts → ratedTitle ts i .floor ≤ a
+              → getD (set c r (suc (getD c r 0))) j 0 ≤ b → b < ratedTitle ts j .cap
+              → (a < getD c i 0) ⊎ ((i ≡ r) × (a ≡ getD c r 0)) → fall (ratedTitle ts j) b ≤ fall (ratedTitle ts i) a
           weigh i j a b li lj f d e (inl o) = p .given .worth-it i j a b li lj f o (omega (arith, grown j)) e
           weigh i j a b li lj f d e (inr o) =
               rw (o .0, o .1) (omega (arith, later j b lj (omega (arith, grown j)) e, n .most h j lj, worth-here))
 
-          serve : (i j a b : ℕ) → i < length ts → j < i → titleAt ts i .floor ≤ a
-              → getD (set c r (suc (getD c r 0))) j 0 ≤ b → b < titleAt ts j .cap
-              → (a < getD c i 0) ⊎ ((i ≡ r) × (a ≡ getD c r 0)) → fall (titleAt ts j) b < fall (titleAt ts i) a
+          serve : (i j a b : ℕ) → i < length ts → j < i → ratedTitle ts i .floor ≤ a
+              → getD (set c r (suc (getD c r 0))) j 0 ≤ b → b < ratedTitle ts j .cap
+              → (a < getD c i 0) ⊎ ((i ≡ r) × (a ≡ getD c r 0)) → fall (ratedTitle ts j) b < fall (ratedTitle ts i) a
           serve i j a b li lj f d e (inl o) = p .given .first-served i j a b li lj f o (omega (arith, grown j)) e
           serve i j a b li lj f d e (inr o) =
               rw (o .0, o .1)
@@ -237,9 +237,9 @@ module _ (ts : List Rated) (ok : AllWeighable ts) where
         where
           spent :
               (rowTotal c ≡ rowTotal (map (λ t. t .floor) ts) + s)
-              ⊎ ((j : ℕ) → j < length ts → titleAt ts j .cap ≤ getD c j 0)
+              ⊎ ((j : ℕ) → j < length ts → ratedTitle ts j .cap ≤ getD c j 0)
               → (rowTotal (set c r (suc (getD c r 0))) ≡ rowTotal (map (λ t. t .floor) ts) + suc s)
-              ⊎ ((j : ℕ) → j < length ts → titleAt ts j .cap ≤ getD (set c r (suc (getD c r 0))) j 0)
+              ⊎ ((j : ℕ) → j < length ts → ratedTitle ts j .cap ≤ getD (set c r (suc (getD c r 0))) j 0)
           spent (inl e) = inl (omega (arith, total-set c r (suc (getD c r 0)) place))
           spent (inr f) = absurd (omega (arith, f r h, open-at))
 

@@ -6,7 +6,7 @@ use Prim.Native.Nat.{ℕ, _<_, _≤_}
 use lib.ListN.{length, getD}
 use Rattle.rules.specs.Limits.{titlesMax}
 use Rattle.sharing_titles.specs.declared.titles.Rated.{Rated}
-use Rattle.sharing_titles.specs.Titles.{titleAt, rowTotal}
+use Rattle.sharing_titles.specs.Titles.{ratedTitle, rowTotal}
 use Rattle.sharing_titles.specs.Term.{worth}
 use Rattle.sharing_titles.specs.inner.Weighing.{Sound}
 
@@ -21,8 +21,8 @@ pub record Fillable (pool : ℕ) (rates lengths floors caps counts : List ℕ) :
 -- nothing to any
 pub record Neediest (ts : List Rated) (ks : List ℕ) (r : ℕ) : Type 0 where
   pub bound : r ≤ length ts
-  pub nothing : r ≡ length ts → (j : ℕ) → j < length ts → worth (titleAt ts j) (getD ks j 0) ≡ 0
-  pub some : r < length ts → 0 < worth (titleAt ts r) (getD ks r 0)
+  pub nothing : r ≡ length ts → (j : ℕ) → j < length ts → worth (ratedTitle ts j) (getD ks j 0) ≡ 0
+  pub some : r < length ts → 0 < worth (ratedTitle ts r) (getD ks r 0)
   pub most : r < length ts → (j : ℕ) → j < length ts
-      → worth (titleAt ts j) (getD ks j 0) ≤ worth (titleAt ts r) (getD ks r 0)
-  pub first : r < length ts → (j : ℕ) → j < r → worth (titleAt ts j) (getD ks j 0) < worth (titleAt ts r) (getD ks r 0)
+      → worth (ratedTitle ts j) (getD ks j 0) ≤ worth (ratedTitle ts r) (getD ks r 0)
+  pub first : r < length ts → (j : ℕ) → j < r → worth (ratedTitle ts j) (getD ks j 0) < worth (ratedTitle ts r) (getD ks r 0)

@@ -7,13 +7,13 @@ use native.Mathlib.Omega.{arith}
 use native.Mathlib.Numerals.{add-one}
 use lib.ListN.{length, getD, drop, drop-of-length-le}
 use lib.Seq.{drop-cons}
-use Rattle.sharing_titles.specs.Titles.{titles, titleAt, rowTotal, Even}
+use Rattle.sharing_titles.specs.Titles.{titles, ratedTitle, rowTotal, SameLengths}
 
 -- the rows without their first places
-even-tail : {r d f k : ℕ} {rs ds fs ks : List ℕ} → Even (r ∷ rs) (d ∷ ds) (f ∷ fs) (k ∷ ks) → Even rs ds fs ks
+even-tail : {r d f k : ℕ} {rs ds fs ks : List ℕ} → SameLengths (r ∷ rs) (d ∷ ds) (f ∷ fs) (k ∷ ks) → SameLengths rs ds fs ks
 even-tail e = record { second = omega arith; third = omega arith; fourth = omega arith }
 
-pub titles-length : (rs ds fs ks : List ℕ) → Even rs ds fs ks → length (titles rs ds fs ks) ≡ length rs
+pub titles-length : (rs ds fs ks : List ℕ) → SameLengths rs ds fs ks → length (titles rs ds fs ks) ≡ length rs
 unfolding titles
 titles-length [] ds fs ks e = refl
 titles-length (r ∷ rs) [] fs ks e = omega arith
@@ -21,8 +21,8 @@ titles-length (r ∷ rs) (d ∷ ds) [] ks e = omega arith
 titles-length (r ∷ rs) (d ∷ ds) (f ∷ fs) [] e = omega arith
 titles-length (r ∷ rs) (d ∷ ds) (f ∷ fs) (k ∷ ks) e = ap suc (titles-length rs ds fs ks (even-tail e))
 
-pub titles-at : (rs ds fs ks : List ℕ) → Even rs ds fs ks → (i : ℕ) → i < length rs
-    → titleAt (titles rs ds fs ks) i
+pub titles-at : (rs ds fs ks : List ℕ) → SameLengths rs ds fs ks → (i : ℕ) → i < length rs
+    → ratedTitle (titles rs ds fs ks) i
     ≡ record { rate = getD rs i 0; length = getD ds i 0; floor = getD fs i 0; cap = getD ks i 0 }
 unfolding titles
 titles-at [] ds fs ks e i h = absurd (omega arith)
@@ -33,7 +33,7 @@ titles-at (r ∷ rs) (d ∷ ds) (f ∷ fs) (k ∷ ks) e zero h = refl
 titles-at (r ∷ rs) (d ∷ ds) (f ∷ fs) (k ∷ ks) e (suc i) h = titles-at rs ds fs ks (even-tail e) i (omega arith)
 
 -- the titles' floors are the row of floors
-pub titles-floors : (rs ds fs ks : List ℕ) → Even rs ds fs ks → map (λ t. t .floor) (titles rs ds fs ks) ≡ fs
+pub titles-floors : (rs ds fs ks : List ℕ) → SameLengths rs ds fs ks → map (λ t. t .floor) (titles rs ds fs ks) ≡ fs
 unfolding titles
 titles-floors [] ds [] ks e = refl
 titles-floors [] ds (f ∷ fs) ks e = absurd (omega arith)

@@ -4,7 +4,7 @@ use Prim.Native.Nat.{ℕ, _<_, _≤_}
 use lib.ListN.{length}
 use Rattle.rules.specs.Limits.{countMin, countMax, lengthMax, lengthMin, rateMax, rateMin}
 use Rattle.sharing_titles.specs.declared.titles.Rated.{Rated}
-use Rattle.sharing_titles.specs.Titles.{titleAt, titles, Even}
+use Rattle.sharing_titles.specs.Titles.{ratedTitle, titles, SameLengths}
 
 -- a title's numbers are such that its part of the sum can be worked out
 pub record Weighable (t : Rated) : Type 0 where
@@ -18,9 +18,9 @@ pub record Weighable (t : Rated) : Type 0 where
 
 -- every title can be weighed
 pub record AllWeighable (ts : List Rated) : Type 0 where
-  pub each : (i : ℕ) → i < length ts → Weighable (titleAt ts i)
+  pub each : (i : ℕ) → i < length ts → Weighable (ratedTitle ts i)
 
 -- rows of one length, whose titles can all be weighed
 pub record Sound (rates lengths floors caps : List ℕ) : Type 0 where
-  pub even : Even rates lengths floors caps
+  pub even : SameLengths rates lengths floors caps
   pub weighable : AllWeighable (titles rates lengths floors caps)

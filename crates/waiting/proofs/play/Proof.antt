@@ -2,7 +2,7 @@
 use native.Mathlib.Omega.{arith}
 use borrow.Author.Needs.{needs}
 use Rattle.logs.proofs.Reading.{PlayedTo, not-begun, played-on, all-played, left, falls}
-use Rattle.admissions.specs.Stretches.{fresh}
+use Rattle.admissions.specs.Stretches.{freshTally}
 use Rattle.waiting.specs.inner.Steps.{heardTally}
 use Rattle.waiting.proofs.Reading.{ready}
 use Rattle.waiting.proofs.play.Statement.{statement}
@@ -10,7 +10,7 @@ use Rattle.waiting.proofs.play.Tie as tie
 
 abbrev Inv-loop : tie.InvT-loop
 Inv-loop pool log title arrivals counted₀ counted =
-    PlayedTo (heardTally title arrivals) pool log (fresh 0) (counted .played) (counted .tally)
+    PlayedTo (heardTally title arrivals) pool log (freshTally 0) (counted .played) (counted .tally)
 
 abbrev μ-loop : tie.MeasureT-loop
 μ-loop pool log title arrivals counted₀ counted = left log (counted .played)

@@ -21,7 +21,7 @@ use Rattle.story.specs.declared.State.{State}
 use Rattle.story.specs.Kept.{openMode, isSteadyTitle, titleAt, ruling, numbersOk}
 use Rattle.wishes.specs.declared.sharers.Rows.{Rows}
 use Rattle.wishes.specs.Wishes.{isSharer, takesPart}
-use Rattle.wishes.specs.Sharers.{noRow, joined, rowsTo, Whole}
+use Rattle.wishes.specs.Sharers.{noRow, joined, rowsTo, FullRows}
 use Rattle.wishes.proofs.Ids.{rowTo, row-length}
 
 -- a title that takes part is open, and no skip-forward title
@@ -96,7 +96,7 @@ rows-are s rates (suc n) =
 pub rows-room : (s : State) (rates : List ℕ) (n : ℕ) → n < titlesMax → rowsTo s rates n .many < titlesMax
 rows-room s rates n l = rw (rows-are s rates n) (omega (arith, howMany-le (takesPart s) n))
 
-pub rows-whole : (s : State) (rates : List ℕ) → Whole (rowsTo s rates titlesMax)
+pub rows-whole : (s : State) (rates : List ℕ) → FullRows (rowsTo s rates titlesMax)
 rows-whole s rates =
     rw (rows-are s rates titlesMax)
     (record {

@@ -16,7 +16,7 @@ use Rattle.rules.specs.Search.{howMany, total}
 use Rattle.rules.proofs.Tests.{both-l, both-r, both-in, pick-true}
 use Rattle.rules.proofs.Search.{below-suc, every-out, howMany-le, total-at}
 use Rattle.sharing.specs.Titles.{Rated}
-use Rattle.sharing.specs.Titles.{nobody, titles, rowTotal}
+use Rattle.sharing.specs.Titles.{unrated, titles, rowTotal}
 use Rattle.sharing.specs.Titles as sharing
 use Rattle.sharing.specs.Choice.{Shared, shared}
 use Rattle.sharing.specs.Verdict.{allowed, ordered, eachTitle, rowsFit, verdictOf, rowAfter}
@@ -126,7 +126,7 @@ module _ (s : State) (rates : List ℕ) (ok : stateOk s ≡ true)
   part-each : (P : Rated → Type 0) → ((i : ℕ) → i < titlesMax → takesPart s i ≡ true → P (ratedAt s rates i)) → (j : ℕ)
       → j < length (rated s rates) → P (sharing.titleAt (rated s rates) j)
   unfolding rated sharers
-  part-each P f = ids-each (takesPart s) (ratedAt s rates) nobody titlesMax P f
+  part-each P f = ids-each (takesPart s) (ratedAt s rates) unrated titlesMax P f
 
   all-allowed : eachTitle allowed (rated s rates) ≡ true
   all-allowed = each-in allowed (rated s rates) (part-each (λ t. allowed t ≡ true) part-allowed)
@@ -156,7 +156,7 @@ module _ (s : State) (rates : List ℕ) (ok : stateOk s ≡ true)
         let p = takesPart s in
         let j = howMany p i in
         let place = place-below p (ratedAt s rates) titlesMax i l part in
-        let here = ids-at p (ratedAt s rates) nobody titlesMax i l part in
+        let here = ids-at p (ratedAt s rates) unrated titlesMax i l part in
         (rw here at (best-shares .choice .way .low j place), rw here at (best-shares .choice .way .high j place))
 
     -- the sharing refuses none of this

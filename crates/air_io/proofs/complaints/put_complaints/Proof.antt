@@ -4,13 +4,13 @@ use lib.ListN.{length}
 use Rattle.text.specs.Output.{page}
 use Rattle.text.proofs.Pages.{puts-then}
 use Rattle.unheard_io.specs.Line.{unheardLine}
-use Rattle.air_io.specs.Complaints.{longLine, skipLine, strayText, complaintsText}
+use Rattle.air_io.specs.Complaints.{longLine, skipLine, strayText, airComplaints}
 use borrow.Author.Needs.{needs}
 use Rattle.air_io.proofs.complaints.put_complaints.Statement.{statement}
 use Rattle.air_io.proofs.complaints.put_complaints.Tie as tie
 
 returns : tie.Need-returns
-unfolding complaintsText
+unfolding airComplaints
 returns c =
     let x = c .before .before .before .before .before .before .before .before .before .before .before .before .before .before .before .before .before .before .before .before .before .args in
     let stray = c .before .before .before .before .before .before .before .before .before .before .before .before .before .before .before .before .first-stray in

@@ -5,14 +5,14 @@ use Rattle.text.specs.Output.{page}
 use Rattle.words.specs.Words.{refusalText}
 use Rattle.text.proofs.Pages.{puts-then}
 use Rattle.air_io.specs.Lines.{totalLines}
-use Rattle.air_io.specs.inner.Steps.{markedLines, reportText}
+use Rattle.air_io.specs.inner.Steps.{markedLines, airReport}
 use lib.ListN.{length}
 use borrow.Author.Needs.{needs}
 use Rattle.air_io.proofs.lines.put_report.Statement.{statement}
 use Rattle.air_io.proofs.lines.put_report.Tie as tie
 
 returns : tie.Need-returns
-unfolding reportText
+unfolding airReport
 returns c =
     let second = c .before .before in
     let first = second .before .before .before .before in
@@ -23,7 +23,7 @@ returns c =
     (first .put-admissions .ensures) (second .put-totals .ensures))
 
 returns-2 : tie.Need-returns-2
-unfolding reportText text
+unfolding airReport text
 returns-2 c =
     let second = c .before .before in
     let first = second .before .before .before .before .before in

@@ -6,7 +6,7 @@ use native.Mathlib.Numerals.{add-one}
 use native.Mathlib.Omega.{arith}
 use lib.ListN.{length, getD}
 use Rattle.text.specs.Bytes.{newline}
-use Rattle.air_io.specs.Record.{SoFar, soFar, taking, takenTo}
+use Rattle.air_io.specs.Record.{SoFar, soFar, takingByte, takenTo}
 use Rattle.air_io.proofs.Reading.{taking-length}
 use borrow.Author.Needs.{needs}
 use Rattle.air_io.proofs.record.take_text.Statement.{statement}
@@ -33,7 +33,7 @@ loop-again c =
     let e = at-byte .take-byte .ensures in
     let b = getD (x .text .now) (l .i) 0 in (
       omega arith,
-      e ∙ rw add-one (ap (λ s. taking s b) (l .inv .1)),
+      e ∙ rw add-one (ap (λ s. takingByte s b) (l .inv .1)),
       ap (λ (s : SoFar). length (s .row)) e ∙ taking-length (soFar (l .row) (l .scan)) b ∙ l .inv .2,
     )
 
@@ -53,7 +53,7 @@ returns c =
     let l = at-loop .loop in
     let all = le-antisymm (l .inv .0) (at-loop-test .loop-test .left) in
     let x = at-loop .before .before .before .args in
-    at-byte .take-byte2 .ensures ∙ ap (λ s. taking s newline) (l .inv .1 ∙ ap (takenTo (x .text .now) (x .row .now)) all)
+    at-byte .take-byte2 .ensures ∙ ap (λ s. takingByte s newline) (l .inv .1 ∙ ap (takenTo (x .text .now) (x .row .now)) all)
 
 pub take-text-spec : {M : Type 1} → statement M
 take-text-spec =

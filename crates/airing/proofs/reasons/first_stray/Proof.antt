@@ -1,6 +1,6 @@
 -- `airing::reasons::first_stray` meets its contract: pool and title, the log, then the numbers.
 use mathlib.Core.Path.{sym, _∙_}
-use Rattle.airing.proofs.Ends.{cap-high, stray-found, stray-none, stray-outside}
+use Rattle.airing.proofs.RefusalReasons.{cap-high, stray-found, stray-none, stray-outside}
 use borrow.Author.Needs.{needs}
 use Rattle.airing.proofs.reasons.first_stray.Statement.{statement}
 use Rattle.airing.proofs.reasons.first_stray.Tie as tie

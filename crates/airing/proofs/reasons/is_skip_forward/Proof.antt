@@ -1,6 +1,6 @@
 -- `airing::reasons::is_skip_forward` meets its contract: pool and title, then the log.
 use mathlib.Core.Path.{sym, _∙_}
-use Rattle.airing.proofs.Ends.{skip-outside, skip-inside}
+use Rattle.airing.proofs.RefusalReasons.{skip-outside, skip-inside}
 use borrow.Author.Needs.{needs}
 use Rattle.airing.proofs.reasons.is_skip_forward.Statement.{statement}
 use Rattle.airing.proofs.reasons.is_skip_forward.Tie as tie

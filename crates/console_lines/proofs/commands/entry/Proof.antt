@@ -2,7 +2,7 @@
 use mathlib.Core.Path.{sym}
 use lib.ListN.{List·getD-eq-default}
 use Rattle.text.specs.Texts.{text}
-use Rattle.console_lines.specs.Commands.{nobody, commandTable, commandOf}
+use Rattle.console_lines.specs.Commands.{noCommand, commandTable, commandOf}
 use Rattle.console_lines.proofs.Rows.{any-default}
 use borrow.Author.Needs.{needs}
 use Rattle.console_lines.proofs.commands.entry.Statement.{statement}
@@ -10,11 +10,11 @@ use Rattle.console_lines.proofs.commands.entry.Tie as tie
 
 returns : tie.Need-returns
 unfolding text commandTable commandOf
-returns c = any-default commandTable (c .before .before .args .command) _ nobody (c .before .if1 .taken)
+returns c = any-default commandTable (c .before .before .args .command) _ noCommand (c .before .if1 .taken)
 
 returns-2 : tie.Need-returns-2
 unfolding text commandTable commandOf
-returns-2 c = sym (List·getD-eq-default commandTable nobody (c .before .if1 .left))
+returns-2 c = sym (List·getD-eq-default commandTable noCommand (c .before .if1 .left))
 
 pub entry-spec : {M : Type 1} → statement M
 entry-spec =

@@ -2,7 +2,7 @@
 use Prim.Native.Nat.{_-_}
 use native.Mathlib.Omega.{arith}
 use native.Mathlib.Nat.{mul-le-mul}
-use Rattle.figures.specs.Times.{film}
+use Rattle.figures.specs.Times.{twoHours}
 use Rattle.figures.specs.Holding.{returnedAt}
 use Rattle.figures.proofs.Sent.{in-turn}
 use borrow.Author.Needs.{needs}
@@ -17,7 +17,7 @@ unfolding returnedAt
 returns c =
     let a = c .before .before .before .before .before .args in
     simp (← c .before .before .slot-ms .ensures .is)
-    (in-turn (a .count) film (a .floor) (a .count) (a .count) _ (a .count - 1) _ _ _
+    (in-turn (a .count) twoHours (a .floor) (a .count) (a .count) _ (a .count - 1) _ _ _
     (c .before .before .before .before .fresh .ensures .1)
     (c .before .before .before .«open» .ensures .1)
     (c .before .change .ensures .1))

@@ -1,8 +1,8 @@
 -- `listing_io::input::drain` meets its contract and ends: each turn is one read further, and one that goes on moves ahead.
 use mathlib.Core.Path.{sym, _∙_}
-use Rattle.notice.proofs.Each.{false-true}
+use Rattle.notice.proofs.CaseSplits.{false-true}
 use Rattle.listing_io.specs.Listing.{UpTo}
-use Rattle.listing_io.proofs.Onward.{onward, left, falls, begun, low, further-on}
+use Rattle.listing_io.proofs.StepPlaces.{onward, left, falls, begun, low, further-on}
 use Rattle.listing_io.proofs.input.drain.Statement.{statement}
 use Rattle.listing_io.proofs.input.drain.Tie as tie
 

@@ -2,7 +2,7 @@
 use mathlib.Core.Path.{sym, _∙_}
 use native.Mathlib.Omega.{arith}
 use Rattle.streams.proofs.Room.{more-hold, last-hold}
-use Rattle.notice.proofs.Each.{false-true}
+use Rattle.notice.proofs.CaseSplits.{false-true}
 use borrow.Author.Needs.{needs}
 use Rattle.listing_io.proofs.input.feed.Statement.{statement}
 use Rattle.listing_io.proofs.input.feed.Tie as tie

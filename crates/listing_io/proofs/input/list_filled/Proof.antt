@@ -1,8 +1,8 @@
 -- `listing_io::input::list_filled` meets its contract: what is not decided of what was read is kept.
 use mathlib.Core.Path.{sym, _∙_}
 use lib.Seq.{length-take-le}
-use Rattle.notice.proofs.Each.{false-true}
-use Rattle.listing_io.proofs.Onward.{kept-few}
+use Rattle.notice.proofs.CaseSplits.{false-true}
+use Rattle.listing_io.proofs.StepPlaces.{kept-few}
 use borrow.Author.Needs.{needs}
 use Rattle.listing_io.proofs.input.list_filled.Statement.{statement}
 use Rattle.listing_io.proofs.input.list_filled.Tie as tie

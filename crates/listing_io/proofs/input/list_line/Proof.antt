@@ -1,6 +1,6 @@
 -- `listing_io::input::list_line` meets its contract: its row has room for any line.
 use native.Mathlib.Omega.{arith}
-use Rattle.listing_io.proofs.Short.{shown}
+use Rattle.listing_io.proofs.LinesFit.{shown}
 use borrow.Author.Needs.{needs}
 use Rattle.listing_io.proofs.input.list_line.Statement.{statement}
 use Rattle.listing_io.proofs.input.list_line.Tie as tie

@@ -3,13 +3,13 @@ use mathlib.Core.List.{[], _∷_}
 use Rattle.text.specs.Output.{page, puts}
 use Rattle.text.specs.Digits.{decimal}
 use Rattle.text.proofs.Pages.{puts-then}
-use Rattle.listing_io.specs.Lines.{ended}
+use Rattle.listing_io.specs.Lines.{numberThen}
 use borrow.Author.Needs.{needs}
 use Rattle.listing_io.proofs.lines.put_ended.Statement.{statement}
 use Rattle.listing_io.proofs.lines.put_ended.Tie as tie
 
 returns : tie.Need-returns
-unfolding ended puts
+unfolding numberThen puts
 returns c =
     let made = c .before .before .before .before .before .before in
     let x = made .before .before .before .args in

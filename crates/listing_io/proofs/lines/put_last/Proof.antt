@@ -5,7 +5,7 @@ use Rattle.text.specs.Texts.{text}
 use Rattle.text.specs.Output.{page}
 use Rattle.text.proofs.Pages.{puts-then}
 use Rattle.text.specs.Bytes.{newline}
-use Rattle.listing_io.specs.Lines.{ended, lastLine, space}
+use Rattle.listing_io.specs.Lines.{numberThen, lastLine, space}
 use borrow.Author.Needs.{needs}
 use Rattle.listing_io.proofs.lines.put_last.Statement.{statement}
 use Rattle.listing_io.proofs.lines.put_last.Tie as tie
@@ -17,8 +17,8 @@ returns c =
     let one = two .before .before .before .before in
     let x = one .before .before .before .before .before .before .args in
     let room = page (x .out .now) 0 in
-    puts-then room (text "- - - " ++ ended malformed space) (ended (x .held) newline)
-    (puts-then room (text "- - - ") (ended malformed space) (one .before .before .put .ensures)
+    puts-then room (text "- - - " ++ numberThen malformed space) (numberThen (x .held) newline)
+    (puts-then room (text "- - - ") (numberThen malformed space) (one .before .before .put .ensures)
     (two .before .before .put-ended .ensures))
     (c .before .before .put-ended2 .ensures)
 

@@ -3,13 +3,13 @@ use mathlib.Core.List.{_++_}
 use Rattle.text.specs.Output.{page}
 use Rattle.text.proofs.Pages.{puts-then}
 use Rattle.text.specs.Bytes.{newline}
-use Rattle.listing_io.specs.Lines.{ended, lineOf, space}
+use Rattle.listing_io.specs.Lines.{numberThen, listingLine, space}
 use borrow.Author.Needs.{needs}
 use Rattle.listing_io.proofs.lines.put_line.Statement.{statement}
 use Rattle.listing_io.proofs.lines.put_line.Tie as tie
 
 returns : tie.Need-returns
-unfolding lineOf
+unfolding listingLine
 returns c =
     let four = c .before .before .before .before in
     let three = four .before .before .before .before in
@@ -17,13 +17,13 @@ returns c =
     let one = two .before .before .before .before in
     let x = one .before .before .before .before .before .args in
     let room = page (x .out .now) 0 in
-    let first = ended (x .sequence) space in
-    let second = first ++ ended (x .kind) space in
-    let third = second ++ ended (x .title) space in
-    puts-then room (third ++ ended (x .answer) space) (ended (x .held) newline)
-    (puts-then room third (ended (x .answer) space)
-    (puts-then room second (ended (x .title) space)
-    (puts-then room first (ended (x .kind) space) (one .before .before .put-ended .ensures)
+    let first = numberThen (x .sequence) space in
+    let second = first ++ numberThen (x .kind) space in
+    let third = second ++ numberThen (x .title) space in
+    puts-then room (third ++ numberThen (x .answer) space) (numberThen (x .held) newline)
+    (puts-then room third (numberThen (x .answer) space)
+    (puts-then room second (numberThen (x .title) space)
+    (puts-then room first (numberThen (x .kind) space) (one .before .before .put-ended .ensures)
     (two .before .before .put-ended2 .ensures))
     (three .before .before .put-ended3 .ensures))
     (four .before .before .put-ended4 .ensures))

@@ -4,7 +4,7 @@ use native.Mathlib.Omega.{arith}
 use native.Mathlib.Nat.{mul-le-mul}
 use Rattle.rules.specs.Limits.{eventTimeMax, lengthMax, lanePlaces}
 use Rattle.measures.proofs.Within.{in-row}
-use Rattle.moments.specs.inner.Steps.{releaseOf}
+use Rattle.moments.specs.inner.Steps.{releaseMoment}
 use borrow.Author.Needs.{needs}
 use Rattle.moments.proofs.releases.release_of.Statement.{statement}
 use Rattle.moments.proofs.releases.release_of.Tie as tie
@@ -50,7 +50,7 @@ add-result c =
     record { fits = omega (arith, start .pre .0 .opened, list-ms (c .smaller .result) (start .args .tick) (omega arith) short) }
 
 returns : tie.Need-returns
-unfolding releaseOf
+unfolding releaseMoment
 returns c = simp (c .smaller .ensures, c .before .before .before .pre .1 .1 .0)
 
 pub release-of-spec : {M : Type 1} → statement M

@@ -3,7 +3,7 @@
 use mathlib.Core.Path.{sym, _∙_}
 use native.Mathlib.Omega.{arith}
 use Rattle.rules.specs.Limits.{countPlaces}
-use Rattle.scheme.proofs.Which.{padded-scheme}
+use Rattle.scheme.proofs.ByKind.{padded-scheme}
 use Rattle.measures.proofs.Within.{in-row}
 use Rattle.owed.proofs.OnLanes.{awaited-own}
 use borrow.Author.Needs.{needs}

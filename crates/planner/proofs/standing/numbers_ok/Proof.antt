@@ -1,6 +1,6 @@
 -- `numbers_ok` meets its contract: the tests of its parts, joined.
 use mathlib.Core.Path.{_∙_}
-use Rattle.planner.specs.inner.Steps.{numbersOk}
+use Rattle.planner.specs.inner.Steps.{questionOk}
 use borrow.Author.Needs.{needs}
 use Rattle.planner.proofs.standing.numbers_ok.Statement.{statement}
 use Rattle.planner.proofs.standing.numbers_ok.Tie as tie
@@ -18,7 +18,7 @@ also-requires-2 : tie.Need-also-requires-2
 also-requires-2 c κs = search needs
 
 returns : tie.Need-returns
-unfolding numbersOk
+unfolding questionOk
 returns c =
     c .also2 .ensures
     ∙ simp (c .before .also .ensures, c .before .before .rates-ok .ensures, c .before .before .before .state-ok .ensures)

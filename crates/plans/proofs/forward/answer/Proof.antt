@@ -4,7 +4,7 @@ use mathlib.Core.Path.{_≡_, sym, _∙_}
 use mathlib.Core.Bool.{true}
 use native.Mathlib.Omega.{arith}
 use borrow.Author.Needs.{needs}
-use Rattle.plans.specs.Forward.{skipLimits}
+use Rattle.plans.specs.Forward.{skipPlanLimits}
 use Rattle.plans.proofs.forward.Refusals.{refused-limits, refused-rows, accepted, Limits, limits}
 use Rattle.plans.proofs.forward.answer.Statement.{statement}
 use Rattle.plans.proofs.forward.answer.Tie as tie
@@ -13,7 +13,7 @@ in-limits-requires : tie.Need-in-limits-requires
 in-limits-requires c κs = search needs
 
 -- past the first test the numbers are within their limits
-inside : (c : tie.Then1) → let a = c .before .before .args in skipLimits (a .count) (a .arrival) ≡ true
+inside : (c : tie.Then1) → let a = c .before .before .args in skipPlanLimits (a .count) (a .arrival) ≡ true
 inside c = sym (c .before .in-limits .ensures) ∙ c .if1 .taken
 
 ranked : (c : tie.Then1) → let a = c .before .before .args in Limits (a .count) (a .arrival)

@@ -6,15 +6,15 @@ use borrow.Author.Needs.{needs}
 use Prim.Native.Nat.{ℕ}
 use lib.Dec.{leb}
 use Rattle.rules.specs.Limits.{within, countMin, steadyMax, askedMax}
-use Rattle.plans.specs.Forward.{skipLimits}
+use Rattle.plans.specs.Forward.{skipPlanLimits}
 use Rattle.plans.proofs.forward.in_limits.Statement.{statement}
 use Rattle.plans.proofs.forward.in_limits.Tie as tie
 
 module _ (k a : ℕ) where
-  second : within countMin steadyMax k ≡ true → leb a askedMax ≡ skipLimits k a
+  second : within countMin steadyMax k ≡ true → leb a askedMax ≡ skipPlanLimits k a
   second p = rw p refl
 
-  first : within countMin steadyMax k ≡ false → false ≡ skipLimits k a
+  first : within countMin steadyMax k ≡ false → false ≡ skipPlanLimits k a
   first p = rw p refl
 
 within-requires : tie.Need-within-requires

@@ -1,6 +1,6 @@
 -- `note` meets its contract: each way out decides its one test.
 use borrow.Author.Tests.{eq-eqb, ne-eqb}
-use Rattle.rom.specs.Plan.{noted as notedOf}
+use Rattle.rom.specs.Plan.{notedOnce as notedOf}
 use borrow.Author.Needs.{needs}
 use Rattle.rom.proofs.plan.note.Statement.{statement}
 use Rattle.rom.proofs.plan.note.Tie as tie

@@ -2,7 +2,7 @@
 -- Rests on the laws of that test.
 use mathlib.Core.Path.{sym, _∙_}
 use borrow.Author.Needs.{needs}
-use Rattle.rom.proofs.Other.{plan-own, plan-other}
+use Rattle.rom.proofs.OwnNumbers.{plan-own, plan-other}
 use Rattle.rom.proofs.plan.rom_answer.Statement.{statement}
 use Rattle.rom.proofs.plan.rom_answer.Tie as tie
 

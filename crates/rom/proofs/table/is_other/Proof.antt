@@ -1,6 +1,6 @@
 -- `is_other` meets its contract: each way out decides the tests up to it.
 use mathlib.Core.Path.{sym}
-use Rattle.rom.proofs.Other.{own, other-floor, other-cap}
+use Rattle.rom.proofs.OwnNumbers.{own, other-floor, other-cap}
 use Rattle.rom.proofs.table.is_other.Statement.{statement}
 use Rattle.rom.proofs.table.is_other.Tie as tie
 

@@ -1,6 +1,6 @@
 -- `salvage_io::blocks::scan_block` meets its contract: its rows have room for all that a block adds.
 use native.Mathlib.Omega.{arith}
-use Rattle.salvage_io.proofs.Whole.{block-holds}
+use Rattle.salvage_io.proofs.InBlocks.{block-holds}
 use borrow.Author.Needs.{needs}
 use Rattle.salvage_io.proofs.blocks.scan_block.Statement.{statement}
 use Rattle.salvage_io.proofs.blocks.scan_block.Tie as tie

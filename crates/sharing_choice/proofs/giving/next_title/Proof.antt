@@ -7,7 +7,7 @@ use native.Mathlib.Omega.{arith}
 use lib.ListN.{length, getD}
 use borrow.Author.Needs.{needs}
 use Rattle.sharing_titles.specs.declared.titles.Rated.{Rated}
-use Rattle.sharing_titles.specs.Titles.{titles, titleAt}
+use Rattle.sharing_titles.specs.Titles.{titles, ratedTitle}
 use Rattle.sharing_titles.specs.inner.Weighing.{Weighable}
 use Rattle.sharing_titles.specs.Term.{worth}
 use Rattle.sharing_titles.proofs.titles.Laws.{titles-length}
@@ -76,7 +76,7 @@ loop-again c =
     let ts = titles (s .args .rates .now) (s .args .lengths .now) (s .args .floors .now) (s .args .caps .now) in
     let ks = s .args .counts .now in
     let l = at-loop .loop in
-    let e : c .before .gain .result ≡ worth (titleAt ts (l .i)) (getD ks (l .i) 0) =
+    let e : c .before .gain .result ≡ worth (ratedTitle ts (l .i)) (getD ks (l .i) 0) =
     c .before .gain .ensures
     ∙ ap (λ (t : Rated). worth t (getD ks (l .i) 0)) (c .before .before .before .title-at .ensures) in
     let next = leads-next ts ks (l .inv) (inside (c .before .before .before .before)) e in

@@ -2,13 +2,13 @@
 use Rattle.text.specs.Output.{page}
 use Rattle.text.proofs.Pages.{puts-then}
 use Rattle.unheard_io.specs.Line.{unheardLine}
-use Rattle.waits_io.specs.Complaints.{manyLine, complaintsText}
+use Rattle.waits_io.specs.Complaints.{manyLine, waitsComplaints}
 use borrow.Author.Needs.{needs}
 use Rattle.waits_io.proofs.complaints.put_complaints.Statement.{statement}
 use Rattle.waits_io.proofs.complaints.put_complaints.Tie as tie
 
 returns : tie.Need-returns
-unfolding complaintsText
+unfolding waitsComplaints
 returns c =
     let x = c .before .before .before .before .before .before .before .before .before .before .args in
     puts-then (page (x .out .now) 0) (unheardLine (x .pool) (x .log .now)) (manyLine (x .arrivals)) (c .before .before .before .before .before .before .put-unheard .ensures)

@@ -3,14 +3,14 @@ use Prim.Native.Nat.{_≤_}
 use mathlib.Core.Path.{_≡_, refl}
 use native.Mathlib.Omega.{arith}
 use lib.ListN.{length, drop}
-use Rattle.words.specs.Lines.{lineOf}
+use Rattle.words.specs.Lines.{lineNumbered}
 use Rattle.words.proofs.Listed.{nearer, at-hand}
 use borrow.Author.Needs.{needs}
 use Rattle.words.proofs.lines.line_start.Statement.{statement}
 use Rattle.words.proofs.lines.line_start.Tie as tie
 
 abbrev Inv-loop : tie.InvT-loop
-Inv-loop text k from₀ left₀ from left = (lineOf (drop from text) left ≡ lineOf text k) × (from ≤ length text)
+Inv-loop text k from₀ left₀ from left = (lineNumbered (drop from text) left ≡ lineNumbered text k) × (from ≤ length text)
 
 abbrev μ-loop : tie.MeasureT-loop
 μ-loop text k from₀ left₀ from left = left

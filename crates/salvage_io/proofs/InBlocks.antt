@@ -12,12 +12,12 @@ use Rattle.salvaging.specs.declared.steps.Progress.{Progress}
 use Rattle.salvaging.specs.Scan.{scanTo, scanOf}
 use Rattle.salvaging.specs.inner.Steps.{progressOf}
 use Rattle.salvaging.specs.Pours.{Stands}
-use Rattle.salvaging.proofs.Through as through
+use Rattle.salvaging.proofs.ScanThrough as through
 use Rattle.salvage_io.specs.declared.blocks.Block.{Block}
 use Rattle.salvage_io.specs.declared.blocks.Walked.{Walked}
 use Rattle.salvage_io.specs.Lines.{endText}
 use Rattle.salvage_io.specs.Report.{seamsTo, seamsText, toldTo, reportOf}
-use Rattle.salvage_io.specs.Blocks.{blockRoom, toldRoom, bytesIn, toldIn, Adds, Blocks, Run, starts, goes, All}
+use Rattle.salvage_io.specs.Blocks.{blockRoom, toldRoom, blockBytes, toldIn, Adds, Blocks, SalvageRun, nothing-passed, block-passed, All}
 use Rattle.salvage_io.specs.Walks.{Walks}
 use Rattle.salvage_io.proofs.Seams.{all-told}
 
@@ -65,22 +65,22 @@ pub record SoFar (log : List ℕ) (p : Progress) (out told : List ℕ) : Type 0 
   pub out-is : out ≡ scanTo log steps .kept
   pub told-is : told ≡ toldTo log steps
 
-pub so-far : (log : List ℕ) (p : Progress) (out told : List ℕ) → Run log p out told → SoFar log p out told
+pub so-far : (log : List ℕ) (p : Progress) (out told : List ℕ) → SalvageRun log p out told → SoFar log p out told
 unfolding scanTo seamsTo seamsText
-so-far log p out told starts = record { steps = 0; is = refl; out-is = refl; told-is = refl }
-so-far log p out told (goes {p = q} {out = before} {told = said} {b = block} run st b) =
+so-far log p out told nothing-passed = record { steps = 0; is = refl; out-is = refl; told-is = refl }
+so-far log p out told (block-passed {p = q} {out = before} {told = said} {b = block} run st b) =
     let f = so-far log q before said run in
     let a = b .adds log (f .steps) st (f .is) in
     record {
       steps = a .steps;
       is = a .is;
-      out-is = ap (λ x. x ++ bytesIn block) (f .out-is) ∙ sym (a .kept-is);
+      out-is = ap (λ x. x ++ blockBytes block) (f .out-is) ∙ sym (a .kept-is);
       told-is = ap (λ x. x ++ toldIn block) (f .told-is) ∙ sym (a .told-is);
     }
 
 -- ---- the theorem
 
-pub in-blocks : (log : List ℕ) (p : Progress) (out told : List ℕ) → Run log p out told → length log ≤ p .place
+pub in-blocks : (log : List ℕ) (p : Progress) (out told : List ℕ) → SalvageRun log p out told → length log ≤ p .place
     → All log p out told
 unfolding reportOf
 in-blocks log p out told run far =

@@ -14,13 +14,13 @@ use Rattle.notice.specs.declared.Notice.{Notice}
 use Rattle.notice.specs.declared.Found.{Found}
 use Rattle.notice.specs.declared.Found.the-variants as found
 use Rattle.notice.specs.Decode.{readAt}
-use Rattle.notice.proofs.Each.{by-order}
+use Rattle.notice.proofs.CaseSplits.{by-order}
 use Rattle.notice.proofs.Cases.{at-end}
-use Rattle.notice.proofs.There.{inside, ended}
+use Rattle.notice.proofs.NoticePlaces.{inside, ended}
 use Rattle.salvaging.specs.declared.scan.Last.{Last}
 use Rattle.salvaging.specs.declared.scan.Move.{Move}
 use Rattle.salvaging.specs.declared.scan.Move.the-variants.{Take, Skip, Stop}
-use Rattle.salvaging.specs.Scan.{isLater, moveOf, Scan, lastOf, after, moveIn, scanTo, scanOf}
+use Rattle.salvaging.specs.Scan.{isLater, moveOf, Scan, lastOf, scanAfter, moveIn, scanTo, scanOf}
 
 -- ---- what a move tells
 
@@ -78,10 +78,10 @@ pub record Onward (bs : List ℕ) (p q : ℕ) : Type 0 where
   pub within : q ≤ length bs
 
 module _ (bs : List ℕ) (s : Scan) where
-  pub onward : s .place < length bs → Onward bs (s .place) (after bs s (moveIn bs s) .place)
+  pub onward : s .place < length bs → Onward bs (s .place) (scanAfter bs s (moveIn bs s) .place)
   onward h = go (moveIn bs s) refl
     where
-      go : (m : Move) → moveIn bs s ≡ m → Onward bs (s .place) (after bs s m .place)
+      go : (m : Move) → moveIn bs s ≡ m → Onward bs (s .place) (scanAfter bs s m .place)
       go (Take n e) is =
           let i = inside bs (s .place) n e (takes bs (lastOf (s .taken)) (s .place) n e is .found) in
           record { ahead = omega (arith, i .ahead); within = i .within }
@@ -89,8 +89,8 @@ module _ (bs : List ℕ) (s : Scan) where
       go Stop is = absurd (omega (arith, stops bs (lastOf (s .taken)) (s .place) is))
 
   -- past the end a step changes nothing
-  pub stays : length bs ≤ s .place → after bs s (moveIn bs s) ≡ s
-  stays h = ap (λ f. after bs s (moveOf (lastOf (s .taken)) f)) (sym (at-end bs (s .place) h))
+  pub stays : length bs ≤ s .place → scanAfter bs s (moveIn bs s) ≡ s
+  stays h = ap (λ f. scanAfter bs s (moveOf (lastOf (s .taken)) f)) (sym (at-end bs (s .place) h))
 
 -- ---- many steps
 

@@ -12,7 +12,7 @@ use Rattle.rules.proofs.Search.{some-in, some-out, howMany-wider, howMany-mono}
 use Rattle.grid.specs.Ticks.{cells}
 use Rattle.story.specs.Life.{Life, isAdmission}
 use Rattle.judging.specs.Record.{ticksIn, isShown, isInTime}
-use Rattle.judging.specs.Judged.{isWhole, isJudged, isPlayed, playedIn, Covers}
+use Rattle.judging.specs.Judged.{isCovered, isJudged, isPlayed, playedIn, Covers}
 use Rattle.judging.proofs.Plays.{plays-through, played-has-all, played-in, played-out}
 
 module _ (L : Life) (high : L .film .cap ≤ countMax) (r q : List ℕ) (more : Covers L r q) where
@@ -24,11 +24,11 @@ module _ (L : Life) (high : L .film .cap ≤ countMax) (r q : List ℕ) (more : 
       some-in (λ j. isShown q c (a + j)) (suc c) (seen .0) soon (more .shows c (a + seen .0) l (omega arith) (seen .2))
 
   judged-fits : (a : ℕ) → isJudged L r a ≡ true → a + cells (L .film .cap) ≤ ticksIn r
-  unfolding isJudged isWhole
+  unfolding isJudged isCovered
   judged-fits a j = leb-true _ _ (both-r (isAdmission L a) _ j)
 
   more-judged : (a : ℕ) → isJudged L r a ≡ true → isJudged L q a ≡ true
-  unfolding isJudged isWhole
+  unfolding isJudged isCovered
   more-judged a j =
       both-in (isAdmission L a) _ (both-l (isAdmission L a) _ j)
       (le-leb (a + cells (L .film .cap)) (ticksIn q) (omega (arith, judged-fits a j, more .longer)))

@@ -17,7 +17,7 @@ use Rattle.notice.specs.declared.Found.the-variants as found
 use Rattle.notice.specs.Fields.{table, startOf, spanOf, isKnown, lengthOf, closeKind}
 use Rattle.notice.specs.Decode.{readAt, kindAt}
 use Rattle.notice.proofs.Table.{by-kind}
-use Rattle.notice.proofs.There.{there}
+use Rattle.notice.proofs.NoticePlaces.{there}
 use Rattle.text.specs.Texts.{text}
 use Rattle.text.specs.Digits.{decimal}
 use Rattle.text.proofs.Printing.{decimal-short}
@@ -26,9 +26,9 @@ use Rattle.salvaging.specs.declared.scan.Last.the-variants.{Nothing, Taken}
 use Rattle.salvaging.specs.declared.scan.Move.{Move}
 use Rattle.salvaging.specs.declared.scan.Move.the-variants.{Take, Skip, Stop}
 use Rattle.salvaging.specs.declared.steps.Progress.{Progress}
-use Rattle.salvaging.specs.Scan.{Scan, lastOf, after, moveIn}
+use Rattle.salvaging.specs.Scan.{Scan, lastOf, scanAfter, moveIn}
 use Rattle.salvaging.specs.inner.Steps.{progressOf, isOpen}
-use Rattle.salvaging.proofs.Through as through
+use Rattle.salvaging.proofs.ScanThrough as through
 use Rattle.salvage_io.specs.Lines.{twoNumbers, stretchLine, followsLine, gapLine, totalLine, openLine, endText, wordMost, lineMost, endRoom}
 use Rattle.salvage_io.specs.Report.{seamOf, seamText, saidIn}
 use Rattle.salvage_io.specs.Blocks.{toldMost}
@@ -124,10 +124,10 @@ said-most p q =
     go false few = omega arith
 
 pub said-few : (bs : List ℕ) (s : Scan) (m : Move) → moveIn bs s ≡ m
-    → length (saidIn (progressOf s) (progressOf (after bs s m))) ≤ toldMost * (after bs s m .place - s .place)
+    → length (saidIn (progressOf s) (progressOf (scanAfter bs s m))) ≤ toldMost * (scanAfter bs s m .place - s .place)
 unfolding saidIn table startOf spanOf
 said-few bs s (Take n e) is =
     let far = ends-far bs (s .place) n e (through.takes bs (lastOf (s .taken)) (s .place) n e is .found) in
-    omega (arith, far, said-most (progressOf s) (progressOf (after bs s (Take n e))))
+    omega (arith, far, said-most (progressOf s) (progressOf (scanAfter bs s (Take n e))))
 said-few bs s Skip is = rw (le-ltb (length (s .taken)) (length (s .taken)) (omega arith)) (omega arith)
 said-few bs s Stop is = rw (le-ltb (length (s .taken)) (length (s .taken)) (omega arith)) (omega arith)

@@ -15,9 +15,9 @@ use Rattle.notice.specs.Decode.{readAt, placeAfter, further}
 use Rattle.notice.specs.Encode.{bytesOf}
 use Rattle.notice.specs.Log.{Bytes, placeTo, isNotice, withFound, noticesTo, noticesOf, stopOf, isWholeLog}
 use Rattle.notice.specs.Window.{isDecided, Seen}
-use Rattle.notice.proofs.Each.{false-true}
-use Rattle.notice.proofs.Seen.{seen-reads}
-use Rattle.notice.proofs.Through.{Stopped, stopped-on, all-read, last-read}
+use Rattle.notice.proofs.CaseSplits.{false-true}
+use Rattle.notice.proofs.Windows.{seen-reads}
+use Rattle.notice.proofs.ReadThrough.{Stopped, stopped-on, all-read, last-read}
 use Rattle.agent.specs.declared.Agent.{Agent}
 use Rattle.agent.specs.Turns.{freshAgent}
 use Rattle.agent.specs.Series.{agentAfter}
@@ -26,7 +26,7 @@ use Rattle.agent.proofs.Played.{told-more, played}
 use Rattle.listing_io.specs.declared.input.Printed.{Printed}
 use Rattle.listing_io.specs.declared.input.Shown.{Shown}
 use Rattle.listing_io.specs.Step.{cutLine, lineAfter, Shows}
-use Rattle.listing_io.specs.Listing.{linesOf, listingOf, Run, starts, goes, Drained}
+use Rattle.listing_io.specs.Listing.{linesOf, listingOf, Run, nothing-listed, step-listed, Drained}
 use Rattle.listing_io.proofs.Decided.{same-line, same-notices, same-more, same-place}
 
 -- ---- one step
@@ -113,7 +113,7 @@ pub so-far : (g : Agent) (log : List ℕ) (h : Agent) (place : ℕ) (more : Bool
     → Run g log h place more text
     → SoFar g log h place more text
 unfolding placeTo noticesTo agentTold linesOf
-so-far g log h place more text starts =
+so-far g log h place more text nothing-listed =
     record {
       reads = 0;
       agent = refl;
@@ -122,7 +122,7 @@ so-far g log h place more text starts =
       stopped = λ q. false-true (sym q);
       ended = λ q. false-true (sym q);
     }
-so-far g log h place more text (goes {h = k} {place = before} {p = p} {text = said} {buffer = buffer} {r = r} run s w) =
+so-far g log h place more text (step-listed {h = k} {place = before} {p = p} {text = said} {buffer = buffer} {r = r} run s w) =
     step-more g log k _ before _ _ said _ (so-far g log k before true said run) (on-log k log buffer before p s r w)
 
 -- ---- the theorem

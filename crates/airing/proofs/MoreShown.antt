@@ -7,7 +7,7 @@ use Rattle.rules.specs.Refusals.{done}
 use Rattle.notice.specs.Log.{Bytes}
 use Rattle.agent.specs.Played.{lifeIn}
 use Rattle.judging.specs.Judged.{Covers}
-use Rattle.judging.proofs.More.{no-fewer-played}
+use Rattle.judging.proofs.MoreShown.{no-fewer-played}
 use Rattle.airing.specs.Air.{airAnswer, airGives}
 use Rattle.airing.proofs.Accepted.{accepted-numbers, accepted-played}
 

@@ -1,6 +1,6 @@
 -- How a list of wishes fares from a reached state on, nobody else acting: either every event comes, none earlier than it
 -- could, and each title has what it is to have; or one of them falls past the clock. By induction over the wishes that are
--- left. Rests on Underway (the next event) and Sometime (that it is due at some time).
+-- left. Rests on WishesLeft (the next event) and DueChanges (that it is due at some time).
 use mathlib.Core.Path.{_≡_, refl, sym, subst, _∙_}
 use mathlib.Core.Bool.{true, false, false≢true}
 use mathlib.Core.Logic.{_⊎_, inl, inr, ⊎-elim}
@@ -23,8 +23,8 @@ use Rattle.moments.proofs.Earliest.{Hits, earliest-hits}
 use Rattle.planner.specs.Moves.{asEvent, momentFor, moveAt, movedAt, listed, allMoved, fallsPast}
 use Rattle.planner.specs.Carried.{Comes, Carried, all-came, next-comes, Falls, Past, this-falls, later-falls}
 use Rattle.planner.proofs.Accepted.{due-when}
-use Rattle.planner.proofs.Sometime.{enough, due-sometime}
-use Rattle.planner.proofs.Underway.{Left, Underway, without-or, pool-is, due-accepted, wishEvent, onward}
+use Rattle.planner.proofs.DueChanges.{enough, due-sometime}
+use Rattle.planner.proofs.WishesLeft.{Left, Underway, without-or, pool-is, due-accepted, wishEvent, onward}
 
 -- the first time from τ on at which a wish may come true, over all times, where the clock has none
 falls : (s : State) (τ : ℕ) (w : Wish) (υ : ℕ) → FirstDue s (w .title) (w .count) τ υ →

@@ -14,13 +14,13 @@ use Rattle.notice.specs.declared.Found.{Found}
 use Rattle.notice.specs.Decode.{readAt, placeAfter}
 use Rattle.notice.specs.Log.{placeTo, isNotice, withFound, stopOf}
 use Rattle.notice.specs.Window.{Seen}
-use Rattle.notice.proofs.Seen.{at-end-decided}
-use Rattle.notice.proofs.Through.{enough}
+use Rattle.notice.proofs.Windows.{at-end-decided}
+use Rattle.notice.proofs.ReadThrough.{enough}
 use Rattle.agent.specs.declared.Agent.{Agent}
 use Rattle.agent.specs.Played.{agentTold}
 use Rattle.listing_io.specs.declared.input.Shown.{Shown}
 use Rattle.listing_io.specs.Step.{lineAfter, Shows}
-use Rattle.listing_io.specs.Listing.{Run, starts, goes}
+use Rattle.listing_io.specs.Listing.{Run, nothing-listed, step-listed}
 
 -- a step that keeps its promise, on the whole log
 abbrev made : Agent → Found → ℕ → Shown
@@ -69,7 +69,7 @@ module _ (g : Agent) (log : List ℕ) where
       (isNotice (readAt log place))
       (text ++ take (length (lineAfter h (readAt log place))) (lineAfter h (readAt log place)))
   one-step h place text w =
-      rw zero-add at (goes w (here log place) (keeps h (readAt log place) place))
+      rw zero-add at (step-listed w (here log place) (keeps h (readAt log place) place))
 
   -- with no notice there it has ended
   stops : (h : Agent) (place : ℕ) (text : List ℕ) → Run g log h place true text → isNotice (readAt log place) ≡ false
@@ -84,7 +84,7 @@ module _ (g : Agent) (log : List ℕ) where
 
   to : (n : ℕ) → Ended g log ⊎ Going n
   unfolding placeTo
-  to zero = inr (record { agent = g; text = []; run = starts })
+  to zero = inr (record { agent = g; text = []; run = nothing-listed })
   to (suc n) =
       ⊎-elim inl
       (λ w.

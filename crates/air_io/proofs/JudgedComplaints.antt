@@ -15,8 +15,8 @@ use Rattle.judging.specs.Record.{ticksMax, ticksIn}
 use Rattle.airing.specs.Air.{inLimits, hasRoom, isFilmTitle, allCells, airAnswer, ticksAnswer}
 use Rattle.airing.specs.Reasons.{isSkipForward, strayIn}
 use Rattle.airing.proofs.Accepted.{accepted-limits, accepted-few, accepted-whole, accepted-film}
-use Rattle.airing.proofs.Ends.{none-stray}
-use Rattle.air_io.specs.Complaints.{longLine, skipLine, strayText, complaintsText}
+use Rattle.airing.proofs.RefusalReasons.{none-stray}
+use Rattle.air_io.specs.Complaints.{longLine, skipLine, strayText, airComplaints}
 
 module _ (pool : ℕ) (log : List ℕ) (title : ℕ) (r text : List ℕ) (ok : airAnswer pool log title r ticksMax ≡ done) where
   cells : allCells (lifeIn pool log title .film .cap) r ≡ true
@@ -41,8 +41,8 @@ module _ (pool : ℕ) (log : List ℕ) (title : ℕ) (r text : List ℕ) (ok : a
       rw (accepted-limits pool log title r ticksMax ok, accepted-whole pool log title r ticksMax ok, accepted-film pool log title r ticksMax ok)
       refl
 
-  pub judged-quiet : complaintsText pool log title r text ≡ unheardLine pool log
-  unfolding complaintsText longLine skipLine strayText isSkipForward strayIn
+  pub judged-quiet : airComplaints pool log title r text ≡ unheardLine pool log
+  unfolding airComplaints longLine skipLine strayText isSkipForward strayIn
   judged-quiet =
       rw (le-ltb ticksMax (ticksIn r) (accepted-few pool log title r ticksMax ok), ticks, none-stray (lifeIn pool log title .film .cap) r cells, le-ltb (length r) (length r) (omega arith), append-nil, append-nil, append-nil)
       refl

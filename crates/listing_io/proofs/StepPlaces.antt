@@ -13,27 +13,27 @@ use Rattle.notice.specs.declared.Found.the-variants as found
 use Rattle.notice.specs.Fields.{table, startOf, spanOf, longestNotice}
 use Rattle.notice.specs.Decode.{readAt, placeAfter}
 use Rattle.notice.specs.Log.{placeTo, isNotice, noticesTo}
-use Rattle.notice.proofs.Each.{false-true}
-use Rattle.notice.proofs.There.{inside}
-use Rattle.notice.proofs.Seen.{few-left}
-use Rattle.notice.proofs.Through.{place-within, stopped-on}
+use Rattle.notice.proofs.CaseSplits.{false-true}
+use Rattle.notice.proofs.NoticePlaces.{inside}
+use Rattle.notice.proofs.Windows.{few-left}
+use Rattle.notice.proofs.ReadThrough.{place-within, stopped-on}
 use Rattle.agent.specs.declared.Agent.{Agent}
 use Rattle.agent.specs.Played.{agentTold}
 use Rattle.agent.proofs.Played.{told-more}
 use Rattle.text.specs.Feed.{count}
 use Rattle.text.proofs.Moving.{count-low}
-use Rattle.listing_io.specs.declared.steps.Listed.{Listed}
+use Rattle.listing_io.specs.declared.steps.ListedStep.{ListedStep}
 use Rattle.listing_io.specs.declared.input.Printed.{Printed}
 use Rattle.listing_io.specs.Step.{Hears}
 use Rattle.listing_io.specs.Listing.{UpTo, Drained}
 
 -- a step that goes on has moved ahead, within the log; one that ends it stays
-pub record Onward (log : List ℕ) (p : ℕ) (r : Listed) : Type 0 where
+pub record Onward (log : List ℕ) (p : ℕ) (r : ListedStep) : Type 0 where
   pub ahead : r .more ≡ true → p < r .place
   pub within : r .more ≡ true → r .place ≤ length log
   pub stays : r .more ≡ false → r .place ≡ p
 
-pub onward : (g : Agent) (bs : List ℕ) (p : ℕ) (r : Listed) → Hears g (readAt bs p) p r → Onward bs p r
+pub onward : (g : Agent) (bs : List ℕ) (p : ℕ) (r : ListedStep) → Hears g (readAt bs p) p r → Onward bs p r
 onward g bs p r s = go (readAt bs p) refl (s .place-is) (s .more-is)
   where
     ends : r .place ≡ p → r .more ≡ false → Onward bs p r
@@ -52,10 +52,10 @@ onward g bs p r s = go (readAt bs p) refl (s .place-is) (s .more-is)
     go found.Malformed is at more = ends at more
 
 -- how much a listing has left to do
-abbrev pub left : List ℕ → Listed → ℕ
+abbrev pub left : List ℕ → ListedStep → ℕ
 left bs r = pick (r .more) (suc (length bs - r .place)) 0
 
-pub falls : (bs : List ℕ) (l r : Listed) → l .more ≡ true → l .place ≤ length bs → Onward bs (l .place) r
+pub falls : (bs : List ℕ) (l r : ListedStep) → l .more ≡ true → l .place ≤ length bs → Onward bs (l .place) r
     → left bs r < left bs l
 falls bs l r more low o = rw more (go (r .more) refl)
   where
@@ -70,11 +70,11 @@ module _ (g : Agent) (log : List ℕ) where
   unfolding placeTo noticesTo agentTold
   begun = record { reads = 0; place-is = refl; agent-is = refl; stopped = λ q. false-true (sym q) }
 
-  pub low : (l : Listed) → UpTo g log l → l .place ≤ length log
+  pub low : (l : ListedStep) → UpTo g log l → l .place ≤ length log
   low l u = rw (u .place-is) (place-within log (u .reads))
 
   -- a step further is one read further
-  pub further-on : (l r : Listed) → UpTo g log l → Hears (l .agent) (readAt log (l .place)) (l .place) r → UpTo g log r
+  pub further-on : (l r : ListedStep) → UpTo g log l → Hears (l .agent) (readAt log (l .place)) (l .place) r → UpTo g log r
   unfolding placeTo noticesTo
   further-on l r u h =
       let n = u .reads in

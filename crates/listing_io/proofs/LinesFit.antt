@@ -12,25 +12,25 @@ use Rattle.text.specs.Texts.{text}
 use Rattle.text.specs.Digits.{decimal}
 use Rattle.text.proofs.Pages.{stands}
 use Rattle.text.proofs.Printing.{decimal-short}
-use Rattle.listing_io.specs.declared.steps.Listed.{Listed}
+use Rattle.listing_io.specs.declared.steps.ListedStep.{ListedStep}
 use Rattle.text.specs.Bytes.{newline}
-use Rattle.listing_io.specs.Lines.{space, ended, lineOf, lastLine, lineRoom}
+use Rattle.listing_io.specs.Lines.{space, numberThen, listingLine, lastLine, lineRoom}
 use Rattle.listing_io.specs.Step.{noticeLine, cutLine, lineAfter, Lists, Shows}
 
 -- ---- the lines
 
-ended-short : (n b : ℕ) → length (ended n b) ≤ 21
-unfolding ended
+ended-short : (n b : ℕ) → length (numberThen n b) ≤ 21
+unfolding numberThen
 ended-short n b = omega (arith, length-append (decimal n) (b ∷ []), decimal-short n)
 
-line-short : (s k t a h : ℕ) → length (lineOf s k t a h) ≤ lineRoom
-unfolding lineOf
+line-short : (s k t a h : ℕ) → length (listingLine s k t a h) ≤ lineRoom
+unfolding listingLine
 line-short s k t a h =
-    let one = ended s space in
-    let two = ended k space in
-    let three = ended t space in
-    let four = ended a space in
-    let five = ended h newline in
+    let one = numberThen s space in
+    let two = numberThen k space in
+    let three = numberThen t space in
+    let four = numberThen a space in
+    let five = numberThen h newline in
     omega (
       arith,
       length-append (((one ++ two) ++ three) ++ four) five,
@@ -47,10 +47,10 @@ line-short s k t a h =
 last-short : (h : ℕ) → length (lastLine h) ≤ lineRoom
 unfolding lastLine text
 last-short h =
-    let eleven = ended malformed space in
+    let eleven = numberThen malformed space in
     omega (
       arith,
-      length-append (text "- - - " ++ eleven) (ended h newline),
+      length-append (text "- - - " ++ eleven) (numberThen h newline),
       length-append (text "- - - ") eleven,
       ended-short malformed space,
       ended-short h newline,
@@ -65,7 +65,7 @@ short g found.Malformed = last-short _
 -- ---- the row
 
 -- so a step in a row with that room has its whole line there
-pub shown : (g : Agent) (f : Found) (p : ℕ) (room after : List ℕ) (r : Listed) → lineRoom ≤ length room
+pub shown : (g : Agent) (f : Found) (p : ℕ) (room after : List ℕ) (r : ListedStep) → lineRoom ≤ length room
     → Lists g f p room r after → Shows g f p (record { listed = r; row = after })
 shown g f p room after r wide w =
     let s = stands (lineAfter g f) room after (r .size) (w .line-is) (omega (arith, short g f)) in

@@ -18,7 +18,7 @@ use Rattle.grid.specs.Bounds.{Carrier}
 use Rattle.grid.proofs.Lanes.{isInG-in, cell-of-lane}
 use Rattle.grid.proofs.Carriers.{carries-only, carrier-one, some-one, in-carried}
 use Rattle.scheme.specs.Scheme.{Scheme, padded, steadyKind}
-use Rattle.scheme.proofs.Which.{padded-scheme}
+use Rattle.scheme.proofs.ByKind.{padded-scheme}
 use Rattle.story.specs.declared.Title.{Title}
 use Rattle.story.specs.Kept.{schemeIn, wantsFrom, wants}
 
