@@ -51,23 +51,16 @@ nobody-in L n xs f zero = refl
 nobody-in L n xs f (suc j) =
     one-out L n (getD xs j 0) (talliedBelow L n xs j) (f (getD xs j 0)) ∙ nobody-in L n xs f j
 
-none-counted : (L : Life) (n : ℕ) (xs : List ℕ) → ((x a : ℕ) → a < n → letsIn L x a ≡ false) →
-    Counted L n xs (freshTally (L .opened))
-none-counted L n xs f =
-    record {
-      settles = record { low = omega arith; before = λ x lo h. absurd (omega arith); after = λ x late a lt. f x a lt };
-      waits = sym (nobody-in L n xs f (length xs));
-    }
-
 pub opened-counted : (L : Life) (xs : List ℕ) → Counted L 0 xs (freshTally (L .opened))
-opened-counted L xs = none-counted L 0 xs (λ x a lt. absurd (omega arith))
+opened-counted L xs =
+    record {
+      settles = record { low = omega arith; before = λ x lo h. absurd (omega arith); after = λ x late a lt. absurd (omega arith) };
+      waits = sym (nobody-in L 0 xs (λ x a lt. absurd (omega arith)) (length xs));
+    }
 
 never-lets : (x : ℕ) → TurnedAway unopened x
 unfolding letsIn isAdmission
 never-lets x a = ⊎-elim (λ t. rw t) (λ t. rw t) (decide (leb 0 x))
-
-pub never-counted : (n : ℕ) (xs : List ℕ) → Counted unopened n xs (freshTally 0)
-never-counted n xs = none-counted unopened n xs (λ x a lt. never-lets x a)
 
 -- ---- another course from tick n on changes nothing below it
 

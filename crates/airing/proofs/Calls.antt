@@ -162,7 +162,7 @@ module _ (pool : ℕ) (log : List ℕ) (title : ℕ) (r : List ℕ) (row : List 
         air-number j bad e = refused-air outsideLimits j (sym last-one′) (λ h. omega arith) e
           where
             last-one′ : answer ≡ outsideLimits
-            last-one′ = last-one ∙ numbers-hit (rw (stood .same-cap) bad)
+            last-one′ = last-one ∙ numbers-hit (rw (stood .same-film) bad)
 
         -- what judging builds on, where the row of marks is long enough
         module _ (long : ticksMax ≤ length marks) where
@@ -182,10 +182,8 @@ module _ (pool : ℕ) (log : List ℕ) (title : ℕ) (r : List ℕ) (row : List 
           marked : MarkedBy (f .title) k (ticksIn r) L
           marked =
               record {
-                same-kind = stood .same-kind;
-                same-length = stood .same-length;
-                same-floor = stood .same-floor;
-                same-cap = stood .same-cap;
+                padded = stood .padded;
+                same-film = stood .same-film;
                 mark = λ a lt. rw (w .marks-are ok) (written-first (markOf L) marks (length marks) a (omega arith) (omega (arith, few)));
               }
 
@@ -194,7 +192,7 @@ module _ (pool : ℕ) (log : List ℕ) (title : ℕ) (r : List ℕ) (row : List 
               Airs (counted c) after
           unfolding airGives airLeaves
           air-judged c after good j =
-              let all : answer ≡ done = last-one ∙ numbers-pass (rw (stood .same-cap) good) in
+              let all : answer ≡ done = last-one ∙ numbers-pass (rw (stood .same-film) good) in
               rw (eq-eqb answer done all) (
                 ap counted (j .counts L marked),
                 j .results L marked,

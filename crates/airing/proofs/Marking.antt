@@ -137,10 +137,8 @@ module _ (L : Life) (m : ℕ) (t : Title) (told : TellsTitle L m t) (film : isFi
           rw e
           (record {
             film = present-film t r p;
-            same-kind = eqb-true (t .film .kind) paddedKind (both-r (ltb 0 (t .film .cap)) (eqb (t .film .kind) paddedKind) film);
-            same-length = refl;
-            same-floor = refl;
-            same-cap = refl;
+            padded = eqb-true (t .film .kind) paddedKind (both-r (ltb 0 (t .film .cap)) (eqb (t .film .kind) paddedKind) film);
+            same-film = refl;
           })
 
   film-settles : (row : List ℕ) → MarkedBelow L (tickIn L m) row → (v : ℕ) → MarkedBelow L v (markedTo t v row)

@@ -46,7 +46,7 @@ module _ (pool : ℕ) (log : List ℕ) (title : ℕ) where
 
     pub stray-found : (r : List ℕ) (n : ℕ) → e .answer ≡ done → n ≡ firstStray (e .title .film .cap) r → n ≡ strayIn pool log title r
     unfolding strayIn
-    stray-found r n ok is = is ∙ rw (by-log, eq-eqb (e .answer) done ok, w .standing ok .same-cap) refl
+    stray-found r n ok is = is ∙ rw (by-log, eq-eqb (e .answer) done ok, w .standing ok .same-film) refl
 
     pub stray-none : (r : List ℕ) → (e .answer ≡ done → ⊥) → length r ≡ strayIn pool log title r
     unfolding strayIn

@@ -14,6 +14,7 @@ use Rattle.rules.specs.Refusals.{pick}
 use Rattle.rules.specs.Search.{howMany}
 use Rattle.rules.proofs.Tests.{decide, both-r}
 use Rattle.scheme.specs.Scheme.{paddedKind, tickFor, filmIn}
+use Rattle.story.specs.declared.Film.{Film}
 use Rattle.story.specs.declared.Title.{Title}
 use Rattle.story.specs.Life.{Life, isFilm, isAdmission}
 use Rattle.judging.specs.declared.Counts.{Counts}
@@ -36,10 +37,10 @@ module _ (t : Title) (r marks : List ℕ) (L : Life) (M : MarkedBy t marks (tick
   module _ (m τ : ℕ) (cut : m ≡ 2 ^ t .film .cap) (timed : τ ≡ tickFor paddedKind (t .film .length) (t .film .floor) (t .film .cap)) where
     whole-is : (a : ℕ) → leb (a + m) (ticksIn r) ≡ isCovered L r a
     unfolding isCovered
-    whole-is a = ap (λ k. leb (a + k) (ticksIn r)) (cut ∙ sym (ap (λ k. 2 ^ k) (M .same-cap)))
+    whole-is a = ap (λ k. leb (a + k) (ticksIn r)) (cut ∙ sym (ap (λ (f : Film). 2 ^ f .cap) (M .same-film)))
 
     film-is : (c : ℕ) → filmIn (t .film .length) τ c ≡ isFilm L c
-    film-is c = rw (timed, M .same-kind, M .same-length, M .same-floor, M .same-cap) refl
+    film-is c = rw (timed, M .same-film, M .padded) refl
 
     unseen-missed : (a c : ℕ) → isUnseen (t .film .length) τ r a c ≡ isMissed L r a c
     unfolding isUnseen isMissed
@@ -49,7 +50,7 @@ module _ (t : Title) (r marks : List ℕ) (L : Life) (M : MarkedBy t marks (tick
     unfolding resultOf
     result-is a =
         lowest-ext (isUnseen (t .film .length) τ r a) (isMissed L r a) m (λ c l. unseen-missed a c)
-        ∙ ap (lowest (isMissed L r a)) (cut ∙ sym (ap (λ k. 2 ^ k) (M .same-cap)))
+        ∙ ap (lowest (isMissed L r a)) (cut ∙ sym (ap (λ (f : Film). 2 ^ f .cap) (M .same-film)))
 
     module _ (found : List ℕ) (R : Results r m (t .film .length) τ 0 found) where
       judged-is : (a : ℕ) → a < ticksIn r → both (eqb (getD marks a 0) 1) (leb (a + m) (ticksIn r)) ≡ isJudged L r a

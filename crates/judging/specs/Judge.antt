@@ -21,13 +21,10 @@ pub record Judgeable (t : Title) (r marks row : List ℕ) : Type 0 where
   pub marked : ticksIn r ≤ length marks
   pub room : ticksIn r ≤ length row
 
--- a life that is sent by the padded grid and has the title's numbers, and of whose first n ticks the admissions are marked 1
--- and the others 0
+-- a life of the title's film, which is sent by the padded grid, and of whose first n ticks the admissions are marked 1 and the others 0
 pub record MarkedBy (t : Title) (marks : List ℕ) (n : ℕ) (L : Life) : Type 0 where
-  pub same-kind : L .film .kind ≡ paddedKind
-  pub same-length : L .film .length ≡ t .film .length
-  pub same-floor : L .film .floor ≡ t .film .floor
-  pub same-cap : L .film .cap ≡ t .film .cap
+  pub padded : t .film .kind ≡ paddedKind
+  pub same-film : L .film ≡ t .film
   pub mark : (a : ℕ) → a < n → getD marks a 0 ≡ pick (isAdmission L a) 1 0
 
 -- how many admissions of a life the record judges, how many of those played through, and how many outlast it

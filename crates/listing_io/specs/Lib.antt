@@ -1,4 +1,8 @@
 -- What the listing program prints.
+-- - Repeated steps over any log leave the agent after the log's notices, and print their lines: proofs/WholeLog `listed`, `listed-fresh`.
+--   `agent` proofs/Played `played` joins that agent to the series of byte strings of `agent` specs/Boxes.
+-- - Every log has such a run that ends: `listing_io` proofs/RunEnds `ends`.
+-- - The times at which lanes held are shown: proofs/Held `own-time`, `none-held`.
 pub mod Lines
 pub mod Step
 pub mod Listing

@@ -22,7 +22,7 @@ use Rattle.story.specs.Life.{Life, Course, onCourse}
 use Rattle.story.specs.declared.Act.{Act}
 use Rattle.story.specs.declared.Act.the-variants.{Opens, Changes, Closes, Doors}
 use Rattle.story.specs.declared.Event.{Event}
-use Rattle.story.specs.Story.{event, unopened, lifeAfter, lifeOf, latestOf, lastTime, tickLength, tickIn, answer}
+use Rattle.story.specs.Story.{event, unopened, lifeAfter, lifeOf, latestOf, lastTime, tickLength, tickIn, isThereIn, answer}
 use Rattle.story.specs.Runs.{lanesOf}
 use Rattle.story.proofs.Admissions.{SameAt}
 use Rattle.story.proofs.Passed.{Turned, opening, changing, closing, doored}
@@ -49,7 +49,7 @@ module _ (L : Life) (m : ℕ) (t : Title) (told : TellsTitle L m t) (τ : ℕ) (
           ⊎-elim (λ x. x) (λ x. absurd (omega (arith, closed-none t x, count-told L m t τ told late))) (p .mode)
 
   -- and one whose id can be opened is not
-  not-open : Rattle.story.specs.Story.isThereIn L τ ≡ false → eqb (t .mode) openMode ≡ false
+  not-open : isThereIn L τ ≡ false → eqb (t .mode) openMode ≡ false
   unfolding isThere
   not-open away = either-false-l (eqb (t .mode) openMode) (ltb 0 (titleHeld t τ)) (sym (there-told L m t τ told late) ∙ away)
 

@@ -60,13 +60,11 @@ pub record ReadyToMark (g : Agent) (i : ℕ) : Type 0 where
   pub id : i ≤ idMax
   pub markable : titleAt (g .state) i .mode ≡ openMode → Markable (titleAt (g .state) i)
 
--- a stored title has the numbers of a life that is sent by the padded grid
+-- a stored title has the film of a life that is sent by the padded grid
 pub record SameFilm (L : Life) (t : Title) : Type 0 where
   pub film : Filmed (t .film)
-  pub same-kind : L .film .kind ≡ paddedKind
-  pub same-length : L .film .length ≡ t .film .length
-  pub same-floor : L .film .floor ≡ t .film .floor
-  pub same-cap : L .film .cap ≡ t .film .cap
+  pub padded : t .film .kind ≡ paddedKind
+  pub same-film : L .film ≡ t .film
 
 -- what the log answers; where it answers done, all of the row is marked
 unfoldable pub logAnswer : ℕ → List ℕ → ℕ → ℕ

@@ -41,7 +41,7 @@ titles-map a b c d (i ∷ l) =
     ap (λ (ts : List Rated). record { rate = a i; length = b i; floor = c i; cap = d i } ∷ ts) (titles-map a b c d l)
 
 -- a test that passes at each place passes
-each-in : (p : Rated → Bool) (ts : List Rated) → ((j : ℕ) → j < length ts → p (sharing.titleAt ts j) ≡ true) → eachTitle p ts ≡ true
+each-in : (p : Rated → Bool) (ts : List Rated) → ((j : ℕ) → j < length ts → p (sharing.ratedTitle ts j) ≡ true) → eachTitle p ts ≡ true
 unfolding eachTitle
 each-in p [] f = refl
 each-in p (t ∷ ts) f =
@@ -124,7 +124,7 @@ module _ (s : State) (rates : List ℕ) (ok : stateOk s ≡ true)
 
   -- each place of the titles that take part has one of them
   part-each : (P : Rated → Type 0) → ((i : ℕ) → i < titlesMax → takesPart s i ≡ true → P (ratedAt s rates i)) → (j : ℕ)
-      → j < length (rated s rates) → P (sharing.titleAt (rated s rates) j)
+      → j < length (rated s rates) → P (sharing.ratedTitle (rated s rates) j)
   unfolding rated sharers
   part-each P f = ids-each (takesPart s) (ratedAt s rates) unrated titlesMax P f
 
