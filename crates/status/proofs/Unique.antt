@@ -28,11 +28,17 @@ use Rattle.status.proofs.records as records
 -- the rows of counts, of lanes held and of marks, parameters 3 to 5, from 0
 pub status-one-outcome :
     OneEnd 4 status-kinds.ps status-kinds.r
-    (λ κs e f. (now (e .1 .1 .1 .0) ≡ now (f .1 .1 .1 .0)) × ((now (e .1 .1 .1 .1 .0) ≡ now (f .1 .1 .1 .1 .0)) × (now (e .1 .1 .1 .1 .1 .0) ≡ now (f .1 .1 .1 .1 .1 .0))))
+    (λ κs e f. (now (e .1 .1 .1 .0) ≡ now (f .1 .1 .1 .0))
+    × ((now (e .1 .1 .1 .1 .0) ≡ now (f .1 .1 .1 .1 .0)) × (now (e .1 .1 .1 .1 .1 .0) ≡ now (f .1 .1 .1 .1 .1 .0))))
     status-call.Learnt
 status-one-outcome κs a x y e f p q =
-    let same : x ≡ y = p .0 ∙ sym (q .0) in
-    (same, (rw same at (p .1 .0) ∙ sym (q .1 .0), (rw same at (p .1 .1 .0) ∙ sym (q .1 .1 .0), rw same at (p .1 .1 .1) ∙ sym (q .1 .1 .1))))
+    let same : x ≡ y = p .0 ∙ sym (q .0) in (
+      same,
+      (
+        rw same at (p .1 .0) ∙ sym (q .1 .0),
+        (rw same at (p .1 .1 .0) ∙ sym (q .1 .1 .0), rw same at (p .1 .1 .1) ∙ sym (q .1 .1 .1)),
+      ),
+    )
 
 -- the answer, and every record of the row
 same-row : (s : State) (τ x y : ℕ) (rows a b : List Record)

@@ -62,7 +62,8 @@ fn shown_mark(t: Title) -> u64
 
 // The count of each title asked for, 0 where it isn't open, the lanes that it holds at a time, and its mark.
 fn fill(s: State, time: u64, ids: &[u64], counts: &mut [u64], held: &mut [u64], marks: &mut [u64])
-    requires { ⌜ (length (now counts) ≡ length (now ids)) × ((length (now held) ≡ length (now ids)) × (length (now marks) ≡ length (now ids))) ⌝ }
+    requires { ⌜ (length (now counts) ≡ length (now ids))
+        × ((length (now held) ≡ length (now ids)) × (length (now marks) ≡ length (now ids))) ⌝ }
     requires { ⌜ (stateOk s ≡ true) × (idsOk (now ids) ≡ true) ⌝ }
     ensures { λ _. ⌜ now (counts .exit) ≡ map (λ i. statusCount s i) (now (ids .entry)) ⌝ }
     ensures { λ _. ⌜ now (held .exit) ≡ map (λ i. statusHeld s i time) (now (ids .entry)) ⌝ }
@@ -87,7 +88,8 @@ pub fn status(
     held: &mut [u64],
     marks: &mut [u64],
 ) -> u8
-    ensures { λ r. ⌜ r ≡ statusAnswer s time (now (ids .entry)) (length (now (counts .entry))) (length (now (held .entry))) (length (now (marks .entry))) ⌝ }
+    ensures { λ r. ⌜ r ≡ statusAnswer s time (now (ids .entry))
+        (length (now (counts .entry))) (length (now (held .entry))) (length (now (marks .entry))) ⌝ }
     ensures { λ r. ⌜ now (counts .exit) ≡ pick (eqb r 0) (map (λ i. statusCount s i) (now (ids .entry))) (now (counts .entry)) ⌝ }
     ensures { λ r. ⌜ now (held .exit) ≡ pick (eqb r 0) (map (λ i. statusHeld s i time) (now (ids .entry))) (now (held .entry)) ⌝ }
     ensures { λ r. ⌜ now (marks .exit) ≡ pick (eqb r 0) (map (λ i. statusMark s i) (now (ids .entry))) (now (marks .entry)) ⌝ }
@@ -133,7 +135,8 @@ fn row_for(s: State, time: u64, r: Record) -> Record
 
 // Fills in counts, lanes held and marks by id, over a row of records.
 pub fn records(s: State, time: u64, rows: &mut [Record]) -> u8
-    ensures { λ r. ⌜ (r ≡ recordsAnswer s time (now (rows .entry))) × (now (rows .exit) ≡ pick (eqb r 0) (map (λ q. filledRecord s time q) (now (rows .entry))) (now (rows .entry))) ⌝ }
+    ensures { λ r. ⌜ (r ≡ recordsAnswer s time (now (rows .entry)))
+        × (now (rows .exit) ≡ pick (eqb r 0) (map (λ q. filledRecord s time q) (now (rows .entry))) (now (rows .entry))) ⌝ }
 {
     let mut ids = true;
     let mut i = 0;
@@ -143,10 +146,10 @@ pub fn records(s: State, time: u64, rows: &mut [Record]) -> u8
     }
     let answer = asked_verdict(s, time, ids);
     if answer == DONE {
-        let mut j = 0;
-        while j < rows.len() {
-            rows[j] = row_for(s, time, rows[j]);
-            j += 1;
+        i = 0;
+        while i < rows.len() {
+            rows[i] = row_for(s, time, rows[i]);
+            i += 1;
         }
     }
     answer

@@ -31,8 +31,15 @@ abbrev μ-loop : tie.MeasureT-loop
 
 loop-holds : tie.Need-loop-holds Inv-loop μ-loop
 loop-holds c =
-    let start = c .before .before .before .before in
-    (omega arith, start .pre .0 .0, start .pre .0 .1 .0, start .pre .0 .1 .1, (λ k l. absurd (omega arith)), (λ k l. absurd (omega arith)), (λ k l. absurd (omega arith)))
+    let start = c .before .before .before .before in (
+      omega arith,
+      start .pre .0 .0,
+      start .pre .0 .1 .0,
+      start .pre .0 .1 .1,
+      (λ k l. absurd (omega arith)),
+      (λ k l. absurd (omega arith)),
+      (λ k l. absurd (omega arith)),
+    )
 
 mul-title-of : tie.Need-mul-title-of Inv-loop μ-loop
 mul-title-of c = search needs
@@ -107,9 +114,12 @@ loop-again c =
       simp length-set (l .inv .1),
       simp length-set (l .inv .2),
       simp length-set (l .inv .3),
-      rw add-one (filled-more (λ j. statusCount (a .s) j) (a .ids .now) (l .counts) (l .i) (at-count .ruling .result) (omega (arith, l .inv .1)) (l .inv .4) count),
-      rw add-one (filled-more (λ j. statusHeld (a .s) j (a .time)) (a .ids .now) (l .held) (l .i) (at-held .title-held .result) (omega (arith, l .inv .2)) (l .inv .5) lanes),
-      rw add-one (filled-more (λ j. statusMark (a .s) j) (a .ids .now) (l .marks) (l .i) (c .shown-mark .result) (omega (arith, l .inv .3)) (l .inv .6) mark),
+      rw add-one (filled-more (λ j. statusCount (a .s) j) (a .ids .now) (l .counts) (l .i) (at-count .ruling .result)
+          (omega (arith, l .inv .1)) (l .inv .4) count),
+      rw add-one (filled-more (λ j. statusHeld (a .s) j (a .time)) (a .ids .now) (l .held) (l .i) (at-held .title-held .result)
+          (omega (arith, l .inv .2)) (l .inv .5) lanes),
+      rw add-one (filled-more (λ j. statusMark (a .s) j) (a .ids .now) (l .marks) (l .i) (c .shown-mark .result)
+          (omega (arith, l .inv .3)) (l .inv .6) mark),
     )
 
 same-length : tie.Need-same-length Inv-loop μ-loop
@@ -128,8 +138,13 @@ returns : tie.Need-returns Inv-loop μ-loop
 returns c =
     let l = c .before .loop in
     let a = c .before .before .before .before .before .before .args in
-    let all = le-antisymm (l .inv .0) (c .loop-test .left) in
-    (filled-all (λ j. statusCount (a .s) j) (a .ids .now) (l .counts) (l .inv .1) (rw (← all) (l .inv .4)), (filled-all (λ j. statusHeld (a .s) j (a .time)) (a .ids .now) (l .held) (l .inv .2) (rw (← all) (l .inv .5)), filled-all (λ j. statusMark (a .s) j) (a .ids .now) (l .marks) (l .inv .3) (rw (← all) (l .inv .6))))
+    let all = le-antisymm (l .inv .0) (c .loop-test .left) in (
+      filled-all (λ j. statusCount (a .s) j) (a .ids .now) (l .counts) (l .inv .1) (rw (← all) (l .inv .4)),
+      (
+        filled-all (λ j. statusHeld (a .s) j (a .time)) (a .ids .now) (l .held) (l .inv .2) (rw (← all) (l .inv .5)),
+        filled-all (λ j. statusMark (a .s) j) (a .ids .now) (l .marks) (l .inv .3) (rw (← all) (l .inv .6)),
+      ),
+    )
 
 pub fill-spec : {M : Type 1} → statement M
 fill-spec =

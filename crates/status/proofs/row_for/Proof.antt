@@ -33,7 +33,9 @@ returns c =
     let start = c .before .before .before .before in
     let a = start .before .before .before .before .args in
     let flat = c .before .before .before .status in
-    one-row (a .s) (a .time) (a .r) (flat .result) (flat .last .1 .1 .1 .0) (flat .last .1 .1 .1 .1 .0) (flat .last .1 .1 .1 .1 .1 .0) (flat .ensures .0) (flat .ensures .1 .0) (flat .ensures .1 .1 .0) (flat .ensures .1 .1 .1)
+    one-row (a .s) (a .time) (a .r) (flat .result)
+    (flat .last .1 .1 .1 .0) (flat .last .1 .1 .1 .1 .0) (flat .last .1 .1 .1 .1 .1 .0)
+    (flat .ensures .0) (flat .ensures .1 .0) (flat .ensures .1 .1 .0) (flat .ensures .1 .1 .1)
 
 pub row-for-spec : {M : Type 1} → statement M
 row-for-spec =

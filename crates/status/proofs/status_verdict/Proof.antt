@@ -29,7 +29,13 @@ asked-verdict-requires c κs = search needs
 returns-4 : tie.Need-returns-4
 unfolding statusAnswer askedAnswer firstHit idsOk
 returns-4 c =
-    simp (eq-eqb _ _ (c .before .before .before .before .if1 .left), eq-eqb _ _ (c .before .before .before .if2 .left), eq-eqb _ _ (c .before .before .if3 .left), ← c .before .ids-ok .ensures) (c .asked-verdict .ensures)
+    let at-held = c .before .before .before in
+    simp (
+      eq-eqb _ _ (at-held .before .if1 .left),
+      eq-eqb _ _ (at-held .if2 .left),
+      eq-eqb _ _ (c .before .before .if3 .left),
+      ← c .before .ids-ok .ensures,
+    ) (c .asked-verdict .ensures)
 
 pub status-verdict-spec : {M : Type 1} → statement M
 status-verdict-spec =
