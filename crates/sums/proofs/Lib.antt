@@ -1,0 +1,2 @@
+-- That the sum's contract settles it.
+pub mod Unique
