@@ -1,0 +1,11 @@
+//! Beside the product: a model of documents 01 and 02 that keeps every event, a tuned version of the same calls, and what
+//! holds one against the other.
+
+#![deny(warnings)]
+
+pub mod agent_row;
+pub mod limits;
+pub mod model;
+pub mod refusals;
+pub mod replay;
+pub mod subject;
