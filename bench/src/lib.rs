@@ -9,3 +9,4 @@ pub mod model;
 pub mod refusals;
 pub mod replay;
 pub mod subject;
+pub mod tuned;

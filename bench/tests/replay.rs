@@ -3,6 +3,7 @@
 use bench::model::Model;
 use bench::replay::{console, programs};
 use bench::subject::{PlayedLog, Subject};
+use bench::tuned::Tuned;
 use std::fs;
 use std::path::PathBuf;
 
@@ -97,4 +98,9 @@ fn all_holds<S: Subject>(mut subject: S) {
 #[test]
 fn the_model_says_what_is_stored() {
     all_holds(Model::new());
+}
+
+#[test]
+fn the_tuned_version_says_what_is_stored() {
+    all_holds(Tuned::new());
 }

@@ -3,6 +3,7 @@
 use bench::model::Model;
 use bench::refusals::*;
 use bench::subject::{Film, Sharers, Start, Subject};
+use bench::tuned::Tuned;
 
 const CASE: Film = Film {
     length: 12,
@@ -138,4 +139,9 @@ fn all_hold<S: Subject>(mut subject: S) {
 #[test]
 fn the_model_works_the_cases() {
     all_hold(Model::new());
+}
+
+#[test]
+fn the_tuned_version_works_the_cases() {
+    all_hold(Tuned::new());
 }

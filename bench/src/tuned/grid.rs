@@ -1,0 +1,105 @@
+//! Ticks, slots and the cells of lanes, by shifts and masks.
+
+use super::agent::Title;
+
+impl Title {
+    /// A tick in ms. Lengths fit 32 bits, whose division is the faster one.
+    #[inline]
+    pub fn tick_length(&self) -> u64 {
+        let length = self.length as u32;
+        if self.is_steady() {
+            let blocks = 1u32 << (self.cap - 1);
+            return u64::from((length + blocks - 1) >> (self.cap - 1));
+        }
+        u64::from(tick_length(length, self.floor, self.cap))
+    }
+
+    #[inline]
+    pub fn tick_at(&self, time: u64) -> u64 {
+        time.saturating_sub(self.opened) / self.tick_length()
+    }
+
+    /// The ticks of a slot of a count, as a power of 2.
+    #[inline]
+    pub fn slot_bits(&self, count: u64) -> u64 {
+        if self.is_steady() {
+            0
+        } else {
+            self.cap - count
+        }
+    }
+
+    /// A slot of a count in ms.
+    #[inline]
+    pub fn slot_length(&self, count: u64) -> u64 {
+        self.tick_length() << self.slot_bits(count)
+    }
+
+    #[inline]
+    pub fn at_slot_start(&self, count: u64, time: u64) -> bool {
+        time.saturating_sub(self.opened).is_multiple_of(self.slot_length(count))
+    }
+
+    /// How many cells hold film.
+    #[inline]
+    pub fn film_cells(&self) -> u64 {
+        let (length, tick) = (self.length as u32, self.tick_length() as u32);
+        u64::from(length.div_ceil(tick))
+    }
+
+    /// The cell that an active lane carries at a tick.
+    #[inline]
+    pub fn lane_cell(&self, lane: u64, tick: u64) -> u64 {
+        if self.is_steady() {
+            return steady_cell(lane, tick);
+        }
+        lane_cell(self.floor, self.cap, lane, tick)
+    }
+
+    /// No lane owes a tick that is this far from its drop.
+    #[inline]
+    pub fn reach(&self) -> u64 {
+        1 << (self.cap - 1)
+    }
+}
+
+#[inline]
+pub fn tick_length(length: u32, floor: u64, cap: u64) -> u32 {
+    let cells = (1u32 << cap) - (1 << (cap - floor));
+    length.div_ceil(cells)
+}
+
+/// The blocks that a steady lane repeats.
+#[inline]
+pub fn steady_period(lane: u64) -> u64 {
+    if lane == 0 {
+        1
+    } else {
+        1 << (lane - 1)
+    }
+}
+
+#[inline]
+fn steady_cell(lane: u64, tick: u64) -> u64 {
+    if lane == 0 {
+        return 0;
+    }
+    let own = 1 << (lane - 1);
+    own + (tick & (own - 1))
+}
+
+/// A lane of the floor has a channel of count A. Above it the low zeros of the slot's shifted number plus one are the
+/// channel, and its segment is the channel's last.
+#[inline]
+pub const fn lane_cell(floor: u64, cap: u64, lane: u64, tick: u64) -> u64 {
+    if lane < floor {
+        let bits = cap - floor;
+        let own = 1 << lane;
+        let segment = own - 1 + ((tick >> bits) & (own - 1));
+        return (segment << bits) + (tick & ((1 << bits) - 1));
+    }
+    let bits = cap - lane - 1;
+    let shifted = (tick >> bits).wrapping_add(2).wrapping_sub(1 << (lane + 1 - floor));
+    let channel = (shifted | 1 << lane).trailing_zeros();
+    (((2 << channel) - 2) << bits) + (tick & ((1 << bits) - 1))
+}
