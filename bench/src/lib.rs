@@ -4,8 +4,10 @@
 #![deny(warnings)]
 
 pub mod agent_row;
+pub mod compare;
 pub mod limits;
 pub mod model;
+pub mod random;
 pub mod refusals;
 pub mod replay;
 pub mod subject;

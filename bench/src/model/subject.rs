@@ -14,6 +14,8 @@ pub struct Model {
     story: Story,
     row: Box<AgentRow>,
     lent: Option<Standing>,
+    /// Whether it answers from rows alone, as if each were made by hand.
+    by_rows: bool,
 }
 
 impl Default for Model {
@@ -30,13 +32,22 @@ impl Model {
             row: Box::new(story.row()),
             story,
             lent: None,
+            by_rows: false,
+        }
+    }
+
+    /// A model that forgets its list and reads every agent as it stands: what the rows keep must be enough.
+    pub fn by_rows() -> Model {
+        Model {
+            by_rows: true,
+            ..Model::new()
         }
     }
 
     fn begin(&mut self, story: Story) {
         *self.row = story.row();
         self.story = story;
-        self.lent = None;
+        self.lent = self.by_rows.then(|| Standing::of(&self.row));
     }
 
     /// Whether everything that is kept beside the list follows from it.
@@ -88,11 +99,15 @@ macro_rules! ask {
 
 impl Subject for Model {
     fn name(&self) -> &'static str {
-        "model"
+        if self.by_rows {
+            "model by rows"
+        } else {
+            "model"
+        }
     }
 
     fn lend(&mut self, row: &AgentRow) {
-        self.lent = (*row != *self.row).then(|| Standing::of(row));
+        self.lent = (self.by_rows || *row != *self.row).then(|| Standing::of(row));
     }
 
     fn agent(&mut self) -> AgentRow {
