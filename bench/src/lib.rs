@@ -11,4 +11,5 @@ pub mod random;
 pub mod refusals;
 pub mod replay;
 pub mod subject;
+pub mod times;
 pub mod tuned;

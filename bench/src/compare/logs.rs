@@ -76,25 +76,7 @@ impl Maker {
             },
         };
         recorder.agent.fresh(pool);
-        let mut bytes = Vec::new();
-        for n in 0..self.random.within(0..=50) {
-            let row = recorder.agent.agent();
-            // the title that is asked about opens first
-            let notice = if n == 0 {
-                let opening = Call::Open {
-                    id: recorder.title,
-                    time: self.base,
-                    film: self.film(),
-                };
-                self.notice_of(&row, &opening)
-            } else {
-                self.notice(&row)
-            };
-            let mut fields = [0; 8];
-            recorder.agent.read(&notice, &mut fields);
-            recorder.hear(&notice, fields);
-            bytes.extend(notice);
-        }
+        let bytes = self.played_log(&mut recorder);
         recorder.record_until(ASKED_MAX);
         let row = recorder.agent.agent();
         let view = title(&row, recorder.title as usize);
@@ -110,6 +92,26 @@ impl Maker {
             tick: view.tick_length(),
             cap: view.number(agent_row::CAP),
         }
+    }
+
+    /// Notices one after the other, each heard by the recorder; the title that is asked about opens first.
+    fn played_log(&mut self, recorder: &mut Recorder) -> Vec<u8> {
+        let mut bytes = Vec::new();
+        for n in 0..self.random.within(0..=50) {
+            let row = recorder.agent.agent();
+            let opening = Call::Open {
+                id: recorder.title,
+                time: self.base,
+                film: self.film(),
+            };
+            let event = if n == 0 { opening } else { self.event(&row) };
+            let notice = self.notice_of(&row, &event);
+            let mut fields = [0; 8];
+            recorder.agent.read(&notice, &mut fields);
+            recorder.hear(&notice, fields);
+            bytes.extend(notice);
+        }
+        bytes
     }
 
     /// The log with its title and pool, seldom with others, or damaged.

@@ -1,6 +1,6 @@
 //! The agent that callers lend: numbers of a fixed size, changed in place.
 
-use crate::agent_row::{self, AgentRow, ABSENT, CLOSING, OPEN, STEADY, VERSION};
+use crate::agent_row::{self, AgentRow, ABSENT, OPEN, STEADY, VERSION};
 use crate::limits::*;
 
 #[repr(C)]
@@ -78,43 +78,6 @@ impl Title {
             0
         }
     }
-
-    /// The top bit is set where some number is above its limit.
-    #[inline]
-    fn excess(&self) -> u64 {
-        let floor_max = if self.is_steady() { STEADY_MAX } else { FLOOR_MAX };
-        let own = excess(self.mode, CLOSING)
-            | excess(self.kind, STEADY)
-            | excess(self.length, LENGTH_MAX)
-            | excess(self.floor, floor_max)
-            | excess(self.cap, COUNT_MAX)
-            | excess(self.count, COUNT_MAX)
-            | excess(self.mark, 1);
-        let times = excess(self.opened, ASKED_MAX) | excess(self.last, ASKED_MAX) | excess(self.tuned, ASKED_MAX);
-        own | times | row_excess(&self.ends) | row_excess(&self.dropped) | row_excess(&self.owed)
-    }
-
-    /// A title that is there in an order that none can have.
-    #[inline]
-    fn is_disordered(&self) -> bool {
-        let disordered = (self.length < LENGTH_MIN)
-            | (self.floor < FLOOR_MIN)
-            | (self.count < self.floor)
-            | (self.cap < self.count)
-            | (self.is_steady() & (self.floor != self.cap));
-        (self.mode != ABSENT) & disordered
-    }
-}
-
-/// The top bit is set where a number is above a limit below 2^63: a sum of many such is looked at once.
-#[inline]
-fn excess(number: u64, most: u64) -> u64 {
-    number | number.wrapping_add(i64::MAX as u64 - most)
-}
-
-#[inline]
-fn row_excess(row: &[u64]) -> u64 {
-    row.iter().fold(0, |over, number| over | excess(*number, ASKED_MAX))
 }
 
 impl Agent {
@@ -127,20 +90,6 @@ impl Agent {
             last: 0,
             titles: [BLANK; TITLES],
         }
-    }
-
-    /// Whether every stored number is within its limits.
-    #[inline]
-    pub fn in_limits(&self) -> bool {
-        let mut over = excess(self.sequence, SEQUENCE_MAX) | excess(self.pool, POOL_MAX) | excess(self.last, ASKED_MAX);
-        let mut wrong = self.version != VERSION;
-        let mut there = false;
-        for title in &self.titles {
-            over |= title.excess();
-            wrong |= title.is_disordered();
-            there |= title.mode != ABSENT;
-        }
-        over >> 63 == 0 && !wrong && !(there && self.pool < POOL_MIN)
     }
 
     pub fn from_row(row: &AgentRow) -> Agent {

@@ -11,10 +11,14 @@ fn in_limits(log: PlayedLog) -> bool {
     (POOL_MIN..=POOL_MAX).contains(&log.pool) && log.title <= ID_MAX
 }
 
+fn tick_at(title: &Title, time: u64) -> u64 {
+    title.moment(title.tick_length(), time).tick
+}
+
 /// Marks the admissions from a title's latest event up to a tick, as far as the row goes.
 fn mark_to(title: &Title, until: u64, marks: &mut [u8]) {
     let until = until.min(marks.len() as u64) as usize;
-    let from = title.tick_at(title.last).min(until as u64) as usize;
+    let from = tick_at(title, title.last).min(until as u64) as usize;
     let ticks = &mut marks[from..until];
     ticks.fill(0);
     if is_admitting(title) {
@@ -31,7 +35,7 @@ fn follow(log: PlayedLog, marks: &mut [u8]) -> Result<Title, u8> {
     let id = log.title as usize;
     let whole = play(&mut agent, log.bytes, id, |title, time, opening| {
         if !opening {
-            mark_to(title, title.tick_at(time), marks);
+            mark_to(title, tick_at(title, time), marks);
         }
     });
     let title = agent.titles[id];
@@ -105,7 +109,7 @@ pub fn air(log: PlayedLog, record: &[u16], row: &mut [u16]) -> (u8, [u64; 3]) {
 /// Judges the admissions of a record from the last to the first: how many, how many played through and how many outlast it.
 fn judge(title: &Title, record: &[u16], marks: &[u8], row: &mut [u16]) -> [u64; 3] {
     let cells = 1 << title.cap;
-    let film = title.film_cells().min(cells as u64) as usize;
+    let film = title.film_cells(title.tick_length()).min(cells as u64) as usize;
     let whole = (marks.len() + 1).saturating_sub(cells);
     let all = marks.iter().filter(|mark| **mark == 1).count();
     let judged = marks[..whole].iter().filter(|mark| **mark == 1).count();

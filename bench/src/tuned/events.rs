@@ -1,7 +1,7 @@
 //! The six events. `*_checked` of a call is what it does once the agent's numbers were tested.
 
 use super::agent::{Agent, Title};
-use super::owing::{owed, Boxes};
+use super::grid::Moment;
 use crate::agent_row::{CLOSING, OPEN, PADDED, STEADY};
 use crate::limits::*;
 use crate::refusals::*;
@@ -109,16 +109,18 @@ pub fn change_checked(agent: &mut Agent, id: u64, time: u64, count: u64) -> u8 {
         return first;
     }
     let title = &agent.titles[id as usize];
-    let number = change_verdict(title, time, count);
+    let tick_length = title.tick_length();
+    let moment = title.moment(tick_length, time);
+    let number = change_verdict(title, tick_length, moment, time, count);
     if number != DONE {
         return number;
     }
-    let next = title.changed(time, count);
+    let next = title.changed(tick_length, moment.tick, time, count);
     settle(agent, id, time, &next)
 }
 
 /// 19 13 14 6 7 16 8.
-fn change_verdict(title: &Title, time: u64, count: u64) -> u8 {
+fn change_verdict(title: &Title, tick_length: u64, moment: Moment, time: u64, count: u64) -> u8 {
     if title.is_steady() {
         return IS_STEADY;
     }
@@ -134,10 +136,10 @@ fn change_verdict(title: &Title, time: u64, count: u64) -> u8 {
     if time == title.last {
         return SECOND_EVENT;
     }
-    if time < title.settled_at() {
+    if time < title.settled_at(tick_length) {
         return TOO_SOON;
     }
-    if !title.at_slot_start(count.min(title.count), time) {
+    if !title.starts_slot(moment, count.min(title.count)) {
         return NOT_AT_SLOT;
     }
     DONE
@@ -152,12 +154,13 @@ pub fn close_checked(agent: &mut Agent, id: u64, time: u64) -> u8 {
     if time == title.last {
         return SECOND_EVENT;
     }
-    if !title.at_slot_start(title.floor, time) {
+    let tick_length = title.tick_length();
+    let moment = title.moment(tick_length, time);
+    if !title.starts_slot(moment, title.floor) {
         return NOT_AT_SLOT;
     }
-    let tick = title.tick_at(time);
-    title.end_count(tick);
-    title.drop_lanes(tick, 0);
+    title.end_count(moment.tick);
+    title.drop_lanes(moment.tick, tick_length, 0);
     title.mode = CLOSING;
     title.mark = 0;
     title.last = time;
@@ -181,10 +184,11 @@ pub fn doors_checked(agent: &mut Agent, id: u64, time: u64, held: bool) -> u8 {
     if time == title.last {
         return SECOND_EVENT;
     }
-    if !title.at_slot_start(title.count, time) {
+    let moment = title.moment(title.tick_length(), time);
+    if !title.starts_slot(moment, title.count) {
         return NOT_AT_SLOT;
     }
-    title.end_count(title.tick_at(time));
+    title.end_count(moment.tick);
     title.mark = u64::from(held);
     title.last = time;
     agent.last = time;
@@ -194,16 +198,17 @@ pub fn doors_checked(agent: &mut Agent, id: u64, time: u64, held: bool) -> u8 {
 impl Title {
     /// From when on the title may change again.
     #[inline]
-    pub fn settled_at(&self) -> u64 {
-        self.tuned + self.slot_length(self.floor)
+    pub fn settled_at(&self, tick_length: u64) -> u64 {
+        self.tuned + (tick_length << self.slot_bits(self.floor))
     }
 
-    /// The title once its count has changed at a time.
-    pub fn changed(&self, time: u64, count: u64) -> Title {
+    /// The title once its count has changed at a time, which lies in a tick.
+    pub fn changed(&self, tick_length: u64, tick: u64, time: u64, count: u64) -> Title {
         let mut next = *self;
-        let tick = self.tick_at(time);
         next.end_count(tick);
-        next.drop_lanes(tick, count);
+        if count < self.count {
+            next.drop_lanes(tick, tick_length, count);
+        }
         next.count = count;
         next.last = time;
         next.tuned = time;
@@ -215,19 +220,6 @@ impl Title {
     fn end_count(&mut self, tick: u64) {
         if self.mark == 0 {
             self.ends[self.count as usize] = tick;
-        }
-    }
-
-    /// The lanes from a new count up to the old are dropped at a tick.
-    fn drop_lanes(&mut self, tick: u64, count: u64) {
-        if count >= self.count {
-            return;
-        }
-        let boxes = Boxes::of(self);
-        let film = self.film_cells();
-        for lane in count..self.count {
-            self.owed[lane as usize] = owed(self, &boxes, film, lane, tick);
-            self.dropped[lane as usize] = tick;
         }
     }
 }

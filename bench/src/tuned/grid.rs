@@ -2,6 +2,13 @@
 
 use super::agent::Title;
 
+/// A time in a title's ticks.
+#[derive(Clone, Copy)]
+pub struct Moment {
+    pub tick: u64,
+    pub rest: u64,
+}
+
 impl Title {
     /// A tick in ms. Lengths fit 32 bits, whose division is the faster one.
     #[inline]
@@ -14,9 +21,14 @@ impl Title {
         u64::from(tick_length(length, self.floor, self.cap))
     }
 
+    /// The tick that holds a time, and how far into it the time lies.
     #[inline]
-    pub fn tick_at(&self, time: u64) -> u64 {
-        time.saturating_sub(self.opened) / self.tick_length()
+    pub fn moment(&self, tick_length: u64, time: u64) -> Moment {
+        let since = time.saturating_sub(self.opened);
+        Moment {
+            tick: since / tick_length,
+            rest: since % tick_length,
+        }
     }
 
     /// The ticks of a slot of a count, as a power of 2.
@@ -29,22 +41,16 @@ impl Title {
         }
     }
 
-    /// A slot of a count in ms.
+    /// Whether a moment is a slot start of a count.
     #[inline]
-    pub fn slot_length(&self, count: u64) -> u64 {
-        self.tick_length() << self.slot_bits(count)
+    pub fn starts_slot(&self, moment: Moment, count: u64) -> bool {
+        moment.rest == 0 && moment.tick & ((1 << self.slot_bits(count)) - 1) == 0
     }
 
+    /// How many cells hold film. Both numbers fit 32 bits.
     #[inline]
-    pub fn at_slot_start(&self, count: u64, time: u64) -> bool {
-        time.saturating_sub(self.opened).is_multiple_of(self.slot_length(count))
-    }
-
-    /// How many cells hold film.
-    #[inline]
-    pub fn film_cells(&self) -> u64 {
-        let (length, tick) = (self.length as u32, self.tick_length() as u32);
-        u64::from(length.div_ceil(tick))
+    pub fn film_cells(&self, tick_length: u64) -> u64 {
+        u64::from((self.length as u32).div_ceil(tick_length as u32))
     }
 
     /// The cell that an active lane carries at a tick.

@@ -1,7 +1,6 @@
 //! Which lanes are held, and what a lane shows.
 
 use super::agent::{Agent, Title};
-use super::owing::nth_owed;
 use crate::agent_row::{ABSENT, OPEN};
 
 impl Title {
@@ -11,15 +10,16 @@ impl Title {
         if self.mode == ABSENT {
             return 0;
         }
-        let active = self.ruling();
-        let above = active as usize..self.cap as usize;
-        let gone = |lane: usize| self.dropped[lane] + self.owed[lane];
+        let active = self.ruling() as usize;
+        let above = active..self.cap as usize;
+        let dropped = self.dropped[above.clone()].iter().zip(&self.owed[above]);
+        let gone = dropped.map(|(from, owed)| from + owed);
         // no lane was ever dropped: the tick is not asked for
-        if above.clone().all(|lane| gone(lane) == 0) {
-            return active;
+        if gone.clone().fold(0, |all, gone| all | gone) == 0 {
+            return active as u64;
         }
-        let tick = self.tick_at(time);
-        active + above.filter(|lane| tick < gone(*lane)).count() as u64
+        let tick = self.moment(self.tick_length(), time).tick;
+        active as u64 + gone.map(|gone| u64::from(tick < gone)).sum::<u64>()
     }
 
     /// The title is open, or closing with a lane still held.
@@ -34,7 +34,8 @@ impl Title {
         if self.mode == ABSENT || lane >= self.cap {
             return None;
         }
-        let tick = self.tick_at(time);
+        let tick_length = self.tick_length();
+        let tick = self.moment(tick_length, time).tick;
         if lane < self.ruling() {
             return Some(tick);
         }
@@ -42,7 +43,7 @@ impl Title {
         if tick >= from + self.owed[lane as usize] {
             return None;
         }
-        Some(nth_owed(self, lane, from, tick.saturating_sub(from)))
+        Some(self.nth_owed(tick_length, lane, tick.saturating_sub(from)))
     }
 }
 

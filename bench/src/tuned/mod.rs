@@ -16,6 +16,7 @@ mod salvage;
 mod sharing;
 mod subject;
 mod waits;
+mod within;
 
 pub use agent::{Agent, Title};
 pub use subject::Tuned;

@@ -8,91 +8,102 @@ use super::agent::Title;
 use super::grid::{lane_cell, steady_period};
 use crate::limits::COUNTS;
 
-/// The latest start of a box under the counts above each, and up to each, and the latest end of such a start's slot under
-/// those above. A start that never was lies far below zero.
-pub struct Boxes {
-    above: [i64; COUNTS],
-    up_to: [i64; COUNTS],
-    ends_above: [u64; COUNTS],
+/// The latest start of a box under some counts, and the latest end of such a start's slot.
+#[derive(Clone, Copy)]
+struct Latest {
+    start: i64,
+    end: u64,
 }
 
+/// A start that never was lies far below zero.
 const NEVER: i64 = i64::MIN / 2;
 
 /// Stretches are handed on as their first tick and how many ticks; a visitor says whether to go on.
 trait Visit: FnMut(u64, u64) -> bool {}
 impl<F: FnMut(u64, u64) -> bool> Visit for F {}
 
-impl Boxes {
-    pub fn of(title: &Title) -> Boxes {
-        let mut boxes = Boxes {
-            above: [NEVER; COUNTS],
-            up_to: [NEVER; COUNTS],
-            ends_above: [0; COUNTS],
-        };
-        let (floor, cap) = (title.floor as usize, title.cap as usize);
-        let start = |count: usize| match title.ends[count] {
-            0 => NEVER,
-            end => end as i64 - (1 << (cap - count)),
-        };
-        for count in (1..=cap).rev() {
-            let (mut latest, mut end) = (boxes.above[count], boxes.ends_above[count]);
-            if count >= floor {
-                latest = latest.max(start(count));
-                end = end.max(title.ends[count]);
-            }
-            boxes.above[count - 1] = latest;
-            boxes.ends_above[count - 1] = end;
+impl Latest {
+    const NONE: Latest = Latest { start: NEVER, end: 0 };
+
+    /// The boxes of a count more.
+    #[inline]
+    fn join(&mut self, title: &Title, count: u64) {
+        let end = title.ends[count as usize];
+        if end > 0 {
+            self.start = self.start.max(end as i64 - (1 << (title.cap - count)));
+            self.end = self.end.max(end);
         }
-        for count in floor..=cap {
-            boxes.up_to[count] = boxes.up_to[count - 1].max(start(count));
+    }
+
+    /// The boxes of all counts that have a lane.
+    fn above(title: &Title, lane: u64) -> Latest {
+        let mut latest = Latest::NONE;
+        for count in title.floor.max(lane + 1)..=title.cap {
+            latest.join(title, count);
         }
-        boxes
+        latest
     }
 }
 
-/// How many ticks a lane owes that is dropped at a tick.
-pub fn owed(title: &Title, boxes: &Boxes, film: u64, lane: u64, at: u64) -> u64 {
-    let mut sum = 0;
-    stretches(title, boxes, film, lane, at, |_, ticks| {
-        sum += ticks;
-        true
-    });
-    sum
-}
-
-/// The owed tick that has `nth` owed ticks before it; the tick just out of reach where there is none.
-pub fn nth_owed(title: &Title, lane: u64, at: u64, nth: u64) -> u64 {
-    let mut left = nth;
-    let mut found = at + title.reach();
-    stretches(title, &Boxes::of(title), title.film_cells(), lane, at, |from, ticks| {
-        if left < ticks {
-            found = from + left;
-            return false;
+impl Title {
+    /// The lanes from a new count up to the old are dropped at a tick, and what each owes is counted.
+    pub fn drop_lanes(&mut self, tick: u64, tick_length: u64, count: u64) {
+        let film = self.film_cells(tick_length);
+        let mut latest = Latest::NONE;
+        let mut joined = self.cap + 1;
+        for lane in (count..self.count).rev() {
+            while joined > self.floor.max(lane + 1) {
+                joined -= 1;
+                latest.join(self, joined);
+            }
+            let mut owed = 0;
+            stretches(self, latest, film, lane, tick, |_, ticks| {
+                owed += ticks;
+                true
+            });
+            self.dropped[lane as usize] = tick;
+            self.owed[lane as usize] = owed;
         }
-        left -= ticks;
-        true
-    });
-    found
+    }
+
+    /// The owed tick of a lane that has `nth` owed ticks before it, from its drop on; the tick just out of reach where there
+    /// is none.
+    pub fn nth_owed(&self, tick_length: u64, lane: u64, nth: u64) -> u64 {
+        let at = self.dropped[lane as usize];
+        let film = self.film_cells(tick_length);
+        let mut left = nth;
+        let mut found = at + self.reach();
+        stretches(self, Latest::above(self, lane), film, lane, at, |from, ticks| {
+            if left < ticks {
+                found = from + left;
+                return false;
+            }
+            left -= ticks;
+            true
+        });
+        found
+    }
 }
 
-/// The stretches that a lane owes from a drop on, in order.
-fn stretches(title: &Title, boxes: &Boxes, film: u64, lane: u64, at: u64, visit: impl Visit) {
+/// The stretches that a lane owes from a drop on, in order; `latest` is of all counts that have the lane.
+#[inline]
+fn stretches(title: &Title, latest: Latest, film: u64, lane: u64, at: u64, visit: impl Visit) {
     if title.is_steady() {
         return steady_stretches(title, film, lane, at, visit);
     }
-    if boxes.above[lane as usize] == NEVER {
+    if latest.end == 0 {
         return;
     }
     let bits = title.cap - title.floor.max(lane + 1);
     let aligned = at & ((1 << bits) - 1) == 0;
-    if !aligned || boxes.ends_above[lane as usize] > at {
+    if !aligned || latest.end > at {
         // no events lead here
         return tick_by_tick(title, film, lane, at, visit);
     }
     if lane < title.floor {
-        return floor_stretches(title, boxes, film, lane, at, visit);
+        return floor_stretches(title, latest, film, lane, at, visit);
     }
-    upper_stretches(title, boxes.above[lane as usize], film, lane, at, visit)
+    upper_stretches(title, latest.start, film, lane, at, visit)
 }
 
 /// Of a lane from the floor up.
@@ -130,19 +141,19 @@ fn upper_stretches(title: &Title, start: i64, film: u64, lane: u64, at: u64, mut
 
 /// Of a lane below the floor, which only a close drops: slot by slot of count A. Lane 0 owes nothing, since a box has all
 /// of it within its first slot.
-fn floor_stretches(title: &Title, boxes: &Boxes, film: u64, lane: u64, at: u64, mut visit: impl Visit) {
+fn floor_stretches(title: &Title, latest: Latest, film: u64, lane: u64, at: u64, mut visit: impl Visit) {
     if lane == 0 {
         return;
     }
     let bits = title.cap - title.floor;
     let own = 1u64 << lane;
-    let until = boxes.above[lane as usize] + (own << bits) as i64;
+    let until = latest.start + (own << bits) as i64;
     let mut slot = at;
     while (slot as i64) < until {
         let place = (slot >> bits) & (own - 1);
         let film_left = film.saturating_sub((own - 1 + place) << bits);
         let go_on = if place == 0 {
-            first_segment(title, boxes, lane, slot, film_left, &mut visit)
+            first_segment(title, lane, slot, film_left, &mut visit)
         } else {
             let ticks = ((until - slot as i64) as u64).min(1 << bits).min(film_left);
             ticks == 0 || visit(slot, ticks)
@@ -156,14 +167,21 @@ fn floor_stretches(title: &Title, boxes: &Boxes, film: u64, lane: u64, at: u64, 
 
 /// The lane's first segment lies on two channels of a larger count, its last small slot on the longer one. So it comes in
 /// bands, each of which the counts up to one take long and those above half as long.
-fn first_segment(title: &Title, boxes: &Boxes, lane: u64, slot: u64, film: u64, visit: &mut impl Visit) -> bool {
+fn first_segment(title: &Title, lane: u64, slot: u64, film: u64, visit: &mut impl Visit) -> bool {
     let width = 1u64 << (title.cap - title.floor);
     let long = (width << lane) as i64;
+    let mut above = [Latest::NONE; COUNTS + 1];
+    for count in (title.floor..=title.cap).rev() {
+        above[count as usize] = above[count as usize + 1];
+        above[count as usize].join(title, count);
+    }
+    let mut up_to = Latest::NONE;
     for count in title.floor..=title.cap {
+        up_to.join(title, count);
         let small = 1u64 << (title.cap - count);
         let from = width - small;
         let band = if count == title.cap { width } else { width - small / 2 };
-        let latest = (boxes.up_to[count as usize] + long).max(boxes.above[count as usize] + long / 2);
+        let latest = (up_to.start + long).max(above[count as usize + 1].start + long / 2);
         let awaited = (latest - slot as i64).clamp(0, band as i64) as u64;
         let to = awaited.min(film);
         if from < to && !visit(slot + from, to - from) {

@@ -62,50 +62,88 @@ impl Wishes {
     }
 }
 
-/// The first time from another on at which no more than the pool is held: as many releases as are too many.
-fn free_from(agent: &Agent, from: u64) -> u64 {
-    let mut releases = [0; TITLES * LANES];
-    let mut sending = 0;
-    let mut held = 0;
-    for title in agent.titles.iter().filter(|title| title.mode != ABSENT) {
-        let active = title.ruling();
-        held += active;
-        let tick_length = title.tick_length();
-        for lane in active as usize..title.cap as usize {
-            // a list that goes past the clock is cut there, so that the product fits
-            let ticks = (title.dropped[lane] + title.owed[lane]).min(PAST);
-            let release = title.opened + ticks * tick_length;
-            if ticks > 0 && from < release {
-                releases[sending] = release;
-                sending += 1;
-            }
-        }
-    }
-    let excess = (held + sending as u64).saturating_sub(agent.pool) as usize;
-    if excess == 0 {
-        return from;
-    }
-    if excess > sending {
-        return PAST;
-    }
-    *releases[..sending].select_nth_unstable(excess - 1).1
+/// The titles as the events listed so far leave them, and each one's tick in ms.
+struct Now {
+    agent: Agent,
+    tick_lengths: [u64; TITLES],
 }
 
-/// The first slot start of a count from a time on; times up to the opening are slot starts.
-fn slot_start_from(title: &Title, count: u64, from: u64) -> u64 {
-    let slot = title.slot_length(count);
+impl Now {
+    fn of(agent: &Agent) -> Now {
+        let mut tick_lengths = [1; TITLES];
+        for (length, title) in tick_lengths.iter_mut().zip(&agent.titles) {
+            if title.mode != ABSENT {
+                *length = title.tick_length();
+            }
+        }
+        Now {
+            agent: agent.clone(),
+            tick_lengths,
+        }
+    }
+
+    /// The first time from another on at which no more than the pool is held: as many releases as are too many.
+    fn free_from(&self, from: u64) -> u64 {
+        let mut releases = [0; TITLES * LANES];
+        let mut sending = 0;
+        let mut held = 0;
+        for (title, tick_length) in self.agent.titles.iter().zip(self.tick_lengths) {
+            if title.mode == ABSENT {
+                continue;
+            }
+            let active = title.ruling();
+            held += active;
+            for lane in active as usize..title.cap as usize {
+                // a list that goes past the clock is cut there, so that the product fits
+                let ticks = (title.dropped[lane] + title.owed[lane]).min(PAST);
+                let release = title.opened + ticks * tick_length;
+                if ticks > 0 && from < release {
+                    releases[sending] = release;
+                    sending += 1;
+                }
+            }
+        }
+        let excess = (held + sending as u64).saturating_sub(self.agent.pool) as usize;
+        if excess == 0 {
+            return from;
+        }
+        if excess > sending {
+            return PAST;
+        }
+        *releases[..sending].select_nth_unstable(excess - 1).1
+    }
+
+    /// When a title changes to a count, at the earliest from a time on; the change is made.
+    fn change(&mut self, id: usize, count: u64, from: u64) -> u64 {
+        let title = self.agent.titles[id];
+        let tick_length = self.tick_lengths[id];
+        let mut from = from;
+        if title.count < count {
+            // a raise drops no lane: it asks for the same lanes whenever it comes
+            self.agent.titles[id].count = count;
+            from = self.free_from(from).min(PAST);
+        }
+        let due = due_at(&title, tick_length, count, from);
+        let tick = title.moment(tick_length, due).tick;
+        self.agent.titles[id] = title.changed(tick_length, tick, due, count);
+        due
+    }
+}
+
+/// The first slot start from a time on; times up to the opening are slot starts.
+fn slot_start_from(title: &Title, slot: u64, from: u64) -> u64 {
     match from.saturating_sub(title.opened) % slot {
         0 => from,
         over => from + (slot - over),
     }
 }
 
-/// The earliest time from another on at which a title can change to a count.
-fn due_at(title: &Title, count: u64, from: u64) -> u64 {
-    let smaller = count.min(title.count);
-    let start = slot_start_from(title, smaller, from.max(title.settled_at()));
+/// The earliest time from another on at which a title's rules permit a change to a count.
+fn due_at(title: &Title, tick_length: u64, count: u64, from: u64) -> u64 {
+    let slot = tick_length << title.slot_bits(count.min(title.count));
+    let start = slot_start_from(title, slot, from.max(title.settled_at(tick_length)));
     let due = if start == title.last {
-        slot_start_from(title, smaller, start + 1)
+        slot_start_from(title, slot, start + 1)
     } else {
         start
     };
@@ -114,23 +152,14 @@ fn due_at(title: &Title, count: u64, from: u64) -> u64 {
 
 /// One wish after the other, in the state that those before it leave; whether all lie within the clock.
 fn time_wishes(agent: &Agent, time: u64, wishes: &mut Wishes) -> bool {
-    let mut now = agent.clone();
+    let mut now = Now::of(agent);
     let mut from = time;
     for at in 0..wishes.many {
-        let id = wishes.ids[at] as usize;
-        let count = wishes.counts[at];
-        let title = now.titles[id];
-        if title.count < count {
-            // a raise drops no lane: it asks for the same lanes whenever it comes
-            now.titles[id].count = count;
-            from = free_from(&now, from).min(PAST);
-        }
-        from = due_at(&title, count, from);
+        from = now.change(wishes.ids[at] as usize, wishes.counts[at], from);
         if from == PAST {
             return false;
         }
         wishes.times[at] = from;
-        now.titles[id] = title.changed(from, count);
     }
     true
 }

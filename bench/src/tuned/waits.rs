@@ -35,7 +35,7 @@ impl Tally<'_> {
         if !is_admitting(title) {
             return;
         }
-        let slot = title.slot_length(title.count);
+        let slot = title.tick_length() << title.slot_bits(title.count);
         let mut admission = title.last;
         while self.next < self.arrivals.len() {
             let arrival = self.arrivals[self.next];

@@ -1,0 +1,11 @@
+//! How long calls take, and how deep their stacks go.
+
+mod cases;
+mod clock;
+mod measure;
+mod scenes;
+mod stack;
+pub mod table;
+
+pub use measure::{timings, Timing};
+pub use stack::{deepest, stacks};
