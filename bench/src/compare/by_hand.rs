@@ -8,7 +8,11 @@ use crate::limits::*;
 impl Maker {
     pub fn by_hand(&mut self, row: &AgentRow) -> AgentRow {
         let mut made = *row;
-        if self.random.percent(35) {
+        if self.random.percent(20) {
+            self.edge(&mut made);
+            return made;
+        }
+        if self.random.percent(30) {
             let place = self.any_place(row);
             made[place] = match self.random.below(4) {
                 0 => ASKED_MAX + 1,
@@ -22,6 +26,29 @@ impl Maker {
             self.turn_number(&mut made);
         }
         made
+    }
+
+    /// A number at its limit, or just over it: of a title that is there, or of a slot without one.
+    fn edge(&mut self, row: &mut AgentRow) {
+        let id = if self.random.percent(50) {
+            self.hand_id(row)
+        } else {
+            self.random.place(TITLES)
+        };
+        let place = self.random.place(agent_row::TITLE_SIZE);
+        let limit = match place {
+            agent_row::MODE => CLOSING,
+            agent_row::KIND | agent_row::MARK => 1,
+            agent_row::LENGTH => LENGTH_MAX,
+            agent_row::FLOOR => self.random.pick(&[FLOOR_MAX, STEADY_MAX]),
+            agent_row::CAP | agent_row::COUNT => COUNT_MAX,
+            _ => ASKED_MAX,
+        };
+        let kind = agent_row::place(id, agent_row::KIND);
+        if place == agent_row::FLOOR && self.random.percent(50) {
+            row[kind] = self.random.below(2);
+        }
+        row[agent_row::place(id, place)] = limit + self.random.below(2);
     }
 
     /// A place of the row, rather of a title that is there.
@@ -51,7 +78,7 @@ impl Maker {
         let id = self.hand_id(row);
         let now = row[LAST_AT];
         let near = self.near(now);
-        match self.random.below(16) {
+        match self.random.below(18) {
             0 => row[POOL_AT] = self.random.within(0..=12),
             1 => row[POOL_AT] = self.random.within(1..=POOL_MAX),
             2 => row[LAST_AT] = near,
@@ -62,7 +89,31 @@ impl Maker {
             7 => row[agent_row::place(id, agent_row::OPENED)] = near,
             8 => row[agent_row::place(id, agent_row::TITLE_LAST)] = near,
             9 => row[agent_row::place(id, agent_row::TUNED)] = near,
+            10..=12 => self.drop_by_hand(row, id),
             _ => self.turn_tick(row, id),
+        }
+    }
+
+    /// A lane that was dropped not long ago, and counts that ended about then: slots begin where they may, or beside.
+    fn drop_by_hand(&mut self, row: &mut AgentRow, id: usize) {
+        let view = title(row, id);
+        let cap = view.number(agent_row::CAP).clamp(2, COUNT_MAX);
+        let tick = row[LAST_AT].saturating_sub(view.number(agent_row::OPENED)) / view.tick_length();
+        let lane = self.random.below(cap);
+        let bits = self.random.below(cap);
+        let at = tick.saturating_sub(self.random.below(1 << bits)) >> bits << bits;
+        row[agent_row::place(id, agent_row::DROPPED + lane as usize)] = at.min(ASKED_MAX);
+        row[agent_row::place(id, agent_row::OWED + lane as usize)] = self.random.within(1..=1 << (cap - 1));
+        for count in lane + 1..=cap {
+            let slot = 1 << (cap - count);
+            let end = match self.random.below(6) {
+                0 => 0,
+                1 => at + slot,
+                2 => at + self.random.below(3),
+                3 => at.saturating_sub(self.random.below(4 * slot)),
+                _ => (at / slot).saturating_sub(self.random.below(3)) * slot,
+            };
+            row[agent_row::place(id, agent_row::ENDS + count as usize)] = end.min(ASKED_MAX);
         }
     }
 
@@ -104,7 +155,12 @@ impl Maker {
         let mut film = self.film();
         let steady = self.random.percent(30);
         if steady {
-            let count = self.random.within(COUNT_MIN..=STEADY_MAX);
+            let high = if self.random.percent(10) {
+                STEADY_MAX + 1
+            } else {
+                STEADY_MAX
+            };
+            let count = self.random.within(COUNT_MIN..=high);
             film.floor = count;
             film.cap = count;
             film.count = count;

@@ -7,11 +7,13 @@ mod events;
 mod logs;
 mod maker;
 mod questions;
+mod script;
 mod session;
 mod tally;
 mod titles;
 
 pub use call::{Call, Outcome};
+pub use script::script;
 pub use session::Session;
 pub use tally::Tally;
 

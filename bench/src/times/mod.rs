@@ -3,6 +3,7 @@
 mod cases;
 mod clock;
 mod measure;
+pub mod plot;
 mod scenes;
 mod stack;
 pub mod table;

@@ -101,3 +101,23 @@ pub fn stacks<S: Subject>(subject: &mut S) -> Vec<(&'static str, Option<u64>, us
     });
     taken.collect()
 }
+
+#[cfg(test)]
+mod tests {
+    use super::*;
+    use std::hint::black_box;
+
+    #[inline(never)]
+    fn deep<const N: usize>() {
+        black_box([black_box(1u8); N]);
+    }
+
+    #[test]
+    fn a_call_takes_what_its_frame_takes() {
+        let nothing = deepest(&mut || ());
+        let shallow = deepest(&mut || deep::<4_000>()) - nothing;
+        let deeper = deepest(&mut || deep::<40_000>()) - nothing;
+        assert!((3_700..12_500).contains(&shallow), "{shallow}");
+        assert!((39_700..120_500).contains(&deeper), "{deeper}");
+    }
+}
