@@ -96,20 +96,34 @@ impl Maker {
 
     /// A lane that was dropped not long ago, and counts that ended about then: slots begin where they may, or beside.
     fn drop_by_hand(&mut self, row: &mut AgentRow, id: usize) {
+        if self.random.percent(40) {
+            // in the title's first ticks, where a count that never ended must not count
+            let view = title(row, id);
+            let ticks = self.random.below(1 << view.number(agent_row::CAP).min(COUNT_MAX));
+            let since = ticks.saturating_mul(view.tick_length());
+            row[agent_row::place(id, agent_row::OPENED)] = row[LAST_AT].saturating_sub(since);
+        }
         let view = title(row, id);
         let cap = view.number(agent_row::CAP).clamp(2, COUNT_MAX);
         let tick = row[LAST_AT].saturating_sub(view.number(agent_row::OPENED)) / view.tick_length();
         let lane = self.random.below(cap);
-        let bits = self.random.below(cap);
-        let at = tick.saturating_sub(self.random.below(1 << bits)) >> bits << bits;
+        self.focus = Some((id as u64, lane));
+        // mostly where a slot of the lane begins
+        let bits = if self.random.percent(60) {
+            cap - 1 - lane
+        } else {
+            self.random.below(cap)
+        };
+        let at = tick.saturating_sub(self.random.below(4 << bits)) >> bits << bits;
         row[agent_row::place(id, agent_row::DROPPED + lane as usize)] = at.min(ASKED_MAX);
         row[agent_row::place(id, agent_row::OWED + lane as usize)] = self.random.within(1..=1 << (cap - 1));
+        let ended = self.random.percent(60);
         for count in lane + 1..=cap {
             let slot = 1 << (cap - count);
             let end = match self.random.below(6) {
                 0 => 0,
-                1 => at + slot,
-                2 => at + self.random.below(3),
+                1 if !ended => at + slot,
+                2 if !ended => at + self.random.below(3),
                 3 => at.saturating_sub(self.random.below(4 * slot)),
                 _ => (at / slot).saturating_sub(self.random.below(3)) * slot,
             };

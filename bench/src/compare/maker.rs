@@ -12,6 +12,8 @@ pub struct Maker {
     long: bool,
     /// How often of a hundred a number is out of its limits.
     wild: u64,
+    /// A lane that was dropped by hand: it is asked about.
+    pub focus: Option<(u64, u64)>,
 }
 
 impl Maker {
@@ -31,6 +33,7 @@ impl Maker {
             base,
             long,
             wild,
+            focus: None,
         }
     }
 

@@ -22,7 +22,10 @@ impl Maker {
         let view = title(row, (id as usize).min(TITLES - 1));
         let last = view.number(agent_row::TITLE_LAST);
         let time = self.asked_time(last, view.tick_length());
-        let sending = view.sending(last);
+        let sending = match self.focus {
+            Some((own, lane)) if own == id => vec![lane],
+            _ => view.sending(last),
+        };
         if sending.is_empty() || self.random.percent(30) {
             let cap = view.number(agent_row::CAP);
             let lane = if self.random.percent(80) {
@@ -46,6 +49,7 @@ impl Maker {
         let sending = ids_where(row, |t| !t.sending(t.number(agent_row::TITLE_LAST)).is_empty());
         let there = ids_where(row, |t| t.is_there());
         let id = match self.random.below(20) {
+            0..=11 if self.focus.is_some() => self.focus.expect("there is one").0,
             0..=8 if !sending.is_empty() => self.random.pick(&sending),
             0..=17 if !there.is_empty() => self.random.pick(&there),
             _ => self.id(),

@@ -58,6 +58,7 @@ impl<'a, A: Subject, B: Subject> Session<'a, A, B> {
     fn next_call(&mut self, logged: &Logged) -> Call {
         if self.kept.is_some() {
             if self.left_by_hand == 0 {
+                self.maker.focus = None;
                 let row = self.kept.take().expect("kept while another is lent");
                 return Call::Lend(Lent(row));
             }
@@ -65,16 +66,16 @@ impl<'a, A: Subject, B: Subject> Session<'a, A, B> {
             return self.agent_call();
         }
         match self.maker.random.below(1_000) {
-            0..=14 => {
+            0..=29 => {
                 self.kept = Some(Box::new(self.row));
                 self.left_by_hand = self.maker.random.within(1..=8);
                 Call::Lend(Lent(Box::new(self.maker.by_hand(&self.row))))
             }
-            15..=16 => {
+            30..=31 => {
                 let pool = self.maker.pool();
                 Call::Fresh { pool }
             }
-            17..=749 => self.agent_call(),
+            32..=749 => self.agent_call(),
             _ => self.other_call(logged),
         }
     }

@@ -285,44 +285,50 @@ fn notices<S: Subject>() -> Vec<Case<S>> {
 }
 
 fn logs<S: Subject>() -> Vec<Case<S>> {
-    let (log, last) = full_log();
-    let arrivals: Vec<u64> = (0..ARRIVALS_MAX as u64)
-        .map(|i| i * 7_919 % 4_096 * (last / 4_096))
-        .collect();
-    let waits = move |subject: &mut S| {
-        let played = PlayedLog {
-            pool: POOL_MAX,
-            bytes: &log,
-            title: 0,
-        };
-        black_box(subject.waits(played, black_box(&arrivals))).0
-    };
-    let (log, record) = full_air();
-    let mut row = vec![0; TICKS_MAX];
-    let air = move |subject: &mut S| {
-        let played = PlayedLog {
-            pool: POOL_MAX,
-            bytes: &log,
-            title: 1,
-        };
-        black_box(subject.air(played, black_box(&record), &mut row)).0
-    };
-    let (short, mut marks) = (full_air().0[..90].to_vec(), vec![0; TICKS_MAX]);
-    let admissions = move |subject: &mut S| {
-        let played = PlayedLog {
-            pool: POOL_MAX,
-            bytes: &short,
-            title: 1,
-        };
-        black_box(subject.admissions(played, black_box(&mut marks)))
-    };
     let damaged = damaged_log();
     let (mut area, mut stretches) = (vec![0; damaged.len()], vec![0; damaged.len()]);
     let salvage = move |subject: &mut S| black_box(subject.salvage(black_box(&damaged), &mut area, &mut stretches)).0;
     vec![
-        calls("waits, 1 MiB of changes and 4,096 arrivals", None, waits),
-        calls("air, 1 MiB of changes and 4,096 ticks", None, air),
-        calls("admissions of 4,096 ticks", None, admissions),
+        waits_case(),
+        air_case(),
+        admissions_case(),
         calls("salvage of 1 MiB", None, salvage),
     ]
+}
+
+/// A log in the largest pool.
+fn played(bytes: &[u8], title: u64) -> PlayedLog<'_> {
+    PlayedLog {
+        pool: POOL_MAX,
+        bytes,
+        title,
+    }
+}
+
+fn waits_case<S: Subject>() -> Case<S> {
+    let (log, last) = full_log();
+    let arrivals: Vec<u64> = (0..ARRIVALS_MAX as u64)
+        .map(|i| i * 7_919 % 4_096 * (last / 4_096))
+        .collect();
+    calls(
+        "waits, 1 MiB of changes and 4,096 arrivals",
+        None,
+        move |subject: &mut S| black_box(subject.waits(played(&log, 0), black_box(&arrivals))).0,
+    )
+}
+
+fn air_case<S: Subject>() -> Case<S> {
+    let (log, record) = full_air();
+    let mut row = vec![0; TICKS_MAX];
+    calls("air, 1 MiB of changes and 4,096 ticks", None, move |subject: &mut S| {
+        black_box(subject.air(played(&log, 1), black_box(&record), &mut row)).0
+    })
+}
+
+/// Over a log of two openings: what it plays besides is the waits' and the air's.
+fn admissions_case<S: Subject>() -> Case<S> {
+    let (log, mut marks) = (full_air().0[..90].to_vec(), vec![0; TICKS_MAX]);
+    calls("admissions of 4,096 ticks", None, move |subject: &mut S| {
+        black_box(subject.admissions(played(&log, 1), black_box(&mut marks)))
+    })
 }

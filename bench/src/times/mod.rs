@@ -8,5 +8,6 @@ mod scenes;
 mod stack;
 pub mod table;
 
+pub use cases::{all as all_cases, Case};
 pub use measure::{timings, Timing};
 pub use stack::{deepest, stacks};
