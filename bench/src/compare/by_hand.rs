@@ -22,7 +22,7 @@ impl Maker {
             };
             return made;
         }
-        for _ in 0..1 + self.random.below(8) {
+        for _ in 0..self.random.pick(&[1, 1, 1, 2, 3, 8]) {
             self.turn_number(&mut made);
         }
         made
@@ -78,7 +78,7 @@ impl Maker {
         let id = self.hand_id(row);
         let now = row[LAST_AT];
         let near = self.near(now);
-        match self.random.below(18) {
+        match self.random.below(20) {
             0 => row[POOL_AT] = self.random.within(0..=12),
             1 => row[POOL_AT] = self.random.within(1..=POOL_MAX),
             2 => row[LAST_AT] = near,
@@ -89,24 +89,27 @@ impl Maker {
             7 => row[agent_row::place(id, agent_row::OPENED)] = near,
             8 => row[agent_row::place(id, agent_row::TITLE_LAST)] = near,
             9 => row[agent_row::place(id, agent_row::TUNED)] = near,
-            10..=12 => self.drop_by_hand(row, id),
+            10..=14 => self.drop_by_hand(row, id),
             _ => self.turn_tick(row, id),
         }
     }
 
     /// A lane that was dropped not long ago, and counts that ended about then: slots begin where they may, or beside.
     fn drop_by_hand(&mut self, row: &mut AgentRow, id: usize) {
-        if self.random.percent(40) {
-            // in the title's first ticks, where a count that never ended must not count
-            let view = title(row, id);
-            let ticks = self.random.below(1 << view.number(agent_row::CAP).min(COUNT_MAX));
-            let since = ticks.saturating_mul(view.tick_length());
-            row[agent_row::place(id, agent_row::OPENED)] = row[LAST_AT].saturating_sub(since);
-        }
         let view = title(row, id);
         let cap = view.number(agent_row::CAP).clamp(2, COUNT_MAX);
-        let tick = row[LAST_AT].saturating_sub(view.number(agent_row::OPENED)) / view.tick_length();
-        let lane = self.random.below(cap);
+        let (opened, length) = (view.number(agent_row::OPENED), view.tick_length());
+        let tick = row[LAST_AT].saturating_sub(opened) / length;
+        let mut active = if view.is_open() {
+            view.number(agent_row::COUNT)
+        } else {
+            0
+        };
+        if active >= cap || self.random.percent(30) {
+            row[agent_row::place(id, agent_row::MODE)] = CLOSING;
+            active = 0;
+        }
+        let lane = self.random.within(active..=cap - 1);
         self.focus = Some((id as u64, lane));
         // mostly where a slot of the lane begins
         let bits = if self.random.percent(60) {
@@ -114,20 +117,31 @@ impl Maker {
         } else {
             self.random.below(cap)
         };
-        let at = tick.saturating_sub(self.random.below(4 << bits)) >> bits << bits;
+        let near = if self.random.percent(50) {
+            self.random.below(1 << cap)
+        } else {
+            tick
+        };
+        let at = near.saturating_sub(self.random.below(4 << bits)) >> bits << bits;
         row[agent_row::place(id, agent_row::DROPPED + lane as usize)] = at.min(ASKED_MAX);
         row[agent_row::place(id, agent_row::OWED + lane as usize)] = self.random.within(1..=1 << (cap - 1));
-        let ended = self.random.percent(60);
+        // its last event was the drop, so that the whole list can be asked about
+        row[agent_row::place(id, agent_row::TITLE_LAST)] = (opened + at.saturating_mul(length)).min(ASKED_MAX);
+        let ended = self.random.percent(50);
         for count in lane + 1..=cap {
-            let slot = 1 << (cap - count);
-            let end = match self.random.below(6) {
-                0 => 0,
-                1 if !ended => at + slot,
-                2 if !ended => at + self.random.below(3),
-                3 => at.saturating_sub(self.random.below(4 * slot)),
-                _ => (at / slot).saturating_sub(self.random.below(3)) * slot,
-            };
+            let end = self.end_by_hand(at, 1 << (cap - count), ended);
             row[agent_row::place(id, agent_row::ENDS + count as usize)] = end.min(ASKED_MAX);
+        }
+    }
+
+    /// When a count ended, which may be after a drop.
+    fn end_by_hand(&mut self, at: u64, slot: u64, ended: bool) -> u64 {
+        match self.random.below(8) {
+            0..=2 => 0,
+            3 if !ended => at + slot,
+            4 if !ended => at + self.random.below(3),
+            5 => at.saturating_sub(self.random.below(4 * slot)),
+            _ => (at / slot).saturating_sub(self.random.below(3)) * slot,
         }
     }
 

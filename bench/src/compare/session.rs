@@ -63,6 +63,9 @@ impl<'a, A: Subject, B: Subject> Session<'a, A, B> {
                 return Call::Lend(Lent(row));
             }
             self.left_by_hand -= 1;
+            if self.maker.focus.is_some() && self.maker.random.percent(50) {
+                return self.maker.lane(&self.row);
+            }
             return self.agent_call();
         }
         match self.maker.random.below(1_000) {
