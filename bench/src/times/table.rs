@@ -33,7 +33,7 @@ pub fn times(names: [&str; 2], timings: &[Timing]) -> String {
 
 /// Bytes of stack.
 pub fn stacks(name: &str, taken: &[(&'static str, Option<u64>, usize)]) -> String {
-    let mut text = format!("{:<46} {name:>12}\n", "bytes of stack");
+    let mut text = format!("{:<46} {name:>12}\n", "bytes of stack beyond the first 256");
     for (case, size, bytes) in taken {
         text += &format!("{:<46} {bytes:>12}\n", label(case, *size));
     }
