@@ -1,6 +1,5 @@
 -- What holds of the program's texts.
-pub mod Reading
-pub mod Example
+pub mod NoCell
 pub mod Told
 pub mod Printed
 pub mod Fits

@@ -5,7 +5,7 @@ use Prim.Native.Nat.{ℕ}
 use borrow.Author.Tests.{eq-eqb, ne-eqb}
 use Rattle.text.specs.Bytes.{newline, separator}
 use Rattle.air_io.specs.declared.places.Passed.{Passed}
-use Rattle.air_io.specs.Record.{oneMore}
+use Rattle.air_record.specs.Record.{oneMore}
 use Rattle.air_io.specs.Places.{passing}
 
 abbrev passedOf : ℕ → Bool → ℕ → Passed

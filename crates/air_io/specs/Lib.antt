@@ -1,5 +1,4 @@
 -- What the program reads and writes.
-pub mod Record
 pub mod Lines
 pub mod Places
 pub mod Complaints

@@ -14,8 +14,8 @@ use Rattle.judging.specs.Record.{nothingSeen, ticksMax, ticksIn}
 use Rattle.judging.specs.Judged.{isJudged, resultOf}
 use Rattle.airing.specs.declared.Judgement.{Judgement}
 use Rattle.airing.specs.Air.{airAnswer, judgementOf}
-use Rattle.air_io.specs.declared.record.Scan.{Scan}
-use Rattle.air_io.specs.Record.{noNumber}
+use Rattle.air_record.specs.declared.record.Scan.{Scan}
+use Rattle.air_record.specs.Record.{noNumber}
 
 -- the cell that an admission missed, or a dash
 unfoldable pub cellText : ℕ → List ℕ

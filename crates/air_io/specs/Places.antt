@@ -7,7 +7,7 @@ use lib.ListN.{length, getD}
 use Rattle.rules.specs.Refusals.{pick}
 use Rattle.text.specs.Bytes.{newline, separator}
 use Rattle.air_io.specs.declared.places.Passed.{Passed}
-use Rattle.air_io.specs.Record.{oneMore}
+use Rattle.air_record.specs.Record.{oneMore}
 
 abbrev pub passedBy : ℕ → ℕ → Passed
 passedBy words line = record { words = words; inside = false; line = line }

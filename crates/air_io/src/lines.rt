@@ -1,8 +1,8 @@
 // The lines of what the air carried, and of what is wrong with a record's text, written at the start of a lent row. What has no
 // room is left out.
 
-use crate::record::NO_NUMBER;
-use crate::record::Scan;
+use air_record::record::NO_NUMBER;
+use air_record::record::Scan;
 use airing::Judgement;
 use files::lines::difference;
 use files::lines::put_line;

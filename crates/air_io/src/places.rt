@@ -1,6 +1,6 @@
 // On which line of a record's text a number stands.
 
-use crate::record::one_more;
+use air_record::record::one_more;
 use text::bytes::is_separator;
 ghost use mathlib.Core.Path.{_≡_};
 ghost use Rattle.air_io.specs.Places.{passing, keptLine, lineIn};

@@ -1,12 +1,12 @@
 // The program: arguments POOL TITLE LOG RECORD, the last two file names. No contract can say what is read and written: the work is
-// in `record`, in `report` and in `complaints`; these functions are safe and end.
+// in `air_record`, in `report` and in `complaints`; these functions are safe and end.
 
 use crate::complaints::put_complaints;
 use crate::lines::put_fault;
-use crate::record::SOUND;
-use crate::record::Scan;
-use crate::record::take_text;
 use crate::report::put_air;
+use air_record::record::SOUND;
+use air_record::record::Scan;
+use air_record::record::take_text;
 use files::arguments::Asked;
 use files::arguments::pool_and_title;
 use files::complaints::complain;

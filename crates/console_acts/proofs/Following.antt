@@ -9,7 +9,7 @@ use Rattle.story.specs.Runs.{answered, called}
 use Rattle.notice.specs.Decode.{readOf}
 use Rattle.agent.specs.declared.Agent.{Agent}
 use Rattle.agent.specs.Turns.{freshAgent, noticeAnswer, noticed}
-use Rattle.console_lines.specs.Commands
+use Rattle.console_commands.specs.Commands
 use Rattle.console_lines.specs.declared.lines.Line.{Line}
 use Rattle.console_lines.specs.Lines.{numberIn}
 use Rattle.console_notices.specs.Hex.{bytesIn}

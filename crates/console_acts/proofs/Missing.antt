@@ -7,7 +7,7 @@ use Rattle.rules.specs.Refusals.{outOfTurn}
 use Rattle.notice.specs.declared.Reading.{Reading}
 use Rattle.notice.specs.Decode.{readOf}
 use Rattle.agent.specs.declared.Agent.{Agent}
-use Rattle.console_lines.specs.Commands
+use Rattle.console_commands.specs.Commands
 use Rattle.console_lines.specs.declared.lines.Line.{Line}
 use Rattle.console_notices.specs.Hex.{bytesIn}
 use Rattle.console_acts.specs.Events.{eventIn}

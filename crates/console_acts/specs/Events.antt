@@ -7,7 +7,7 @@ use Rattle.story.specs.declared.Act.{Act}
 use Rattle.story.specs.declared.Act.the-variants.{Changes, Closes}
 use Rattle.story.specs.declared.Event.{Event}
 use Rattle.story.specs.Story.{event, opens, skips, holds, lifts}
-use Rattle.console_lines.specs.Commands
+use Rattle.console_commands.specs.Commands
 use Rattle.console_lines.specs.declared.lines.Line.{Line}
 use Rattle.console_lines.specs.Lines.{numberIn}
 

@@ -17,7 +17,7 @@ use Rattle.notice.specs.declared.Reading.the-variants as reading
 use Rattle.notice.specs.Decode.{readOf}
 use Rattle.agent.specs.declared.Agent.{Agent}
 use Rattle.agent.specs.Turns.{eventOf}
-use Rattle.console_lines.specs.Commands
+use Rattle.console_commands.specs.Commands
 use Rattle.console_lines.specs.declared.lines.Line.{Line}
 use Rattle.words.specs.Words.{missed}
 use Rattle.console_notices.specs.Hex.{bytesIn}

@@ -4,7 +4,7 @@
 use crate::events::event_in;
 use agent::Agent;
 use agent::Followed;
-use console_lines::commands;
+use console_commands::commands;
 use console_lines::lines::Line;
 use console_notices::hex;
 use scheduler::call;

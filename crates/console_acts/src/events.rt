@@ -1,6 +1,6 @@
 // The event that a line spells: one reading serves the words of events and `write`.
 
-use console_lines::commands;
+use console_commands::commands;
 use console_lines::lines::Line;
 use scheduler::event_at;
 use scheduler::opening;

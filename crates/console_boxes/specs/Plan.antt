@@ -12,7 +12,7 @@ use Rattle.plans.specs.Forward.{blocks, skipAnswer}
 use Rattle.plans.specs.Row.{skipRow}
 use Rattle.rom.specs.Plan.{romPlanAnswer, romPlanRow}
 use Rattle.text.specs.Texts.{text}
-use Rattle.console_lines.specs.Commands.{placesMost, doSkipPlan, doRomPlan}
+use Rattle.console_commands.specs.Commands.{placesMost, doSkipPlan, doRomPlan}
 use Rattle.console_lines.specs.declared.lines.Line.{Line}
 use Rattle.console_lines.specs.Lines.{numberIn}
 use Rattle.words.specs.Words.{missed}

@@ -1,6 +1,6 @@
 // What a plan's call gives: the one of a title on the padded grid, that of the small box, and that of a skip-forward title.
 
-use console_lines::commands;
+use console_commands::commands;
 use console_lines::lines::Line;
 use rules::DONE;
 ghost use mathlib.Core.Path.{_≡_};

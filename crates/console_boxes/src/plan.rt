@@ -3,14 +3,14 @@
 use crate::calls;
 use crate::cells::put_cells;
 use console_answers::outcomes;
-use console_lines::commands;
-use console_lines::commands::PLACES_MOST;
+use console_commands::commands;
+use console_commands::commands::PLACES_MOST;
 use console_lines::lines::Line;
 ghost use mathlib.Core.Path.{_≡_};
 ghost use Prim.Native.Nat.{_<_, _≤_};
 ghost use lib.ListN.{length};
 ghost use Rattle.text.specs.Output.{Written};
-ghost use Rattle.console_lines.specs.Commands.{placesMost};
+ghost use Rattle.console_commands.specs.Commands.{placesMost};
 ghost use Rattle.console_lines.specs.Lines.{numbersMost};
 ghost use Rattle.console_boxes.specs.Plan.{planOver, planIn, placeOf, placesIn, zeros};
 

@@ -12,7 +12,7 @@ use Rattle.notice.specs.declared.Reading.{Reading}
 use Rattle.notice.specs.Encode.{bytesOf}
 use Rattle.notice.specs.Decode.{readOf}
 use Rattle.agent.specs.declared.Agent.{Agent}
-use Rattle.console_lines.specs.Commands
+use Rattle.console_commands.specs.Commands
 use Rattle.console_lines.specs.declared.lines.Line.{Line}
 use Rattle.text.specs.Output.{Page, puts}
 use Rattle.text.specs.Digits.{hexText}

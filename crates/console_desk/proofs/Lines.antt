@@ -9,7 +9,7 @@ use borrow.Author.Tests.{eq-eqb, ne-eqb, ltb-false}
 use lib.ListN.{length}
 use lib.Dec.{ltb}
 use Rattle.agent.specs.declared.Agent.{Agent}
-use Rattle.console_lines.specs.Commands
+use Rattle.console_commands.specs.Commands
 use Rattle.console_lines.specs.declared.lines.Line.{Line}
 use Rattle.console_lines.specs.Lines.{withFault, begun, readOn, meaning, longest}
 use Rattle.text.specs.Output.{Page, puts}

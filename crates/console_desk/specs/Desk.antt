@@ -11,7 +11,7 @@ use Rattle.scheduler.specs.Outcomes.{heldShown}
 use Rattle.notice.specs.Encode.{bytesOf}
 use Rattle.notice.specs.Decode.{readOf}
 use Rattle.agent.specs.declared.Agent.{Agent}
-use Rattle.console_lines.specs.Commands
+use Rattle.console_commands.specs.Commands
 use Rattle.console_lines.specs.declared.lines.Line.{Line}
 use Rattle.console_lines.specs.Lines.{meaning}
 use Rattle.text.specs.Output.{Written}

@@ -11,7 +11,7 @@ use console_answers::faults;
 use console_answers::outcomes;
 use console_boxes::lanes;
 use console_boxes::plan;
-use console_lines::commands;
+use console_commands::commands;
 use console_lines::lines;
 use console_lines::lines::Line;
 use console_notices::hex;

@@ -4,7 +4,7 @@
 // the session.
 
 use agent::Agent;
-use console_lines::commands::PLACES_MOST;
+use console_commands::commands::PLACES_MOST;
 use console_lines::lines::LONGEST_LINE;
 use streams::Filled;
 use streams::refill;

@@ -7,7 +7,7 @@ use lib.ListN.{take}
 use Rattle.text.specs.Bytes.{isSort, run, runEnd}
 use Rattle.text.specs.Numbers.{amount, tooLarge}
 use Rattle.text.specs.Texts.{text, same}
-use Rattle.console_lines.specs.Commands.{
+use Rattle.console_commands.specs.Commands.{
   commandTable,
   commandOf,
   nameOf,

@@ -13,9 +13,9 @@ use Rattle.rules.specs.Refusals.{pick}
 use Rattle.text.specs.declared.bytes.Sort.the-variants.{Separator, Word, Digit, Hex}
 use Rattle.text.specs.Bytes.{runEnd}
 use Rattle.text.specs.Numbers.{amount, tooLarge}
-use Rattle.console_lines.specs.Commands
+use Rattle.console_commands.specs.Commands
 use Rattle.rules.proofs.Tests.{both-l}
-use Rattle.console_lines.proofs.Rows.{most-few}
+use Rattle.console_commands.proofs.Rows.{most-few}
 use Rattle.console_lines.specs.declared.lines.Line.{Line}
 use Rattle.console_lines.specs.Lines.{
   withFault,

@@ -2,5 +2,4 @@
 pub mod Reading
 pub mod Examples
 pub mod Unique
-pub mod Rows
 pub mod Finished

@@ -12,7 +12,7 @@ use Rattle.text.specs.declared.bytes.Sort.the-variants.{Separator, Word, Digit,
 use Rattle.console_lines.specs.declared.lines.Line.{Line}
 use Rattle.text.specs.Bytes.{runEnd}
 use Rattle.text.specs.Numbers.{top, amount, capped, above, tooLarge}
-use Rattle.console_lines.specs.Commands.{
+use Rattle.console_commands.specs.Commands.{
   verbOf,
   limitOf,
   oversized,

@@ -1,3 +1,2 @@
 -- What a line of the operator's console means.
-pub mod Commands
 pub mod Lines

@@ -1,4 +1,3 @@
 // What a line of the operator's console means. `lines::parse` answers it for every line of bytes, as specs/Lines.antt
-// defines it; `commands` has the words that name commands and their tables. No public function has a `requires`.
-pub mod commands;
+// defines it. No public function has a `requires`.
 pub mod lines;

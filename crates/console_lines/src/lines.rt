@@ -1,6 +1,6 @@
 // A line of the console, read word by word until it is whole or something is wrong with it.
 
-use crate::commands;
+use console_commands::commands;
 use text::bytes;
 use text::bytes::Sort;
 use text::numbers;

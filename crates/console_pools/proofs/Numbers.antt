@@ -6,7 +6,7 @@ use native.Mathlib.Nat.{mul-le-mul}
 use native.Mathlib.Omega.{arith}
 use lib.ListN.{length, getD, length-set}
 use Rattle.text.specs.Numbers.{fourBytesMost}
-use Rattle.console_lines.specs.Commands.{titlesMost, titleNumbers}
+use Rattle.console_commands.specs.Commands.{titlesMost, titleNumbers}
 use Rattle.console_lines.specs.Lines.{numbersMost}
 use Rattle.console_pools.specs.Shares.{column}
 

@@ -5,7 +5,7 @@ use lib.ListN.{length, getD, take}
 use Rattle.story.specs.declared.State.{State}
 use Rattle.planner.specs.Moves.{Move}
 use Rattle.planner.specs.Outcome.{plannerAnswer, given}
-use Rattle.console_lines.specs.Commands.{titlesMost, roomMost}
+use Rattle.console_commands.specs.Commands.{titlesMost, roomMost}
 use Rattle.console_answers.specs.Outcomes.{withText}
 use Rattle.console_pools.specs.Beside.{beside}
 use Rattle.console_pools.specs.Shares.{column}

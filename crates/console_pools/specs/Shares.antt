@@ -4,7 +4,7 @@ use mathlib.Core.List.{List}
 use lib.ListN.{length, getD, take, set, replicate}
 use Rattle.sharing.specs.Verdict as sharing
 use Rattle.text.specs.Numbers.{fourBytesMost}
-use Rattle.console_lines.specs.Commands.{titlesMost, titleNumbers}
+use Rattle.console_commands.specs.Commands.{titlesMost, titleNumbers}
 use Rattle.console_answers.specs.Entries.{numbersText}
 use Rattle.console_answers.specs.Outcomes.{withText}
 

@@ -4,7 +4,7 @@ use mathlib.Core.List.{List, map}
 use lib.ListN.{length, take, drop}
 use Rattle.story.specs.declared.State.{State}
 use Rattle.story.specs.Calls.{statusAnswer, statusCount, statusHeld, statusMark}
-use Rattle.console_lines.specs.Commands.{idsMost}
+use Rattle.console_commands.specs.Commands.{idsMost}
 use Rattle.console_answers.specs.Outcomes.{withText}
 use Rattle.console_pools.specs.Beside.{beside}
 

@@ -1,12 +1,12 @@
 // Numbers of a line that stand the same number of places apart: one of each title.
 
-use console_lines::commands::TITLES_MOST;
+use console_commands::commands::TITLES_MOST;
 use console_lines::lines::NUMBERS_MOST;
 use text::numbers;
 ghost use mathlib.Core.Path.{_≡_};
 ghost use Prim.Native.Nat.{_≤_};
 ghost use lib.ListN.{length};
-ghost use Rattle.console_lines.specs.Commands.{titlesMost, titleNumbers};
+ghost use Rattle.console_commands.specs.Commands.{titlesMost, titleNumbers};
 ghost use Rattle.console_pools.specs.Shares.{column as columnOf};
 
 // From a place on, each at most the largest of four bytes.

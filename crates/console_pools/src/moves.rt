@@ -3,14 +3,14 @@
 use crate::beside::put_beside;
 use crate::columns::column;
 use console_answers::outcomes;
-use console_lines::commands::ROOM_MOST;
-use console_lines::commands::TITLES_MOST;
+use console_commands::commands::ROOM_MOST;
+use console_commands::commands::TITLES_MOST;
 use console_lines::lines::NUMBERS_MOST;
 use rules::DONE;
 use story::State;
 ghost use mathlib.Core.Path.{_≡_};
 ghost use Prim.Native.Nat.{_-_, _≤_, min};
-ghost use Rattle.console_lines.specs.Commands.{titlesMost, roomMost};
+ghost use Rattle.console_commands.specs.Commands.{titlesMost, roomMost};
 ghost use Rattle.planner.specs.Outcome.{roomOf};
 ghost use Rattle.text.specs.Output.{Written};
 ghost use Rattle.console_pools.specs.Moves.{plannerText, plannerIn};

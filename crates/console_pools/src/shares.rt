@@ -3,15 +3,15 @@
 use crate::columns::column;
 use console_answers::entries::put_entry;
 use console_answers::outcomes;
-use console_lines::commands::TITLE_NUMBERS;
-use console_lines::commands::TITLES_MOST;
+use console_commands::commands::TITLE_NUMBERS;
+use console_commands::commands::TITLES_MOST;
 use console_lines::lines::NUMBERS_MOST;
 use rules::DONE;
 ghost use mathlib.Core.Path.{_≡_};
 ghost use Prim.Native.Nat.{_≤_};
 ghost use lib.ListN.{length};
 ghost use Rattle.console_answers.specs.Entries.{numbersText};
-ghost use Rattle.console_lines.specs.Commands.{titlesMost};
+ghost use Rattle.console_commands.specs.Commands.{titlesMost};
 ghost use Rattle.text.specs.Output.{Written};
 ghost use Rattle.console_pools.specs.Shares.{shareText, titlesIn, shareIn};
 

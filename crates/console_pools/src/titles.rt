@@ -2,14 +2,14 @@
 
 use crate::beside::put_beside;
 use console_answers::outcomes;
-use console_lines::commands::IDS_MOST;
+use console_commands::commands::IDS_MOST;
 use console_lines::lines::NUMBERS_MOST;
 use rules::DONE;
 use story::State;
 ghost use mathlib.Core.Path.{_≡_};
 ghost use Prim.Native.Nat.{_-_, _≤_, min};
 ghost use lib.ListN.{length, getD};
-ghost use Rattle.console_lines.specs.Commands.{idsMost};
+ghost use Rattle.console_commands.specs.Commands.{idsMost};
 ghost use Rattle.text.specs.Output.{Written};
 ghost use Rattle.console_pools.specs.Titles.{statusText, idsIn};
 

@@ -13,7 +13,8 @@ use Rattle.rules.proofs.Tests.{both-l, both-r}
 use Rattle.rules.proofs.Refusals.{hitsOf, numbered, cleared, hit-append}
 use Rattle.story.specs.declared.State.{State}
 use Rattle.story.specs.Kept.{stateOk}
-use Rattle.wishes.specs.Wishes.{ratesOk, floorsOf, sharedPool, wishes}
+use Rattle.sharers.specs.Sharers.{ratesOk, floorsOf, sharedPool}
+use Rattle.wishes.specs.Wishes.{wishes}
 use Rattle.planner.specs.Moves.{Move, fallsPast}
 use Rattle.planner.specs.Outcome.{moves, plannerAnswer, given, roomOf, rowFrom, Answered}
 use Rattle.planner.specs.inner.Steps.{questionOk, standingList, standingAnswer}

@@ -22,7 +22,8 @@ use Rattle.story.specs.Calls.{callAnswer, statusCount}
 use Rattle.story.specs.Runs.{stateAfter}
 use Rattle.story.proofs.Computed.{computed}
 use Rattle.story.proofs.Demands.{every-run}
-use Rattle.wishes.specs.Wishes.{Wish, ratesOk, sharedPool, idsWhere, sharers, rated, floorsOf, shareOf, wishes}
+use Rattle.sharers.specs.Sharers.{ratesOk, sharedPool, idsWhere, sharers, rated, floorsOf}
+use Rattle.wishes.specs.Wishes.{Wish, shareOf, wishes}
 use Rattle.moments.specs.Moments.{isPermitted, hasLanes, isDue, earliest}
 use Rattle.moments.proofs.Earliest.{found-after}
 use Rattle.planner.specs.Moves.{Move, momentFor, listed, allMoved, fallsPast}

@@ -19,7 +19,8 @@ use Rattle.story.specs.Kept.{absentMode, openMode, isSteadyTitle, titleAt, titl
 use Rattle.story.specs.Kept.{ruling, keptHeld, titleHeld, lanesHeld}
 use Rattle.measures.proofs.Within.{title-ok, count-fit}
 use Rattle.measures.proofs.Active.{active-held}
-use Rattle.wishes.specs.Wishes.{isSharer, takesPart, keptApart, sharedPool, shareOf}
+use Rattle.sharers.specs.Sharers.{isSharer, takesPart, keptApart, sharedPool}
+use Rattle.wishes.specs.Wishes.{shareOf}
 use Rattle.planner.specs.Carried.{goalOf}
 
 pub goal-share : (s : State) (rates : List ℕ) (i : ℕ) → titleAt s i .mode ≡ openMode → isSteadyTitle (titleAt s i) ≡ false →

@@ -15,7 +15,8 @@ use Rattle.rules.proofs.Tests.{decide, both-l, both-r, pick-false}
 use Rattle.rules.proofs.Refusals.{hitsOf, numbered, distinct, isListed, cleared, first-hit, hit-append}
 use Rattle.story.specs.declared.State.{State}
 use Rattle.story.specs.Kept.{stateOk}
-use Rattle.wishes.specs.Wishes.{ratesOk, floorsOf, sharedPool, wishes}
+use Rattle.sharers.specs.Sharers.{ratesOk, floorsOf, sharedPool}
+use Rattle.wishes.specs.Wishes.{wishes}
 use Rattle.planner.specs.Moves.{fallsPast}
 use Rattle.planner.specs.Outcome.{moves, plannerAnswer, Standing}
 

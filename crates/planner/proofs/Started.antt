@@ -15,7 +15,8 @@ use Rattle.story.specs.declared.Event.{Event}
 use Rattle.story.specs.Kept.{titleAt, ruling}
 use Rattle.story.specs.Runs.{lanesOf, Reached}
 use Rattle.story.proofs.Demands.{tells-the-story}
-use Rattle.wishes.specs.Wishes.{Wish, takesPart, shareOf, wishes}
+use Rattle.sharers.specs.Sharers.{takesPart}
+use Rattle.wishes.specs.Wishes.{Wish, shareOf, wishes}
 use Rattle.wishes.proofs.Wished.{Each, each-none, each-more, Without, Wished, all-wished, apart, drops-first, at-share, shares-fit}
 use Rattle.planner.specs.Outcome.{plannerAnswer, Standing}
 use Rattle.planner.specs.Carried.{Past, goalOf}

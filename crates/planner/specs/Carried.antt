@@ -11,7 +11,8 @@ use Rattle.story.specs.Kept.{openMode, isSteadyTitle, titleAt, stateOk, ruling}
 use Rattle.story.specs.declared.Act.the-variants.{Changes}
 use Rattle.story.specs.Story.{event}
 use Rattle.story.specs.Runs.{answered, called}
-use Rattle.wishes.specs.Wishes.{Wish, takesPart, shareOf}
+use Rattle.sharers.specs.Sharers.{takesPart}
+use Rattle.wishes.specs.Wishes.{Wish, shareOf}
 use Rattle.moments.specs.Moments.{isDue}
 use Rattle.planner.specs.Moves.{Move, asEvent}
 

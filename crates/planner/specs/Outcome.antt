@@ -9,7 +9,8 @@ use Rattle.rules.specs.Limits.{both, eventTimeMax, titlesMax}
 use Rattle.rules.specs.Refusals.{pick, refuse, firstHit, done, outsideLimits, tooEarly, noLanes, wrongRows, pastClock}
 use Rattle.story.specs.declared.State.{State}
 use Rattle.story.specs.Kept.{stateOk}
-use Rattle.wishes.specs.Wishes.{ratesOk, floorsOf, sharedPool, wishes}
+use Rattle.sharers.specs.Sharers.{ratesOk, floorsOf, sharedPool}
+use Rattle.wishes.specs.Wishes.{wishes}
 use Rattle.planner.specs.Moves.{Move, listed, fallsPast}
 
 -- the changes that bring the pool to its sharing, from τ on

@@ -7,10 +7,10 @@ use rules::NO_LANES;
 use rules::OUTSIDE_LIMITS;
 use rules::TOO_EARLY;
 use rules::truth::also;
+use sharers::floors;
+use sharers::rates_ok;
+use sharers::shared_pool;
 use story::State;
-use wishes::floors;
-use wishes::rates_ok;
-use wishes::shared_pool;
 ghost use mathlib.Core.Path.{_≡_};
 ghost use Rattle.planner.specs.inner.Steps.{questionOk, standingAnswer};
 

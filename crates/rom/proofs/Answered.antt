@@ -22,9 +22,9 @@ use Rattle.story.specs.Kept.{absentMode, titleAt, isSteadyTitle, schemeIn, titl
 use Rattle.story.specs.Calls.{laneAnswer, laneShows}
 use Rattle.owed.proofs.Shown.{shows-active, shows-sending}
 use Rattle.verdicts.proofs.Event.{lane-id, lane-slot}
-use Rattle.rom.specs.Table.{romFloor, romCap, romPeriod, isOther}
+use Rattle.rom_table.specs.Table.{romFloor, romCap, romPeriod, isOther}
+use Rattle.rom_table.proofs.OwnNumbers.{own, own-numbers}
 use Rattle.rom.specs.Lanes.{isForeign, romLaneAnswer, romLaneShows, Own}
-use Rattle.rom.proofs.OwnNumbers.{own, own-numbers}
 
 -- ---- which titles the box has
 

@@ -1,6 +1,4 @@
 -- Laws of the small box, each file on those above it.
-pub mod Entries
-pub mod OwnNumbers
 pub mod Showing
 pub mod Noted
 pub mod Planned

@@ -22,9 +22,9 @@ use Rattle.scheme.specs.Scheme.{padded, starts}
 use Rattle.plans.specs.Padded.{planAt, never}
 use Rattle.plans.specs.Row.{written}
 use Rattle.plans.proofs.Row.{written-first}
-use Rattle.rom.specs.Table.{romFloor, romCap, romPeriod}
+use Rattle.rom_table.specs.Table.{romFloor, romCap, romPeriod}
+use Rattle.rom_table.proofs.Entries.{lane-within}
 use Rattle.rom.specs.Plan.{notedOnce, notedLanes, notedTicks}
-use Rattle.rom.proofs.Entries.{lane-within}
 use Rattle.rom.specs.Showing.{isOnLanes, shownAfter, seenWithin}
 use Rattle.rom.proofs.Showing.{seen-plan}
 

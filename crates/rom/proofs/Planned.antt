@@ -1,21 +1,30 @@
--- The plan call by its two ways: what holds where it is not refused, and that row and answer are then the computing
--- call's. Rests on the plan crate's laws of refusals and of the row.
+-- The plan call by its two ways: where floor and cap are the box's, answer and row are the computing call's; where one is
+-- not, 1. And what holds where it is not refused. Rests on the plan crate's laws of refusals and of the row.
 use mathlib.Core.Path.{_≡_, refl, sym, _∙_}
-use mathlib.Core.Bool.{false}
+use mathlib.Core.Bool.{true, false}
 use mathlib.Core.List.{List}
 use mathlib.Core.Logic.{⊎-elim}
 use Prim.Native.Nat.{ℕ, _^_}
 use native.Mathlib.Omega.{arith}
 use lib.ListN.{length}
-use Rattle.rules.specs.Refusals.{done}
+use Rattle.rules.specs.Refusals.{done, firstHit, outsideLimits}
 use Rattle.rules.proofs.Tests.{decide}
 use Rattle.plans.specs.Padded.{planAt, planAnswer}
 use Rattle.plans.specs.Row.{written, Planned}
 use Rattle.plans.proofs.padded.Refusals.{Accepted, accepted-only}
 use Rattle.plans.proofs.padded.Row.{row-done, row-refused}
-use Rattle.rom.specs.Table.{romFloor, romCap, isOther}
+use Rattle.rom_table.specs.Table.{romFloor, romCap, isOther}
+use Rattle.rom_table.proofs.OwnNumbers.{own, own-numbers}
 use Rattle.rom.specs.Plan.{romPlanAnswer, romPlanRow, RomPlanned}
-use Rattle.rom.proofs.OwnNumbers.{own, own-numbers, plan-own, plan-other}
+
+module _ (A K k a n : ℕ) where
+  pub plan-own : isOther A K ≡ false → romPlanAnswer A K k a n ≡ planAnswer A K k a n
+  unfolding romPlanAnswer planAnswer firstHit
+  plan-own h = rw h refl
+
+  pub plan-other : isOther A K ≡ true → romPlanAnswer A K k a n ≡ outsideLimits
+  unfolding romPlanAnswer firstHit
+  plan-other h = rw h refl
 
 -- a call that is not refused
 pub record RomAccepted (A K k a n : ℕ) : Type 0 where

@@ -11,7 +11,7 @@ use Rattle.rules.specs.OneOutcome.{OneEnd, OneOutcome}
 use Rattle.story.specs.Kept.{titleAt}
 use Rattle.plans.proofs.plan.Reads as computed-plan
 use Rattle.scheduler.proofs.lane.Reads as computed-lane
-use Rattle.rom.specs.Table.{romFloor, romCap}
+use Rattle.rom_table.specs.Table.{romFloor, romCap}
 use Rattle.rom.specs.Lanes.{Own}
 use Rattle.rom.proofs.Planned.{same-plan}
 use Rattle.rom.proofs.Answered.{same-answer, same-cell}

@@ -12,7 +12,7 @@ use Rattle.story.specs.declared.Title.{Title}
 use Rattle.story.specs.declared.State.{State}
 use Rattle.story.specs.Kept.{absentMode, titleAt, isSteadyTitle}
 use Rattle.story.specs.Calls.{laneRules, laneShows}
-use Rattle.rom.specs.Table.{romFloor, romCap, isOther}
+use Rattle.rom_table.specs.Table.{romFloor, romCap, isOther}
 
 -- a slot's title is sent by another scheme, or has another floor or cap; a slot never opened has none
 abbrev pub isForeign : Title → Bool

@@ -1,15 +1,10 @@
--- What the small box answers, and the table that it answers by (02, request 6). specs/Table has its floor, its cap and what stands at each
--- place of the table, by `grid` specs/Lanes `laneCell`; `rom` specs/Lanes and Plan its two calls, each the computing call's definition with
--- one rule in front.
--- - The table is the grid: `table::entry`, at each of the 5,120 places, from one test that the checker computes over the numbers of the
---   source (specs/Table `passes`; proofs/Entries `passes-at`, `entry-at`). So at any tick, since lanes repeat after 2^(K-1) ticks:
---   proofs/Entries `looked-up`, by `scheme` specs/Lawful `repeats` and proofs/Lawful `lane-looked-up`.
+-- What the small box answers (02, request 6), by the table of `rom_table`. `rom` specs/Lanes and Plan have its two calls, each the
+-- computing call's definition with one rule in front.
 -- - The two boxes agree: `rom` proofs/Unique `lanes-agree`, of any outcome of this lane question and any of the scheduler's, for every
 --   state, id, lane and time where the title has floor 3 and cap 10, sending lanes included; `plans-agree`, of answer and row, for every
 --   count, arrival and row. Lanes 10 and 11 and counts 11 and 12, which are within the limits, are included. proofs/Answered `same-answer`,
 --   `same-cell` and proofs/Planned `same-plan` say it of the definitions.
 -- - A cell's plan tick is its first showing on lanes 0 to k - 1: proofs/Showing `seen-plan`, once over floor, cap and count.
-pub mod Table
 pub mod Plan
 pub mod Lanes
 pub mod Showing

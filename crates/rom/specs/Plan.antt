@@ -10,7 +10,7 @@ use Rattle.rules.specs.Refusals.{pick, Rule, refuse, firstHit, outsideLimits}
 use Rattle.grid.specs.Lanes.{laneCell}
 use Rattle.plans.specs.Padded.{planRules, never}
 use Rattle.plans.specs.Row.{planRow}
-use Rattle.rom.specs.Table.{romFloor, romCap, isOther}
+use Rattle.rom_table.specs.Table.{romFloor, romCap, isOther}
 
 abbrev pub romPlanRules : ℕ → ℕ → ℕ → ℕ → ℕ → List Rule
 romPlanRules A K k a n = refuse outsideLimits (isOther A K) ∷ planRules A K k a n

@@ -1,16 +1,16 @@
 // The lane question from the table: a lane's usual cell and what a dropped one still sends are looked up. `lane` is a
 // customer's call and has no `requires`; the others require a title of the box's scheme, floor and cap.
 
-use crate::table::PERIOD;
-use crate::table::ROM_CAP;
-use crate::table::ROM_FLOOR;
-use crate::table::cell_at;
-use crate::table::is_other;
 use measures::lanes::ruling;
 use measures::slots::title_of;
 use measures::ticks::since;
 use measures::ticks::tick_at;
 use owed::owing::is_awaited;
+use rom_table::PERIOD;
+use rom_table::ROM_CAP;
+use rom_table::ROM_FLOOR;
+use rom_table::cell_at;
+use rom_table::is_other;
 use rules::DONE;
 use rules::ID_MAX;
 use rules::OUTSIDE_LIMITS;
@@ -29,7 +29,7 @@ ghost use Rattle.grid.specs.Bounds.{Exactly, tickMax};
 ghost use Rattle.story.specs.Life.{reach};
 ghost use Rattle.story.specs.Kept.{keptOwed, keptNth, sendingTick, shows as showsOf};
 ghost use Rattle.measures.specs.Readable.{Owing, Sending};
-ghost use Rattle.rom.specs.Table.{romCap, romPeriod};
+ghost use Rattle.rom_table.specs.Table.{romCap, romPeriod};
 ghost use Rattle.rom.specs.Lanes.{isForeign, romLaneAnswer, romLaneShows, Own};
 
 // Of a dropped lane a tick is owed: the cell in the table is no padding, and is still awaited.

@@ -1,11 +1,11 @@
 // The box plan from the table: one pass over a period of ticks notes for each cell the first at which a lane shows it.
 // `plan` is a customer's call and has no `requires`.
 
-use crate::table::PERIOD;
-use crate::table::cell_at;
-use crate::table::is_other;
 use plans::NEVER;
 use plans::padded::answer;
+use rom_table::PERIOD;
+use rom_table::cell_at;
+use rom_table::is_other;
 use rules::DONE;
 use rules::OUTSIDE_LIMITS;
 ghost use Prim.Native.Nat.{_+_, _^_, _≤_, _<_};
@@ -17,7 +17,7 @@ ghost use Rattle.grid.specs.Bounds.{Counted};
 ghost use Rattle.scheme.specs.Scheme.{padded, starts};
 ghost use Rattle.plans.specs.Padded.{planAt, never};
 ghost use Rattle.plans.specs.Row.{written};
-ghost use Rattle.rom.specs.Table.{romFloor, romCap, romPeriod};
+ghost use Rattle.rom_table.specs.Table.{romFloor, romCap, romPeriod};
 ghost use Rattle.rom.specs.Plan.{
   romPlanAnswer,
   RomPlanned,

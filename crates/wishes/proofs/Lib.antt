@@ -1,3 +1,2 @@
 -- What the wishes of a sharing are.
-mod Ids
 pub mod Wished

@@ -17,10 +17,10 @@ use Rattle.rules.proofs.Tests.{decide, both-l, both-r, both-in, fails}
 use Rattle.sharing.specs.Choice.{Shared, shared}
 use Rattle.story.specs.declared.State.{State}
 use Rattle.story.specs.Kept.{openMode, isSteadyTitle, titleAt, stateOk}
-use Rattle.wishes.specs.Wishes.{Wish, ratesOk, takesPart, sharedPool, idsWhere, sharers, rated, floorsOf, shareOf}
-use Rattle.wishes.specs.Wishes.{isDrop, isRaise, wishFor, wishes}
-use Rattle.wishes.proofs.Ids.{ids-hit, ids-miss, ids-at, ids-read, ids-total, place-below}
-use Rattle.wishes.proofs.sharers.Laws.{sharer-open, sharer-padded}
+use Rattle.sharers.specs.Sharers.{ratesOk, takesPart, sharedPool, idsWhere, sharers, rated, floorsOf}
+use Rattle.sharers.proofs.Ids.{ids-hit, ids-miss, ids-at, ids-read, ids-total, place-below}
+use Rattle.sharers.proofs.Sharers.{sharer-open, sharer-padded}
+use Rattle.wishes.specs.Wishes.{Wish, shareOf, isDrop, isRaise, wishFor, wishes}
 use Rattle.wishes.proofs.shares.Laws.{best-shares, shares-many, share-range}
 use Rattle.wishes.proofs.passes.Laws.{wishOf}
 

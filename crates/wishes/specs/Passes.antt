@@ -9,9 +9,9 @@ use Rattle.rules.specs.Refusals.{pick}
 use Rattle.story.specs.declared.Title.{Title}
 use Rattle.story.specs.declared.State.{State}
 use Rattle.story.specs.Kept.{titleAt}
+use Rattle.sharers.specs.Sharers.{isSharer}
+use Rattle.sharers.specs.Rows.{noRow}
 use Rattle.wishes.specs.declared.Wishes.{Wishes}
-use Rattle.wishes.specs.Wishes.{isSharer}
-use Rattle.wishes.specs.Sharers.{noRow}
 
 -- a title takes part, and its share is above its count, or else below it
 abbrev pub wantsMove : Bool → Title → ℕ → Bool

@@ -8,9 +8,10 @@ use Rattle.rules.specs.Limits.{titlesMax}
 use Rattle.rules.specs.Search.{howMany}
 use Rattle.sharing.specs.Verdict.{rowAfter}
 use Rattle.story.specs.declared.State.{State}
-use Rattle.wishes.specs.declared.sharers.Rows.{Rows}
-use Rattle.wishes.specs.Wishes.{takesPart, shareOf}
-use Rattle.wishes.specs.Sharers.{noRow}
+use Rattle.sharers.specs.declared.rows.Rows.{Rows}
+use Rattle.sharers.specs.Sharers.{takesPart}
+use Rattle.sharers.specs.Rows.{noRow}
+use Rattle.wishes.specs.Wishes.{shareOf}
 
 -- what the sharing of a pool among the titles of the rows leaves in a row of zeros
 unfoldable pub countsOf : ℕ → Rows → List ℕ

@@ -1,8 +1,8 @@
 // The wishes, collected in passes over the ids, lowest first.
 
 use crate::Wishes;
-use crate::sharers::takes_part;
 use rules::TITLES_MAX;
+use sharers::takes_part;
 use story::State;
 use story::Title;
 ghost use Prim.Native.Nat.{_+_, _≤_, _<_};

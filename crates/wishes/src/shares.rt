@@ -1,10 +1,10 @@
 // What the sharing of the pool gives to each title, by its id.
 
-use crate::shared_pool;
-use crate::sharers::Rows;
-use crate::sharers::rows_of;
-use crate::sharers::takes_part;
 use rules::TITLES_MAX;
+use sharers::rows::Rows;
+use sharers::rows::rows_of;
+use sharers::shared_pool;
+use sharers::takes_part;
 use story::State;
 use story::Title;
 ghost use Prim.Native.Nat.{_+_, _≤_, _<_};
@@ -14,8 +14,8 @@ ghost use lib.ListN.{length};
 ghost use Rattle.rules.specs.Limits.{titlesMax};
 ghost use Rattle.rules.specs.Refusals.{pick};
 ghost use Rattle.story.specs.Kept.{stateOk};
-ghost use Rattle.wishes.specs.Wishes.{isSharer, ratesOk, floorsOf, sharedPool};
-ghost use Rattle.wishes.specs.Sharers.{FullRows};
+ghost use Rattle.sharers.specs.Sharers.{isSharer, ratesOk, floorsOf, sharedPool};
+ghost use Rattle.sharers.specs.Rows.{FullRows};
 ghost use Rattle.wishes.specs.Shares.{countsOf, sharesTo, ByShare};
 
 // The counts that the sharing writes, in the order of the rows.

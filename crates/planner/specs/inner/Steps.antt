@@ -10,7 +10,8 @@ use Rattle.rules.specs.Refusals.{Rule, refuse, firstHit, outsideLimits, tooEarl
 use Rattle.story.specs.declared.State.{State}
 use Rattle.story.specs.Kept.{openMode, titleAt, stateOk}
 use Rattle.wishes.specs.declared.Wishes.{Wishes}
-use Rattle.wishes.specs.Wishes.{Wish, ratesOk, floorsOf, sharedPool, wishAt, wishesIn}
+use Rattle.sharers.specs.Sharers.{ratesOk, floorsOf, sharedPool}
+use Rattle.wishes.specs.Wishes.{Wish, wishAt, wishesIn}
 use Rattle.planner.specs.declared.times.Times.{Times}
 use Rattle.planner.specs.Moves.{momentFor, movedAt, listed}
 

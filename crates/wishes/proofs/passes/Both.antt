@@ -15,8 +15,9 @@ use Rattle.rules.proofs.Tests.{decide, both-l}
 use Rattle.rules.proofs.Search.{howMany-le}
 use Rattle.story.specs.declared.State.{State}
 use Rattle.story.specs.Kept.{titleAt}
+use Rattle.sharers.specs.Sharers.{idsWhere, takesPart}
 use Rattle.wishes.specs.declared.Wishes.{Wishes}
-use Rattle.wishes.specs.Wishes.{Wish, idsWhere, takesPart, shareOf, isDrop, isRaise, wishes, wishesTo, wishesIn}
+use Rattle.wishes.specs.Wishes.{Wish, shareOf, isDrop, isRaise, wishes, wishesTo, wishesIn}
 use Rattle.wishes.specs.Shares.{ByShare}
 use Rattle.wishes.specs.Passes.{movesAt, noWishes, passTo}
 use Rattle.wishes.proofs.passes.Laws.{wishOf, pass-many, pass-places, pass-wishes, pass-ext, apart-many}

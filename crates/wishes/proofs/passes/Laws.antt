@@ -14,10 +14,11 @@ use Rattle.rules.specs.Refusals.{pick}
 use Rattle.rules.specs.Search.{howMany}
 use Rattle.rules.proofs.Tests.{decide}
 use Rattle.rules.proofs.Search.{howMany-hit, howMany-miss, howMany-mono, howMany-le, howMany-step}
+use Rattle.sharers.specs.Sharers.{idsWhere}
+use Rattle.sharers.proofs.Ids.{ids-hit, ids-miss}
 use Rattle.wishes.specs.declared.Wishes.{Wishes}
-use Rattle.wishes.specs.Wishes.{Wish, idsWhere, wishesTo, wishesIn}
+use Rattle.wishes.specs.Wishes.{Wish, wishesTo, wishesIn}
 use Rattle.wishes.specs.Passes.{withWish, passTo}
-use Rattle.wishes.proofs.Ids.{ids-hit, ids-miss}
 
 -- ---- the rows of a list of wishes
 

@@ -25,11 +25,12 @@ use Rattle.sharing.proofs.Promise.{first-places}
 use Rattle.story.specs.declared.State.{State}
 use Rattle.story.specs.Kept.{absentMode, titleAt, orderOk, stateOk}
 use Rattle.measures.proofs.Within.{numbers, order, readable, title-ok, all-readable}
-use Rattle.wishes.specs.Wishes.{ratesOk, takesPart, sharedPool, sharers, ratedAt, rated, floorsOf, shareOf}
-use Rattle.wishes.specs.Sharers.{noRow, rowsTo}
+use Rattle.sharers.specs.Sharers.{ratesOk, takesPart, sharedPool, sharers, ratedAt, rated, floorsOf}
+use Rattle.sharers.specs.Rows.{noRow, rowsTo}
+use Rattle.sharers.proofs.Ids.{ids-at, ids-each, ids-many, ids-total, read-many, place-below, row-is}
+use Rattle.sharers.proofs.Sharers.{sharer-open, rows-are, floor-high}
+use Rattle.wishes.specs.Wishes.{shareOf}
 use Rattle.wishes.specs.Shares.{countsOf, sharesTo, ByShare}
-use Rattle.wishes.proofs.Ids.{ids-at, ids-each, ids-many, ids-total, read-many, place-below, row-is}
-use Rattle.wishes.proofs.sharers.Laws.{sharer-open, rows-are, floor-high}
 
 -- ---- titles in rows
 

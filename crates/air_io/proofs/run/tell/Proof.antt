@@ -1,7 +1,7 @@
 -- `air_io::run::tell` is safe and ends: the row has room for every number that was taken.
 use mathlib.Core.Path.{sym}
 use lib.Seq.{length-take-le}
-use Rattle.air_io.proofs.Reading.{taken-within}
+use Rattle.air_record.proofs.Reading.{taken-within}
 use borrow.Author.Needs.{needs}
 use Rattle.air_io.proofs.run.tell.Statement.{statement}
 use Rattle.air_io.proofs.run.tell.Tie as tie

@@ -1,7 +1,7 @@
 -- `console_boxes::plan::put_plan` meets its contract: the plan of a row of as many places as the line asks for.
 use Rattle.console_boxes.specs.Plan.{planIn}
 use Rattle.console_answers.proofs.Rows.{counted}
-use Rattle.console_lines.specs.Commands.{placesMost}
+use Rattle.console_commands.specs.Commands.{placesMost}
 use borrow.Author.Needs.{needs}
 use Rattle.console_boxes.proofs.plan.put_plan.Statement.{statement}
 use Rattle.console_boxes.proofs.plan.put_plan.Tie as tie

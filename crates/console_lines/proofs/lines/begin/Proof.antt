@@ -5,7 +5,7 @@ use mathlib.Core.Path.{_∙_, ap}
 use native.Mathlib.Omega.{arith}
 use lib.ListN.{length}
 use Rattle.console_lines.specs.declared.lines.Line.{Line}
-use Rattle.console_lines.specs.Commands.{tooLong}
+use Rattle.console_commands.specs.Commands.{tooLong}
 use Rattle.console_lines.specs.Lines.{withFault, withVerb, longest}
 use Rattle.text.specs.declared.bytes.Sort.the-variants.{Word}
 use Rattle.text.proofs.Runs.{run-end-low, run-end-high}

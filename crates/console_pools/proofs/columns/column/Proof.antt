@@ -7,7 +7,7 @@ use native.Mathlib.Omega.{arith}
 use native.Mathlib.Nat.{le-antisymm}
 use native.Mathlib.Numerals.{add-one}
 use Rattle.console_pools.specs.Shares.{column}
-use Rattle.console_lines.specs.Commands.{titlesMost, titleNumbers}
+use Rattle.console_commands.specs.Commands.{titlesMost, titleNumbers}
 use Rattle.console_lines.specs.Lines.{numbersMost}
 use borrow.Author.Needs.{needs}
 use Rattle.console_pools.proofs.columns.column.Statement.{statement}

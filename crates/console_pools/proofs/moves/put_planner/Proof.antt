@@ -2,7 +2,7 @@
 use mathlib.Core.Path.{refl}
 use native.Mathlib.Omega.{arith}
 use lib.ListN.{length-take, replicate}
-use Rattle.console_lines.specs.Commands.{titlesMost, roomMost}
+use Rattle.console_commands.specs.Commands.{titlesMost, roomMost}
 use Rattle.console_pools.specs.Moves.{ratesIn, plannerIn}
 use Rattle.console_answers.proofs.Rows.{counted}
 use Rattle.console_pools.proofs.Listed.{lent}

@@ -3,7 +3,7 @@ use native.Mathlib.Omega.{arith}
 use lib.ListN.{length-take}
 use Rattle.console_pools.specs.Shares.{shareIn}
 use Rattle.console_answers.proofs.Rows.{counted}
-use Rattle.console_lines.specs.Commands.{titlesMost}
+use Rattle.console_commands.specs.Commands.{titlesMost}
 use borrow.Author.Needs.{needs}
 use Rattle.console_pools.proofs.shares.put_share.Statement.{statement}
 use Rattle.console_pools.proofs.shares.put_share.Tie as tie

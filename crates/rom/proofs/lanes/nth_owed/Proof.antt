@@ -7,7 +7,7 @@ use native.Mathlib.Omega.{arith}
 use native.Mathlib.Numerals.{add-one}
 use native.Mathlib.Nat.{le-antisymm}
 use borrow.Author.Needs.{needs}
-use Rattle.rom.specs.Table.{romPeriod}
+use Rattle.rom_table.specs.Table.{romPeriod}
 use Rattle.owed.proofs.Nth.{Unmet, unmet-yet, unmet-owed, unmet-not, met}
 use Rattle.rom.proofs.Answered.{own-reach}
 use Rattle.rom.proofs.lanes.nth_owed.Statement.{statement}

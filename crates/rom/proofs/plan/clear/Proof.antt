@@ -8,7 +8,7 @@ use lib.ListN.{length, length-set}
 use borrow.Author.Needs.{needs}
 use Rattle.plans.specs.Padded.{never}
 use Rattle.plans.specs.Row.{written}
-use Rattle.rom.specs.Table.{romCap}
+use Rattle.rom_table.specs.Table.{romCap}
 use Rattle.rom.proofs.plan.clear.Statement.{statement}
 use Rattle.rom.proofs.plan.clear.Tie as tie
 

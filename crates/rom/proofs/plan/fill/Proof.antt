@@ -1,7 +1,7 @@
 -- `fill` meets its contract: what the ticks of a period show is the plan. Rests on the laws of noting.
 use mathlib.Core.Path.{ap, _∙_}
 use borrow.Author.Needs.{needs}
-use Rattle.rom.specs.Table.{romPeriod}
+use Rattle.rom_table.specs.Table.{romPeriod}
 use Rattle.rom.specs.Plan.{notedTicks}
 use Rattle.rom.proofs.Noted.{ticks-plan}
 use Rattle.rom.proofs.plan.fill.Statement.{statement}

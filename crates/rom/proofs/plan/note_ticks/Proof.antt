@@ -5,7 +5,7 @@ use native.Mathlib.Omega.{arith}
 use native.Mathlib.Nat.{le-antisymm}
 use lib.ListN.{length}
 use borrow.Author.Needs.{needs}
-use Rattle.rom.specs.Table.{romPeriod}
+use Rattle.rom_table.specs.Table.{romPeriod}
 use Rattle.rom.specs.Plan.{notedTicks}
 use Rattle.rom.proofs.Noted.{lanes-length, ticks-more}
 use Rattle.rom.proofs.plan.note_ticks.Statement.{statement}

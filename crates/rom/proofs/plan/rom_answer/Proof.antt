@@ -1,8 +1,8 @@
 -- `rom_answer` meets its contract: each way out decides whether floor and cap are the box's.
--- Rests on the laws of that test.
+-- Rests on the laws of the two ways.
 use mathlib.Core.Path.{sym, _∙_}
 use borrow.Author.Needs.{needs}
-use Rattle.rom.proofs.OwnNumbers.{plan-own, plan-other}
+use Rattle.rom.proofs.Planned.{plan-own, plan-other}
 use Rattle.rom.proofs.plan.rom_answer.Statement.{statement}
 use Rattle.rom.proofs.plan.rom_answer.Tie as tie
 

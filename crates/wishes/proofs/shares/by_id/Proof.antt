@@ -7,7 +7,7 @@ use native.Mathlib.Nat.{le-antisymm}
 use Rattle.rules.specs.Limits.{titlesMax}
 use Rattle.rules.specs.Search.{howMany}
 use Rattle.rules.proofs.Search.{howMany-le}
-use Rattle.wishes.specs.Wishes.{takesPart}
+use Rattle.sharers.specs.Sharers.{takesPart}
 use Rattle.wishes.specs.Shares.{sharesTo}
 use borrow.Author.Needs.{needs}
 use Rattle.wishes.proofs.shares.by_id.Statement.{statement}

@@ -1,6 +1,6 @@
 -- `shared_counts` meets its contract: the places in use go to the sharing, and its row is the answer.
+use Rattle.sharers.proofs.Sharers.{in-use}
 use Rattle.wishes.specs.Shares.{countsOf}
-use Rattle.wishes.proofs.sharers.Laws.{in-use}
 use borrow.Author.Needs.{needs}
 use Rattle.wishes.proofs.shares.shared_counts.Statement.{statement}
 use Rattle.wishes.proofs.shares.shared_counts.Tie as tie

@@ -1,5 +1,5 @@
 -- `shares_of` meets its contract: the counts of the rows' sharing, at the ids of their titles.
-use Rattle.wishes.proofs.sharers.Laws.{rows-whole}
+use Rattle.sharers.proofs.Sharers.{rows-whole}
 use Rattle.wishes.proofs.shares.Laws.{by-share}
 use borrow.Author.Needs.{needs}
 use Rattle.wishes.proofs.shares.shares_of.Statement.{statement}

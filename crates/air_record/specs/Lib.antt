@@ -1,0 +1,2 @@
+-- The record of the air that a text spells.
+pub mod Record

@@ -1,0 +1,2 @@
+-- Laws of the table of commands.
+pub mod Rows

@@ -1,0 +1,2 @@
+-- The commands of the operator's console.
+pub mod Commands

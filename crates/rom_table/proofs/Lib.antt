@@ -1,0 +1,3 @@
+-- Laws of the table of the small box.
+pub mod Entries
+pub mod OwnNumbers

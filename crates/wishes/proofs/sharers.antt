@@ -1,2 +1,0 @@
--- Of the rows of the titles that share the pool.
-pub mod Laws
