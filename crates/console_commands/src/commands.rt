@@ -170,15 +170,17 @@ const ROOM: u64 = ROOM_MOST as u64;
 
 const FREE: [u64; LIMITED] = [ANY; LIMITED];
 
+// The row of a line that asks nothing.
+const NOTHING: Command = Command {
+    word: *b"        ",
+    least: 0,
+    most: 0,
+    limits: FREE,
+};
+
 // A row for each command, by its number.
 const ROWS: [Command; COMMANDS] = [
-    // a line that asks nothing
-    Command {
-        word: *b"        ",
-        least: 0,
-        most: 0,
-        limits: FREE,
-    },
+    NOTHING,
     Command {
         word: *b"fresh   ",
         least: 1,
@@ -340,7 +342,8 @@ fn entry(command: u8) -> Command
     if k < COMMANDS {
         return ROWS[k];
     }
-    ROWS[0]
+    // not the first row: the table is built wherever it is named
+    NOTHING
 }
 
 // command where the word is its name, or other.

@@ -14,8 +14,8 @@ returns c = any-default commandTable (c .before .before .args .command) _ noComm
 
 returns-2 : tie.Need-returns-2
 unfolding text commandTable commandOf
-returns-2 c = sym (List·getD-eq-default commandTable noCommand (c .before .if1 .left))
+returns-2 c = sym (List·getD-eq-default commandTable noCommand (c .if1 .left))
 
 pub entry-spec : {M : Type 1} → statement M
 entry-spec =
-    tie.close (tie.spec (λ c. search needs) (λ c. search needs) returns (λ c. search needs) returns-2)
+    tie.close (tie.spec (λ c. search needs) (λ c. search needs) returns returns-2)
