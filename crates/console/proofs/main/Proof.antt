@@ -1,19 +1,20 @@
--- `console_io::run` is safe and ends: both rows keep their length, and the turns are counted down.
+-- `console::main` is safe and ends: both rows keep their length, and the turns are counted down.
 use mathlib.Core.Path.{_≡_}
 use native.Mathlib.Omega.{arith}
 use lib.ListN.{length}
 use borrow.Author.Needs.{needs}
-use Rattle.console_io.proofs.run.Statement.{statement}
-use Rattle.console_io.proofs.run.Tie as tie
+use Rattle.console.proofs.main.Statement.{statement}
+use Rattle.console.proofs.main.Tie as tie
 
 abbrev Inv-loop : tie.InvT-loop
-Inv-loop buffer₀ out₀ stand₀ turns₀ buffer out stand turns = (length buffer ≡ 65536) × (length out ≡ 65536)
+Inv-loop input₀ out₀ agent₀ session₀ turns₀ input out agent session turns =
+    (length input ≡ 65536) × (length out ≡ 65536)
 
 abbrev μ-loop : tie.MeasureT-loop
-μ-loop buffer₀ out₀ stand₀ turns₀ buffer out stand turns = turns
+μ-loop input₀ out₀ agent₀ session₀ turns₀ input out agent session turns = turns
 
-pub run-spec : {M : Type 1} → statement M
-run-spec =
+pub main-spec : {M : Type 1} → statement M
+main-spec =
     tie.close
     (tie.spec
     Inv-loop
@@ -21,6 +22,9 @@ run-spec =
     (λ c κs. search needs)
     (λ c κs. search needs)
     (λ c κs. search needs)
+    (λ c κs. search needs)
+    (λ c. search needs)
+    (λ c. search needs)
     (λ c. search needs)
     (λ c κs. search needs)
     (λ c. search needs)
