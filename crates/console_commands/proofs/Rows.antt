@@ -1,13 +1,13 @@
 -- Laws of the table of commands: a computed test over all rows holds of each, and the search for a word goes row by row from
 -- the last.
-use Prim.Native.Nat.{ℕ, zero, suc, _-_, _<_, _≤_}
-use mathlib.Core.Path.{_≡_, refl, ap, _∙_}
+use Prim.Native.Nat.{ℕ, zero, suc, _+_, _-_, _<_, _≤_}
+use mathlib.Core.Path.{_≡_, refl, sym, ap, _∙_}
 use mathlib.Core.Bool.{Bool, true}
 use mathlib.Core.List.{List, [], _∷_}
 use native.Mathlib.Omega.{arith}
 use borrow.Author.Tests.{leb-true, eqb-true}
-use lib.ListN.{length, getD, take, drop}
-use lib.Seq.{drop-cons}
+use lib.ListN.{length, getD, take, drop, List·getD-eq-default}
+use lib.Seq.{drop-cons, getD-take, getD-drop}
 use lib.Dec.{leb, eqb}
 use Rattle.rules.specs.Limits.{both}
 use Rattle.rules.specs.Refusals.{pick}
@@ -17,11 +17,7 @@ use Rattle.text.specs.Texts.{text, same}
 use Rattle.text.specs.Bytes.{run, runEnd}
 use Rattle.text.proofs.Runs.{run-end-high}
 use Rattle.console_commands.specs.declared.commands.Command.{Command}
-use Rattle.console_commands.specs.Commands.{noCommand, commandTable, commandOf, nameOf, seek, verbOf, wordsMost}
-
--- how many commands there are
-abbrev pub commands : ℕ
-commands = 26
+use Rattle.console_commands.specs.Commands.{commandCount, noCommand, commandTable, commandOf, nameOf, seek, verbOf, wordsMost}
 
 -- a test holds of every row
 unfoldable every : (Command → Bool) → List Command → Bool
@@ -40,6 +36,30 @@ pub any-default : (rows : List Command) (i : ℕ) (d e : Command) → i < length
 any-default [] i d e h = absurd (omega arith)
 any-default (r ∷ rows) zero d e h = refl
 any-default (r ∷ rows) (suc i) d e h = any-default rows i d e (omega arith)
+
+inside : (i : ℕ) → i < commandCount → i < length commandTable
+unfolding commandTable
+inside i h = h
+
+-- the first rows of the table are those of the first commands, and a part from the a-th on those of the commands from a on
+pub in-front : (n i : ℕ) (d : Command) → i < n → i < commandCount → getD (take n commandTable) i d ≡ commandOf i
+unfolding commandOf
+in-front n i d few h = getD-take n _ i d few ∙ any-default commandTable i d noCommand (inside i h)
+
+pub in-part : (a n i : ℕ) (d : Command) → i < n → a + i < commandCount
+    → getD (take n (drop a commandTable)) i d ≡ commandOf (a + i)
+unfolding commandOf
+in-part a n i d few h =
+    getD-take n _ i d few ∙ getD-drop a commandTable i d ∙ any-default commandTable (a + i) d noCommand (inside (a + i) h)
+
+-- counted from a and from the start
+pub from-part : (a c : ℕ) → a ≤ c → commandOf (a + (c - a)) ≡ commandOf c
+from-part a c h = let e : a + (c - a) ≡ c = omega arith in ap commandOf e
+
+-- past the last row stands that of a line that asks nothing
+pub past-rows : (c : ℕ) → commandCount ≤ c → noCommand ≡ commandOf c
+unfolding commandOf commandTable
+past-rows c h = sym (List·getD-eq-default commandTable noCommand h)
 
 -- no command takes more words than a share
 pub most-few : (c : ℕ) → commandOf c .most ≤ wordsMost
@@ -62,21 +82,17 @@ pub name-fits : (r : Command) (c end : ℕ) → r ≡ commandOf c → end ≡ ru
 name-fits r c end e f = omega (arith, f, run-end-high Word (r .word) 0 (omega arith))
 
 -- the search over the rows from the i-th on: none behind the last, and one row more
-pub sought-none : (w : List ℕ) → 0 ≡ seek w commands (drop commands commandTable)
+pub sought-none : (w : List ℕ) → 0 ≡ seek w commandCount (drop commandCount commandTable)
 unfolding seek commandTable
 sought-none w = refl
 
-inside : (i : ℕ) → i < commands → i < length commandTable
-unfolding commandTable
-inside i h = h
-
-pub sought-on : (w : List ℕ) (i found r : ℕ) → i < commands → found ≡ seek w (suc i) (drop (suc i) commandTable)
+pub sought-on : (w : List ℕ) (i found r : ℕ) → i < commandCount → found ≡ seek w (suc i) (drop (suc i) commandTable)
     → r ≡ pick (same w (nameOf (commandOf i))) i found → r ≡ seek w i (drop i commandTable)
 unfolding seek commandOf
 sought-on w i found r h e f = rw (drop-cons commandTable i noCommand (inside i h), ← e) f
 
 -- the same from a place that is not the first back to the one before it, and at the first
-pub sought-back : (w : List ℕ) (left found r : ℕ) → 0 < left → left ≤ commands → found ≡ seek w left (drop left commandTable)
+pub sought-back : (w : List ℕ) (left found r : ℕ) → 0 < left → left ≤ commandCount → found ≡ seek w left (drop left commandTable)
     → r ≡ pick (same w (nameOf (commandOf (left - 1)))) (left - 1) found
     → r ≡ seek w (left - 1) (drop (left - 1) commandTable)
 sought-back w zero found r h m e f = absurd (omega arith)

@@ -97,6 +97,10 @@ writeLift = 24
 abbrev pub writeSkip : ℕ
 writeSkip = 25
 
+-- how many commands there are
+abbrev pub commandCount : ℕ
+commandCount = 26
+
 -- what a line may name at most: ids of a status, titles of a share and rates of a planner, places of a plan, as many as the
 -- longest has, and places for a planner's list, one for each title. One title or rate more than the product takes, so that
 -- its own refusal is seen

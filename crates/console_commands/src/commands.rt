@@ -8,7 +8,7 @@ use text::numbers::BYTE_MOST;
 use text::numbers::FOUR_BYTES_MOST;
 use text::numbers::TOP;
 ghost use mathlib.Core.Path.{_≡_};
-ghost use Prim.Native.Nat.{_≤_};
+ghost use Prim.Native.Nat.{_+_, _-_, _<_, _≤_};
 ghost use Rattle.rules.specs.Refusals.{pick};
 ghost use Rattle.text.specs.Texts.{same};
 ghost use Rattle.console_commands.specs.Commands.{
@@ -24,6 +24,9 @@ ghost use Rattle.console_commands.specs.Commands.{
   takesKind,
   asksPlan,
   wordsMost,
+  doLane,
+  writeOpen,
+  commandCount,
 };
 
 // A line that asks nothing.
@@ -178,8 +181,9 @@ const NOTHING: Command = Command {
     limits: FREE,
 };
 
-// A row for each command, by its number.
-const ROWS: [Command; COMMANDS] = [
+// The rows of the commands by their number, in parts, since a table is built wherever it is named: fresh and the events, what
+// asks and tells, and the kinds of a write, which two words name.
+const ACTS: [Command; ASKS_FROM] = [
     NOTHING,
     Command {
         word: *b"fresh   ",
@@ -223,6 +227,9 @@ const ROWS: [Command; COMMANDS] = [
         most: 4,
         limits: FREE,
     },
+];
+
+const ASKS: [Command; WRITES_FROM - ASKS_FROM] = [
     Command {
         word: *b"lane    ",
         least: 3,
@@ -295,7 +302,9 @@ const ROWS: [Command; COMMANDS] = [
         most: 0,
         limits: FREE,
     },
-    // a write of an opening, and of each other kind: named by two words
+];
+
+const WRITES: [Command; COMMANDS - WRITES_FROM] = [
     Command {
         word: *b"        ",
         least: 7,
@@ -334,15 +343,45 @@ const ROWS: [Command; COMMANDS] = [
     },
 ];
 
+const ASKS_FROM: usize = LANE as usize;
+
+const WRITES_FROM: usize = WRITE_OPEN as usize;
+
+fn act_row(i: usize) -> Command
+    requires { ⌜ i < doLane ⌝ }
+    ensures { λ r. ⌜ r ≡ commandOf i ⌝ }
+{
+    ACTS[i]
+}
+
+fn ask_row(i: usize) -> Command
+    requires { ⌜ i < writeOpen - doLane ⌝ }
+    ensures { λ r. ⌜ r ≡ commandOf (doLane + i) ⌝ }
+{
+    ASKS[i]
+}
+
+fn write_row(i: usize) -> Command
+    requires { ⌜ i < commandCount - writeOpen ⌝ }
+    ensures { λ r. ⌜ r ≡ commandOf (writeOpen + i) ⌝ }
+{
+    WRITES[i]
+}
+
 // The row of a command; past the last, that of a line that asks nothing.
 fn entry(command: u8) -> Command
     ensures { λ r. ⌜ r ≡ commandOf command ⌝ }
 {
     let k = command as usize;
-    if k < COMMANDS {
-        return ROWS[k];
+    if k < ASKS_FROM {
+        return act_row(k);
     }
-    // not the first row: the table is built wherever it is named
+    if k < WRITES_FROM {
+        return ask_row(k - ASKS_FROM);
+    }
+    if k < COMMANDS {
+        return write_row(k - WRITES_FROM);
+    }
     NOTHING
 }
 

@@ -1,21 +1,30 @@
--- `console_commands::commands::entry` meets its contract: the code's table is that of the definitions.
-use mathlib.Core.Path.{sym}
-use lib.ListN.{List·getD-eq-default}
+-- `console_commands::commands::entry` meets its contract: each part of the table has the rows from its first command on.
+use mathlib.Core.Path.{_∙_}
 use Rattle.text.specs.Texts.{text}
-use Rattle.console_commands.specs.Commands.{noCommand, commandTable, commandOf}
-use Rattle.console_commands.proofs.Rows.{any-default}
+use Rattle.console_commands.specs.Commands.{doLane, writeOpen}
+use Rattle.console_commands.proofs.Rows.{from-part, past-rows}
 use borrow.Author.Needs.{needs}
 use Rattle.console_commands.proofs.commands.entry.Statement.{statement}
 use Rattle.console_commands.proofs.commands.entry.Tie as tie
 
-returns : tie.Need-returns
-unfolding text commandTable commandOf
-returns c = any-default commandTable (c .before .before .args .command) _ noCommand (c .before .if1 .taken)
-
 returns-2 : tie.Need-returns-2
-unfolding text commandTable commandOf
-returns-2 c = sym (List·getD-eq-default commandTable noCommand (c .if1 .left))
+returns-2 c = c .ask-row .ensures ∙ from-part doLane _ (c .before .before .if1 .left)
+
+returns-3 : tie.Need-returns-3
+returns-3 c = c .write-row .ensures ∙ from-part writeOpen _ (c .before .before .if2 .left)
+
+returns-4 : tie.Need-returns-4
+unfolding text
+returns-4 c = past-rows _ (c .if3 .left)
 
 pub entry-spec : {M : Type 1} → statement M
 entry-spec =
-    tie.close (tie.spec (λ c. search needs) (λ c. search needs) returns returns-2)
+    tie.close
+    (tie.spec
+    (λ c κs. search needs)
+    (λ c. search needs)
+    (λ c κs. search needs)
+    returns-2
+    (λ c κs. search needs)
+    returns-3
+    returns-4)
