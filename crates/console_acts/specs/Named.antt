@@ -11,7 +11,7 @@ use Rattle.story.specs.declared.Act.{Act}
 use Rattle.story.specs.declared.Act.the-variants.{Opens, Changes, Closes, Doors}
 use Rattle.story.specs.declared.Event.{Event}
 use Rattle.story.specs.Kept.{titleAt}
-use Rattle.verdicts.specs.Asked.{settledIn}
+use Rattle.questions.specs.Asked.{settledIn}
 use Rattle.notice.specs.declared.Reading.{Reading}
 use Rattle.notice.specs.declared.Reading.the-variants as reading
 use Rattle.notice.specs.Decode.{readOf}

@@ -21,7 +21,7 @@ use Rattle.story.specs.Life.{reach}
 use Rattle.story.specs.Kept.{absentMode, titleAt, isSteadyTitle, schemeIn, titleTick, tickAt, ruling, keptAwaited, keptOwed, sendingTick, shows}
 use Rattle.story.specs.Calls.{laneAnswer, laneShows}
 use Rattle.owed.proofs.Shown.{shows-active, shows-sending}
-use Rattle.verdicts.proofs.Event.{lane-id, lane-slot}
+use Rattle.questions.proofs.Lane.{lane-id, lane-slot}
 use Rattle.rom_table.specs.Table.{romFloor, romCap, romPeriod, isOther}
 use Rattle.rom_table.proofs.OwnNumbers.{own, own-numbers}
 use Rattle.rom.specs.Lanes.{isForeign, romLaneAnswer, romLaneShows, Own}

@@ -8,7 +8,7 @@ use Rattle.rules.specs.Refusals.{pick, refuse, firstHit, noLanes}
 use Rattle.story.specs.declared.State.{State}
 use Rattle.story.specs.Kept.{lanesHeld}
 use Rattle.story.specs.Calls.{tooMany}
-use Rattle.verdicts.specs.Asked.{askedAnswer}
+use Rattle.questions.specs.Asked.{askedAnswer}
 
 -- 01, "Events": an event that asks for lanes is refused for want of them exactly when, with it, more than the pool would be held
 unfoldable pub settledAnswer : Bool → State → ℕ → ℕ

@@ -12,10 +12,10 @@ use Rattle.rules.proofs.Tests.{both-l, both-r}
 use Rattle.story.specs.declared.State.{State}
 use Rattle.story.specs.Kept.{stateOk}
 use Rattle.story.specs.Calls.{statusRules, statusAnswer}
-use Rattle.verdicts.specs.Asked.{askedAnswer}
+use Rattle.questions.specs.Asked.{askedAnswer}
 use Rattle.rules.specs.Refusals.{wrongRows}
 use Rattle.rules.proofs.Refusals.{hitsOf, numbered, cleared, behind-clear}
-use Rattle.verdicts.proofs.Asked.{asked-state, asked-others}
+use Rattle.questions.proofs.Asked.{asked-state, asked-others}
 use Rattle.status.specs.Rows.{idsOk}
 
 module _ (s : State) (τ : ℕ) (ids : List ℕ) (m h d : ℕ) (none : statusAnswer s τ ids m h d ≡ 0) where

@@ -16,8 +16,8 @@ use Rattle.rules.specs.Search.{every}
 use Rattle.rules.proofs.Search.{below-suc, every-out}
 use Rattle.story.specs.declared.State.{State}
 use Rattle.story.specs.Calls.{statusAnswer, statusCount, statusHeld, statusMark}
-use Rattle.verdicts.specs.Asked.{askedAnswer}
-use Rattle.verdicts.proofs.Asked.{asked-state, asked-time, asked-others, asked-late}
+use Rattle.questions.specs.Asked.{askedAnswer}
+use Rattle.questions.proofs.Asked.{asked-state, asked-time, asked-others, asked-late}
 use Rattle.status.specs.declared.Record.{Record}
 use Rattle.status.specs.Records.{noRecord, recordIdsOk, recordsAnswer, filledRecord, recordFor}
 use Rattle.status.proofs.Filled.{every-place}

@@ -9,7 +9,7 @@ use Rattle.rules.specs.Refusals.{pick}
 use Rattle.rules.specs.Search.{every}
 use Rattle.story.specs.declared.State.{State}
 use Rattle.story.specs.Calls.{statusAnswer, statusCount, statusHeld, statusMark}
-use Rattle.verdicts.specs.Asked.{askedAnswer}
+use Rattle.questions.specs.Asked.{askedAnswer}
 use Rattle.status.specs.declared.Record.{Record}
 
 abbrev pub noRecord : Record

@@ -4,6 +4,7 @@
 use measures::lanes::ruling;
 use measures::lanes::title_held;
 use measures::slots::title_of;
+use questions::asked_verdict;
 use rules::DONE;
 use rules::ID_MAX;
 use rules::WRONG_ROWS;
@@ -12,7 +13,6 @@ use rules::truth::row_within;
 use story::CLEAR;
 use story::State;
 use story::Title;
-use verdicts::questions::asked_verdict;
 ghost use mathlib.Core.Path.{_≡_};
 ghost use mathlib.Core.Bool.{true};
 ghost use mathlib.Core.List.{map};

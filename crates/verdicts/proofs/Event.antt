@@ -3,23 +3,22 @@
 use mathlib.Core.Path.{_≡_, refl, sym, ap, _∙_}
 use mathlib.Core.Bool.{Bool, true, false, not}
 use mathlib.Core.List.{_∷_}
-use Prim.Native.Nat.{ℕ, _≤_, _<_}
+use Prim.Native.Nat.{ℕ, _≤_}
 use native.Mathlib.Omega.{arith}
-use borrow.Author.Tests.{leb-true, ltb-true, eqb-false, not-false, not-true}
-use lib.Dec.{leb, ltb, eqb}
-use Rattle.rules.specs.Limits.{both, idMax, laneMax, eventTimeMax, askedMax}
-use Rattle.rules.specs.Refusals.{firstHit, refuse, hitsOf, numbered, outsideLimits, tooEarly, notThere}
+use borrow.Author.Tests.{leb-true, not-false}
+use lib.Dec.{leb, ltb}
+use Rattle.rules.specs.Limits.{both, idMax, eventTimeMax, askedMax}
+use Rattle.rules.specs.Refusals.{firstHit, refuse, hitsOf, numbered, outsideLimits, tooEarly}
 use Rattle.rules.proofs.Tests.{both-l, both-r, both-true}
 use Rattle.rules.proofs.Refusals.{cleared}
 use Rattle.story.specs.declared.State.{State}
 use Rattle.story.specs.declared.Act.{Act}
 use Rattle.story.specs.declared.Act.the-variants.{Opens, Changes, Closes, Doors}
-use Rattle.story.specs.Kept.{absentMode, titleAt, stateOk, titleOk, isThere}
+use Rattle.story.specs.Kept.{titleAt, stateOk, titleOk, isThere}
 use Rattle.story.specs.Story.{event, actLimits}
-use Rattle.story.specs.Calls.{eventOk, laneHeld, laneRules, laneAnswer}
-use Rattle.measures.specs.Readable.{Filmed}
-use Rattle.measures.proofs.Within.{title-ok, readable, sending}
-use Rattle.measures.specs.Readable.{Sending, Changeable}
+use Rattle.story.specs.Calls.{eventOk}
+use Rattle.measures.proofs.Within.{title-ok}
+use Rattle.measures.specs.Readable.{Changeable}
 use Rattle.title_verdicts.specs.Titled.{titleRules}
 use Rattle.title_verdicts.proofs.Stands.{there-changeable}
 use Rattle.verdicts.specs.Before.{eventRules, firstAnswer}
@@ -98,36 +97,3 @@ module _ (s : State) (i τ : ℕ) (a : Act) (none : firstAnswer s (event i τ a)
 
   pub taken-changeable : not (isThere (titleAt s i) τ) ≡ false → Changeable (titleAt s i)
   taken-changeable away = there-changeable (titleAt s i) τ (event-title s i τ taken-event) (not-false (isThere (titleAt s i) τ) away)
-
--- a lane question that is answered
-module _ (s : State) (i l τ : ℕ) (none : laneAnswer s i l τ ≡ 0) where
-  lane-numbers : both (stateOk s) (both (leb i idMax) (both (leb l laneMax) (leb τ askedMax))) ≡ true
-  unfolding laneAnswer hitsOf numbered
-  lane-numbers = not-false _ (cleared (laneRules s i l τ) refl none outsideLimits)
-
-  lane-there : laneHeld (titleAt s i) l τ ≡ true
-  unfolding laneAnswer hitsOf numbered
-  lane-there = not-false _ (cleared (laneRules s i l τ) refl none notThere)
-
-  pub lane-id : i ≤ idMax
-  lane-id = let ok = lane-numbers in search (both-l, both-r, leb-true) depth 12
-
-  pub lane-time : τ ≤ askedMax
-  lane-time = let ok = lane-numbers in search (both-l, both-r, leb-true) depth 12
-
-  pub lane-slot : titleAt s i .mode ≡ absentMode → ⊥
-  lane-slot e =
-      eqb-false (titleAt s i .mode) absentMode
-      (not-true (eqb (titleAt s i .mode) absentMode) (both-l _ _ lane-there)) e
-
-  lane-title : titleOk (titleAt s i) ≡ true
-  lane-title = let l = lane-id in title-ok s (both-l _ _ lane-numbers) i (omega arith)
-
-  pub lane-film : Filmed (titleAt s i .film)
-  lane-film = readable (titleAt s i) lane-title lane-slot
-
-  pub lane-sending : Sending (titleAt s i)
-  lane-sending = sending (titleAt s i) lane-title lane-slot
-
-  pub lane-capped : l < titleAt s i .film .cap
-  lane-capped = ltb-true l (titleAt s i .film .cap) (both-l _ _ (both-r (not (eqb (titleAt s i .mode) absentMode)) _ lane-there))

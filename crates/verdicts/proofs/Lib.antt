@@ -1,3 +1,2 @@
 -- Laws of the refusals' order and of the next states.
 pub mod Event
-pub mod Asked

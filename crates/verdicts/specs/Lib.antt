@@ -1,3 +1,2 @@
 -- What an event answers before the pool is counted.
 pub mod Before
-pub mod Asked

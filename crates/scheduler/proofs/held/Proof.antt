@@ -3,7 +3,7 @@ use mathlib.Core.Path.{refl, sym, _∙_}
 use borrow.Author.Tests.{ne-eqb}
 use borrow.Author.Needs.{needs}
 use Rattle.measures.proofs.Within.{all-readable}
-use Rattle.verdicts.proofs.Asked.{asked-state}
+use Rattle.questions.proofs.Asked.{asked-state}
 use Rattle.scheduler.specs.Outcomes.{heldAnswer, heldShown}
 use Rattle.scheduler.proofs.held.Statement.{statement}
 use Rattle.scheduler.proofs.held.Tie as tie

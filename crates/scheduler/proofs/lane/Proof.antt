@@ -3,7 +3,7 @@ use mathlib.Core.Path.{refl, sym, _∙_}
 use native.Mathlib.Omega.{arith}
 use borrow.Author.Tests.{ne-eqb}
 use Rattle.story.specs.Calls.{laneShows}
-use Rattle.verdicts.proofs.Event.{lane-id, lane-time, lane-film, lane-sending, lane-capped}
+use Rattle.questions.proofs.Lane.{lane-id, lane-time, lane-film, lane-sending, lane-capped}
 use borrow.Author.Needs.{needs}
 use Rattle.scheduler.proofs.lane.Statement.{statement}
 use Rattle.scheduler.proofs.lane.Tie as tie

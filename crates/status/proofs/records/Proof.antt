@@ -47,9 +47,9 @@ use Rattle.status.proofs.records.Key.{name as #records}
 use Rattle.status.proofs.records.Statement as stated
 use Rattle.status.proofs.records.Code as code
 -- the callees
-use Rattle.verdicts.proofs.questions.asked_verdict.Symbol as verdict-def
-use Rattle.verdicts.proofs.questions.asked_verdict.Symbol.{name as #verdict}
-use Rattle.verdicts.proofs.questions.asked_verdict.Met as verdict-thm
+use Rattle.questions.proofs.asked_verdict.Symbol as verdict-def
+use Rattle.questions.proofs.asked_verdict.Symbol.{name as #verdict}
+use Rattle.questions.proofs.asked_verdict.Met as verdict-thm
 use Rattle.status.proofs.id_ok.Symbol as id-def
 use Rattle.status.proofs.id_ok.Symbol.{name as #id-ok}
 use Rattle.status.proofs.id_ok.Met as id-thm
@@ -106,6 +106,6 @@ records-spec 𝓤 H 𝓜 𝓖 𝓡 =
     (cited 𝓤 H (Id 𝓤 H (𝓖 .A) (𝓜 .mem) (𝓡 .run)) 𝓜 𝓡 code.env #id-ok id-def.routine
     code.calls-status·id-ok (id-thm.met 𝓤 H 𝓜 𝓖 𝓡))
     (cited 𝓤 H (Verdict 𝓤 H (𝓖 .A) (𝓜 .mem) (𝓡 .run)) 𝓜 𝓡 code.env #verdict verdict-def.routine
-    code.calls-verdicts·questions·asked-verdict (verdict-thm.met 𝓤 H 𝓜 𝓖 𝓡))
+    code.calls-questions·asked-verdict (verdict-thm.met 𝓤 H 𝓜 𝓖 𝓡))
     (cited 𝓤 H (Row 𝓤 H (𝓖 .A) (𝓜 .mem) (𝓡 .run)) 𝓜 𝓡 code.env #row-for row-def.routine
     code.calls-status·row-for (row-thm.met 𝓤 H 𝓜 𝓖 𝓡)))

@@ -2,7 +2,7 @@
 use borrow.Author.Tests.{eq-eqb, ne-eqb}
 use Rattle.rules.specs.Refusals.{firstHit}
 use Rattle.story.specs.Calls.{statusAnswer}
-use Rattle.verdicts.specs.Asked.{askedAnswer}
+use Rattle.questions.specs.Asked.{askedAnswer}
 use Rattle.status.specs.Rows.{idsOk}
 use borrow.Author.Needs.{needs}
 use Rattle.status.proofs.status_verdict.Statement.{statement}

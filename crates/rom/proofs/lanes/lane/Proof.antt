@@ -2,7 +2,7 @@
 -- Rests on the laws of answered questions.
 use mathlib.Core.Path.{sym, _∙_}
 use borrow.Author.Needs.{needs}
-use Rattle.verdicts.proofs.Event.{lane-id, lane-film, lane-sending, lane-capped}
+use Rattle.questions.proofs.Lane.{lane-id, lane-film, lane-sending, lane-capped}
 use Rattle.rom.proofs.Answered.{rom-answered, rom-own, rom-shown, rom-refused, own-capped}
 use Rattle.rom.proofs.lanes.lane.Statement.{statement}
 use Rattle.rom.proofs.lanes.lane.Tie as tie

@@ -32,8 +32,8 @@ use denote.Triple.Entry.{Args}
 use Rattle.rules.specs.Limits.{both, idMax}
 use Rattle.story.proofs.State as S
 use Rattle.story.proofs.State.Laws as S′
-use Rattle.verdicts.specs.Asked.{askedAnswer}
-use Rattle.verdicts.proofs.questions.asked_verdict as verdict′
+use Rattle.questions.specs.Asked.{askedAnswer}
+use Rattle.questions.proofs.asked_verdict as verdict′
 use Rattle.status.specs.declared.Record.{Record}
 use Rattle.status.specs.Records.{recordFor}
 use Rattle.status.proofs.id_ok as id′

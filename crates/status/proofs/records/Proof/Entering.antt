@@ -37,7 +37,7 @@ use Rattle.status.proofs.records as records′
 use Rattle.status.proofs.records.Code as code
 use Rattle.status.proofs.records.Code.Mir as mir′
 -- the callees
-use Rattle.verdicts.proofs.questions.asked_verdict.Symbol.{name as #verdict}
+use Rattle.questions.proofs.asked_verdict.Symbol.{name as #verdict}
 use Rattle.status.proofs.id_ok.Symbol.{name as #id-ok}
 use Rattle.status.proofs.row_for.Symbol.{name as #row-for}
 -- the parts of the walk

@@ -33,13 +33,13 @@ use Rattle.rules.specs.Refusals as Refusals
 use Rattle.story.specs.declared.State.{State}
 use Rattle.story.proofs.State as S
 use Rattle.story.proofs.State.Laws as S′
-use Rattle.verdicts.specs.Asked.{askedAnswer}
+use Rattle.questions.specs.Asked.{askedAnswer}
 use Rattle.status.specs.declared.Record.{Record}
 use Rattle.status.specs.Records.{recordIdsOk, recordsAnswer, filledRecord, recordFor}
 use Rattle.status.proofs.Rows.{filledTo, filling, records-filled}
 use Rattle.status.proofs.records.Code.Mir as mir′
 -- the callees
-use Rattle.verdicts.proofs.questions.asked_verdict.Symbol.{name as #verdict}
+use Rattle.questions.proofs.asked_verdict.Symbol.{name as #verdict}
 use Rattle.status.proofs.row_for.Symbol.{name as #row-for}
 -- the parts of the walk
 use Rattle.status.proofs.records.Proof.Locals.{Blocks, env}

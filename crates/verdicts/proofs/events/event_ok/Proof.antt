@@ -1,4 +1,5 @@
 -- `event_ok` meets its contract: the tests are joined.
+use mathlib.Core.Path.{refl}
 use borrow.Author.Needs.{needs}
 use Rattle.verdicts.proofs.events.event_ok.Statement.{statement}
 use Rattle.verdicts.proofs.events.event_ok.Tie as tie
@@ -13,7 +14,7 @@ also-requires-2 : tie.Need-also-requires-2
 also-requires-2 c κs = search needs
 
 returns : tie.Need-returns
-returns c = cc
+returns c = rw (c .also2 .ensures, c .before .also .ensures, c .before .before .state-ok .ensures) refl
 
 pub event-ok-spec : {M : Type 1} → statement M
 event-ok-spec = tie.close (tie.spec state-ok-requires also-requires also-requires-2 returns)

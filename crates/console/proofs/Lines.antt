@@ -1,0 +1,77 @@
+-- A line from its first test on: what is wrong with it, nothing asked, an act or a question; a newline behind each
+-- answer.
+use Prim.Native.Nat.{ℕ, _≤_}
+use mathlib.Core.Path.{_≡_, refl, sym, _∙_}
+use mathlib.Core.Bool.{Bool, true, false}
+use mathlib.Core.List.{List}
+use native.Mathlib.Omega.{arith}
+use borrow.Author.Tests.{eq-eqb, ne-eqb, ltb-false}
+use lib.ListN.{length}
+use lib.Dec.{ltb}
+use Rattle.agent.specs.declared.Agent.{Agent}
+use Rattle.console_commands.specs.Commands
+use Rattle.console_lines.specs.declared.lines.Line.{Line}
+use Rattle.console_lines.specs.Lines.{withFault, begun, readOn, meaning, longest}
+use Rattle.text.specs.Output.{Page, puts}
+use Rattle.console_answers.specs.Faults.{faultText}
+use Rattle.text.proofs.Pages.{puts-append}
+use Rattle.console_acts.specs.Acts.{agentActed}
+use Rattle.console.specs.Desk.{mayChange, actText, askText, lineEnd, wholeText, afterWhole, lineText, afterLine, Left}
+
+-- a line that is too long is read as such
+too-long : (s : List ℕ) → ltb longest (length s) ≡ true → (meaning s) .fault ≡ Commands.tooLong
+unfolding meaning readOn begun withFault
+too-long s h = rw h
+
+-- a line with nothing wrong is no longer than the longest
+pub readable : (s : List ℕ) → (meaning s) .fault ≡ Commands.noFault → length s ≤ longest
+readable s e = by-test (ltb longest (length s)) refl where
+  by-test : (t : Bool) → ltb longest (length s) ≡ t → length s ≤ longest
+  by-test true h = let z : _≡_ {A = ℕ} 1 0 = sym (too-long s h) ∙ e in omega arith
+  by-test false h = ltb-false _ _ h
+
+-- what a line leaves, over a page before and a page after
+abbrev pub Leaves : Agent → Page → List ℕ → Agent → Page → Type 0
+Leaves g p text after q = Left g (p .row) (p .at) text after (q .row) (q .at)
+
+module _ (g : Agent) (l : Line) (s : List ℕ) (p : Page) where
+  pub asks-nothing : l .command ≡ Commands.none → Leaves (afterWhole g l s) p (wholeText g l s) g p
+  unfolding afterWhole wholeText mayChange puts
+  asks-nothing h = record { agent = rw h; written = rw h }
+
+  module _ (something : l .command ≡ Commands.none → ⊥) (t : Bool) (e : t ≡ mayChange (l .command)) (after : Agent)
+      (q r : Page) where
+    pub it-acts : t ≡ true → Leaves (agentActed g l s) p (actText g l s) after q → r ≡ puts q lineEnd
+        → Leaves (afterWhole g l s) p (wholeText g l s) after r
+    unfolding afterWhole wholeText
+    it-acts y d f =
+        record {
+          agent = rw (sym e ∙ y) (d .agent);
+          written = rw (ne-eqb _ _ something, sym e ∙ y, puts-append, ← d .written) f;
+        }
+
+    pub it-asks : t ≡ false → q ≡ puts p (askText (g .state) l s) → r ≡ puts q lineEnd
+        → Leaves (afterWhole g l s) p (wholeText g l s) g r
+    unfolding afterWhole wholeText
+    it-asks y d f =
+        record {
+          agent = rw (sym e ∙ y);
+          written = rw (ne-eqb _ _ something, sym e ∙ y, puts-append, ← d) f;
+        }
+
+module _ (g : Agent) (s : List ℕ) (l : Line) (is : l ≡ meaning s) (p : Page) where
+  pub it-is-whole : l .fault ≡ Commands.noFault → (after : Agent) (q : Page)
+      → Leaves (afterWhole g l s) p (wholeText g l s) after q
+      → Leaves (afterLine g s) p (lineText g s) after q
+  unfolding afterLine lineText
+  it-is-whole h after q d = rw (← is, eq-eqb _ _ h) d
+
+  pub it-is-faulty : (l .fault ≡ Commands.noFault → ⊥) → (q r : Page) → q ≡ puts p (faultText (l .fault) (l .place))
+      → r ≡ puts q lineEnd
+      → Leaves (afterLine g s) p (lineText g s) g r
+  unfolding afterLine lineText
+  it-is-faulty h q r d f =
+      record {
+        agent = rw (← is, ne-eqb _ _ h);
+        written = rw (← is, ne-eqb _ _ h, puts-append, ← d) f;
+      }

@@ -1,0 +1,26 @@
+-- `console::desk::may_change` meets its contract.
+use borrow.Author.Tests.{eq-eqb, ne-eqb}
+use Rattle.console.specs.Desk.{mayChange}
+use borrow.Author.Needs.{needs}
+use Rattle.console.proofs.desk.may_change.Statement.{statement}
+use Rattle.console.proofs.desk.may_change.Tie as tie
+
+returns : tie.Need-returns
+unfolding mayChange
+returns c = rw (eq-eqb _ _ (c .if1 .taken))
+
+cast-within : tie.Need-cast-within
+cast-within c = search needs
+
+cast-within-2 : tie.Need-cast-within-2
+cast-within-2 c = search needs
+
+within-requires : tie.Need-within-requires
+within-requires c κs = search needs
+
+returns-2 : tie.Need-returns-2
+unfolding mayChange
+returns-2 c = rw (ne-eqb _ _ (c .before .if1 .left)) (c .within .ensures)
+
+pub may-change-spec : {M : Type 1} → statement M
+may-change-spec = tie.close (tie.spec returns cast-within cast-within-2 within-requires returns-2)

@@ -1,0 +1,80 @@
+-- `console::desk::whole` meets its contract: nothing asked, an act, or a question, with a newline behind its answer.
+use Rattle.text.specs.Output.{page}
+use Rattle.console.proofs.Lines.{asks-nothing, it-acts, it-asks}
+use borrow.Author.Needs.{needs}
+use Rattle.console.proofs.desk.whole.Statement.{statement}
+use Rattle.console.proofs.desk.whole.Tie as tie
+
+returns : tie.Need-returns
+returns c = let x = c .before .before .before .args in
+    asks-nothing (x .agent) (x .line) (x .s .now) (page (x .out .now) (x .at)) (c .if1 .taken)
+
+may-change-requires : tie.Need-may-change-requires
+may-change-requires c κs = search needs
+
+act-requires : tie.Need-act-requires
+act-requires c κs = search needs
+
+slice-aggregate-put : tie.Need-slice-aggregate-put
+slice-aggregate-put c = search needs
+
+put-requires : tie.Need-put-requires
+put-requires c κs = search needs
+
+same-length : tie.Need-same-length
+same-length c = search needs
+
+returns-2 : tie.Need-returns-2
+returns-2 c =
+    let at-put = c .before .before in
+    let at-act = at-put .before .before .before .before .before .before in
+    let at-if2 = at-act .before .before in
+    let at-may-change = at-if2 .before in
+    let at-if1 = at-may-change .before in
+    let at-start = at-if1 .before .before .before in
+    let x = at-start .args in
+    let p = page (x .out .now) (x .at) in
+    it-acts (x .agent) (x .line) (x .s .now) p (at-if1 .if1 .left) _ (at-may-change .may-change .ensures) _ _ _
+    (at-if2 .if2 .taken) (at-act .act .ensures) (at-put .put .ensures)
+
+ask-requires : tie.Need-ask-requires
+ask-requires c κs = search needs
+
+slice-aggregate-put-2 : tie.Need-slice-aggregate-put-2
+slice-aggregate-put-2 c = search needs
+
+put-requires-2 : tie.Need-put-requires-2
+put-requires-2 c κs = search needs
+
+same-length-2 : tie.Need-same-length-2
+same-length-2 c = search needs
+
+returns-3 : tie.Need-returns-3
+returns-3 c =
+    let at-put2 = c .before .before in
+    let at-ask = at-put2 .before .before .before .before .before in
+    let at-if2 = at-ask .before .before .before in
+    let at-may-change = at-if2 .before in
+    let at-if1 = at-may-change .before in
+    let at-start = at-if1 .before .before .before in
+    let x = at-start .args in
+    let p = page (x .out .now) (x .at) in
+    it-asks (x .agent) (x .line) (x .s .now) p (at-if1 .if1 .left) _ (at-may-change .may-change .ensures) (x .agent) _ _
+    (at-if2 .if2 .left) (at-ask .ask .ensures) (at-put2 .put2 .ensures)
+
+pub whole-spec : {M : Type 1} → statement M
+whole-spec =
+    tie.close
+    (tie.spec
+    returns
+    may-change-requires
+    act-requires
+    slice-aggregate-put
+    put-requires
+    same-length
+    returns-2
+    ask-requires
+    slice-aggregate-put-2
+    put-requires-2
+    same-length-2
+    returns-3)

@@ -1,0 +1,3 @@
+-- Laws of questions that are answered.
+pub mod Asked
+pub mod Lane
