@@ -1,6 +1,6 @@
 -- `floors` meets its contract: the loop's number is the sum of the floors passed, which the ids that take part have too.
 use Prim.Native.Nat.{_≤_, _-_, _*_}
-use mathlib.Core.Path.{_≡_}
+use mathlib.Core.Path.{_≡_, refl, sym, ap, _∙_}
 use native.Mathlib.Omega.{arith}
 use native.Mathlib.Numerals.{add-one}
 use native.Mathlib.Nat.{le-antisymm}
@@ -47,14 +47,15 @@ loop-less c = search needs
 
 loop-again : tie.Need-loop-again Inv-loop μ-loop
 unfolding total
-loop-again c = (omega arith, rw add-one (cc (c .floor-of .ensures .0)), omega arith)
+loop-again c = (omega arith, rw (add-one, ← c .before .before .before .loop .inv .1, c .floor-of .ensures .0) refl, omega arith)
 
 returns : tie.Need-returns Inv-loop μ-loop
 unfolding floorsOf sharers
 returns c =
     let s = c .before .before .args .t1 in
     let all = le-antisymm (c .before .loop .inv .0) (c .loop-test .left) in
-    cc (all, ids-total (takesPart s) (λ i. titleAt s i .film .floor) titlesMax)
+    c .before .loop .inv .1 ∙ ap (total _) all
+    ∙ sym (ids-total (takesPart s) (λ i. titleAt s i .film .floor) titlesMax)
 
 pub floors-spec : {M : Type 1} → statement M
 floors-spec =

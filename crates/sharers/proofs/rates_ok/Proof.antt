@@ -1,6 +1,6 @@
 -- `rates_ok` meets its contract: the loop's value is the test of every rate passed.
 use Prim.Native.Nat.{_≤_, _-_}
-use mathlib.Core.Path.{_≡_}
+use mathlib.Core.Path.{_≡_, ap, _∙_}
 use native.Mathlib.Omega.{arith}
 use native.Mathlib.Numerals.{add-one}
 use native.Mathlib.Nat.{le-antisymm}
@@ -45,11 +45,14 @@ loop-less c = search needs
 
 loop-again : tie.Need-loop-again Inv-loop μ-loop
 unfolding every
-loop-again c = (omega arith, rw add-one (cc))
+loop-again c =
+    (omega arith, rw (add-one, ← c .before .before .before .before .loop .inv .1, ← c .before .within .ensures) (c .also .ensures))
 
 returns : tie.Need-returns Inv-loop μ-loop
 unfolding ratesOk
-returns c = cc (le-antisymm (c .before .loop .inv .0) (c .loop-test .left))
+returns c =
+    let all = le-antisymm (c .before .loop .inv .0) (c .loop-test .left) in
+    c .before .loop .inv .1 ∙ ap (every _) all
 
 pub rates-ok-spec : {M : Type 1} → statement M
 rates-ok-spec =

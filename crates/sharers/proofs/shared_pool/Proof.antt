@@ -1,6 +1,6 @@
 -- `shared_pool` meets its contract: the loop's number is the sum of the lanes kept apart in the slots passed.
 use Prim.Native.Nat.{_≤_, _-_, _*_}
-use mathlib.Core.Path.{_≡_, ap, _∙_}
+use mathlib.Core.Path.{_≡_, refl, ap, _∙_}
 use native.Mathlib.Omega.{arith}
 use native.Mathlib.Numerals.{add-one}
 use native.Mathlib.Nat.{le-antisymm}
@@ -45,7 +45,7 @@ loop-less c = search needs
 
 loop-again : tie.Need-loop-again Inv-loop μ-loop
 unfolding total
-loop-again c = (omega arith, rw add-one (cc (c .kept-apart .ensures .0)), omega arith)
+loop-again c = (omega arith, rw (add-one, ← c .before .before .before .loop .inv .1, c .kept-apart .ensures .0) refl, omega arith)
 
 -- with every slot passed, the sum is that of all
 all-apart : (at : tie.At-loop Inv-loop μ-loop) → titlesMax ≤ at .loop .i →

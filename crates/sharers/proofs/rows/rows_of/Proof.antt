@@ -1,6 +1,6 @@
 -- `rows_of` meets its contract: the titles passed have joined.
 use Prim.Native.Nat.{_≤_, _-_}
-use mathlib.Core.Path.{_≡_}
+use mathlib.Core.Path.{_≡_, ap, _∙_}
 use native.Mathlib.Omega.{arith}
 use native.Mathlib.Numerals.{add-one}
 use native.Mathlib.Nat.{le-antisymm}
@@ -53,10 +53,12 @@ loop-less c = search needs
 
 loop-again : tie.Need-loop-again Inv-loop μ-loop
 unfolding rowsTo
-loop-again c = (omega arith, rw add-one (cc))
+loop-again c = (omega arith, rw (add-one, ← c .before .before .before .before .loop .inv .1) (c .joined-if-part .ensures))
 
 returns : tie.Need-returns Inv-loop μ-loop
-returns c = cc (le-antisymm (c .before .loop .inv .0) (c .loop-test .left))
+returns c =
+    let all = le-antisymm (c .before .loop .inv .0) (c .loop-test .left) in
+    c .before .loop .inv .1 ∙ ap (rowsTo _ _) all
 
 pub rows-of-spec : {M : Type 1} → statement M
 rows-of-spec =
