@@ -1,6 +1,6 @@
 -- `slots_ok` meets its contract: the loop's value is the test of every slot passed.
 use Prim.Native.Nat.{_≤_, _-_}
-use mathlib.Core.Path.{_≡_}
+use mathlib.Core.Path.{_≡_, ap, _∙_}
 use native.Mathlib.Omega.{arith}
 use native.Mathlib.Numerals.{add-one}
 use native.Mathlib.Nat.{le-antisymm}
@@ -40,10 +40,12 @@ loop-less c = search needs
 
 loop-again : tie.Need-loop-again Inv-loop μ-loop
 unfolding every
-loop-again c = (omega arith, rw add-one (cc), search needs)
+loop-again c = (omega arith, rw (add-one, ← c .before .before .before .before .loop .inv .1, ← c .before .slot-ok .ensures) (c .also .ensures), search needs)
 
 returns : tie.Need-returns Inv-loop μ-loop
-returns c = cc (le-antisymm (c .before .loop .inv .0) (c .loop-test .left))
+returns c =
+    let all = le-antisymm (c .before .loop .inv .0) (c .loop-test .left) in
+    c .before .loop .inv .1 ∙ ap (every _) all
 
 pub slots-ok-spec : {M : Type 1} → statement M
 slots-ok-spec =

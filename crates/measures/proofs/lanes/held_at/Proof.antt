@@ -58,12 +58,12 @@ loop-again c =
     let l = c .before .before .before .loop in
     let a = c .before .before .before .before .before .before .args in
     let sends = above-held (a .t) (l .lane) (a .tick) (omega arith) in
-    (omega arith, rw add-one (cc (c .one-if .ensures .0, sends)), omega arith, search needs, search needs, omega arith)
+    (omega arith, rw (add-one, ← l .inv .1, sends, ← c .before .is-sending .ensures, c .one-if .ensures .0) refl, omega arith, search needs, search needs, omega arith)
 
 returns : tie.Need-returns Inv-loop μ-loop
 returns c =
     record
-    { is = cc (le-antisymm (c .before .loop .inv .0) (c .loop-test .left)); low = omega arith; high = omega arith }
+    { is = c .before .loop .inv .1 ∙ ap (howMany _) (le-antisymm (c .before .loop .inv .0) (c .loop-test .left)); low = omega arith; high = omega arith }
 
 pub held-at-spec : {M : Type 1} → statement M
 held-at-spec =

@@ -1,6 +1,6 @@
 -- `lanes_held` meets its contract: the loop's number is the sum over the titles passed.
 use Prim.Native.Nat.{_≤_, _-_, _*_}
-use mathlib.Core.Path.{_≡_}
+use mathlib.Core.Path.{_≡_, refl, ap, _∙_}
 use native.Mathlib.Omega.{arith}
 use native.Mathlib.Numerals.{add-one}
 use native.Mathlib.Nat.{le-antisymm}
@@ -41,11 +41,13 @@ loop-less c = search needs
 
 loop-again : tie.Need-loop-again Inv-loop μ-loop
 unfolding total
-loop-again c = (omega arith, rw add-one (cc (c .title-held .ensures .is)), omega arith)
+loop-again c = (omega arith, rw (add-one, ← c .before .before .before .loop .inv .1, c .title-held .ensures .is) refl, omega arith)
 
 returns : tie.Need-returns Inv-loop μ-loop
 unfolding lanesHeld
-returns c = cc (le-antisymm (c .before .loop .inv .0) (c .loop-test .left))
+returns c =
+    let all = le-antisymm (c .before .loop .inv .0) (c .loop-test .left) in
+    c .before .loop .inv .1 ∙ ap (total _) all
 
 pub lanes-held-spec : {M : Type 1} → statement M
 lanes-held-spec =

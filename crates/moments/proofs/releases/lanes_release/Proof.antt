@@ -1,6 +1,6 @@
 -- `lanes_release` meets its contract: the loop's moment is the soonest of the lanes passed.
 use Prim.Native.Nat.{_≤_, _-_}
-use mathlib.Core.Path.{_≡_}
+use mathlib.Core.Path.{_≡_, ap, _∙_}
 use native.Mathlib.Omega.{arith}
 use native.Mathlib.Numerals.{add-one}
 use native.Mathlib.Nat.{le-antisymm}
@@ -39,10 +39,12 @@ loop-less c = search needs
 
 loop-again : tie.Need-loop-again Inv-loop μ-loop
 unfolding lanesRelease
-loop-again c = (omega arith, rw add-one (cc), search needs)
+loop-again c = (omega arith, rw (add-one, ← c .before .before .before .loop .inv .1, ← c .before .release-of .ensures) (c .sooner .ensures), search needs)
 
 returns : tie.Need-returns Inv-loop μ-loop
-returns c = cc (le-antisymm (c .before .loop .inv .0) (c .loop-test .left))
+returns c =
+    let all = le-antisymm (c .before .loop .inv .0) (c .loop-test .left) in
+    c .before .loop .inv .1 ∙ ap (lanesRelease _ _ _) all
 
 pub lanes-release-spec : {M : Type 1} → statement M
 lanes-release-spec =

@@ -1,6 +1,6 @@
 -- `next_release` meets its contract: the loop's moment is the next release in the slots passed.
 use Prim.Native.Nat.{_≤_, _-_}
-use mathlib.Core.Path.{_≡_}
+use mathlib.Core.Path.{_≡_, ap, _∙_}
 use native.Mathlib.Omega.{arith}
 use native.Mathlib.Numerals.{add-one}
 use native.Mathlib.Nat.{le-antisymm}
@@ -37,10 +37,12 @@ loop-less c = search needs
 
 loop-again : tie.Need-loop-again Inv-loop μ-loop
 unfolding releaseIn
-loop-again c = (omega arith, rw add-one (cc (c .title-release .ensures)))
+loop-again c = (omega arith, rw (add-one, ← c .before .before .before .loop .inv .1) (c .title-release .ensures))
 
 returns : tie.Need-returns Inv-loop μ-loop
-returns c = cc (le-antisymm (c .before .loop .inv .0) (c .loop-test .left))
+returns c =
+    let all = le-antisymm (c .before .loop .inv .0) (c .loop-test .left) in
+    c .before .loop .inv .1 ∙ ap (releaseIn _ _) all
 
 pub next-release-spec : {M : Type 1} → statement M
 next-release-spec =

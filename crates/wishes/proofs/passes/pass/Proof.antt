@@ -1,6 +1,6 @@
 -- `pass` meets its contract: the wishes of the ids passed are collected.
 use Prim.Native.Nat.{_≤_, _-_}
-use mathlib.Core.Path.{_≡_}
+use mathlib.Core.Path.{_≡_, ap, _∙_}
 use native.Mathlib.Omega.{arith}
 use native.Mathlib.Numerals.{add-one}
 use native.Mathlib.Nat.{le-antisymm}
@@ -55,10 +55,15 @@ loop-less c = search needs
 
 loop-again : tie.Need-loop-again Inv-loop μ-loop
 unfolding passTo
-loop-again c = (omega arith, rw add-one (cc))
+loop-again c =
+    let at-moves = c .before in
+    let at = at-moves .before .before .before .before in
+    (omega arith, rw (add-one, ← at .loop .inv .1, ← at-moves .moves .ensures) (c .wished-if .ensures))
 
 returns : tie.Need-returns Inv-loop μ-loop
-returns c = cc (le-antisymm (c .before .loop .inv .0) (c .loop-test .left))
+returns c =
+    let all = le-antisymm (c .before .loop .inv .0) (c .loop-test .left) in
+    c .before .loop .inv .1 ∙ ap (passTo _ _ _) all
 
 pub pass-spec : {M : Type 1} → statement M
 pass-spec =

@@ -1,6 +1,6 @@
 -- `by_id` meets its contract: the ids passed have the counts of their places.
 use Prim.Native.Nat.{_≤_, _-_}
-use mathlib.Core.Path.{_≡_}
+use mathlib.Core.Path.{_≡_, refl, ap, _∙_}
 use native.Mathlib.Omega.{arith}
 use native.Mathlib.Numerals.{add-one}
 use native.Mathlib.Nat.{le-antisymm}
@@ -62,10 +62,18 @@ loop-less c = search needs
 
 loop-again : tie.Need-loop-again Inv-loop μ-loop
 unfolding sharesTo howMany
-loop-again c = (omega arith, rw add-one (cc), rw add-one (cc))
+loop-again c =
+    let at-wide = c .before in
+    let at = at-wide .before .before .before .before in (
+      omega arith,
+      rw (add-one, ← at .loop .inv .1) (c .place-behind .ensures),
+      rw (add-one, ← at .loop .inv .2, ← at .loop .inv .1, at-wide .wide .ensures) refl,
+    )
 
 returns : tie.Need-returns Inv-loop μ-loop
-returns c = cc (le-antisymm (c .before .loop .inv .0) (c .loop-test .left))
+returns c =
+    let all = le-antisymm (c .before .loop .inv .0) (c .loop-test .left) in
+    c .before .loop .inv .2 ∙ ap (sharesTo _ _) all
 
 pub by-id-spec : {M : Type 1} → statement M
 by-id-spec =
