@@ -5,14 +5,14 @@ use mathlib.Core.List.{List, append-nil}
 use borrow.Author.Tests.{eq-eqb, ne-eqb}
 use Rattle.rules.specs.Refusals.{done}
 use Rattle.text.specs.Output.{Page, puts}
-use Rattle.text.proofs.Pages.{puts-append}
+use Rattle.text.proofs.Pages.{puts-then}
 use Rattle.console_answers.specs.Outcomes.{doneText, withText}
 
 -- what is told stands behind the 0
 pub told : (p q r : Page) (a x : ℕ) (more : List ℕ) → q ≡ puts p (doneText a x) → a ≡ done → r ≡ puts q more
     → r ≡ puts p (withText a x more)
 unfolding withText
-told p q r a x more e z f = rw (eq-eqb _ _ z, puts-append) (cc)
+told p q r a x more e z f = rw (eq-eqb _ _ z) (puts-then p (doneText a x) more e f)
 
 -- nothing stands behind a refusal
 pub refused : (p q : Page) (a x : ℕ) (more : List ℕ) → q ≡ puts p (doneText a x) → (a ≡ done → ⊥)

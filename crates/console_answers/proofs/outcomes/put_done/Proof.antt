@@ -8,11 +8,11 @@ use Rattle.console_answers.proofs.outcomes.put_done.Tie as tie
 
 returns : tie.Need-returns
 unfolding doneText text
-returns c = rw (eq-eqb _ _ (c .before .before .before .before .before .if1 .taken)) (cc)
+returns c = rw (eq-eqb _ _ (c .before .before .before .before .before .if1 .taken)) (c .before .before .put .ensures)
 
 returns-2 : tie.Need-returns-2
 unfolding doneText
-returns-2 c = rw (ne-eqb _ _ (c .before .before .before .before .if1 .left)) (cc)
+returns-2 c = rw (ne-eqb _ _ (c .before .before .before .before .if1 .left)) (c .before .before .put-refusal .ensures)
 
 pub put-done-spec : {M : Type 1} → statement M
 put-done-spec =

@@ -8,11 +8,11 @@ use Rattle.console_boxes.proofs.cells.put_cell.Tie as tie
 
 returns : tie.Need-returns
 unfolding cellEntry text
-returns c = rw (eq-eqb _ _ (c .before .before .before .before .before .if1 .taken)) (cc)
+returns c = rw (eq-eqb _ _ (c .before .before .before .before .before .if1 .taken)) (c .before .before .put .ensures)
 
 returns-2 : tie.Need-returns-2
 unfolding cellEntry
-returns-2 c = rw (ne-eqb _ _ (c .before .before .before .before .if1 .left)) (cc)
+returns-2 c = rw (ne-eqb _ _ (c .before .before .before .before .if1 .left)) (c .before .before .put-entry .ensures)
 
 pub put-cell-spec : {M : Type 1} → statement M
 put-cell-spec =

@@ -50,7 +50,7 @@ returns : tie.Need-returns Inv-loop μ-loop
 returns c =
     let x = c .before .before .args in
     let whole : c .before .loop .c ≡ column (x .row .now) (x .first) (x .apart) titlesMost =
-    cc (le-antisymm (c .before .loop .inv .0) (c .loop-test .left)) in
+    c .before .loop .inv .1 ∙ ap (column _ _ _) (le-antisymm (c .before .loop .inv .0) (c .loop-test .left)) in
     (whole, ap length whole ∙ column-length (x .row .now) (x .first) (x .apart) titlesMost)
 
 pub column-spec : {M : Type 1} → statement M
