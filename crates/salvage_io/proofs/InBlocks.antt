@@ -8,11 +8,11 @@ use Prim.Native.Nat.{ℕ, _≤_}
 use native.Mathlib.Omega.{arith}
 use lib.ListN.{length}
 use Rattle.text.proofs.Pages.{stands}
-use Rattle.salvaging.specs.declared.steps.Progress.{Progress}
-use Rattle.salvaging.specs.Scan.{scanTo, scanOf}
-use Rattle.salvaging.specs.inner.Steps.{progressOf}
+use Rattle.scanning.specs.declared.steps.Progress.{Progress}
+use Rattle.scanning.specs.Scan.{scanTo, scanOf}
+use Rattle.scanning.specs.inner.Steps.{progressOf}
 use Rattle.salvaging.specs.Pours.{Stands}
-use Rattle.salvaging.proofs.ScanThrough as through
+use Rattle.scanning.proofs.ScanThrough as through
 use Rattle.salvage_io.specs.declared.blocks.Block.{Block}
 use Rattle.salvage_io.specs.declared.blocks.Walked.{Walked}
 use Rattle.salvage_io.specs.Lines.{endText}

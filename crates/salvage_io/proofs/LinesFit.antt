@@ -21,14 +21,14 @@ use Rattle.notice.proofs.NoticePlaces.{there}
 use Rattle.text.specs.Texts.{text}
 use Rattle.text.specs.Digits.{decimal}
 use Rattle.text.proofs.Printing.{decimal-short}
-use Rattle.salvaging.specs.declared.scan.Last.{Last}
-use Rattle.salvaging.specs.declared.scan.Last.the-variants.{Nothing, Taken}
-use Rattle.salvaging.specs.declared.scan.Move.{Move}
-use Rattle.salvaging.specs.declared.scan.Move.the-variants.{Take, Skip, Stop}
-use Rattle.salvaging.specs.declared.steps.Progress.{Progress}
-use Rattle.salvaging.specs.Scan.{Scan, lastOf, scanAfter, moveIn}
-use Rattle.salvaging.specs.inner.Steps.{progressOf, isOpen}
-use Rattle.salvaging.proofs.ScanThrough as through
+use Rattle.scanning.specs.declared.scan.Last.{Last}
+use Rattle.scanning.specs.declared.scan.Last.the-variants.{Nothing, Taken}
+use Rattle.scanning.specs.declared.scan.Move.{Move}
+use Rattle.scanning.specs.declared.scan.Move.the-variants.{Take, Skip, Stop}
+use Rattle.scanning.specs.declared.steps.Progress.{Progress}
+use Rattle.scanning.specs.Scan.{Scan, lastOf, scanAfter, moveIn}
+use Rattle.scanning.specs.inner.Steps.{progressOf, isOpen}
+use Rattle.scanning.proofs.ScanThrough as through
 use Rattle.salvage_io.specs.Lines.{twoNumbers, stretchLine, followsLine, gapLine, totalLine, openLine, endText, wordMost, lineMost, endRoom}
 use Rattle.salvage_io.specs.Report.{seamOf, seamText, saidIn}
 use Rattle.salvage_io.specs.Blocks.{toldMost}

@@ -10,8 +10,8 @@ use Rattle.notice.specs.Fields.{table, startOf, spanOf, longestNotice}
 use Rattle.notice.proofs.CaseSplits.{false-true}
 use Rattle.text.specs.Feed.{count}
 use Rattle.text.proofs.Moving.{count-low}
-use Rattle.salvaging.specs.declared.steps.Progress.{Progress}
-use Rattle.salvaging.specs.inner.Steps.{Counts}
+use Rattle.scanning.specs.declared.steps.Progress.{Progress}
+use Rattle.scanning.specs.inner.Steps.{Counts}
 use Rattle.salvage_io.specs.declared.input.Fed.{Fed}
 use Rattle.salvage_io.specs.Blocks.{Passes}
 

@@ -9,10 +9,10 @@ use lib.ListN.{length}
 use Rattle.text.specs.Texts.{text}
 use Rattle.text.specs.Output.{Page, page, puts}
 use Rattle.text.proofs.Pages.{stands}
-use Rattle.salvaging.specs.declared.scan.Last.{Last}
-use Rattle.salvaging.specs.declared.scan.Last.the-variants.{Nothing, Taken}
-use Rattle.salvaging.specs.declared.steps.Progress.{Progress}
-use Rattle.salvaging.specs.inner.Steps.{isOpen}
+use Rattle.scanning.specs.declared.scan.Last.{Last}
+use Rattle.scanning.specs.declared.scan.Last.the-variants.{Nothing, Taken}
+use Rattle.scanning.specs.declared.steps.Progress.{Progress}
+use Rattle.scanning.specs.inner.Steps.{isOpen}
 use Rattle.salvage_io.specs.Lines.{twoNumbers, stretchLine, followsLine, gapLine, openLine, endText, endRoom}
 use Rattle.salvage_io.specs.Report.{seamText, saidIn}
 use Rattle.salvage_io.proofs.LinesFit.{end-short}

@@ -12,13 +12,13 @@ use lib.Dec.{eqb}
 use lib.ListN.{length}
 use Rattle.rules.specs.Refusals.{pick}
 use Rattle.notice.proofs.NoticePlaces.{inside}
-use Rattle.salvaging.specs.declared.scan.Move.{Move}
-use Rattle.salvaging.specs.declared.scan.Move.the-variants.{Take, Skip, Stop}
-use Rattle.salvaging.specs.declared.steps.Progress.{Progress}
-use Rattle.salvaging.specs.Scan.{Stretch, endOf, Scan, lastOf, scanAfter, moveIn, scanTo}
-use Rattle.salvaging.specs.inner.Steps.{progressOf, isOpen}
+use Rattle.scanning.specs.declared.scan.Move.{Move}
+use Rattle.scanning.specs.declared.scan.Move.the-variants.{Take, Skip, Stop}
+use Rattle.scanning.specs.declared.steps.Progress.{Progress}
+use Rattle.scanning.specs.Scan.{Stretch, endOf, Scan, lastOf, scanAfter, moveIn, scanTo}
+use Rattle.scanning.specs.inner.Steps.{progressOf, isOpen}
 use Rattle.salvaging.specs.Pours.{closed}
-use Rattle.salvaging.proofs.ScanThrough as through
+use Rattle.scanning.proofs.ScanThrough as through
 use Rattle.salvaging.proofs.Laying.{closed-joined, closed-past}
 use Rattle.salvaging.proofs.Pieces.{split-to}
 use Rattle.salvage_io.specs.Report.{Seam, isSeam, seamOf, seamsTo, seamText, seamsText, toldTo, saidIn}

@@ -14,9 +14,9 @@ use Rattle.notice.specs.Fields.{table, startOf, spanOf, longestNotice}
 use Rattle.notice.specs.Window.{isDecided}
 use Rattle.notice.proofs.CaseSplits.{false-true}
 use Rattle.notice.proofs.Windows.{few-left, at-end-decided}
-use Rattle.salvaging.specs.declared.steps.Progress.{Progress}
-use Rattle.salvaging.specs.Scan.{moveIn, scanTo}
-use Rattle.salvaging.specs.inner.Steps.{progressOf, Counts, Within, Between, Advances}
+use Rattle.scanning.specs.declared.steps.Progress.{Progress}
+use Rattle.scanning.specs.Scan.{moveIn, scanTo}
+use Rattle.scanning.specs.inner.Steps.{progressOf, Counts, Within, Between, Advances}
 use Rattle.salvaging.specs.Pours.{tookOne, takenIn, Stands}
 use Rattle.salvaging.proofs.Laying.{part, adds-part, part-few, step-in, part-in}
 use Rattle.salvage_io.specs.Report.{toldTo, saidIn}

@@ -5,9 +5,9 @@ use mathlib.Core.Bool.{Bool, true}
 use mathlib.Core.List.{List, [], _++_}
 use lib.ListN.{length, take}
 use Rattle.notice.specs.Fields.{longestNotice}
-use Rattle.salvaging.specs.declared.steps.Progress.{Progress}
-use Rattle.salvaging.specs.Scan.{scanTo, scanOf}
-use Rattle.salvaging.specs.inner.Steps.{progressOf, freshProgress, Counts}
+use Rattle.scanning.specs.declared.steps.Progress.{Progress}
+use Rattle.scanning.specs.Scan.{scanTo, scanOf}
+use Rattle.scanning.specs.inner.Steps.{progressOf, freshProgress, Counts}
 use Rattle.salvaging.specs.Pours.{Stands}
 use Rattle.salvage_io.specs.declared.blocks.Block.{Block}
 use Rattle.salvage_io.specs.Lines.{endText}

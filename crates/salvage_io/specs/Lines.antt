@@ -5,10 +5,10 @@ use lib.Dec.{eqb}
 use Rattle.rules.specs.Refusals.{pick}
 use Rattle.text.specs.Texts.{text}
 use Rattle.text.specs.Digits.{digitsMost, decimal}
-use Rattle.salvaging.specs.declared.scan.Last.{Last}
-use Rattle.salvaging.specs.declared.scan.Last.the-variants.{Nothing, Taken}
-use Rattle.salvaging.specs.declared.steps.Progress.{Progress}
-use Rattle.salvaging.specs.inner.Steps.{isOpen}
+use Rattle.scanning.specs.declared.scan.Last.{Last}
+use Rattle.scanning.specs.declared.scan.Last.the-variants.{Nothing, Taken}
+use Rattle.scanning.specs.declared.steps.Progress.{Progress}
+use Rattle.scanning.specs.inner.Steps.{isOpen}
 
 -- two numbers in decimal among words
 unfoldable pub twoNumbers : List ℕ → ℕ → List ℕ → ℕ → List ℕ → List ℕ

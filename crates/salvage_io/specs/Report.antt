@@ -6,10 +6,10 @@ use mathlib.Core.List.{List, [], _∷_, _++_}
 use lib.ListN.{length}
 use Rattle.rules.specs.Limits.{both}
 use Rattle.rules.specs.Refusals.{pick}
-use Rattle.salvaging.specs.declared.scan.Last.{Last}
-use Rattle.salvaging.specs.declared.steps.Progress.{Progress}
-use Rattle.salvaging.specs.Scan.{Stretch, stretch, scanTo, scanOf}
-use Rattle.salvaging.specs.inner.Steps.{progressOf, isOpen}
+use Rattle.scanning.specs.declared.scan.Last.{Last}
+use Rattle.scanning.specs.declared.steps.Progress.{Progress}
+use Rattle.scanning.specs.Scan.{Stretch, stretch, scanTo, scanOf}
+use Rattle.scanning.specs.inner.Steps.{progressOf, isOpen}
 use Rattle.salvaging.specs.Pours.{tookOne}
 use Rattle.salvage_io.specs.Lines.{stretchLine, gapLine, endText}
 

@@ -6,9 +6,9 @@ use mathlib.Core.List.{List, _++_}
 use lib.ListN.{length}
 use Rattle.notice.specs.Fields.{longestNotice}
 use Rattle.text.specs.Output.{page, puts}
-use Rattle.salvaging.specs.declared.steps.Progress.{Progress}
-use Rattle.salvaging.specs.Scan.{scanTo}
-use Rattle.salvaging.specs.inner.Steps.{progressOf, Counts}
+use Rattle.scanning.specs.declared.steps.Progress.{Progress}
+use Rattle.scanning.specs.Scan.{scanTo}
+use Rattle.scanning.specs.inner.Steps.{progressOf, Counts}
 use Rattle.salvaging.specs.Pours.{Stands}
 use Rattle.salvage_io.specs.declared.blocks.Walked.{Walked}
 use Rattle.salvage_io.specs.Report.{toldTo}

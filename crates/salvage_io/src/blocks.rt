@@ -3,11 +3,11 @@
 use super::lines::put_said;
 use notice::window::decided;
 use salvaging::rows::put_taken;
-use salvaging::steps::Progress;
-use salvaging::steps::advance;
+use scanning::steps::Progress;
+use scanning::steps::advance;
 ghost use Prim.Native.Nat.{_+_, _≤_, _<_, _^_};
 ghost use lib.ListN.{length};
-ghost use Rattle.salvaging.specs.inner.Steps.{Counts};
+ghost use Rattle.scanning.specs.inner.Steps.{Counts};
 ghost use Rattle.salvage_io.specs.Blocks.{blockRoom, Blocks};
 ghost use Rattle.salvage_io.specs.Walks.{Walks};
 

@@ -8,8 +8,8 @@ use super::blocks::scan_block;
 use super::lines::END_ROOM;
 use super::lines::put_end;
 use libc::STDOUT_FILENO;
-use salvaging::steps::Progress;
-use salvaging::steps::begun;
+use scanning::steps::Progress;
+use scanning::steps::begun;
 use streams::Filled;
 use streams::refill;
 use text::feed::compact;
@@ -18,7 +18,7 @@ ghost use mathlib.Core.Bool.{true, false};
 ghost use Prim.Native.Nat.{_+_, _≤_, _<_, _^_};
 ghost use lib.ListN.{length};
 ghost use Rattle.notice.specs.Fields.{longestNotice};
-ghost use Rattle.salvaging.specs.inner.Steps.{Counts};
+ghost use Rattle.scanning.specs.inner.Steps.{Counts};
 ghost use Rattle.salvage_io.specs.Blocks.{blockRoom, Passes};
 
 // Where the taken notices go, and where the report goes.

@@ -1,12 +1,12 @@
 // The lines of the report, each behind what stands in a lent row. What has no room is left out.
 
-use salvaging::scan::Last;
-use salvaging::steps::Progress;
-use salvaging::steps::is_open;
+use scanning::scan::Last;
+use scanning::steps::Progress;
+use scanning::steps::is_open;
 use text::digits::put_number;
 use text::output::put;
 ghost use Rattle.text.specs.Output.{Written};
-ghost use Rattle.salvaging.specs.inner.Steps.{Counts};
+ghost use Rattle.scanning.specs.inner.Steps.{Counts};
 ghost use Rattle.salvage_io.specs.Lines.{twoNumbers, stretchLine, followsLine, gapLine, totalLine, openLine, endText};
 ghost use Rattle.salvage_io.specs.Report.{saidIn};
 

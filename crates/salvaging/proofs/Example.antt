@@ -17,9 +17,9 @@ use Rattle.notice.specs.Decode.{headStands, rowStands, standsTo, valueAt, kindI
 use Rattle.notice.specs.Log.{Gives, ends, next}
 use Rattle.notice.proofs.CaseSplits.{by-order, false-true}
 use Rattle.notice.proofs.NoticePlaces.{there}
-use Rattle.salvaging.specs.Scan.{lastOf, scanTo}
+use Rattle.scanning.specs.Scan.{lastOf, scanTo}
 use Rattle.salvaging.specs.Claims.{Clear, ComeOut}
-use Rattle.salvaging.proofs.ScanThrough.{takes}
+use Rattle.scanning.proofs.ScanThrough.{takes}
 use Rattle.salvaging.proofs.Tails.{tail-comes-out}
 
 -- a close of title 3 at time 0

@@ -21,12 +21,12 @@ use Rattle.notice.proofs.Alike.{by-itself}
 use Rattle.notice.proofs.Part.{at-last, whole-stays}
 use Rattle.notice.proofs.RoundTrip.{log-append}
 use Rattle.notice.proofs.ReadBack.{read-stands, read-writes-at, alone-at}
-use Rattle.salvaging.specs.declared.scan.Move.{Move}
-use Rattle.salvaging.specs.declared.scan.Move.the-variants.{Take, Skip, Stop}
-use Rattle.salvaging.specs.Scan.{isLater, Scan, lastOf, scanAfter, moveIn, scanTo, scanOf}
+use Rattle.scanning.specs.declared.scan.Move.{Move}
+use Rattle.scanning.specs.declared.scan.Move.the-variants.{Take, Skip, Stop}
+use Rattle.scanning.specs.Scan.{isLater, Scan, lastOf, scanAfter, moveIn, scanTo, scanOf}
 use Rattle.salvaging.specs.Claims.{Below, Rising}
 use Rattle.salvaging.proofs.Parts.{part-is}
-use Rattle.salvaging.proofs.ScanThrough as through
+use Rattle.scanning.proofs.ScanThrough as through
 use Rattle.salvaging.proofs.Tails.{whole}
 
 -- ---- a part of a log by itself

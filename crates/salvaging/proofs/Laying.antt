@@ -22,21 +22,21 @@ use Rattle.notice.specs.Window.{isDecided, Seen}
 use Rattle.notice.proofs.CaseSplits.{false-true}
 use Rattle.notice.proofs.NoticePlaces.{inside}
 use Rattle.notice.proofs.Windows.{seen-reads, few-left, at-end-decided}
-use Rattle.salvaging.specs.declared.scan.Move.{Move}
-use Rattle.salvaging.specs.declared.scan.Move.the-variants.{Take, Skip, Stop}
-use Rattle.salvaging.specs.declared.steps.Progress.{Progress}
+use Rattle.scanning.specs.declared.scan.Move.{Move}
+use Rattle.scanning.specs.declared.scan.Move.the-variants.{Take, Skip, Stop}
+use Rattle.scanning.specs.declared.steps.Progress.{Progress}
 use Rattle.salvaging.specs.declared.rows.Laid.{Laid}
 use Rattle.salvaging.specs.declared.rows.Poured.{Poured}
-use Rattle.salvaging.specs.Scan.{isLater, moveOf, Stretch, stretch, endOf, stretchJoined, Scan, lastOf, scanAfter, moveIn}
-use Rattle.salvaging.specs.Scan.{scanTo, scanOf}
+use Rattle.scanning.specs.Scan.{isLater, moveOf, Stretch, stretch, endOf, stretchJoined, Scan, lastOf, scanAfter, moveIn}
+use Rattle.scanning.specs.Scan.{scanTo, scanOf}
 use Rattle.salvaging.specs.Claims.{Apart}
-use Rattle.salvaging.specs.inner.Steps.{progressOf, isOpen, endingStretch, freshProgress, progressMoved, Counts, Within, Between, Advances}
+use Rattle.scanning.specs.inner.Steps.{progressOf, isOpen, endingStretch, freshProgress, progressMoved, Counts, Within, Between, Advances}
 use Rattle.salvaging.specs.Rows.{flat}
 use Rattle.salvaging.specs.Pours.{tookOne, takenIn, Lays, closed, stretchesEnded, Stands, PoursOn, Pours, Fills}
 use Rattle.salvaging.proofs.Parts.{part-is}
-use Rattle.salvaging.proofs.ScanThrough as through
+use Rattle.scanning.proofs.ScanThrough as through
 use Rattle.salvaging.proofs.Pieces.{split-to}
-use Rattle.salvaging.proofs.Stepping.{fresh-place, same-step}
+use Rattle.scanning.proofs.Stepping.{fresh-place, same-step}
 
 -- ---- stretches that have ended
 

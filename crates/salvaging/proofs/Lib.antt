@@ -1,9 +1,5 @@
 -- What holds of a scan.
-pub mod Moves
 pub mod Parts
-pub mod ScanThrough
-pub mod Stepping
-pub mod Reaching
 pub mod Laying
 pub mod Rooms
 pub mod Pieces

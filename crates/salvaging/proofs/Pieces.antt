@@ -15,12 +15,12 @@ use Rattle.rules.specs.Limits.{both}
 use Rattle.rules.specs.Refusals.{pick}
 use Rattle.rules.proofs.Tests.{either-false}
 use Rattle.notice.proofs.NoticePlaces.{inside}
-use Rattle.salvaging.specs.declared.scan.Move.{Move}
-use Rattle.salvaging.specs.declared.scan.Move.the-variants.{Take, Skip, Stop}
-use Rattle.salvaging.specs.Scan.{Stretch, stretch, endOf, stretchJoined, Scan, lastOf, scanAfter, moveIn, scanTo, scanOf}
+use Rattle.scanning.specs.declared.scan.Move.{Move}
+use Rattle.scanning.specs.declared.scan.Move.the-variants.{Take, Skip, Stop}
+use Rattle.scanning.specs.Scan.{Stretch, stretch, endOf, stretchJoined, Scan, lastOf, scanAfter, moveIn, scanTo, scanOf}
 use Rattle.salvaging.specs.Claims.{isSkipped, outside, skippedBytes, Apart}
 use Rattle.salvaging.proofs.Parts.{slice-suc}
-use Rattle.salvaging.proofs.ScanThrough.{takes, at-last}
+use Rattle.scanning.proofs.ScanThrough.{takes, at-last}
 
 -- ---- which bytes lie in stretches
 

@@ -14,9 +14,9 @@ use Rattle.rules.proofs.Tests.{either-l, either-r, either-false}
 use Rattle.text.specs.Output.{Page, page, puts}
 use Rattle.text.proofs.Pages.{puts-fits}
 use Rattle.salvaging.specs.declared.Salvaged.{Salvaged}
-use Rattle.salvaging.specs.declared.steps.Progress.{Progress}
-use Rattle.salvaging.specs.Scan.{Stretch, scanOf}
-use Rattle.salvaging.specs.inner.Steps.{progressOf}
+use Rattle.scanning.specs.declared.steps.Progress.{Progress}
+use Rattle.scanning.specs.Scan.{Stretch, scanOf}
+use Rattle.scanning.specs.inner.Steps.{progressOf}
 use Rattle.salvaging.specs.Rows.{flat, lacksRoom, noRoom, filled, Salvages}
 use Rattle.salvaging.specs.Pours.{salvagedTo, Fills}
 

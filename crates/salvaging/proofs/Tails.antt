@@ -19,13 +19,13 @@ use Rattle.notice.proofs.CaseSplits.{by-order}
 use Rattle.notice.proofs.NoticePlaces.{inside, ended}
 use Rattle.notice.proofs.Part.{at-last}
 use Rattle.notice.proofs.RoundTrip.{log-gives}
-use Rattle.salvaging.specs.declared.scan.Move.{Move}
-use Rattle.salvaging.specs.declared.scan.Move.the-variants.{Take, Skip, Stop}
-use Rattle.salvaging.specs.Scan.{isLater, Scan, lastOf, scanAfter, moveIn, scanTo}
+use Rattle.scanning.specs.declared.scan.Move.{Move}
+use Rattle.scanning.specs.declared.scan.Move.the-variants.{Take, Skip, Stop}
+use Rattle.scanning.specs.Scan.{isLater, Scan, lastOf, scanAfter, moveIn, scanTo}
 use Rattle.salvaging.specs.Claims.{Below, Rising, Clear, ComeOut, KeptWhole}
-use Rattle.salvaging.proofs.Moves.{in-turn}
+use Rattle.scanning.proofs.Moves.{in-turn}
 use Rattle.salvaging.proofs.Parts.{part-rest}
-use Rattle.salvaging.proofs.ScanThrough as through
+use Rattle.scanning.proofs.ScanThrough as through
 
 -- ---- notices in turn
 

@@ -2,14 +2,9 @@
 -- has them: `Learnt` is all that a caller learns of a call.
 use mathlib.Core.Path.{_≡_, sym, _∙_}
 use denote.Ref.{now}
-use Rattle.rules.specs.OneOutcome.{OneEnd, OneOutcome}
-use Rattle.salvaging.proofs.scan.look.Kinds as look-kinds
-use Rattle.salvaging.proofs.scan.look.Reads as look
+use Rattle.rules.specs.OneOutcome.{OneEnd}
 use Rattle.salvaging.proofs.salvage.Kinds as salvage-kinds
 use Rattle.salvaging.proofs.salvage.Reads as salvage
-
-pub look-one-outcome : OneOutcome 1 look-kinds.ps look-kinds.r look.Learnt
-look-one-outcome κs a x y e f p q = p ∙ sym q
 
 -- the counts, the area and the row; these are parameters 1 and 2, from 0
 pub salvage-one-outcome :

@@ -8,8 +8,8 @@ use lib.ListN.{getD, drop}
 use Rattle.rules.specs.Limits.{both, either}
 use Rattle.rules.specs.Refusals.{pick}
 use Rattle.notice.specs.declared.Notice.{Notice}
-use Rattle.salvaging.specs.declared.scan.Move.the-variants.{Take}
-use Rattle.salvaging.specs.Scan.{Stretch, endOf, moveIn, scanTo, scanOf}
+use Rattle.scanning.specs.declared.scan.Move.the-variants.{Take}
+use Rattle.scanning.specs.Scan.{Stretch, endOf, moveIn, scanTo, scanOf}
 
 -- byte i lies in one of these stretches
 unfoldable pub isSkipped : List Stretch → ℕ → Bool

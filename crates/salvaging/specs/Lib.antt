@@ -1,7 +1,7 @@
--- What is taken and what is skipped of a damaged log (02, request 8). specs/Scan is 02's scan, step by step: `moveOf` what is done at a
+-- What is taken and what is skipped of a damaged log (02, request 8). `scanning` specs/Scan is 02's scan, step by step: `moveOf` what is done at a
 -- place, `stretchJoined` a skipped byte, `scanTo` so many steps, `scanOf` all of a log, with the taken notices, the kept bytes and the
 -- skipped stretches. It asks only what the reader finds at a place, so a kind of notice that is added later counts with no change here.
--- specs/Claims has the words of the theorems, specs/Rows what the call leaves.
+-- `salvaging` specs/Claims has the words of the theorems, specs/Rows what the call leaves.
 -- - Every byte is kept or skipped, none of them twice, in the log's order: proofs/Pieces `together` (what is kept is the input without the
 --   bytes that lie in stretches), `all-bytes` (their numbers add up), `apart` (between two stretches something was kept, none is empty, and
 --   all lie within the input).
@@ -11,8 +11,6 @@
 --   to the end comes out, over any bytes before it, with 02's two provisos (specs/Claims `Clear`): proofs/Tails `tail-comes-out`,
 --   `written-tail`.
 -- Input of any length, read in blocks, is `salvage_io`.
-pub mod Scan
 pub mod Claims
 pub mod Rows
 pub mod Pours
-pub mod inner

@@ -13,9 +13,9 @@ use Rattle.text.specs.Output.{page, puts}
 use Rattle.salvaging.specs.declared.Salvaged.{Salvaged}
 use Rattle.salvaging.specs.declared.rows.Laid.{Laid}
 use Rattle.salvaging.specs.declared.rows.Poured.{Poured}
-use Rattle.salvaging.specs.declared.steps.Progress.{Progress}
-use Rattle.salvaging.specs.Scan.{Stretch, endOf, Scan, scanTo}
-use Rattle.salvaging.specs.inner.Steps.{progressOf, endingStretch, Counts}
+use Rattle.scanning.specs.declared.steps.Progress.{Progress}
+use Rattle.scanning.specs.Scan.{Stretch, endOf, Scan, scanTo}
+use Rattle.scanning.specs.inner.Steps.{progressOf, endingStretch, Counts}
 use Rattle.salvaging.specs.Rows.{flat}
 
 abbrev pub salvagedTo : Progress → Salvaged

@@ -8,7 +8,7 @@ use lib.ListN.{length, drop}
 use Rattle.rules.specs.Limits.{either}
 use Rattle.rules.specs.Refusals.{pick, firstHit, refuse, done, wrongRows}
 use Rattle.salvaging.specs.declared.Salvaged.{Salvaged}
-use Rattle.salvaging.specs.Scan.{Stretch, Scan, scanOf}
+use Rattle.scanning.specs.Scan.{Stretch, Scan, scanOf}
 
 -- start and length of each stretch, in order
 unfoldable pub flat : List Stretch → List ℕ

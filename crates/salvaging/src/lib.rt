@@ -1,18 +1,16 @@
-// What is left of a damaged log of notices (02, request 8): the scan, step by step over a window, and the call over lent rows.
+// What is left of a damaged log of notices (02, request 8): the call over lent rows.
 // No public function of this file has a `requires`: any log and any rooms have an answer.
 
 use rows::fill;
 use rules::DONE;
 use rules::WRONG_ROWS;
-use steps::Progress;
-use steps::measure;
+use scanning::steps::Progress;
+use scanning::steps::measure;
 ghost use mathlib.Core.Path.{_≡_};
 ghost use Rattle.salvaging.specs.Rows.{noRoom, Salvages};
 ghost use Rattle.salvaging.specs.Pours.{salvagedTo as counts};
 
 pub mod rows;
-pub mod scan;
-pub mod steps;
 
 // What the call gives back: its answer, how many notices were taken, how many bytes they have, and how many stretches were
 // skipped. Beside a refusal the counts are 0.

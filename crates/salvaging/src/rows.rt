@@ -1,18 +1,18 @@
 // The area and the row of the call, filled in the log's order. What has no room is left out.
 
-use super::steps::Progress;
-use super::steps::advance;
-use super::steps::begun;
-use super::steps::is_open;
 use notice::window::decided;
+use scanning::steps::Progress;
+use scanning::steps::advance;
+use scanning::steps::begun;
+use scanning::steps::is_open;
 use text::output::put;
 use text::output::put_value;
 ghost use mathlib.Core.Path.{_≡_};
 ghost use Prim.Native.Nat.{_+_, _<_, _^_};
 ghost use lib.ListN.{length};
 ghost use Rattle.text.specs.Output.{page, puts};
-ghost use Rattle.salvaging.specs.Scan.{scanOf};
-ghost use Rattle.salvaging.specs.inner.Steps.{Counts, Between, endingStretch};
+ghost use Rattle.scanning.specs.Scan.{scanOf};
+ghost use Rattle.scanning.specs.inner.Steps.{Counts, Between, endingStretch};
 ghost use Rattle.salvaging.specs.Pours.{takenIn, Lays, Pours, Fills};
 
 // The places behind what was written into the area and into the row.

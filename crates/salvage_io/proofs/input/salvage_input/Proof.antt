@@ -2,8 +2,8 @@
 use mathlib.Core.Path.{_≡_}
 use native.Mathlib.Omega.{arith}
 use lib.ListN.{length}
-use Rattle.salvaging.specs.inner.Steps.{Counts}
-use Rattle.salvaging.proofs.Stepping.{fresh-counts}
+use Rattle.scanning.specs.inner.Steps.{Counts}
+use Rattle.scanning.proofs.Stepping.{fresh-counts}
 use Rattle.salvage_io.specs.Blocks.{blockRoom}
 use borrow.Author.Needs.{needs}
 use Rattle.salvage_io.proofs.input.salvage_input.Statement.{statement}

@@ -1,6 +1,6 @@
 -- `salvaging::rows::fill` meets its contract: the log is one window, behind which no byte follows.
 use native.Mathlib.Omega.{arith}
-use Rattle.salvaging.proofs.Stepping.{fresh-counts, fresh-place}
+use Rattle.scanning.proofs.Stepping.{fresh-counts, fresh-place}
 use Rattle.salvaging.proofs.Laying.{all-laid}
 use borrow.Author.Needs.{needs}
 use Rattle.salvaging.proofs.rows.fill.Statement.{statement}

@@ -11,10 +11,10 @@ use Rattle.notice.specs.declared.Notice.{Notice}
 use Rattle.notice.specs.declared.Found.{Found}
 use Rattle.notice.specs.declared.Found.the-variants as found
 use Rattle.notice.specs.Decode.{readAt}
-use Rattle.salvaging.specs.declared.scan.Last.{Last}
-use Rattle.salvaging.specs.declared.scan.Last.the-variants.{Nothing, Taken}
-use Rattle.salvaging.specs.declared.scan.Move.{Move}
-use Rattle.salvaging.specs.declared.scan.Move.the-variants.{Take, Skip, Stop}
+use Rattle.scanning.specs.declared.scan.Last.{Last}
+use Rattle.scanning.specs.declared.scan.Last.the-variants.{Nothing, Taken}
+use Rattle.scanning.specs.declared.scan.Move.{Move}
+use Rattle.scanning.specs.declared.scan.Move.the-variants.{Take, Skip, Stop}
 
 -- a sequence that comes after the last taken one
 abbrev pub isLater : Last → ℕ → Bool

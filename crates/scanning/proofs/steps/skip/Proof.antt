@@ -1,9 +1,9 @@
--- `salvaging::steps::skip` meets its contract, by whether the latest stretch is open.
+-- `scanning::steps::skip` meets its contract, by whether the latest stretch is open.
 use mathlib.Core.Path.{sym, _∙_}
-use Rattle.salvaging.proofs.Stepping.{joins, starts}
+use Rattle.scanning.proofs.Stepping.{joins, starts}
 use borrow.Author.Needs.{needs}
-use Rattle.salvaging.proofs.steps.skip.Statement.{statement}
-use Rattle.salvaging.proofs.steps.skip.Tie as tie
+use Rattle.scanning.proofs.steps.skip.Statement.{statement}
+use Rattle.scanning.proofs.steps.skip.Tie as tie
 
 is-open-requires : tie.Need-is-open-requires
 is-open-requires c κs = search needs

@@ -1,10 +1,10 @@
--- `salvaging::steps::advance` meets its contract, by the move at the place.
+-- `scanning::steps::advance` meets its contract, by the move at the place.
 use mathlib.Core.Path.{sym, _∙_}
 use native.Mathlib.Omega.{arith}
-use Rattle.salvaging.proofs.Stepping.{take-ends, skip-room, advances-take, advances-skip, advances-stop}
+use Rattle.scanning.proofs.Stepping.{take-ends, skip-room, advances-take, advances-skip, advances-stop}
 use borrow.Author.Needs.{needs}
-use Rattle.salvaging.proofs.steps.advance.Statement.{statement}
-use Rattle.salvaging.proofs.steps.advance.Tie as tie
+use Rattle.scanning.proofs.steps.advance.Statement.{statement}
+use Rattle.scanning.proofs.steps.advance.Tie as tie
 
 sub-look : tie.Need-sub-look
 sub-look c = search needs

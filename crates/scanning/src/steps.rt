@@ -6,8 +6,8 @@ use super::scan::look;
 ghost use mathlib.Core.Path.{_≡_};
 ghost use Prim.Native.Nat.{_+_, _<_, _^_};
 ghost use lib.ListN.{length};
-ghost use Rattle.salvaging.specs.Scan.{scanOf};
-ghost use Rattle.salvaging.specs.inner.Steps.{isOpen, takingNotice, skipping, Counts, Within, Advances, progressOf, freshProgress};
+ghost use Rattle.scanning.specs.Scan.{scanOf};
+ghost use Rattle.scanning.specs.inner.Steps.{isOpen, takingNotice, skipping, Counts, Within, Advances, progressOf, freshProgress};
 
 // How far a scan has come: its place in the input, the last taken notice, how many notices and bytes were taken, how many
 // stretches skipped, and where the latest of these starts and how long it is.

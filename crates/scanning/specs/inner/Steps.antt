@@ -9,11 +9,11 @@ use lib.ListN.{length}
 use Rattle.rules.specs.Limits.{both}
 use Rattle.rules.specs.Refusals.{pick}
 use Rattle.notice.specs.Decode.{readAt}
-use Rattle.salvaging.specs.declared.scan.Last.the-variants.{Nothing, Taken}
-use Rattle.salvaging.specs.declared.scan.Move.{Move}
-use Rattle.salvaging.specs.declared.scan.Move.the-variants.{Take, Skip, Stop}
-use Rattle.salvaging.specs.declared.steps.Progress.{Progress}
-use Rattle.salvaging.specs.Scan.{moveOf, Stretch, stretch, Scan, lastOf}
+use Rattle.scanning.specs.declared.scan.Last.the-variants.{Nothing, Taken}
+use Rattle.scanning.specs.declared.scan.Move.{Move}
+use Rattle.scanning.specs.declared.scan.Move.the-variants.{Take, Skip, Stop}
+use Rattle.scanning.specs.declared.steps.Progress.{Progress}
+use Rattle.scanning.specs.Scan.{moveOf, Stretch, stretch, Scan, lastOf}
 
 abbrev pub latest : List Stretch → Stretch
 latest [] = stretch 0 0

@@ -6,9 +6,9 @@ use Prim.Native.Nat.{ℕ}
 use Rattle.notice.specs.declared.Notice.{Notice}
 use Rattle.notice.specs.declared.Found.{Found}
 use Rattle.notice.specs.declared.Found.the-variants as found
-use Rattle.salvaging.specs.declared.scan.Last.{Last}
-use Rattle.salvaging.specs.declared.scan.Move.the-variants.{Take, Skip, Stop}
-use Rattle.salvaging.specs.Scan.{isLater, moveOf}
+use Rattle.scanning.specs.declared.scan.Last.{Last}
+use Rattle.scanning.specs.declared.scan.Move.the-variants.{Take, Skip, Stop}
+use Rattle.scanning.specs.Scan.{isLater, moveOf}
 
 module _ (l : Last) (f : Found) where
   pub in-turn : (n : Notice) (e : ℕ) → f ≡ found.At n e → isLater l (n .sequence) ≡ true → Take n e ≡ moveOf l f

@@ -7,11 +7,11 @@ use native.Mathlib.Nat.{sub-zero}
 use native.Mathlib.Omega.{arith}
 use lib.ListN.{length}
 use Rattle.notice.specs.Decode.{readAt}
-use Rattle.salvaging.specs.declared.steps.Progress.{Progress}
-use Rattle.salvaging.specs.Scan.{moveOf, moveIn, scanTo, scanOf}
-use Rattle.salvaging.specs.inner.Steps.{progressOf, freshProgress, progressMoved, Counts, Within, Advances}
-use Rattle.salvaging.proofs.ScanThrough as through
-use Rattle.salvaging.proofs.Stepping.{fresh-counts, same-step}
+use Rattle.scanning.specs.declared.steps.Progress.{Progress}
+use Rattle.scanning.specs.Scan.{moveOf, moveIn, scanTo, scanOf}
+use Rattle.scanning.specs.inner.Steps.{progressOf, freshProgress, progressMoved, Counts, Within, Advances}
+use Rattle.scanning.proofs.ScanThrough as through
+use Rattle.scanning.proofs.Stepping.{fresh-counts, same-step}
 
 -- so many steps have come here
 pub record Reached (bs : List ℕ) (p : Progress) : Type 0 where

@@ -1,11 +1,11 @@
--- `salvaging::steps::measure` meets its contract and ends: each turn is one step of the scan, and comes ahead.
+-- `scanning::steps::measure` meets its contract and ends: each turn is one step of the scan, and comes ahead.
 use Prim.Native.Nat.{_-_}
 use native.Mathlib.Omega.{arith}
 use lib.ListN.{length}
-use Rattle.salvaging.proofs.Reaching.{Reached, not-begun, within, one-more, measured, falls}
+use Rattle.scanning.proofs.Reaching.{Reached, not-begun, within, one-more, measured, falls}
 use borrow.Author.Needs.{needs}
-use Rattle.salvaging.proofs.steps.measure.Statement.{statement}
-use Rattle.salvaging.proofs.steps.measure.Tie as tie
+use Rattle.scanning.proofs.steps.measure.Statement.{statement}
+use Rattle.scanning.proofs.steps.measure.Tie as tie
 
 abbrev Inv-loop : tie.InvT-loop
 Inv-loop log p₀ p = Reached log p

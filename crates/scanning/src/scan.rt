@@ -5,7 +5,7 @@ use notice::Notice;
 use notice::next_in;
 ghost use mathlib.Core.Path.{_≡_};
 ghost use Rattle.notice.specs.Decode.{readAt};
-ghost use Rattle.salvaging.specs.Scan.{isLater, moveOf};
+ghost use Rattle.scanning.specs.Scan.{isLater, moveOf};
 
 // The sequence of the last taken notice, if any.
 pub enum Last {

@@ -1,8 +1,8 @@
--- `salvaging::steps::is_open` meets its contract, by its tests.
-use Rattle.salvaging.proofs.Stepping.{none-open, some-open}
+-- `scanning::steps::is_open` meets its contract, by its tests.
+use Rattle.scanning.proofs.Stepping.{none-open, some-open}
 use borrow.Author.Needs.{needs}
-use Rattle.salvaging.proofs.steps.is_open.Statement.{statement}
-use Rattle.salvaging.proofs.steps.is_open.Tie as tie
+use Rattle.scanning.proofs.steps.is_open.Statement.{statement}
+use Rattle.scanning.proofs.steps.is_open.Tie as tie
 
 returns : tie.Need-returns
 returns c = none-open _ (c .if1 .taken)

@@ -17,10 +17,10 @@ use Rattle.notice.specs.Decode.{readAt}
 use Rattle.notice.proofs.CaseSplits.{by-order}
 use Rattle.notice.proofs.Cases.{at-end}
 use Rattle.notice.proofs.NoticePlaces.{inside, ended}
-use Rattle.salvaging.specs.declared.scan.Last.{Last}
-use Rattle.salvaging.specs.declared.scan.Move.{Move}
-use Rattle.salvaging.specs.declared.scan.Move.the-variants.{Take, Skip, Stop}
-use Rattle.salvaging.specs.Scan.{isLater, moveOf, Scan, lastOf, scanAfter, moveIn, scanTo, scanOf}
+use Rattle.scanning.specs.declared.scan.Last.{Last}
+use Rattle.scanning.specs.declared.scan.Move.{Move}
+use Rattle.scanning.specs.declared.scan.Move.the-variants.{Take, Skip, Stop}
+use Rattle.scanning.specs.Scan.{isLater, moveOf, Scan, lastOf, scanAfter, moveIn, scanTo, scanOf}
 
 -- ---- what a move tells
 

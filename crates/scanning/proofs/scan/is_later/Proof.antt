@@ -1,9 +1,9 @@
--- `salvaging::scan::is_later` meets its contract, by whether a notice was taken.
+-- `scanning::scan::is_later` meets its contract, by whether a notice was taken.
 use mathlib.Core.Path.{sym, ap}
 use borrow.Author.Needs.{needs}
-use Rattle.salvaging.specs.Scan.{isLater}
-use Rattle.salvaging.proofs.scan.is_later.Statement.{statement}
-use Rattle.salvaging.proofs.scan.is_later.Tie as tie
+use Rattle.scanning.specs.Scan.{isLater}
+use Rattle.scanning.proofs.scan.is_later.Statement.{statement}
+use Rattle.scanning.proofs.scan.is_later.Tie as tie
 
 enum-told : tie.Need-enum-told
 enum-told c = search needs

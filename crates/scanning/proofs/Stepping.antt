@@ -16,13 +16,13 @@ use Rattle.rules.specs.Refusals.{pick}
 use Rattle.notice.specs.declared.Notice.{Notice}
 use Rattle.notice.specs.Decode.{readAt}
 use Rattle.notice.proofs.NoticePlaces.{inside}
-use Rattle.salvaging.specs.declared.scan.Move.{Move}
-use Rattle.salvaging.specs.declared.scan.Move.the-variants.{Take, Skip, Stop}
-use Rattle.salvaging.specs.declared.steps.Progress.{Progress}
-use Rattle.salvaging.specs.Scan.{moveOf, Stretch, stretch, endOf, Scan, lastOf, scanAfter, moveIn}
-use Rattle.salvaging.specs.inner.Steps.{progressOf, freshProgress, isOpen, takingNotice, joining, starting}
-use Rattle.salvaging.specs.inner.Steps.{skipping, progressMoved, Counts, Within, Advances}
-use Rattle.salvaging.proofs.ScanThrough as through
+use Rattle.scanning.specs.declared.scan.Move.{Move}
+use Rattle.scanning.specs.declared.scan.Move.the-variants.{Take, Skip, Stop}
+use Rattle.scanning.specs.declared.steps.Progress.{Progress}
+use Rattle.scanning.specs.Scan.{moveOf, Stretch, stretch, endOf, Scan, lastOf, scanAfter, moveIn}
+use Rattle.scanning.specs.inner.Steps.{progressOf, freshProgress, isOpen, takingNotice, joining, starting}
+use Rattle.scanning.specs.inner.Steps.{skipping, progressMoved, Counts, Within, Advances}
+use Rattle.scanning.proofs.ScanThrough as through
 
 -- ---- is a stretch open
 

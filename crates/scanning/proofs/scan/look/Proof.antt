@@ -1,9 +1,9 @@
--- `salvaging::scan::look` meets its contract, by what the reader finds at the place and whether it is that notice's turn.
+-- `scanning::scan::look` meets its contract, by what the reader finds at the place and whether it is that notice's turn.
 use mathlib.Core.Path.{sym, _∙_}
 use borrow.Author.Needs.{needs}
-use Rattle.salvaging.proofs.Moves.{in-turn, out-of-turn, no-byte, no-notice}
-use Rattle.salvaging.proofs.scan.look.Statement.{statement}
-use Rattle.salvaging.proofs.scan.look.Tie as tie
+use Rattle.scanning.proofs.Moves.{in-turn, out-of-turn, no-byte, no-notice}
+use Rattle.scanning.proofs.scan.look.Statement.{statement}
+use Rattle.scanning.proofs.scan.look.Tie as tie
 
 next-in-requires : tie.Need-next-in-requires
 next-in-requires c κs = search needs
