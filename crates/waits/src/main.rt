@@ -1,5 +1,10 @@
 // How long people waited for a title's next admission: arguments POOL TITLE LOG ARRIVALS.
 
+mod arrivals;
+mod complaints;
+mod lines;
+mod run;
+
 fn main() {
-    waits_io::run::run();
+    run::run();
 }
