@@ -1,9 +1,12 @@
 // Gets what is left out of a damaged log on standard input: the taken notices to standard output, what was skipped to standard error.
 
+mod blocks;
+mod input;
+
 fn main() {
-    let ports = salvage_io::input::Ports {
+    let ports = input::Ports {
         taken: libc::STDOUT_FILENO,
         told: libc::STDERR_FILENO,
     };
-    salvage_io::input::salvage_input(ports);
+    input::salvage_input(ports);
 }

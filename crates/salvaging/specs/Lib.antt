@@ -10,7 +10,7 @@
 -- - A log in order loses nothing: proofs/Tails `whole`, and `written-whole` of notices as they are written. What is sound from some notice
 --   to the end comes out, over any bytes before it, with 02's two provisos (specs/Claims `Clear`): proofs/Tails `tail-comes-out`,
 --   `written-tail`.
--- Input of any length, read in blocks, is `salvage_io`.
+-- Input of any length, read in blocks, is the program `salvage`.
 pub mod Claims
 pub mod Rows
 pub mod Pours

@@ -1,0 +1,4 @@
+-- What holds of the report's lines.
+pub mod LinesFit
+pub mod Saying
+pub mod Unique
