@@ -1,0 +1,36 @@
+-- `rl_air` meets its contract: 10 first, then what the judgement of the air told.
+use mathlib.Core.Path.{_∙_}
+use Rattle.rongalishu.proofs.Told.{with-numbers, as-it-was, air-short, air-told}
+use borrow.Author.Needs.{needs}
+use Rattle.rongalishu.proofs.reports.rl_air.Statement.{statement}
+use Rattle.rongalishu.proofs.reports.rl_air.Tie as tie
+
+returns : tie.Need-returns
+returns c = air-short _ _ _ _ _ _ (c .if1 .taken)
+
+returns-2 : tie.Need-returns-2
+returns-2 c =
+    let at-told = c .before .before .before .before .before .before .before .before in
+    let told = at-told .air in
+    air-told _ _ _ _ _ _ (told .result) _ _ (at-told .before .before .if1 .left) (told .ensures .0) (told .ensures .1)
+    (c .before .before .put .ensures ∙ with-numbers _ _ _ (c .before .before .before .before .before .if2 .taken))
+
+returns-3 : tie.Need-returns-3
+returns-3 c =
+    let at-told = c .before .before .before in
+    let told = at-told .air in
+    air-told _ _ _ _ _ _ (told .result) _ _ (at-told .before .before .if1 .left) (told .ensures .0) (told .ensures .1) (as-it-was _ _ _ (c .if2 .left))
+
+pub rl-air-spec : {M : Type 1} → statement M
+rl-air-spec =
+    tie.close
+    (tie.spec
+    returns
+    (λ c κs. search needs)
+    (λ c. search needs)
+    (λ c κs. search needs)
+    (λ c. search needs)
+    (λ c. search needs)
+    returns-2
+    (λ c. search needs)
+    returns-3)

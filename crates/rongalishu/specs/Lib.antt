@@ -1,0 +1,3 @@
+-- What the library's calls answer over lent rows, each by the definitions of the calls beneath.
+pub mod Results
+pub mod Reports

@@ -1,0 +1,28 @@
+// What a box asks before it begins: the plan of a start, by the rule and by the small box's table.
+
+ghost use Rattle.plans.specs.Row.{Planned, SkipPlanned};
+ghost use Rattle.rom.specs.Plan.{RomPlanned};
+
+// The plan of a start of a padded title, into the first 2^cap places of a row.
+#[no_mangle]
+pub extern "C" fn rl_plan(floor: u64, cap: u64, count: u64, arrival: u64, row: &mut [u16]) -> u8
+    ensures { λ r. ⌜ Planned floor cap count arrival (now (row .entry)) r (now (row .exit)) ⌝ }
+{
+    plans::plan(floor, cap, count, arrival, row)
+}
+
+// The same looked up in the small box's table.
+#[no_mangle]
+pub extern "C" fn rl_rom_plan(floor: u64, cap: u64, count: u64, arrival: u64, row: &mut [u16]) -> u8
+    ensures { λ r. ⌜ RomPlanned floor cap count arrival (now (row .entry)) r (now (row .exit)) ⌝ }
+{
+    rom::plan::plan(floor, cap, count, arrival, row)
+}
+
+// The plan of a start of a skip-forward title, into the first 2^(count - 1) places of a row.
+#[no_mangle]
+pub extern "C" fn rl_skip_plan(count: u64, arrival: u64, row: &mut [u16]) -> u8
+    ensures { λ r. ⌜ SkipPlanned count arrival (now (row .entry)) r (now (row .exit)) ⌝ }
+{
+    plans::skip_plan(count, arrival, row)
+}
