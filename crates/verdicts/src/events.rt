@@ -72,7 +72,7 @@ fn film_ok(film: Film, count: u64) -> bool
 }
 
 // The numbers of what an event does.
-fn act_ok(act: Act) -> bool
+pub fn act_ok(act: Act) -> bool
     ensures { λ r. ⌜ r ≡ actLimits act true ⌝ }
 {
     match act {

@@ -1,0 +1,3 @@
+-- Laws of an agent's row.
+pub mod Inverse
+pub mod Laid

@@ -1,0 +1,74 @@
+-- `counts_from` meets its contract. The loop's invariant: the numbers passed are copied.
+use mathlib.Core.Path.{_≡_, refl, ap, _∙_}
+use Prim.Native.Nat.{ℕ, _+_, _-_, _≤_}
+use native.Mathlib.Omega.{arith}
+use native.Mathlib.Numerals.{add-one}
+use native.Mathlib.Nat.{le-antisymm}
+use mathlib.Core.List.{append-nil}
+use lib.ListN.{length, getD, take, drop, length-set}
+use borrow.Author.Needs.{needs}
+use Rattle.rules.specs.Limits.{countPlaces}
+use Rattle.agent_rows.proofs.Laid.{copied, copied-more}
+use Rattle.agent_rows.proofs.reading.counts_from.Statement.{statement}
+use Rattle.agent_rows.proofs.reading.counts_from.Tie as tie
+
+abbrev Inv-loop : tie.InvT-loop
+Inv-loop row at numbers₀ i₀ numbers i = (i ≤ countPlaces) × (numbers ≡ copied row at countPlaces i) × (length numbers ≡ countPlaces)
+
+abbrev μ-loop : tie.MeasureT-loop
+μ-loop row at numbers₀ i₀ numbers i = countPlaces - i
+
+loop-holds : tie.Need-loop-holds Inv-loop μ-loop
+loop-holds c = (omega arith, refl, refl)
+
+add-numbers : tie.Need-add-numbers Inv-loop μ-loop
+add-numbers c = search needs
+
+mul-numbers : tie.Need-mul-numbers Inv-loop μ-loop
+mul-numbers c = search needs
+
+shared-slice-read-numbers : tie.Need-shared-slice-read-numbers Inv-loop μ-loop
+shared-slice-read-numbers c = search needs
+
+mul-numbers-2 : tie.Need-mul-numbers-2 Inv-loop μ-loop
+mul-numbers-2 c = search needs
+
+array-write-numbers : tie.Need-array-write-numbers Inv-loop μ-loop
+array-write-numbers c = search needs
+
+add-i : tie.Need-add-i Inv-loop μ-loop
+add-i c = search needs
+
+loop-less : tie.Need-loop-less Inv-loop μ-loop
+loop-less c = search needs
+
+loop-again : tie.Need-loop-again Inv-loop μ-loop
+loop-again c =
+    let a = c .before .before .before .args in
+    let l = c .before .before .loop in
+    (omega arith, rw (add-one, l .inv .1) (copied-more (a .row .now) (a .at) countPlaces (l .i) (omega arith) (omega arith)), length-set (l .numbers) (l .i) (getD (a .row .now) (a .at + l .i) 0) ∙ l .inv .2)
+
+returns : tie.Need-returns Inv-loop μ-loop
+returns c =
+    let a = c .before .before .args in
+    let l = c .before .loop in
+    l .inv .1
+    ∙ ap (λ (n : ℕ). copied (a .row .now) (a .at) countPlaces n) (le-antisymm (l .inv .0) (c .loop-test .left))
+    ∙ append-nil (take countPlaces (drop (a .at) (a .row .now)))
+
+pub counts-from-spec : {M : Type 1} → statement M
+counts-from-spec =
+    tie.close
+    (tie.spec
+    Inv-loop
+    μ-loop
+    loop-holds
+    add-numbers
+    mul-numbers
+    shared-slice-read-numbers
+    mul-numbers-2
+    array-write-numbers
+    add-i
+    loop-less
+    loop-again
+    returns)
