@@ -1,3 +1,5 @@
 -- Laws of an agent's row.
 pub mod Inverse
 pub mod Laid
+pub mod Tested
+pub mod Lanes

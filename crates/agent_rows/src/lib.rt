@@ -5,14 +5,16 @@ use rules::COUNT_PLACES;
 use rules::LANE_PLACES;
 use rules::TITLES_MAX;
 
+pub mod holding;
 pub mod laying;
 pub mod reading;
+pub mod testing;
 
 // The layout's version, the row's first number.
 pub const ROW_VERSION: u64 = 1;
 
 // A sequence fits 32 bits.
-pub const SEQUENCE_MAX: u64 = 4_294_967_295;
+pub const SEQUENCE_END: u64 = 4_294_967_296;
 
 // The places of the version, of the last accepted notice's sequence, of the pool and of the last accepted event's time, and
 // where the titles begin.

@@ -49,7 +49,7 @@ fn kept_ok(t: Title) -> bool
 }
 
 // A floor up to the limit of its kind: that of a skip-forward title is its count.
-fn floor_ok(kind: u64, floor: u64) -> bool
+pub fn floor_ok(kind: u64, floor: u64) -> bool
     ensures { λ r. ⌜ r ≡ leb floor (pick (eqb kind steadyKind) steadyMax floorMax) ⌝ }
 {
     if kind == STEADY {
@@ -97,7 +97,7 @@ fn numbers_ok(t: Title) -> bool
 }
 
 // Floor and cap are one where the kind asks for it.
-fn is_level(kind: u64, floor: u64, cap: u64) -> bool
+pub fn is_level(kind: u64, floor: u64, cap: u64) -> bool
     ensures { λ r. ⌜ r ≡ either (not (eqb kind steadyKind)) (eqb floor cap) ⌝ }
 {
     if kind == STEADY {

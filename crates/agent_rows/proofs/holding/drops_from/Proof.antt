@@ -1,0 +1,106 @@
+-- `drops_from` meets its contract: no number of a lane passed is above those or-ed.
+use Prim.Native.Nat.{ℕ, _+_, _-_, _≤_, _<_}
+use mathlib.Core.Path.{_≡_, refl}
+use mathlib.Core.Logic.{⊎-elim}
+use native.Mathlib.Omega.{arith}
+use native.Mathlib.Numerals.{add-one}
+use native.Mathlib.Nat.{le-trans}
+use lib.Bits.{bitOr}
+use lib.ListN.{getD}
+use Rattle.rules.proofs.Search.{below-suc}
+use Rattle.agent_rows.specs.Layout.{droppedAt, owedAt, capAt}
+use Rattle.agent_rows.proofs.Tested.{or-above}
+use borrow.Author.Needs.{needs}
+use Rattle.agent_rows.proofs.holding.drops_from.Statement.{statement}
+use Rattle.agent_rows.proofs.holding.drops_from.Tie as tie
+
+abbrev Inv-loop : tie.InvT-loop
+Inv-loop row at from cap all₀ lane₀ all lane =
+    (cap ≡ getD row (at + capAt) 0)
+    × ((l : ℕ) → from ≤ l → l < lane → (getD row (at + droppedAt + l) 0 ≤ all) × (getD row (at + owedAt + l) 0 ≤ all))
+
+abbrev μ-loop : tie.MeasureT-loop
+μ-loop row at from cap all₀ lane₀ all lane = cap - lane
+
+add-cap : tie.Need-add-cap Inv-loop μ-loop
+add-cap c = search needs
+
+mul-cap : tie.Need-mul-cap Inv-loop μ-loop
+mul-cap c = search needs
+
+shared-slice-read-cap : tie.Need-shared-slice-read-cap Inv-loop μ-loop
+shared-slice-read-cap c = search needs
+
+loop-holds : tie.Need-loop-holds Inv-loop μ-loop
+loop-holds c = (refl, λ l low high. absurd (omega arith))
+
+add-all : tie.Need-add-all Inv-loop μ-loop
+add-all c = search needs
+
+add-all-2 : tie.Need-add-all-2 Inv-loop μ-loop
+add-all-2 c = search needs
+
+mul-all : tie.Need-mul-all Inv-loop μ-loop
+mul-all c = search needs
+
+shared-slice-read-all : tie.Need-shared-slice-read-all Inv-loop μ-loop
+shared-slice-read-all c = search needs
+
+add-all-3 : tie.Need-add-all-3 Inv-loop μ-loop
+add-all-3 c = search needs
+
+add-all-4 : tie.Need-add-all-4 Inv-loop μ-loop
+add-all-4 c = search needs
+
+mul-all-2 : tie.Need-mul-all-2 Inv-loop μ-loop
+mul-all-2 c = search needs
+
+shared-slice-read-all-2 : tie.Need-shared-slice-read-all-2 Inv-loop μ-loop
+shared-slice-read-all-2 c = search needs
+
+add-lane : tie.Need-add-lane Inv-loop μ-loop
+add-lane c = search needs
+
+loop-less : tie.Need-loop-less Inv-loop μ-loop
+loop-less c = search needs
+
+loop-again : tie.Need-loop-again Inv-loop μ-loop
+loop-again c =
+    let l = c .before .before .before .loop in
+    let a = c .before .before .before .before .before .args in
+    let r = a .row .now in
+    let d = getD r (a .at + droppedAt + l .lane) 0 in
+    let o = getD r (a .at + owedAt + l .lane) 0 in
+    let both-above = or-above (l .all) (bitOr d o) in
+    let two-above = or-above d o in (
+      l .inv .0,
+      λ j low high.
+          ⊎-elim (λ below. let old = l .inv .1 j low below in (le-trans (old .0) (both-above .0), le-trans (old .1) (both-above .0)))
+          (λ e. rw e (le-trans (two-above .0) (both-above .1), le-trans (two-above .1) (both-above .1))) (below-suc j (l .lane) (rw (add-one (l .lane)) at high)),
+    )
+
+returns : tie.Need-returns Inv-loop μ-loop
+returns c = λ l low high. c .before .loop .inv .1 l low (omega arith)
+
+pub drops-from-spec : {M : Type 1} → statement M
+drops-from-spec =
+    tie.close
+    (tie.spec
+    Inv-loop
+    μ-loop
+    add-cap
+    mul-cap
+    shared-slice-read-cap
+    loop-holds
+    add-all
+    add-all-2
+    mul-all
+    shared-slice-read-all
+    add-all-3
+    add-all-4
+    mul-all-2
+    shared-slice-read-all-2
+    add-lane
+    loop-less
+    loop-again
+    returns)

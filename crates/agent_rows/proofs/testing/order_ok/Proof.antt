@@ -1,0 +1,53 @@
+-- `order_ok` meets its contract: each way out decides the tests up to it.
+use borrow.Author.Tests.{le-leb, lt-leb}
+use Rattle.agent_rows.specs.inner.Tested.{orderedNumbers}
+use borrow.Author.Needs.{needs}
+use Rattle.agent_rows.proofs.testing.order_ok.Statement.{statement}
+use Rattle.agent_rows.proofs.testing.order_ok.Tie as tie
+
+returns : tie.Need-returns
+unfolding orderedNumbers
+returns c = search (le-leb, lt-leb)
+
+returns-2 : tie.Need-returns-2
+unfolding orderedNumbers
+returns-2 c = search (le-leb, lt-leb)
+
+returns-3 : tie.Need-returns-3
+unfolding orderedNumbers
+returns-3 c = search (le-leb, lt-leb)
+
+within-requires : tie.Need-within-requires
+within-requires c κs = search needs
+
+is-level-requires : tie.Need-is-level-requires
+is-level-requires c κs = search needs
+
+also-requires : tie.Need-also-requires
+also-requires c κs = search needs
+
+returns-4 : tie.Need-returns-4
+unfolding orderedNumbers
+returns-4 c =
+    let at-if3 = c .before .before .before in
+    let at-if2 = at-if3 .before in
+    simp (
+      le-leb _ _ (at-if2 .before .if1 .left),
+      le-leb _ _ (at-if2 .if2 .left),
+      le-leb _ _ (at-if3 .if3 .left),
+      ← c .before .before .within .ensures,
+      ← c .before .is-level .ensures,
+    )
+    (c .also .ensures)
+
+pub order-ok-spec : {M : Type 1} → statement M
+order-ok-spec =
+    tie.close
+    (tie.spec
+    returns
+    returns-2
+    returns-3
+    within-requires
+    is-level-requires
+    also-requires
+    returns-4)
