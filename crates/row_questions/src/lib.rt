@@ -1,0 +1,64 @@
+// Questions of a whole pool, and of the small box, asked of an agent that a caller lends as a row of numbers. No public call has a
+// `requires`; a refusal writes nothing.
+
+mod standing;
+
+use agent_rows::ROW_LENGTH;
+use planner::Listed;
+use rules::WRONG_ROWS;
+use scheduler::Shown;
+use standing::state_in;
+ghost use mathlib.Core.Path.{_≡_};
+ghost use Rattle.row_questions.specs.Questions.{RowFilled, rowRomLane, rowRomShows, RowListed};
+
+// Fills in counts, lanes held and marks by id.
+pub fn status(
+    row: &[u64],
+    time: u64,
+    ids: &[u64],
+    counts: &mut [u64],
+    held: &mut [u64],
+    marks: &mut [u64],
+) -> u8
+    ensures { λ r. ⌜ RowFilled (now (row .entry)) time (now (ids .entry)) (now (counts .entry)) (now (held .entry))
+        (now (marks .entry)) r (now (counts .exit)) (now (held .exit)) (now (marks .exit)) ⌝ }
+{
+    if row.len() == ROW_LENGTH {
+        return status::status(state_in(row), time, ids, counts, held, marks);
+    }
+    WRONG_ROWS
+}
+
+// Which cell goes out on a lane of a title in the tick that holds a time, looked up in the small box's table.
+pub fn rom_lane(row: &[u64], id: u64, lane: u64, time: u64) -> Shown
+    ensures { λ r. ⌜ (r .answer ≡ rowRomLane (now (row .entry)) id lane time) × (r .cell ≡ rowRomShows (now (row .entry)) id lane time) ⌝ }
+{
+    if row.len() == ROW_LENGTH {
+        return rom::lanes::lane(state_in(row), id, lane, time);
+    }
+    Shown {
+        answer: WRONG_ROWS,
+        cell: 0,
+    }
+}
+
+// Lists the changes that bring the counts to the sharing of the pool.
+pub fn planner(
+    row: &[u64],
+    time: u64,
+    rates: &[u32],
+    ids: &mut [u64],
+    times: &mut [u64],
+    counts: &mut [u64],
+) -> Listed
+    ensures { λ r. ⌜ RowListed (now (row .entry)) time (now (rates .entry)) (now (ids .entry)) (now (times .entry))
+        (now (counts .entry)) (r .answer) (r .many) (now (ids .exit)) (now (times .exit)) (now (counts .exit)) ⌝ }
+{
+    if row.len() == ROW_LENGTH {
+        return planner::planner(state_in(row), time, rates, ids, times, counts);
+    }
+    Listed {
+        answer: WRONG_ROWS,
+        many: 0,
+    }
+}
