@@ -22,6 +22,8 @@ use Rattle.notice.proofs.size.Kinds as size-kinds
 use Rattle.notice.proofs.size.Reads as size
 use Rattle.notice.proofs.kind_number.Kinds as kind-number-kinds
 use Rattle.notice.proofs.kind_number.Reads as kind-number
+use Rattle.notice.proofs.encode.values.Kinds as values-kinds
+use Rattle.notice.proofs.encode.values.Reads as values
 use Rattle.notice.proofs.read.Kinds as read-kinds
 use Rattle.notice.proofs.read.Reads as read
 use Rattle.notice.proofs.read_at.Kinds as read-at-kinds
@@ -37,6 +39,9 @@ size-one-outcome κs a x y e f p q = p ∙ sym q
 
 pub kind-number-one-outcome : OneOutcome 0 kind-number-kinds.ps kind-number-kinds.r kind-number.Learnt
 kind-number-one-outcome κs a x y e f p q = p ∙ sym q
+
+pub values-one-outcome : OneOutcome 0 values-kinds.ps values-kinds.r values.Learnt
+values-one-outcome κs a x y e f p q = p ∙ sym q
 
 pub read-one-outcome : OneOutcome 1 read-kinds.ps read-kinds.r read.Learnt
 read-one-outcome κs a x y e f p q = p .is ∙ sym (q .is)

@@ -18,7 +18,7 @@ ghost use Rattle.notice.specs.Encode.{kindOf, bytesOf, Writes};
 ghost use Rattle.notice.specs.Decode.{Reads, Finds, Steps, placeAfter, further};
 
 mod decode;
-mod encode;
+pub mod encode;
 
 pub use notice_fields::window;
 

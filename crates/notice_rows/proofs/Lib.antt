@@ -1,0 +1,5 @@
+-- What holds of notices as rows.
+pub mod Answered
+pub mod Rows
+pub mod Unique
+pub mod Widths
