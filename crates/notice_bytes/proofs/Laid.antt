@@ -3,22 +3,16 @@
 use mathlib.Core.Path.{_≡_, refl, sym, _∙_}
 use mathlib.Core.Bool.{Bool, true, false}
 use mathlib.Core.List.{List, [], _∷_, _++_}
-use Prim.Native.Nat.{ℕ, zero, suc, _+_, _≤_}
-use native.Mathlib.Nat.{add-zero, zero-add}
+use Prim.Native.Nat.{ℕ, zero, suc, _+_}
 use native.Mathlib.Omega.{arith}
-use lib.ListN.{length, set, getD, drop, length-append}
-use lib.Seq.{sets, sets-eq}
+use lib.ListN.{length, set, getD, length-append}
+use lib.Seq.{sets}
 use Rattle.rules.specs.Refusals.{pick}
 use Rattle.notice_fields.specs.Fields.{tagOf, sizeOf, isCarried, spanOf, startOf}
 use Rattle.notice_fields.specs.Numbers.{bigEndian}
 use Rattle.notice_fields.proofs.Digits.{length-big}
+pub use Rattle.notice_fields.proofs.Stores.{sets-append, laid}
 use Rattle.notice_bytes.specs.Laying.{fieldBytes, rowBytes, bytesTo}
-
-pub sets-append : (xs l ys : List ℕ) (a : ℕ) → sets l a (xs ++ ys) ≡ sets (sets l a xs) (a + length xs) ys
-sets-append [] l ys a = rw add-zero
-sets-append (x ∷ xs) l ys a =
-    let e : suc a + length xs ≡ a + suc (length xs) = omega arith in
-    sets-append xs (set l a x) ys (suc a) ∙ rw e
 
 pub length-field : (i v : ℕ) → length (fieldBytes i v) ≡ 3 + sizeOf i
 unfolding fieldBytes
@@ -56,7 +50,3 @@ unfolding bytesTo
 row-laid l k vs i =
     let e : 0 + length (bytesTo k vs i) ≡ startOf k i = omega (arith, length-bytes k vs i) in
     sym (sets-append (bytesTo k vs i) l (rowBytes k i (getD vs i 0)) 0 ∙ rw e)
-
--- a run of stores from the start is the bytes and what stood after them
-pub laid : (bs l : List ℕ) → length bs ≤ length l → sets l 0 bs ≡ bs ++ drop (length bs) l
-laid bs l h = sets-eq bs l 0 (rw zero-add h) ∙ rw zero-add

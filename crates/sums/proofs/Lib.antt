@@ -1,2 +1,3 @@
--- That the sum's contract settles it.
+-- That a sum fits 32 bits, and that the call's contract settles it.
+pub mod Small
 pub mod Unique
