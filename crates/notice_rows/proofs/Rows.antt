@@ -28,7 +28,7 @@ use Rattle.notice.specs.Decode.{readOf}
 use Rattle.notice.specs.Log.{FitsFields}
 use Rattle.notice.proofs.Made.{kind-known}
 use Rattle.notice.proofs.RoundTrip.{written-reads}
-use Rattle.notice_rows.specs.Rows.{fieldsOf, fieldIn, kindNumber, kindFrom, noticeFrom, isHeld, isNoticeRow, NoticeRow}
+use Rattle.notice_rows.specs.Rows.{fieldsOf, fieldIn, kindNumber, kindFrom, noticeFrom, fitsField, isNoticeRow, NoticeRow}
 use Rattle.notice_rows.specs.Calls.{rowRead}
 
 -- ---- from a notice to its row and back
@@ -97,17 +97,17 @@ module _ (row : List ℕ) (is : isNoticeRow row ≡ true) where
   pub number-same : (i : ℕ) → i < rows → isCarried (kindNumber row) i ≡ true → fieldIn (fieldsOf (noticeFrom row)) i ≡ fieldIn row i
   number-same i h c = own-number row i h known-row ∙ rw c
 
-  held-field : (i : ℕ) → i < rows → isCarried (kindNumber row) i ≡ true → fieldIn row i < 256 ^ sizeOf i
-  unfolding isNoticeRow isHeld
-  held-field i h c =
+  field-fits : (i : ℕ) → i < rows → isCarried (kindNumber row) i ≡ true → fieldIn row i < 256 ^ sizeOf i
+  unfolding isNoticeRow fitsField
+  field-fits i h c =
       let all = both-r (isKnown (kindNumber row)) _ is in
-      ltb-true _ _ (rw c at (every-out (isHeld (kindNumber row) row) rows i all h))
+      ltb-true _ _ (rw c at (every-out (fitsField (kindNumber row) row) rows i all h))
 
   -- and can be written
   pub row-fits : FitsFields (noticeFrom row)
   row-fits i h c =
       let own = rw kind-same at c in
-      rw (number-same i h own) (held-field i h own)
+      rw (number-same i h own) (field-fits i h own)
 
   -- read back, it is that notice
   pub row-reads : readOf (bytesOf (noticeFrom row)) ≡ reading.Whole (noticeFrom row)
@@ -132,11 +132,11 @@ row-comes-back row r lent = rw (row-reads row (r .is-notice)) (ap (λ (l : List 
 
 -- and the row of every notice is one
 pub notice-row : (n : Notice) → FitsFields n → NoticeRow (fieldsOf n)
-unfolding isNoticeRow isHeld
+unfolding isNoticeRow fitsField
 notice-row n fits =
     record {
       places = length-fields n;
-      is-notice = rw (kind-known (n .kind)) (every-in (isHeld (kindOf (n .kind)) (fieldsOf n)) rows (λ i h. go i h (isCarried (kindOf (n .kind)) i) refl));
+      is-notice = rw (kind-known (n .kind)) (every-in (fitsField (kindOf (n .kind)) (fieldsOf n)) rows (λ i h. go i h (isCarried (kindOf (n .kind)) i) refl));
       bare = λ i h c. sym (ap (λ (m : Notice). fieldIn (fieldsOf m) i) (from-fields n)) ∙ (own-number (fieldsOf n) i h (kind-known (n .kind)) ∙ rw c);
     }
   where

@@ -17,8 +17,8 @@ use Rattle.notice_fields.specs.Fields.{sequenceRow, titleRow, timeRow, lengthRo
 use Rattle.notice_fields.specs.Fields.{openKind, changeKind, skipKind, closeKind, liftKind, lastKind}
 use Rattle.notice_fields.proofs.Each.{by-order, each, false-true}
 use Rattle.notice_fields.proofs.Table.{by-kind, no-bit}
-use Rattle.notice_rows.specs.Rows.{fieldIn, kindNumber, isHeld, isNoticeRow}
-use Rattle.notice_rows.specs.inner.ByKind.{inByte, inFour, dataHeld}
+use Rattle.notice_rows.specs.Rows.{fieldIn, kindNumber, fitsField, isNoticeRow}
+use Rattle.notice_rows.specs.inner.ByKind.{inByte, inFour, dataFits}
 
 -- every number from the first kind's to the last's is one
 known : (k : ℕ) → openKind ≤ k → k ≤ lastKind → isKnown k ≡ true
@@ -59,13 +59,13 @@ module _ (row : List ℕ) (time : fieldIn row timeRow < 2 ^ 64) where
 
   abbrev tested : ℕ → Bool
   tested k =
-      dataHeld k (fieldIn row lengthRow) (fieldIn row floorRow) (fieldIn row capRow) (fieldIn row countRow) common
+      dataFits k (fieldIn row lengthRow) (fieldIn row floorRow) (fieldIn row capRow) (fieldIn row countRow) common
 
-  of-kinds : (k : ℕ) → isKnown k ≡ true → kindNumber row ≡ k → tested k ≡ every (isHeld k row) rows
-  unfolding dataHeld every isHeld table
+  of-kinds : (k : ℕ) → isKnown k ≡ true → kindNumber row ≡ k → tested k ≡ every (fitsField k row) rows
+  unfolding dataFits every fitsField table
   of-kinds =
       let in-time = lt-ltb (fieldIn row timeRow) (256 ^ 8) time in
-      by-kind (λ (k : ℕ). kindNumber row ≡ k → tested k ≡ every (isHeld k row) rows) (
+      by-kind (λ (k : ℕ). kindNumber row ≡ k → tested k ≡ every (fitsField k row) rows) (
         (λ e. rw (in-time, e, both-true)),
         (
           (λ e. rw (in-time, e, both-true)),
@@ -80,7 +80,7 @@ module _ (row : List ℕ) (time : fieldIn row timeRow < 2 ^ 64) where
       )
 
   none-of-them : (k : ℕ) → isKnown k ≡ false → tested k ≡ false
-  unfolding dataHeld
+  unfolding dataFits
   none-of-them k none =
       let opening = ne-eqb k openKind (λ e. outside k none (omega arith) (omega arith)) in
       let change = ne-eqb k changeKind (λ e. outside k none (omega arith) (omega arith)) in

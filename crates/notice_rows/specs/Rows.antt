@@ -51,12 +51,12 @@ noticeFrom row =
 -- ---- which rows are a notice's
 
 -- the bytes of field i hold the number at its place; nothing is asked where kind k has no such field
-unfoldable pub isHeld : ℕ → List ℕ → ℕ → Bool
-isHeld k row i = pick (isCarried k i) (ltb (fieldIn row i) (256 ^ sizeOf i)) true
+unfoldable pub fitsField : ℕ → List ℕ → ℕ → Bool
+fitsField k row i = pick (isCarried k i) (ltb (fieldIn row i) (256 ^ sizeOf i)) true
 
 -- a known kind, and each of its fields holds its number
 unfoldable pub isNoticeRow : List ℕ → Bool
-isNoticeRow row = both (isKnown (kindNumber row)) (every (isHeld (kindNumber row) row) rows)
+isNoticeRow row = both (isKnown (kindNumber row)) (every (fitsField (kindNumber row) row) rows)
 
 -- a row that is a notice's to the number: it has one for each field, and 0 where its kind has none
 pub record NoticeRow (row : List ℕ) : Type 0 where

@@ -1,7 +1,7 @@
 // A notice as a row of eight numbers, for callers that have no record: kind, sequence, title, time, length, floor, cap and count,
 // with 0 where its kind has no such field. No public function has a `requires`, and a refusal writes nothing.
 
-use held::is_notice;
+use fitting::is_notice;
 use notice::Found;
 use notice::Notice;
 use notice::Reading;
@@ -22,7 +22,7 @@ ghost use Rattle.notice_fields.specs.Fields.{rows, lengthOf};
 ghost use Rattle.notice_rows.specs.Rows.{fieldsOf};
 ghost use Rattle.notice_rows.specs.Calls.{unwritten, WritesRow, ReadsRow, StepsRow};
 
-mod held;
+mod fitting;
 
 // The numbers of a notice's row, one for each field of the table.
 pub const PLACES: usize = ROWS;

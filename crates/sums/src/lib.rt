@@ -1,4 +1,5 @@
-// The checksum of stored bytes: CRC-32C, bit by bit, with no table to be copied at each call. No function has a `requires`.
+// The checksum of stored bytes: CRC-32C, bit by bit. The compiler knows the loop and looks each byte up in a table of its own making; a
+// table of the source would be copied at each call. No function has a `requires`.
 
 ghost use Prim.Native.Nat.{_<_, _^_};
 ghost use mathlib.Core.Path.{_≡_};

@@ -12,14 +12,14 @@ inByte v = ltb v (256 ^ 1)
 abbrev pub inFour : ℕ → Bool
 inFour v = ltb v (256 ^ 4)
 
--- length, floor, cap and count of an opening are held, and so is the rest
-abbrev pub openHeld : ℕ → ℕ → ℕ → ℕ → Bool → Bool
-openHeld d a c n rest = both (inByte n) (both (inByte c) (both (inByte a) (both (inFour d) rest)))
+-- length, floor, cap and count of an opening fit, beside the rest
+abbrev pub openFits : ℕ → ℕ → ℕ → ℕ → Bool → Bool
+openFits d a c n rest = both (inByte n) (both (inByte c) (both (inByte a) (both (inFour d) rest)))
 
 -- those of a kind that it has, and that it is a kind
-unfoldable pub dataHeld : ℕ → ℕ → ℕ → ℕ → ℕ → Bool → Bool
-dataHeld k d a c n rest =
-    pick (eqb k openKind) (openHeld d a c n rest)
+unfoldable pub dataFits : ℕ → ℕ → ℕ → ℕ → ℕ → Bool → Bool
+dataFits k d a c n rest =
+    pick (eqb k openKind) (openFits d a c n rest)
     (pick (eqb k changeKind) (both (inByte n) rest)
     (pick (eqb k skipKind) (both (inByte n) (both (inFour d) rest))
     (both (within closeKind liftKind k) rest)))

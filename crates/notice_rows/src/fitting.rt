@@ -1,4 +1,4 @@
-// Whether the numbers of a row are held by the fields of its kind: tests by the kind, with no look at the field table.
+// Whether the numbers of a row fit the fields of its kind: tests by the kind, with no look at the field table.
 
 use notice::CHANGE;
 use notice::CLOSE;
@@ -18,27 +18,27 @@ ghost use mathlib.Core.Path.{_≡_};
 ghost use lib.ListN.{length};
 ghost use Rattle.notice_fields.specs.Fields.{rows};
 ghost use Rattle.notice_rows.specs.Rows.{isNoticeRow};
-ghost use Rattle.notice_rows.specs.inner.ByKind.{openHeld, dataHeld};
+ghost use Rattle.notice_rows.specs.inner.ByKind.{openFits, dataFits};
 
 // The first number that one byte does not hold, and that four do not.
 const PAST_BYTE: u64 = 1 << 8;
 
 const PAST_FOUR: u64 = 1 << 32;
 
-// An opening's own numbers are held, and so is the rest.
-fn open_held(length: u64, floor: u64, cap: u64, count: u64, rest: bool) -> bool
-    ensures { λ r. ⌜ r ≡ openHeld length floor cap count rest ⌝ }
+// An opening's own numbers fit, beside the rest.
+fn open_fits(length: u64, floor: u64, cap: u64, count: u64, rest: bool) -> bool
+    ensures { λ r. ⌜ r ≡ openFits length floor cap count rest ⌝ }
 {
     let first = also(floor < PAST_BYTE, also(length < PAST_FOUR, rest));
     also(count < PAST_BYTE, also(cap < PAST_BYTE, first))
 }
 
-// A kind's own numbers are held, and so is the rest. What the kind has not may be any number.
-fn data_held(kind: u64, length: u64, floor: u64, cap: u64, count: u64, rest: bool) -> bool
-    ensures { λ r. ⌜ r ≡ dataHeld kind length floor cap count rest ⌝ }
+// A kind's own numbers fit, beside the rest. What the kind has not may be any number.
+fn data_fits(kind: u64, length: u64, floor: u64, cap: u64, count: u64, rest: bool) -> bool
+    ensures { λ r. ⌜ r ≡ dataFits kind length floor cap count rest ⌝ }
 {
     if kind == OPEN as u64 {
-        return open_held(length, floor, cap, count, rest);
+        return open_fits(length, floor, cap, count, rest);
     }
     if kind == CHANGE as u64 {
         return also(count < PAST_BYTE, rest);
@@ -55,7 +55,7 @@ pub fn is_notice(fields: &[u64]) -> bool
     ensures { λ r. ⌜ r ≡ isNoticeRow (now (fields .entry)) ⌝ }
 {
     let common = also(fields[TITLE] < PAST_BYTE, fields[SEQUENCE] < PAST_FOUR);
-    data_held(
+    data_fits(
         fields[KIND],
         fields[LENGTH],
         fields[FLOOR],

@@ -1,19 +1,19 @@
--- `held::data_held` meets its contract: by the kind's number.
+-- `fitting::data_fits` meets its contract: by the kind's number.
 use borrow.Author.Tests.{eq-eqb, ne-eqb}
-use Rattle.notice_rows.specs.inner.ByKind.{dataHeld}
+use Rattle.notice_rows.specs.inner.ByKind.{dataFits}
 use borrow.Author.Needs.{needs}
-use Rattle.notice_rows.proofs.held.data_held.Statement.{statement}
-use Rattle.notice_rows.proofs.held.data_held.Tie as tie
+use Rattle.notice_rows.proofs.fitting.data_fits.Statement.{statement}
+use Rattle.notice_rows.proofs.fitting.data_fits.Tie as tie
 
 cast-if1 : tie.Need-cast-if1
 cast-if1 c = search needs
 
-open-held-requires : tie.Need-open-held-requires
-open-held-requires c κs = search needs
+open-fits-requires : tie.Need-open-fits-requires
+open-fits-requires c κs = search needs
 
 returns : tie.Need-returns
-unfolding dataHeld
-returns c = rw (eq-eqb _ _ (c .before .if1 .taken)) (c .open-held .ensures)
+unfolding dataFits
+returns c = rw (eq-eqb _ _ (c .before .if1 .taken)) (c .open-fits .ensures)
 
 cast-if2 : tie.Need-cast-if2
 cast-if2 c = search needs
@@ -22,7 +22,7 @@ also-requires : tie.Need-also-requires
 also-requires c κs = search needs
 
 returns-2 : tie.Need-returns-2
-unfolding dataHeld
+unfolding dataFits
 returns-2 c = rw (ne-eqb _ _ (c .before .before .if1 .left), eq-eqb _ _ (c .before .if2 .taken)) (c .also .ensures)
 
 cast-if3 : tie.Need-cast-if3
@@ -35,7 +35,7 @@ also-requires-3 : tie.Need-also-requires-3
 also-requires-3 c κs = search needs
 
 returns-3 : tie.Need-returns-3
-unfolding dataHeld
+unfolding dataFits
 returns-3 c =
     let skip = c .before .before in
     rw (ne-eqb _ _ (skip .before .before .if1 .left), ne-eqb _ _ (skip .before .if2 .left), eq-eqb _ _ (skip .if3 .taken)) (cc)
@@ -53,17 +53,17 @@ also-requires-4 : tie.Need-also-requires-4
 also-requires-4 c κs = search needs
 
 returns-4 : tie.Need-returns-4
-unfolding dataHeld
+unfolding dataFits
 returns-4 c =
     let others = c .before .before in
     rw (ne-eqb _ _ (others .before .before .if1 .left), ne-eqb _ _ (others .before .if2 .left), ne-eqb _ _ (others .if3 .left)) (cc)
 
-pub data-held-spec : {M : Type 1} → statement M
-data-held-spec =
+pub data-fits-spec : {M : Type 1} → statement M
+data-fits-spec =
     tie.close
     (tie.spec
     cast-if1
-    open-held-requires
+    open-fits-requires
     returns
     cast-if2
     also-requires

@@ -1,7 +1,7 @@
--- `held::open_held` meets its contract: each test, one beside the other.
+-- `fitting::open_fits` meets its contract: each test, one beside the other.
 use borrow.Author.Needs.{needs}
-use Rattle.notice_rows.proofs.held.open_held.Statement.{statement}
-use Rattle.notice_rows.proofs.held.open_held.Tie as tie
+use Rattle.notice_rows.proofs.fitting.open_fits.Statement.{statement}
+use Rattle.notice_rows.proofs.fitting.open_fits.Tie as tie
 
 also-requires : tie.Need-also-requires
 also-requires c κs = search needs
@@ -18,6 +18,6 @@ also-requires-4 c κs = search needs
 returns : tie.Need-returns
 returns c = cc
 
-pub open-held-spec : {M : Type 1} → statement M
-open-held-spec =
+pub open-fits-spec : {M : Type 1} → statement M
+open-fits-spec =
     tie.close (tie.spec also-requires also-requires-2 also-requires-3 also-requires-4 returns)
