@@ -1,15 +1,12 @@
 -- What each way out of `write`, `read` and `next` leaves is what their records promise.
 -- Rests on a row's bytes, on runs of stores, and on the cases of a reading.
-use mathlib.Core.Path.{_≡_, refl, sym, ap, _∙_}
-use mathlib.Core.Bool.{Bool, true, false}
-use mathlib.Core.List.{List, [], _∷_, _++_}
+use mathlib.Core.Path.{_≡_, refl, sym}
+use mathlib.Core.Bool.{true, false}
+use mathlib.Core.List.{List, _++_}
 use Prim.Native.Nat.{ℕ, _≤_, _<_}
-use native.Mathlib.Omega.{arith}
-use lib.Dec.{eqb, ltb}
 use lib.ListN.{length, drop}
 use lib.Seq.{sets}
 use borrow.Author.Tests.{lt-ltb, le-ltb, eq-eqb, ne-eqb}
-use Rattle.rules.specs.Limits.{either}
 use Rattle.rules.specs.Refusals.{firstHit}
 use Rattle.notice_fields.specs.Fields.{rows, lengthOf}
 use Rattle.notice_bytes.specs.Laying.{bytesTo}

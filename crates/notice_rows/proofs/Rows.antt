@@ -8,11 +8,10 @@ use native.Mathlib.Nat.{zero-add}
 use native.Mathlib.Numerals.{add-one}
 use native.Mathlib.Omega.{arith}
 use lib.Dec.{ltb}
-use lib.ListN.{length, getD, drop, set}
+use lib.ListN.{length, drop, set}
 use lib.Seq.{ext-getD, paste, paste-suc, length-paste, take-all}
 use borrow.Author.Tests.{ltb-true, lt-ltb}
 use Rattle.rules.specs.Refusals.{pick}
-use Rattle.rules.specs.Search.{every}
 use Rattle.rules.proofs.Tests.{both-l, both-r}
 use Rattle.rules.proofs.Search.{every-in, every-out}
 use Rattle.notice_fields.specs.Fields.{table, rows, sizeOf, isCarried, isKnown}

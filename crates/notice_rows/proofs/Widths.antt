@@ -1,18 +1,17 @@
 -- The tests by the kind are the field table's: which numbers are a kind's, how wide each field is, and that no kind's number asks for
 -- no room. Rests on the table.
-use mathlib.Core.Path.{_≡_, refl, sym, ap, _∙_}
+use mathlib.Core.Path.{_≡_, refl, sym, _∙_}
 use mathlib.Core.Bool.{Bool, true, false}
 use mathlib.Core.List.{List}
 use mathlib.Core.Logic.{⊎-elim}
 use Prim.Native.Nat.{ℕ, zero, suc, _≤_, _<_, _^_}
 use native.Mathlib.Omega.{arith}
-use lib.Dec.{eqb, ltb, leb}
+use lib.Dec.{leb}
 use borrow.Author.Tests.{lt-ltb, ne-eqb, leb-true}
 use Rattle.rules.specs.Limits.{both, within}
-use Rattle.rules.specs.Refusals.{pick}
 use Rattle.rules.specs.Search.{every}
 use Rattle.rules.proofs.Tests.{decide, both-l, both-r, both-true, fails}
-use Rattle.notice_fields.specs.Fields.{table, rows, isCarried, isKnown, spanOf, startOf, lengthOf}
+use Rattle.notice_fields.specs.Fields.{table, rows, isKnown, spanOf, startOf, lengthOf}
 use Rattle.notice_fields.specs.Fields.{sequenceRow, titleRow, timeRow, lengthRow, floorRow, capRow, countRow}
 use Rattle.notice_fields.specs.Fields.{openKind, changeKind, skipKind, closeKind, liftKind, lastKind}
 use Rattle.notice_fields.proofs.Each.{by-order, each, false-true}

@@ -1,13 +1,12 @@
 -- What each way out of `fits`, `save` and `load` gives back is what the definitions say.
 -- Rests on what `save` lays.
-use mathlib.Core.Path.{_≡_, refl, sym, _∙_}
-use mathlib.Core.Bool.{Bool, true, false}
+use mathlib.Core.Path.{_≡_, refl}
+use mathlib.Core.Bool.{true, false}
 use mathlib.Core.List.{List, _++_}
 use Prim.Native.Nat.{ℕ, _≤_, _<_}
 use lib.Dec.{eqb}
 use lib.ListN.{length, drop, take}
 use borrow.Author.Tests.{lt-ltb, le-ltb, eq-eqb, ne-eqb, eqb-true}
-use Rattle.rules.specs.Limits.{both}
 use Rattle.rules.specs.Refusals.{firstHit}
 use Rattle.rules.proofs.Tests.{both-l}
 use Rattle.notice_fields.specs.Numbers.{numberAt}

@@ -1,16 +1,15 @@
 -- What was saved loads as the same row, and bytes that load are what saving that row writes: a row has one snapshot, and a snapshot one
 -- row. Rests on numbers and bytes that come back, and on the checksum fitting its bytes.
-use mathlib.Core.Path.{_≡_, refl, sym, ap, _∙_}
-use mathlib.Core.Bool.{Bool, true}
-use mathlib.Core.List.{List, [], _∷_, _++_}
-use Prim.Native.Nat.{ℕ, _+_, _*_, _≤_, _<_, _^_}
+use mathlib.Core.Path.{_≡_, sym, ap, _∙_}
+use mathlib.Core.Bool.{true}
+use mathlib.Core.List.{List}
+use Prim.Native.Nat.{ℕ, _+_}
 use native.Mathlib.Nat.{zero-add}
 use native.Mathlib.Omega.{arith}
 use lib.Dec.{eqb}
-use lib.ListN.{length, getD, take, drop, length-append, length-drop, take-append-drop, List·getD-append}
+use lib.ListN.{length, take, drop, length-drop, take-append-drop}
 use lib.Seq.{take-at, take-all}
 use borrow.Author.Tests.{eq-eqb, eqb-true}
-use Rattle.rules.specs.Limits.{both}
 use Rattle.rules.specs.Refusals.{firstHit}
 use Rattle.rules.proofs.Tests.{both-l, both-r}
 use Rattle.notice_fields.specs.Numbers.{Bytes, bigEndian, numberAt}

@@ -1,7 +1,7 @@
 -- What the loops of `save` and `load` have laid after so many numbers, and what `save` leaves: the bytes of the numbers, and behind
 -- them their sum. Rests on runs of stores and on the bytes of a row.
-use mathlib.Core.Path.{_≡_, refl, sym, ap, _∙_}
-use mathlib.Core.List.{List, [], _∷_, _++_, append-nil}
+use mathlib.Core.Path.{_≡_, sym, _∙_}
+use mathlib.Core.List.{List, _++_, append-nil}
 use Prim.Native.Nat.{ℕ, _+_, _*_, _≤_, _<_}
 use native.Mathlib.Numerals.{add-one}
 use native.Mathlib.Omega.{arith}

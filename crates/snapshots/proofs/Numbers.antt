@@ -2,16 +2,16 @@
 -- Rests on big-endian numbers.
 use mathlib.Core.Path.{_≡_, refl, sym, ap, _∙_}
 use mathlib.Core.List.{List, [], _∷_, _++_, append-nil, append-assoc}
-use Prim.Native.Nat.{ℕ, zero, suc, _+_, _*_, _-_, _≤_, _<_, _^_, _/_, _%_}
+use Prim.Native.Nat.{ℕ, zero, suc, _+_, _*_, _-_, _≤_, _<_, _^_}
 use native.Mathlib.Nat.{mod-lt}
 use native.Mathlib.Omega.{arith}
 use lib.ListN.{length, getD, take, drop, set, length-append, List·getD-append}
 use lib.Seq.{getD-append-add, take-suc, take-add, take-length, drop-cons, set-at, append-snoc}
-use Rattle.notice_fields.specs.Numbers.{Bytes, bigEndian, numberAt}
+use Rattle.notice_fields.specs.Numbers.{Bytes, bigEndian}
 use Rattle.notice_fields.proofs.Each.{by-order}
 use Rattle.notice_fields.proofs.Digits.{length-big}
 use Rattle.notice_fields.proofs.Has.{Has, has-left, has-right, has-part, number-back, bytes-back}
-use Rattle.snapshots.specs.Bytes.{numberSize, numberBytes, savedNumber, numbersIn}
+use Rattle.snapshots.specs.Bytes.{numberBytes, savedNumber, numbersIn}
 
 -- ---- bytes of numbers
 

@@ -1,5 +1,4 @@
 -- A sum fits 32 bits. Rests on the widths of exclusive or.
-use mathlib.Core.Path.{_≡_, refl}
 use mathlib.Core.Bool.{Bool, true, false}
 use mathlib.Core.List.{List}
 use Prim.Native.Nat.{ℕ, zero, suc, _<_, _^_, _/_, _%_}
@@ -8,7 +7,7 @@ use lib.Bits.{bitXor, xor-lt}
 use lib.Dec.{eqb}
 use lib.ListN.{length, getD}
 use Rattle.rules.specs.Refusals.{pick}
-use Rattle.sums.specs.Crc.{polynomial, ones, shifted, shiftedBy, withByte, register, sumOf}
+use Rattle.sums.specs.Crc.{polynomial, ones, shifted, shiftedBy, register, sumOf}
 
 shifted-small : (r : ℕ) → r < 2 ^ 32 → shifted r < 2 ^ 32
 shifted-small r h = go (eqb (r % 2) 1)
