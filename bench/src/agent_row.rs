@@ -36,6 +36,10 @@ pub const ROW: usize = TITLES_AT + TITLES * TITLE_SIZE;
 
 pub type AgentRow = [u64; ROW];
 
+/// The bytes of an agent's numbers, and of a snapshot, which has a sum of four bytes behind them.
+pub const NUMBERS: usize = 8 * ROW;
+pub const SNAPSHOT: usize = NUMBERS + 4;
+
 /// What a slot has: no title, one that is open, one that is closing.
 pub const ABSENT: u64 = 0;
 pub const OPEN: u64 = 1;

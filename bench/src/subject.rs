@@ -13,6 +13,7 @@ pub trait Subject {
     fn lend(&mut self, row: &AgentRow);
     fn agent(&mut self) -> AgentRow;
 
+    /// A refused fresh call leaves the agent as it is, as every refused call does.
     fn fresh(&mut self, pool: u64) -> u8;
     fn open(&mut self, id: u64, time: u64, film: Film) -> u8;
     fn skip(&mut self, id: u64, time: u64, length: u64, count: u64) -> u8;
@@ -37,7 +38,8 @@ pub trait Subject {
     fn skip_plan(&mut self, count: u64, arrival: u64, row: &mut [u16]) -> u8;
     fn share(&mut self, pool: u64, titles: Sharers, counts: &mut [u32]) -> u8;
 
-    fn write(&mut self, fields: &Fields, room: &mut [u8]) -> u8;
+    /// The answer and how many bytes the notice has.
+    fn write(&mut self, fields: &Fields, room: &mut [u8]) -> (u8, u64);
     fn read(&mut self, bytes: &[u8], fields: &mut Fields) -> u8;
     /// What a log has at a place: the answer, `END` where no byte is left, and the place after it.
     fn next(&mut self, log: &[u8], place: u64, fields: &mut Fields) -> (u8, u64);
@@ -48,6 +50,10 @@ pub trait Subject {
     fn admissions(&mut self, log: PlayedLog, marks: &mut [u8]) -> u8;
     /// The answer, and how many notices, bytes and stretches.
     fn salvage(&mut self, log: &[u8], area: &mut [u8], row: &mut [u64]) -> (u8, [u64; 3]);
+
+    /// The agent as bytes, and the agent that bytes hold.
+    fn save(&mut self, room: &mut [u8]) -> u8;
+    fn load(&mut self, bytes: &[u8]) -> u8;
 }
 
 /// What an opening on the padded grid brings.

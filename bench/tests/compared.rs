@@ -27,3 +27,12 @@ fn what_a_row_keeps_is_enough() {
         panic!("{difference}");
     }
 }
+
+#[cfg(feature = "library")]
+#[test]
+fn the_library_is_the_model() {
+    let mut library = bench::library::Library::new();
+    if let Err(difference) = compare(&mut Model::new(), &mut library, &run(37, 30_000)) {
+        panic!("{difference}");
+    }
+}

@@ -1,4 +1,4 @@
-//! No call of the tuned version allocates.
+//! No call of the tuned version allocates, and none of the library.
 
 use bench::subject::Subject;
 use bench::times::all_cases;
@@ -28,10 +28,8 @@ unsafe impl GlobalAlloc for Counting {
 #[global_allocator]
 static COUNTING: Counting = Counting;
 
-#[test]
-fn no_call_allocates() {
-    let mut subject = Tuned::new();
-    for mut case in all_cases::<Tuned>() {
+fn none_allocates<S: Subject>(mut subject: S) {
+    for mut case in all_cases::<S>() {
         if let Some(row) = &case.lent {
             subject.lend(row);
         }
@@ -40,4 +38,15 @@ fn no_call_allocates() {
         assert_eq!(ALLOCATED.get(), before, "{} allocates", case.name);
         assert_eq!(answer, 0, "{} is refused", case.name);
     }
+}
+
+#[test]
+fn no_call_of_the_tuned_version_allocates() {
+    none_allocates(Tuned::new());
+}
+
+#[cfg(feature = "library")]
+#[test]
+fn no_call_of_the_library_allocates() {
+    none_allocates(bench::library::Library::new());
 }

@@ -104,3 +104,9 @@ fn the_model_says_what_is_stored() {
 fn the_tuned_version_says_what_is_stored() {
     all_holds(Tuned::new());
 }
+
+#[cfg(feature = "library")]
+#[test]
+fn the_library_says_what_is_stored() {
+    all_holds(bench::library::Library::new());
+}

@@ -114,7 +114,7 @@ fn sharings<S: Subject>(subject: &mut S) {
 
 fn notice_of_case_12<S: Subject>(subject: &mut S) {
     let mut room = [9; 31];
-    assert_eq!(subject.write(&[2, 2, 0, 4, 0, 0, 0, 3], &mut room), DONE);
+    assert_eq!(subject.write(&[2, 2, 0, 4, 0, 0, 0, 3], &mut room), (DONE, 30));
     let bytes = [
         1, 0, 1, 2, 2, 0, 4, 0, 0, 0, 2, 3, 0, 1, 0, 4, 0, 8, 0, 0, 0, 0, 0, 0, 0, 4, 8, 0, 1, 3,
     ];
@@ -124,7 +124,7 @@ fn notice_of_case_12<S: Subject>(subject: &mut S) {
     assert_eq!(fields, [2, 2, 0, 4, 0, 0, 0, 3]);
     assert_eq!(subject.read(&room[..29], &mut fields), MALFORMED);
     assert_eq!(subject.read(&room, &mut fields), MALFORMED);
-    assert_eq!(subject.write(&[2, 2, 0, 4, 0, 0, 0, 3], &mut room[..29]), WRONG_ROWS);
+    assert_eq!(subject.write(&[2, 2, 0, 4, 0, 0, 0, 3], &mut room[..29]).0, WRONG_ROWS);
 }
 
 fn all_hold<S: Subject>(mut subject: S) {
@@ -144,4 +144,10 @@ fn the_model_works_the_cases() {
 #[test]
 fn the_tuned_version_works_the_cases() {
     all_hold(Tuned::new());
+}
+
+#[cfg(feature = "library")]
+#[test]
+fn the_library_works_the_cases() {
+    all_hold(bench::library::Library::new());
 }

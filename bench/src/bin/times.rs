@@ -1,34 +1,74 @@
-//! Times and stacks of the tuned version.
-//!   times [--only WORD] [--plot FILE]    nanoseconds of each call, and the growth as a picture
-//!   times --stack                        the deepest stack of each call
-//! It is timed beside itself: how far the ratios are from 1 says how far the machine is to be trusted.
+//! Times and stacks of the tuned version, and of the product's library beside it where that is linked.
+//!   times [--only WORD] [--plot FILE] [--write FILE]    nanoseconds of each call, the growth as a picture
+//!   times --stack [--write FILE]                        the deepest stack of each call
+//! Without the library the tuned version is timed beside itself: how far the ratios are from 1 says how far the machine is
+//! to be trusted. With `--write` the tables go into a page too.
 
 #![deny(warnings)]
 
+use bench::page;
+use bench::times::goals::Goals;
 use bench::times::{plot, stacks, table, timings};
 use bench::tuned::Tuned;
 use std::process::ExitCode;
+
+#[cfg(feature = "library")]
+use bench::library::Library as Second;
+#[cfg(not(feature = "library"))]
+use bench::tuned::Tuned as Second;
+
+const NAMES: [&str; 2] = ["tuned", if cfg!(feature = "library") { "library" } else { "again" }];
 
 /// The word behind another.
 fn behind<'a>(words: &'a [String], word: &str) -> Option<&'a String> {
     words.iter().skip_while(|w| *w != word).nth(1)
 }
 
-fn main() -> ExitCode {
-    let words: Vec<String> = std::env::args().skip(1).collect();
-    if words.iter().any(|word| word == "--stack") {
-        print!("{}", table::stacks("tuned", &stacks(&mut Tuned::new())));
-        return ExitCode::SUCCESS;
-    }
-    let names = ["tuned", "again"];
-    let only = behind(&words, "--only").map_or("", |word| word);
-    let timed = timings(&mut Tuned::new(), &mut Tuned::new(), only);
-    print!("{}", table::times(names, &timed));
-    if let Some(file) = behind(&words, "--plot") {
-        if let Err(why) = std::fs::write(file, plot::plot(names, &timed)) {
-            eprintln!("? {file}: {why}");
-            return ExitCode::FAILURE;
+/// Prints tables, and writes each into its block of a page.
+fn tell(words: &[String], tables: &[(&str, String)]) -> Result<(), String> {
+    for (block, table) in tables {
+        println!("{table}");
+        if let Some(file) = behind(words, "--write") {
+            page::write(file, block, table)?;
         }
     }
-    ExitCode::SUCCESS
+    Ok(())
+}
+
+fn tell_stacks(words: &[String]) -> Result<(), String> {
+    let taken = [stacks(&mut Tuned::new()), stacks(&mut Second::new())];
+    let table = table::stacks(NAMES, [&taken[0], &taken[1]]);
+    let goals = Goals::of_stacks(&taken[1]).told();
+    tell(words, &[("stacks", table), ("stack goals", goals)])
+}
+
+fn tell_times(words: &[String]) -> Result<(), String> {
+    let only = behind(words, "--only").map_or("", |word| word);
+    let timed = timings(&mut Tuned::new(), &mut Second::new(), only);
+    let tables = [
+        ("times", table::times(NAMES, &timed)),
+        ("growth", table::growth(NAMES, &timed)),
+        ("time goals", Goals::of_times(&timed).told()),
+    ];
+    tell(words, &tables)?;
+    match behind(words, "--plot") {
+        Some(file) => std::fs::write(file, plot::plot(NAMES, &timed)).map_err(|why| format!("{file}: {why}")),
+        None => Ok(()),
+    }
+}
+
+fn main() -> ExitCode {
+    let words: Vec<String> = std::env::args().skip(1).collect();
+    let told = if words.iter().any(|word| word == "--stack") {
+        tell_stacks(&words)
+    } else {
+        tell_times(&words)
+    };
+    match told {
+        Ok(()) => ExitCode::SUCCESS,
+        Err(why) => {
+            eprintln!("? {why}");
+            ExitCode::FAILURE
+        }
+    }
 }

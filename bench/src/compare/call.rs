@@ -141,6 +141,12 @@ pub enum Call {
         area: usize,
         row: usize,
     },
+    Save {
+        places: usize,
+    },
+    Load {
+        bytes: Vec<u8>,
+    },
 }
 
 /// What a call leaves: its answer, and every number of what was given back and lent.
@@ -195,6 +201,8 @@ impl Call {
             Call::Air { .. } => "air",
             Call::Admissions { .. } => "admissions",
             Call::Salvage { .. } => "salvage",
+            Call::Save { .. } => "save",
+            Call::Load { .. } => "load",
         }
     }
 
@@ -225,6 +233,7 @@ impl Call {
             Call::Hold { id, time } => subject.hold(*id, *time),
             Call::Lift { id, time } => subject.lift(*id, *time),
             Call::Take { bytes } => subject.take(bytes),
+            Call::Load { bytes } => subject.load(bytes),
             _ => return None,
         };
         Some(Outcome::of(answer, &[]))
@@ -298,7 +307,9 @@ impl Call {
         match self {
             Call::Write { fields, places } => {
                 outcome.bytes = vec![0xa5; *places];
-                outcome.answer = subject.write(fields, &mut outcome.bytes);
+                let (answer, size) = subject.write(fields, &mut outcome.bytes);
+                outcome.answer = answer;
+                outcome.numbers = vec![size];
             }
             Call::Read { bytes } => {
                 outcome.numbers = numbers(8);
@@ -315,6 +326,10 @@ impl Call {
             Call::Waits { log, arrivals } => {
                 let (answer, counts) = subject.waits(log.played(), arrivals);
                 outcome = Outcome::of(answer, &counts);
+            }
+            Call::Save { places } => {
+                outcome.bytes = vec![0xa5; *places];
+                outcome.answer = subject.save(&mut outcome.bytes);
             }
             _ => return self.air_call(subject),
         }

@@ -9,6 +9,7 @@ mod maker;
 mod questions;
 mod script;
 mod session;
+mod snapshots;
 mod tally;
 mod titles;
 

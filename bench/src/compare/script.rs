@@ -5,6 +5,7 @@ use super::maker::Maker;
 use crate::agent_row::AgentRow;
 use crate::model::{bytes_of, Model};
 use crate::random::Random;
+use crate::replay::console::fresh;
 use crate::subject::{Start, Subject};
 
 const KINDS: [&str; 6] = ["open", "change", "close", "hold", "lift", "skip"];
@@ -23,7 +24,7 @@ pub fn script(seed: u64, lines: usize) -> String {
         let mut call = Call::Fresh { pool: maker.pool() };
         for _ in 0..maker.random.within(20..=400) {
             if let Some(line) = line_of(&call) {
-                call.put_to(&mut model);
+                put(&call, &mut model);
                 text += &line;
                 text += "\n";
                 written += 1;
@@ -32,6 +33,18 @@ pub fn script(seed: u64, lines: usize) -> String {
         }
     }
     text
+}
+
+/// As the console does it, which keeps no agent where a fresh one is refused.
+fn put(call: &Call, model: &mut Model) {
+    match call {
+        Call::Fresh { pool } => {
+            fresh(model, *pool);
+        }
+        _ => {
+            call.put_to(model);
+        }
+    }
 }
 
 fn next_call(maker: &mut Maker, row: &AgentRow) -> Call {

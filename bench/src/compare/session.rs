@@ -41,7 +41,8 @@ impl<'a, A: Subject, B: Subject> Session<'a, A, B> {
 
     /// All calls of a session, or the first that the subjects answer differently.
     pub fn run(&mut self, most: u64) -> Result<(), String> {
-        let pool = self.maker.pool();
+        // one that is not refused, so that nothing is left of the session before
+        let pool = self.maker.pool().clamp(POOL_MIN, POOL_MAX);
         self.put(Call::Fresh { pool })?;
         let calls = self.maker.random.within(20..=400).min(most);
         let mut logged = self.maker.logged();
@@ -100,7 +101,8 @@ impl<'a, A: Subject, B: Subject> Session<'a, A, B> {
             81..=86 => self.maker.rom_lane(row),
             87..=90 => self.maker.held(row),
             91..=95 => self.maker.status(row),
-            _ => self.maker.planner(row),
+            96..=98 => self.maker.planner(row),
+            _ => self.maker.snapshot(row, self.kept.is_some()),
         }
     }
 
@@ -135,7 +137,7 @@ impl<'a, A: Subject, B: Subject> Session<'a, A, B> {
             self.tally.count(&call, given.answer, self.kept.is_some());
             self.count_cases(&call, given.answer, &before);
         }
-        if matches!(call, Call::Fresh { .. }) {
+        if matches!(call, Call::Fresh { .. }) && given.answer == DONE {
             self.asked.clear();
         }
         self.asked.push(call);

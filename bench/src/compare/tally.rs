@@ -5,7 +5,7 @@ use crate::refusals::*;
 use std::collections::BTreeMap;
 
 /// Every answer of every call (docs/REFUSALS.md).
-const ANSWERS: [(&str, &[u8]); 24] = [
+const ANSWERS: [(&str, &[u8]); 26] = [
     ("fresh", &[DONE, OUTSIDE_LIMITS]),
     ("open", &[DONE, 1, 2, 4, 15, 13, 14, 9]),
     ("skip", &[DONE, 1, 2, 4, 9]),
@@ -33,6 +33,8 @@ const ANSWERS: [(&str, &[u8]); 24] = [
     ("air", &[DONE, 1, 10, 11, 3]),
     ("admissions", &[DONE, 1, 11, 3]),
     ("salvage", &[DONE, 10]),
+    ("save", &[DONE, 10, 1]),
+    ("load", &[DONE, 11, 1]),
 ];
 
 /// What is met besides an answer's number: the small box's own 1, the air's second 1, an agent that is no agent.

@@ -15,6 +15,7 @@ mod salvage;
 mod scheme;
 mod seen;
 mod sharing;
+mod snapshot;
 mod standing;
 mod story;
 mod subject;
@@ -24,4 +25,5 @@ mod within;
 
 pub use events::{Act, Event};
 pub use notices::{bytes_of, event_of, read_at};
+pub use snapshot::bytes_of_row;
 pub use subject::Model;

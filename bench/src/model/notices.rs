@@ -90,17 +90,17 @@ pub fn bytes_of(fields: &Fields) -> Option<Vec<u8>> {
     Some(bytes)
 }
 
-/// Writes a notice at the start of a room: 1 for a row that is no notice's, then 10.
-pub fn write(fields: &Fields, room: &mut [u8]) -> u8 {
+/// Writes a notice at the start of a room, and how many bytes it has: 1 for a row that is no notice's, then 10.
+pub fn write(fields: &Fields, room: &mut [u8]) -> (u8, u64) {
     let Some(bytes) = bytes_of(fields) else {
-        return OUTSIDE_LIMITS;
+        return (OUTSIDE_LIMITS, 0);
     };
     match room.get_mut(..bytes.len()) {
         Some(start) => {
             start.copy_from_slice(&bytes);
-            DONE
+            (DONE, bytes.len() as u64)
         }
-        None => WRONG_ROWS,
+        None => (WRONG_ROWS, 0),
     }
 }
 

@@ -3,7 +3,7 @@
 use super::events::{Act, Event};
 use super::standing::Standing;
 use super::story::Story;
-use super::{air, logs, notices, planner, plans, questions, salvage, sharing, verdicts, waits};
+use super::{air, logs, notices, planner, plans, questions, salvage, sharing, snapshot, verdicts, waits};
 use crate::agent_row::AgentRow;
 use crate::limits::{POOL_MAX, POOL_MIN};
 use crate::refusals::*;
@@ -25,7 +25,7 @@ impl Default for Model {
 }
 
 impl Model {
-    /// The agent of a refused fresh call.
+    /// A pool of 0 lanes without titles.
     pub fn new() -> Model {
         let story = Story::fresh(0);
         Model {
@@ -116,7 +116,6 @@ impl Subject for Model {
 
     fn fresh(&mut self, pool: u64) -> u8 {
         if !(POOL_MIN..=POOL_MAX).contains(&pool) {
-            self.begin(Story::fresh(0));
             return OUTSIDE_LIMITS;
         }
         self.begin(Story::fresh(pool));
@@ -197,7 +196,7 @@ impl Subject for Model {
         sharing::share(pool, titles, counts)
     }
 
-    fn write(&mut self, fields: &Fields, room: &mut [u8]) -> u8 {
+    fn write(&mut self, fields: &Fields, room: &mut [u8]) -> (u8, u64) {
         notices::write(fields, room)
     }
 
@@ -223,5 +222,19 @@ impl Subject for Model {
 
     fn salvage(&mut self, log: &[u8], area: &mut [u8], row: &mut [u64]) -> (u8, [u64; 3]) {
         salvage::salvage(log, area, row)
+    }
+
+    fn save(&mut self, room: &mut [u8]) -> u8 {
+        snapshot::save(&self.agent(), room)
+    }
+
+    fn load(&mut self, bytes: &[u8]) -> u8 {
+        match snapshot::load(bytes) {
+            Ok(row) => {
+                self.lend(&row);
+                DONE
+            }
+            Err(number) => number,
+        }
     }
 }

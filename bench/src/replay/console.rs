@@ -1,7 +1,7 @@
 //! The console's stored scripts (docs/CONSOLE.md): each line is asked of a subject, and its answer held against the stored
 //! one. Of a refusal the number is compared, and a line that could not be read is left out.
 
-use crate::agent_row::LAST_AT;
+use crate::agent_row::{self, LAST_AT};
 use crate::limits::TITLES;
 use crate::refusals::DONE;
 use crate::subject::{Fields, Film, PlannerRows, Sharers, Start, StatusRows, Subject};
@@ -96,7 +96,7 @@ fn ask<S: Subject>(subject: &mut S, words: &[&str]) -> Option<String> {
 /// The events, with the lanes held behind the 0.
 fn act<S: Subject>(subject: &mut S, word: &str, numbers: &[u64]) -> Option<String> {
     let answer = match (word, numbers) {
-        ("fresh", [pool]) => return Some(subject.fresh(*pool).to_string()),
+        ("fresh", [pool]) => return Some(fresh(subject, *pool).to_string()),
         ("open", [id, time, length, floor, cap, count]) => {
             let film = Film {
                 length: *length,
@@ -114,6 +114,15 @@ fn act<S: Subject>(subject: &mut S, word: &str, numbers: &[u64]) -> Option<Strin
         _ => return None,
     };
     Some(with_held(subject, answer))
+}
+
+/// The console's agent is handed on by value: a refused fresh call gives the pool of 0 (01, "Numbers that calls give back").
+pub fn fresh<S: Subject>(subject: &mut S, pool: u64) -> u8 {
+    let answer = subject.fresh(pool);
+    if answer != DONE {
+        subject.lend(&agent_row::fresh(0));
+    }
+    answer
 }
 
 fn with_held<S: Subject>(subject: &mut S, answer: u8) -> String {
@@ -260,10 +269,8 @@ fn written<S: Subject>(subject: &mut S, words: &[&str]) -> Option<String> {
         fields[*place] = number(word)?;
     }
     let mut room = [0; 64];
-    let answer = subject.write(&fields, &mut room);
-    let mut again = [0; 8];
-    let (_, end) = subject.next(&room, 0, &mut again);
-    let text: String = room[..end as usize].iter().map(|b| format!("{b:02x}")).collect();
+    let (answer, size) = subject.write(&fields, &mut room);
+    let text: String = room[..size as usize].iter().map(|b| format!("{b:02x}")).collect();
     Some(if answer == DONE { text } else { answer.to_string() })
 }
 

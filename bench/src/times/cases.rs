@@ -1,8 +1,9 @@
 //! What is timed: each case a call with its inputs at hand.
 
 use super::scenes::*;
-use crate::agent_row::AgentRow;
+use crate::agent_row::{AgentRow, SNAPSHOT};
 use crate::limits::*;
+use crate::model::bytes_of_row;
 use crate::subject::{PlannerRows, PlayedLog, Sharers, Start, StatusRows, Subject};
 use std::hint::black_box;
 
@@ -64,6 +65,7 @@ pub fn all<S: Subject>() -> Vec<Case<S>> {
     cases.extend(pools());
     cases.extend(plans());
     cases.extend(notices());
+    cases.extend(snapshots());
     cases.extend(logs());
     cases
 }
@@ -270,7 +272,7 @@ fn notices<S: Subject>() -> Vec<Case<S>> {
     let open = [1, 7, 3, 1_000, 12_000, 2, 4, 3];
     vec![
         calls("write of an opening", None, move |subject: &mut S| {
-            black_box(subject.write(black_box(&open), &mut room))
+            black_box(subject.write(black_box(&open), &mut room)).0
         }),
         calls("read of a change", None, move |subject: &mut S| {
             black_box(subject.read(black_box(&read), &mut fields))
@@ -280,6 +282,19 @@ fn notices<S: Subject>() -> Vec<Case<S>> {
         }),
         turns("take of a change to a lane more", None, row, move |s: &mut S| {
             s.take(&taken)
+        }),
+    ]
+}
+
+fn snapshots<S: Subject>() -> Vec<Case<S>> {
+    let row = sending(16, 8);
+    let (mut room, bytes) = (vec![0; SNAPSHOT], bytes_of_row(&row));
+    vec![
+        asks("save", None, row, move |subject: &mut S| {
+            black_box(subject.save(black_box(&mut room)))
+        }),
+        calls("load", None, move |subject: &mut S| {
+            black_box(subject.load(black_box(&bytes)))
         }),
     ]
 }

@@ -2,6 +2,7 @@
 
 mod cases;
 mod clock;
+pub mod goals;
 mod measure;
 pub mod plot;
 mod scenes;
@@ -10,4 +11,4 @@ pub mod table;
 
 pub use cases::{all as all_cases, Case};
 pub use measure::{timings, Timing};
-pub use stack::{deepest, stacks};
+pub use stack::{deepest, stacks, Stack};

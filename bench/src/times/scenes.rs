@@ -102,10 +102,9 @@ impl LogWriter {
         self.sequence += 1;
         let mut room = [0; 45];
         let fields = [kind, self.sequence, id, time, length, floor, cap, count];
-        done(Tuned::new().write(&fields, &mut room));
-        let mut again = [0; 8];
-        let (_, end) = Tuned::new().next(&room, 0, &mut again);
-        self.bytes.extend(&room[..end as usize]);
+        let (answer, size) = Tuned::new().write(&fields, &mut room);
+        done(answer);
+        self.bytes.extend(&room[..size as usize]);
     }
 
     pub fn open(&mut self, id: u64, film: Film) {

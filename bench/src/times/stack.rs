@@ -87,8 +87,15 @@ pub fn deepest(call: &mut dyn FnMut()) -> usize {
     painted.deepest
 }
 
+/// What a case took.
+pub struct Stack {
+    pub name: &'static str,
+    pub size: Option<u64>,
+    pub bytes: usize,
+}
+
 /// What each case takes beyond a call that does nothing.
-pub fn stacks<S: Subject>(subject: &mut S) -> Vec<(&'static str, Option<u64>, usize)> {
+pub fn stacks<S: Subject>(subject: &mut S) -> Vec<Stack> {
     let nothing = deepest(&mut || ());
     let taken = all::<S>().into_iter().map(|mut case| {
         if let Some(row) = &case.lent {
@@ -97,7 +104,11 @@ pub fn stacks<S: Subject>(subject: &mut S) -> Vec<(&'static str, Option<u64>, us
         let depth = deepest(&mut || {
             (case.call)(subject);
         });
-        (case.name, case.size, depth.saturating_sub(nothing))
+        Stack {
+            name: case.name,
+            size: case.size,
+            bytes: depth.saturating_sub(nothing),
+        }
     });
     taken.collect()
 }

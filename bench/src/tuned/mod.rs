@@ -14,6 +14,7 @@ mod questions;
 mod rom;
 mod salvage;
 mod sharing;
+mod snapshot;
 mod subject;
 mod waits;
 mod within;

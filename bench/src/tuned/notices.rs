@@ -141,15 +141,15 @@ fn fits(fields: &Fields) -> bool {
     common && own
 }
 
-/// Writes a notice at the start of a room: 1 for a row that is no notice's, then 10.
-pub fn write(fields: &Fields, room: &mut [u8]) -> u8 {
+/// Writes a notice at the start of a room, and how many bytes it has: 1 for a row that is no notice's, then 10.
+pub fn write(fields: &Fields, room: &mut [u8]) -> (u8, u64) {
     if !fits(fields) {
-        return OUTSIDE_LIMITS;
+        return (OUTSIDE_LIMITS, 0);
     }
     let [kind, sequence, title, time, length, floor, cap, count] = *fields;
     let size = size(kind);
     if room.len() < size {
-        return WRONG_ROWS;
+        return (WRONG_ROWS, 0);
     }
     let (common, own) = room[..size].split_at_mut(COMMON);
     common[..7].copy_from_slice(&[1, 0, 1, kind as u8, 2, 0, 4]);
@@ -164,7 +164,7 @@ pub fn write(fields: &Fields, room: &mut [u8]) -> u8 {
         SKIP => own.copy_from_slice(&[5, 0, 4, a, b, c, d, 8, 0, 1, count]),
         _ => (),
     }
-    DONE
+    (DONE, size as u64)
 }
 
 /// One notice's bytes, and nothing after them: 11 12, and then what its event answers.

@@ -1,7 +1,7 @@
 //! The tuned version as a subject.
 
 use super::agent::Agent;
-use super::{air, events, notices, planner, plans, questions, rom, salvage, sharing, waits};
+use super::{air, events, notices, planner, plans, questions, rom, salvage, sharing, snapshot, waits};
 use crate::agent_row::AgentRow;
 use crate::limits::{POOL_MAX, POOL_MIN};
 use crate::refusals::*;
@@ -18,7 +18,7 @@ impl Default for Tuned {
 }
 
 impl Tuned {
-    /// The agent of a refused fresh call.
+    /// A pool of 0 lanes without titles.
     pub fn new() -> Tuned {
         Tuned { agent: Agent::fresh(0) }
     }
@@ -47,13 +47,11 @@ impl Subject for Tuned {
     }
 
     fn fresh(&mut self, pool: u64) -> u8 {
-        let within = (POOL_MIN..=POOL_MAX).contains(&pool);
-        self.agent = Agent::fresh(if within { pool } else { 0 });
-        if within {
-            DONE
-        } else {
-            OUTSIDE_LIMITS
+        if !(POOL_MIN..=POOL_MAX).contains(&pool) {
+            return OUTSIDE_LIMITS;
         }
+        self.agent = Agent::fresh(pool);
+        DONE
     }
 
     fn open(&mut self, id: u64, time: u64, film: Film) -> u8 {
@@ -120,7 +118,7 @@ impl Subject for Tuned {
         sharing::share(pool, titles, counts)
     }
 
-    fn write(&mut self, fields: &Fields, room: &mut [u8]) -> u8 {
+    fn write(&mut self, fields: &Fields, room: &mut [u8]) -> (u8, u64) {
         notices::write(fields, room)
     }
 
@@ -146,5 +144,13 @@ impl Subject for Tuned {
 
     fn salvage(&mut self, log: &[u8], area: &mut [u8], row: &mut [u64]) -> (u8, [u64; 3]) {
         salvage::salvage(log, area, row)
+    }
+
+    fn save(&mut self, room: &mut [u8]) -> u8 {
+        snapshot::save(&self.agent, room)
+    }
+
+    fn load(&mut self, bytes: &[u8]) -> u8 {
+        snapshot::load(&mut self.agent, bytes)
     }
 }

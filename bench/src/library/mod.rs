@@ -1,0 +1,7 @@
+//! The product's own library, as `rt staticlib rongalishu` builds it: each exported call behind `Subject`.
+
+pub mod raw;
+mod rows;
+mod subject;
+
+pub use subject::Library;

@@ -1,0 +1,153 @@
+//! What the library exports (include/rongalishu.h): every row is a pointer and how many places it has.
+
+use std::ffi::c_uchar;
+
+type Answer = c_uchar;
+
+#[link(name = "rongalishu", kind = "static")]
+extern "C" {
+    pub fn rl_fresh_row(agent: *mut u64, agent_len: usize, pool: u64) -> Answer;
+    pub fn rl_open_row(
+        agent: *mut u64,
+        agent_len: usize,
+        id: u64,
+        time: u64,
+        length: u64,
+        floor: u64,
+        cap: u64,
+        count: u64,
+    ) -> Answer;
+    pub fn rl_skip_row(agent: *mut u64, agent_len: usize, id: u64, time: u64, length: u64, count: u64) -> Answer;
+    pub fn rl_change_row(agent: *mut u64, agent_len: usize, id: u64, time: u64, count: u64) -> Answer;
+    pub fn rl_close_row(agent: *mut u64, agent_len: usize, id: u64, time: u64) -> Answer;
+    pub fn rl_hold_row(agent: *mut u64, agent_len: usize, id: u64, time: u64) -> Answer;
+    pub fn rl_lift_row(agent: *mut u64, agent_len: usize, id: u64, time: u64) -> Answer;
+    pub fn rl_take_row(agent: *mut u64, agent_len: usize, bytes: *const u8, bytes_len: usize) -> Answer;
+
+    pub fn rl_lane_row(
+        agent: *const u64,
+        agent_len: usize,
+        id: u64,
+        lane: u64,
+        time: u64,
+        cell: *mut u64,
+        cell_len: usize,
+    ) -> Answer;
+    pub fn rl_rom_lane_row(
+        agent: *const u64,
+        agent_len: usize,
+        id: u64,
+        lane: u64,
+        time: u64,
+        cell: *mut u64,
+        cell_len: usize,
+    ) -> Answer;
+    pub fn rl_held_row(agent: *const u64, agent_len: usize, time: u64, lanes: *mut u64, lanes_len: usize) -> Answer;
+    pub fn rl_status_row(
+        agent: *const u64,
+        agent_len: usize,
+        time: u64,
+        ids: *const u64,
+        ids_len: usize,
+        counts: *mut u64,
+        counts_len: usize,
+        held: *mut u64,
+        held_len: usize,
+        marks: *mut u64,
+        marks_len: usize,
+    ) -> Answer;
+    pub fn rl_planner_row(
+        agent: *const u64,
+        agent_len: usize,
+        time: u64,
+        rates: *const u32,
+        rates_len: usize,
+        ids: *mut u64,
+        ids_len: usize,
+        times: *mut u64,
+        times_len: usize,
+        counts: *mut u64,
+        counts_len: usize,
+        moves: *mut u64,
+        moves_len: usize,
+    ) -> Answer;
+
+    pub fn rl_plan_row(floor: u64, cap: u64, count: u64, arrival: u64, row: *mut u16, row_len: usize) -> Answer;
+    pub fn rl_rom_plan_row(floor: u64, cap: u64, count: u64, arrival: u64, row: *mut u16, row_len: usize) -> Answer;
+    pub fn rl_skip_plan_row(count: u64, arrival: u64, row: *mut u16, row_len: usize) -> Answer;
+    pub fn rl_share_row(
+        pool: u64,
+        rates: *const u32,
+        rates_len: usize,
+        lengths: *const u32,
+        lengths_len: usize,
+        floors: *const u32,
+        floors_len: usize,
+        caps: *const u32,
+        caps_len: usize,
+        counts: *mut u32,
+        counts_len: usize,
+    ) -> Answer;
+
+    pub fn rl_write_row(
+        fields: *const u64,
+        fields_len: usize,
+        room: *mut u8,
+        room_len: usize,
+        written: *mut u64,
+        written_len: usize,
+    ) -> Answer;
+    pub fn rl_read_row(bytes: *const u8, bytes_len: usize, fields: *mut u64, fields_len: usize) -> Answer;
+    pub fn rl_next_row(
+        log: *const u8,
+        log_len: usize,
+        place: *mut u64,
+        place_len: usize,
+        fields: *mut u64,
+        fields_len: usize,
+    ) -> Answer;
+
+    pub fn rl_waits_row(
+        pool: u64,
+        title: u64,
+        log: *const u8,
+        log_len: usize,
+        arrivals: *const u64,
+        arrivals_len: usize,
+        report: *mut u64,
+        report_len: usize,
+    ) -> Answer;
+    pub fn rl_air_row(
+        pool: u64,
+        title: u64,
+        log: *const u8,
+        log_len: usize,
+        record: *const u16,
+        record_len: usize,
+        row: *mut u16,
+        row_len: usize,
+        report: *mut u64,
+        report_len: usize,
+    ) -> Answer;
+    pub fn rl_admissions_row(
+        pool: u64,
+        title: u64,
+        log: *const u8,
+        log_len: usize,
+        marks: *mut u8,
+        marks_len: usize,
+    ) -> Answer;
+    pub fn rl_salvage_row(
+        log: *const u8,
+        log_len: usize,
+        area: *mut u8,
+        area_len: usize,
+        stretches: *mut u64,
+        stretches_len: usize,
+        report: *mut u64,
+        report_len: usize,
+    ) -> Answer;
+
+    pub fn rl_save_row(agent: *const u64, agent_len: usize, room: *mut u8, room_len: usize) -> Answer;
+    pub fn rl_load_row(agent: *mut u64, agent_len: usize, bytes: *const u8, bytes_len: usize) -> Answer;
+}
