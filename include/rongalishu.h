@@ -105,7 +105,7 @@ struct rl_film {
   uint64_t length, floor, cap, count;
 };
 
-/* A notice; fields that its kind has not are 0. */
+/* A notice. Fields that its kind has not are 0 when it is read, and are not looked at when it is written. */
 struct rl_notice {
   uint64_t kind, sequence, title, time, length, floor, cap, count;
 };
@@ -468,8 +468,9 @@ static inline enum rl_answer rl_salvage(const uint8_t *log, size_t log_len, uint
 
 /* --- snapshots: an agent as bytes, so that a box need not hear every notice since the first --- */
 
-/* Writes an agent as 6,052 bytes: its numbers, big-endian, and the CRC-32C of those; later bytes stay.
- * Refusals: 10 1 */
+/* Writes an agent as 6,052 bytes: its numbers, big-endian, and the CRC-32C of those, big-endian too. room has 6,052
+ * places; later ones stay.
+ * Refusals: 1 */
 uint8_t rl_save_row(const uint64_t *agent, size_t agent_len, uint8_t *room, size_t room_len);
 
 static inline enum rl_answer rl_save(const struct rl_agent *agent, uint8_t room[RL_SNAPSHOT_BYTES]) {
