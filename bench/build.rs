@@ -2,7 +2,8 @@
 
 fn main() {
     println!("cargo:rerun-if-changed=build.rs");
-    if std::env::var_os("CARGO_FEATURE_LIBRARY").is_none() {
+    let asked = |feature: &str| std::env::var_os(feature).is_some();
+    if !asked("CARGO_FEATURE_LIBRARY") || asked("CARGO_FEATURE_EMULATED") {
         return;
     }
     let folder = concat!(env!("CARGO_MANIFEST_DIR"), "/../target/staticlib");

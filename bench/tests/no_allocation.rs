@@ -45,7 +45,7 @@ fn no_call_of_the_tuned_version_allocates() {
     none_allocates(Tuned::new());
 }
 
-#[cfg(feature = "library")]
+#[cfg(all(feature = "library", not(feature = "emulated")))]
 #[test]
 fn no_call_of_the_library_allocates() {
     none_allocates(bench::library::Library::new());

@@ -8,7 +8,7 @@
 
 use bench::page;
 use bench::times::goals::Goals;
-use bench::times::{plot, stacks, table, timings};
+use bench::times::{deepest, plot, stacks, table, timings, Measure};
 use bench::tuned::Tuned;
 use std::process::ExitCode;
 
@@ -16,6 +16,12 @@ use std::process::ExitCode;
 use bench::library::Library as Second;
 #[cfg(not(feature = "library"))]
 use bench::tuned::Tuned as Second;
+
+/// How deep the second subject goes: in this program, or in the driver that answers for it.
+#[cfg(not(feature = "emulated"))]
+const DEEPEST: Measure = deepest;
+#[cfg(feature = "emulated")]
+const DEEPEST: Measure = bench::library::emulated::deepest;
 
 const NAMES: [&str; 2] = ["tuned", if cfg!(feature = "library") { "library" } else { "again" }];
 
@@ -36,7 +42,7 @@ fn tell(words: &[String], tables: &[(&str, String)]) -> Result<(), String> {
 }
 
 fn tell_stacks(words: &[String]) -> Result<(), String> {
-    let taken = [stacks(&mut Tuned::new()), stacks(&mut Second::new())];
+    let taken = [stacks(&mut Tuned::new(), deepest), stacks(&mut Second::new(), DEEPEST)];
     let table = table::stacks(NAMES, [&taken[0], &taken[1]]);
     let goals = Goals::of_stacks(&taken[1]).told();
     tell(words, &[("stacks", table), ("stack goals", goals)])

@@ -1,12 +1,33 @@
-//! What the library exports (include/rongalishu.h): every row is a pointer and how many places it has.
+//! What the library exports (include/rongalishu.h): every row is a pointer and how many places it has. The calls are linked,
+//! or with the feature `emulated` put to a program that has them linked.
 
-use std::ffi::c_uchar;
+#[cfg(not(feature = "emulated"))]
+macro_rules! exported {
+    ($($calls:tt)*) => {
+        #[link(name = "rongalishu", kind = "static")]
+        extern "C" {
+            $($calls)*
+        }
+    };
+}
 
-type Answer = c_uchar;
+#[cfg(feature = "emulated")]
+macro_rules! exported {
+    ($(pub fn $name:ident($($argument:ident: $kind:ty),* $(,)?) -> u8;)*) => {
+        $(
+            /// # Safety
+            /// As of every call of the library: a pointer and its length are those of one row.
+            pub unsafe fn $name($($argument: $kind),*) -> u8 {
+                let mut call = super::emulated::Call::new(stringify!($name));
+                $(call.lend($argument);)*
+                call.put()
+            }
+        )*
+    };
+}
 
-#[link(name = "rongalishu", kind = "static")]
-extern "C" {
-    pub fn rl_fresh_row(agent: *mut u64, agent_len: usize, pool: u64) -> Answer;
+exported! {
+    pub fn rl_fresh_row(agent: *mut u64, agent_len: usize, pool: u64) -> u8;
     pub fn rl_open_row(
         agent: *mut u64,
         agent_len: usize,
@@ -16,13 +37,13 @@ extern "C" {
         floor: u64,
         cap: u64,
         count: u64,
-    ) -> Answer;
-    pub fn rl_skip_row(agent: *mut u64, agent_len: usize, id: u64, time: u64, length: u64, count: u64) -> Answer;
-    pub fn rl_change_row(agent: *mut u64, agent_len: usize, id: u64, time: u64, count: u64) -> Answer;
-    pub fn rl_close_row(agent: *mut u64, agent_len: usize, id: u64, time: u64) -> Answer;
-    pub fn rl_hold_row(agent: *mut u64, agent_len: usize, id: u64, time: u64) -> Answer;
-    pub fn rl_lift_row(agent: *mut u64, agent_len: usize, id: u64, time: u64) -> Answer;
-    pub fn rl_take_row(agent: *mut u64, agent_len: usize, bytes: *const u8, bytes_len: usize) -> Answer;
+    ) -> u8;
+    pub fn rl_skip_row(agent: *mut u64, agent_len: usize, id: u64, time: u64, length: u64, count: u64) -> u8;
+    pub fn rl_change_row(agent: *mut u64, agent_len: usize, id: u64, time: u64, count: u64) -> u8;
+    pub fn rl_close_row(agent: *mut u64, agent_len: usize, id: u64, time: u64) -> u8;
+    pub fn rl_hold_row(agent: *mut u64, agent_len: usize, id: u64, time: u64) -> u8;
+    pub fn rl_lift_row(agent: *mut u64, agent_len: usize, id: u64, time: u64) -> u8;
+    pub fn rl_take_row(agent: *mut u64, agent_len: usize, bytes: *const u8, bytes_len: usize) -> u8;
 
     pub fn rl_lane_row(
         agent: *const u64,
@@ -32,7 +53,7 @@ extern "C" {
         time: u64,
         cell: *mut u64,
         cell_len: usize,
-    ) -> Answer;
+    ) -> u8;
     pub fn rl_rom_lane_row(
         agent: *const u64,
         agent_len: usize,
@@ -41,8 +62,8 @@ extern "C" {
         time: u64,
         cell: *mut u64,
         cell_len: usize,
-    ) -> Answer;
-    pub fn rl_held_row(agent: *const u64, agent_len: usize, time: u64, lanes: *mut u64, lanes_len: usize) -> Answer;
+    ) -> u8;
+    pub fn rl_held_row(agent: *const u64, agent_len: usize, time: u64, lanes: *mut u64, lanes_len: usize) -> u8;
     pub fn rl_status_row(
         agent: *const u64,
         agent_len: usize,
@@ -55,7 +76,7 @@ extern "C" {
         held_len: usize,
         marks: *mut u64,
         marks_len: usize,
-    ) -> Answer;
+    ) -> u8;
     pub fn rl_planner_row(
         agent: *const u64,
         agent_len: usize,
@@ -70,11 +91,11 @@ extern "C" {
         counts_len: usize,
         moves: *mut u64,
         moves_len: usize,
-    ) -> Answer;
+    ) -> u8;
 
-    pub fn rl_plan_row(floor: u64, cap: u64, count: u64, arrival: u64, row: *mut u16, row_len: usize) -> Answer;
-    pub fn rl_rom_plan_row(floor: u64, cap: u64, count: u64, arrival: u64, row: *mut u16, row_len: usize) -> Answer;
-    pub fn rl_skip_plan_row(count: u64, arrival: u64, row: *mut u16, row_len: usize) -> Answer;
+    pub fn rl_plan_row(floor: u64, cap: u64, count: u64, arrival: u64, row: *mut u16, row_len: usize) -> u8;
+    pub fn rl_rom_plan_row(floor: u64, cap: u64, count: u64, arrival: u64, row: *mut u16, row_len: usize) -> u8;
+    pub fn rl_skip_plan_row(count: u64, arrival: u64, row: *mut u16, row_len: usize) -> u8;
     pub fn rl_share_row(
         pool: u64,
         rates: *const u32,
@@ -87,7 +108,7 @@ extern "C" {
         caps_len: usize,
         counts: *mut u32,
         counts_len: usize,
-    ) -> Answer;
+    ) -> u8;
 
     pub fn rl_write_row(
         fields: *const u64,
@@ -96,8 +117,8 @@ extern "C" {
         room_len: usize,
         written: *mut u64,
         written_len: usize,
-    ) -> Answer;
-    pub fn rl_read_row(bytes: *const u8, bytes_len: usize, fields: *mut u64, fields_len: usize) -> Answer;
+    ) -> u8;
+    pub fn rl_read_row(bytes: *const u8, bytes_len: usize, fields: *mut u64, fields_len: usize) -> u8;
     pub fn rl_next_row(
         log: *const u8,
         log_len: usize,
@@ -105,7 +126,7 @@ extern "C" {
         place_len: usize,
         fields: *mut u64,
         fields_len: usize,
-    ) -> Answer;
+    ) -> u8;
 
     pub fn rl_waits_row(
         pool: u64,
@@ -116,7 +137,7 @@ extern "C" {
         arrivals_len: usize,
         report: *mut u64,
         report_len: usize,
-    ) -> Answer;
+    ) -> u8;
     pub fn rl_air_row(
         pool: u64,
         title: u64,
@@ -128,7 +149,7 @@ extern "C" {
         row_len: usize,
         report: *mut u64,
         report_len: usize,
-    ) -> Answer;
+    ) -> u8;
     pub fn rl_admissions_row(
         pool: u64,
         title: u64,
@@ -136,7 +157,7 @@ extern "C" {
         log_len: usize,
         marks: *mut u8,
         marks_len: usize,
-    ) -> Answer;
+    ) -> u8;
     pub fn rl_salvage_row(
         log: *const u8,
         log_len: usize,
@@ -146,8 +167,8 @@ extern "C" {
         stretches_len: usize,
         report: *mut u64,
         report_len: usize,
-    ) -> Answer;
+    ) -> u8;
 
-    pub fn rl_save_row(agent: *const u64, agent_len: usize, room: *mut u8, room_len: usize) -> Answer;
-    pub fn rl_load_row(agent: *mut u64, agent_len: usize, bytes: *const u8, bytes_len: usize) -> Answer;
+    pub fn rl_save_row(agent: *const u64, agent_len: usize, room: *mut u8, room_len: usize) -> u8;
+    pub fn rl_load_row(agent: *mut u64, agent_len: usize, bytes: *const u8, bytes_len: usize) -> u8;
 }

@@ -11,4 +11,4 @@ pub mod table;
 
 pub use cases::{all as all_cases, Case};
 pub use measure::{timings, Timing};
-pub use stack::{deepest, stacks, Stack};
+pub use stack::{deepest, stacks, Measure, Stack};

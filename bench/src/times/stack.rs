@@ -94,8 +94,11 @@ pub struct Stack {
     pub bytes: usize,
 }
 
+/// How many bytes of stack a call takes.
+pub type Measure = fn(&mut dyn FnMut()) -> usize;
+
 /// What each case takes beyond a call that does nothing.
-pub fn stacks<S: Subject>(subject: &mut S) -> Vec<Stack> {
+pub fn stacks<S: Subject>(subject: &mut S, deepest: Measure) -> Vec<Stack> {
     let nothing = deepest(&mut || ());
     let taken = all::<S>().into_iter().map(|mut case| {
         if let Some(row) = &case.lent {
