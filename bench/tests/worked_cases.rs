@@ -1,5 +1,6 @@
 //! The worked cases of 01 as 02's requests leave them, for every subject.
 
+use bench::agent_row::SNAPSHOT;
 use bench::model::Model;
 use bench::refusals::*;
 use bench::subject::{Film, Sharers, Start, Subject};
@@ -127,6 +128,29 @@ fn notice_of_case_12<S: Subject>(subject: &mut S) {
     assert_eq!(subject.write(&[2, 2, 0, 4, 0, 0, 0, 3], &mut room[..29]).0, WRONG_ROWS);
 }
 
+/// What was saved is loaded as the same agent; bytes that are cut, damaged or of another length load as none.
+fn snapshots<S: Subject>(subject: &mut S) {
+    opened(subject, 4);
+    assert_eq!(subject.change(0, 4, 3), DONE);
+    let saved = subject.agent();
+    let mut room = [9; SNAPSHOT + 1];
+    assert_eq!(subject.save(&mut room[..SNAPSHOT - 1]), WRONG_ROWS);
+    assert_eq!((subject.save(&mut room), room[SNAPSHOT]), (DONE, 9));
+    assert_eq!(subject.fresh(9), DONE);
+    let other = subject.agent();
+    for place in (0..SNAPSHOT).step_by(61) {
+        room[place] ^= 4;
+        assert_eq!(subject.load(&room[..SNAPSHOT]), MALFORMED, "byte {place}");
+        room[place] ^= 4;
+    }
+    assert_eq!(subject.load(&room), MALFORMED);
+    assert_eq!(subject.load(&room[..SNAPSHOT - 1]), MALFORMED);
+    assert_eq!(subject.load(&[]), MALFORMED);
+    assert!(subject.agent() == other, "a refused load changes nothing");
+    assert_eq!(subject.load(&room[..SNAPSHOT]), DONE);
+    assert!(subject.agent() == saved, "the agent is the one that was saved");
+}
+
 fn all_hold<S: Subject>(mut subject: S) {
     lanes_and_plan(&mut subject);
     drops(&mut subject);
@@ -134,6 +158,7 @@ fn all_hold<S: Subject>(mut subject: S) {
     owed_to_the_smaller_count(&mut subject);
     sharings(&mut subject);
     notice_of_case_12(&mut subject);
+    snapshots(&mut subject);
 }
 
 #[test]
