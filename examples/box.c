@@ -2,8 +2,9 @@
  *
  *     box LOG TITLE TIME
  *
- * TIME is when the viewer asks for the title, in ms. A line for each tick of the play: the cell that plays, and for each
- * lane the cell that it shows, with + where the box takes it and - where it throws it away.
+ * TIME is when the viewer asks for the title, in ms. A line for each tick of the play: the cell that plays, and for
+ * each lane the cell that it shows, with + where the box takes it and - where it throws it away. Once all cells have
+ * come, the box plays them from its store and looks at no lane.
  */
 #include "rongalishu.h"
 
@@ -45,7 +46,7 @@ static int tell_refusal(const char *what, enum rl_answer answer) {
 
 /* --- following the log --- */
 
-/* Hears one notice. One that is refused changes nothing: after 12 a notice is missing, and what follows is refused too. */
+/* Hears one notice. One that is refused changes nothing; at 12 one is missing, and what follows is refused too. */
 static void hear(struct box *box, const struct rl_notice *notice, uint64_t after) {
   const enum rl_answer answer = rl_take(&box->agent, box->log + box->place, (size_t)(after - box->place));
   const int opens = notice->kind == RL_OPENS || notice->kind == RL_OPENS_SKIP;

@@ -5,7 +5,7 @@
 //!
 //! Plain rustc builds it:
 //!
-//!     rustc --edition 2021 -O -L target/staticlib -l static=rongalishu examples/follow.rs
+//!     rustc --edition 2021 -O -L target/staticlib -l static=rongalishu -o target/follow examples/follow.rs
 
 use std::fmt;
 use std::fs;

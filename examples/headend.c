@@ -62,7 +62,7 @@ static int append(const struct headend *headend, const uint8_t *bytes, size_t si
   return 0;
 }
 
-/* An event becomes a notice, is tried, told and written. A refusal leaves everything as it was; 0 where the log fails. */
+/* An event becomes a notice, is tried, written and told. A refusal leaves all as it was; 0 where the log fails. */
 static int announce(struct headend *headend, struct rl_notice notice) {
   struct rl_agent next = headend->agent;
   uint8_t room[RL_NOTICE_BYTES];

@@ -7,7 +7,7 @@
  * changed. "Refusals" behind a call lists them in their order; docs/REFUSALS.md has the numbers.
  *
  * An agent is plain data, 756 numbers of 64 bits: it may be copied, stored and compared, and any numbers may be lent as
- * one. Every call that is lent an agent with a number out of its limits refuses it with 1.
+ * one. A call that reads an agent with a number out of its limits refuses it with 1.
  *
  * Times are in ms and begin at 0, an arrival is a tick. A row is lent as a pointer and the number of its places. Rows
  * that are lent to one call do not overlap, and no pointer is NULL, not even that of a row of no places. No call
@@ -91,7 +91,8 @@ enum rl_kind { RL_OPENS = 1, RL_CHANGES = 2, RL_CLOSES = 3, RL_HOLDS = 4, RL_LIF
 #define RL_POOL_AT 2
 #define RL_LAST_AT 3
 
-/* In a plan a cell that is never taken, in a record a lane that shows nothing, in what the air carried no cell missed. */
+/* In a plan a cell that is never taken, in a record a lane that shows nothing, in what the air carried no
+ * cell missed. */
 #define RL_NOTHING 65535
 
 /* --- plain data --- */
@@ -404,14 +405,14 @@ uint8_t rl_waits_row(uint64_t pool, uint64_t title, const uint8_t *log, size_t l
 
 static inline enum rl_answer rl_waits(uint64_t pool, uint64_t title, const uint8_t *log, size_t log_len,
                                       const uint64_t *arrivals, size_t arrivals_len, struct rl_waits_report *report) {
-  uint64_t counts[4] = {0};
+  uint64_t report_row[4] = {0};
   const enum rl_answer answer =
-      (enum rl_answer)rl_waits_row(pool, title, log, log_len, arrivals, arrivals_len, counts, 4);
+      (enum rl_answer)rl_waits_row(pool, title, log, log_len, arrivals, arrivals_len, report_row, 4);
   if (answer == RL_DONE) {
-    report->arrivals = counts[0];
-    report->admitted = counts[1];
-    report->longest = counts[2];
-    report->sum = counts[3];
+    report->arrivals = report_row[0];
+    report->admitted = report_row[1];
+    report->longest = report_row[2];
+    report->sum = report_row[3];
   }
   return answer;
 }
@@ -426,13 +427,13 @@ uint8_t rl_air_row(uint64_t pool, uint64_t title, const uint8_t *log, size_t log
 static inline enum rl_answer rl_air(uint64_t pool, uint64_t title, const uint8_t *log, size_t log_len,
                                     const uint16_t *record, size_t record_len, uint16_t *row, size_t row_len,
                                     struct rl_air_report *report) {
-  uint64_t counts[3] = {0};
+  uint64_t report_row[3] = {0};
   const enum rl_answer answer =
-      (enum rl_answer)rl_air_row(pool, title, log, log_len, record, record_len, row, row_len, counts, 3);
+      (enum rl_answer)rl_air_row(pool, title, log, log_len, record, record_len, row, row_len, report_row, 3);
   if (answer == RL_DONE) {
-    report->judged = counts[0];
-    report->played = counts[1];
-    report->outlast = counts[2];
+    report->judged = report_row[0];
+    report->played = report_row[1];
+    report->outlast = report_row[2];
   }
   return answer;
 }
@@ -455,13 +456,13 @@ uint8_t rl_salvage_row(const uint8_t *log, size_t log_len, uint8_t *area, size_t
 
 static inline enum rl_answer rl_salvage(const uint8_t *log, size_t log_len, uint8_t *area, size_t area_len,
                                         uint64_t *stretches, size_t stretches_len, struct rl_salvage_report *report) {
-  uint64_t counts[3] = {0};
+  uint64_t report_row[3] = {0};
   const enum rl_answer answer =
-      (enum rl_answer)rl_salvage_row(log, log_len, area, area_len, stretches, stretches_len, counts, 3);
+      (enum rl_answer)rl_salvage_row(log, log_len, area, area_len, stretches, stretches_len, report_row, 3);
   if (answer == RL_DONE) {
-    report->notices = counts[0];
-    report->bytes = counts[1];
-    report->stretches = counts[2];
+    report->notices = report_row[0];
+    report->bytes = report_row[1];
+    report->stretches = report_row[2];
   }
   return answer;
 }

@@ -1,9 +1,11 @@
-/* The library behind a pipe, for machines that cannot link it: on them this program runs under an emulator of x86-64, and the
- * bench puts its calls to it (src/library/emulated.rs). It needs no C library, so that none for x86-64 has to be there.
+/* The library behind a pipe, for machines that cannot link it: on them this program runs under an emulator of x86-64,
+ * and the bench puts its calls to it (src/library/emulated.rs). It needs no C library, so that none for x86-64 has to
+ * be there.
  *
- * A request on standard input, in words of 64 bits: the call's name in four of them, 1 where its stack is to be measured,
- * how many numbers and how many rows; the numbers; of each row its bytes and its places; and the rows' contents, each
- * filled up to a whole word. On standard output comes back: the answer, the bytes of stack, and the rows' contents.
+ * A request on standard input, in words of 64 bits: the call's name in four of them, 1 where its stack is to be
+ * measured, how many numbers and how many rows; the numbers; of each row its bytes and its places; and the rows'
+ * contents, each filled up to a whole word. On standard output comes back: the answer, the bytes of stack, and the
+ * rows' contents.
  */
 #include "rongalishu.h"
 
