@@ -1,4 +1,3 @@
 -- Laws of result rows, and that each call's contract settles its outcome.
-pub mod Filling
 pub mod Told
 pub mod Unique

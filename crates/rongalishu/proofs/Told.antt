@@ -1,12 +1,12 @@
--- What a call over a log gives: 10 where the result row is too short, else what the call beneath told, with its numbers in the
+-- What a call with a result row gives: 10 where the result row is too short, else what the call beneath told, with its numbers in the
 -- row where it is done.
 use Prim.Native.Nat.{ℕ, _≤_, _<_}
 use mathlib.Core.Path.{_≡_, refl, sym, ap, _∙_}
 use mathlib.Core.Bool.{Bool, true, false}
-use mathlib.Core.List.{List}
+use mathlib.Core.List.{List, [], _∷_}
 use native.Mathlib.Omega.{arith}
 use lib.Dec.{eqb}
-use lib.ListN.{length}
+use lib.ListN.{length, getD}
 use borrow.Author.Tests.{lt-ltb, le-ltb, ltb-true, ltb-false, eq-eqb, ne-eqb}
 use Rattle.rules.specs.Refusals.{pick, done, wrongRows}
 use Rattle.waiting.specs.declared.Report.{Report}
@@ -18,6 +18,12 @@ use Rattle.salvaging.specs.Scan.{scanOf}
 use Rattle.salvaging.specs.Rows.{Salvages, lacksRoom, salvaged, noRoom, flat, filled}
 use Rattle.rongalishu.specs.Results.{needing, resulting}
 use Rattle.rongalishu.specs.Reports.{WaitsTold, WaitsGiven, waitNumbers, waitsPlaces}
+use Rattle.notice_rows.specs.declared.Written.{Written}
+use Rattle.notice_rows.specs.declared.Step.{Step}
+use Rattle.notice_rows.specs.Calls.{WritesRow, StepsRow}
+use Rattle.row_questions.specs.Questions.{RowListed}
+use Rattle.rongalishu.specs.Notices.{WrittenTold, WrittenGiven, NextTold, NextGiven}
+use Rattle.rongalishu.specs.Pools.{PlannerTold, PlannerGiven}
 use Rattle.rongalishu.specs.Reports.{AirGiven, airNumbers, airPlaces, SalvageGiven, salvageGives, salvageNumbers, salvagePlaces}
 
 -- a row with its numbers, and one that stayed
@@ -110,4 +116,51 @@ salvage-told log area row report s area-after row-after told h p g =
       area-is = p .area-is ∙ by-room b t (scanOf log .kept) area refl ∙ as-given (scanOf log .kept) area;
       row-is = p .row-is ∙ by-room b t (flat (scanOf log .skipped)) row refl ∙ as-given (flat (scanOf log .skipped)) row;
       report-is = g ∙ ap (λ (q : Salvaged). resulting (s .answer) (salvageNumbers q) report) (p .gives);
+    }
+
+-- ---- notices
+
+pub written-short : (fields room row : List ℕ) → length row < 1 → WrittenGiven fields room row wrongRows room row
+written-short fields room row h =
+    record { too-short = λ e. (refl, (refl, refl)); tells = λ e. absurd (omega (arith, h, ltb-false (length row) 1 e)) }
+
+pub written-told : (fields room row : List ℕ) (t : Written) (room-after row-after : List ℕ) → 1 ≤ length row →
+    WritesRow fields room t room-after → row-after ≡ resulting (t .answer) (t .bytes ∷ []) row →
+    WrittenGiven fields room row (t .answer) room-after row-after
+written-told fields room row t room-after row-after h p e =
+    record {
+      too-short = λ f. absurd (omega (arith, h, ltb-true (length row) 1 f));
+      tells = λ f. record { told = t; writes = p; answers = refl; row-is = e };
+    }
+
+pub next-short : (log row fields : List ℕ) → length row < 1 → NextGiven log row fields wrongRows row fields
+next-short log row fields h =
+    record { too-short = λ e. (refl, (refl, refl)); tells = λ e. absurd (omega (arith, h, ltb-false (length row) 1 e)) }
+
+pub next-told : (log row fields : List ℕ) (t : Step) (row-after fields-after : List ℕ) → 1 ≤ length row →
+    StepsRow log (getD row 0 0) fields t fields-after → row-after ≡ resulting (t .answer) (t .place ∷ []) row →
+    NextGiven log row fields (t .answer) row-after fields-after
+next-told log row fields t row-after fields-after h p e =
+    record {
+      too-short = λ f. absurd (omega (arith, h, ltb-true (length row) 1 f));
+      tells = λ f. record { told = t; steps = p; answers = refl; row-is = e };
+    }
+
+-- ---- the planner
+
+pub planner-short : (agent : List ℕ) (τ : ℕ) (rates is ts ks row : List ℕ) → length row < 1 →
+    PlannerGiven agent τ rates is ts ks row wrongRows is ts ks row
+planner-short agent τ rates is ts ks row h =
+    record {
+      too-short = λ e. (refl, (refl, (refl, (refl, refl))));
+      tells = λ e. absurd (omega (arith, h, ltb-false (length row) 1 e));
+    }
+
+pub planner-told : (agent : List ℕ) (τ : ℕ) (rates is ts ks row : List ℕ) (r n : ℕ) (is′ ts′ ks′ row′ : List ℕ) → 1 ≤ length row →
+    RowListed agent τ rates is ts ks r n is′ ts′ ks′ → row′ ≡ resulting r (n ∷ []) row →
+    PlannerGiven agent τ rates is ts ks row r is′ ts′ ks′ row′
+planner-told agent τ rates is ts ks row r n is′ ts′ ks′ row′ h p e =
+    record {
+      too-short = λ f. absurd (omega (arith, h, ltb-true (length row) 1 f));
+      tells = λ f. record { many = n; lists = p; row-is = e };
     }

@@ -17,22 +17,22 @@ use Rattle.salvaging.specs.Rows.{flat}
 use Rattle.rongalishu.specs.Results.{resulting}
 use Rattle.rongalishu.specs.Reports.{WaitsTold, WaitsGiven, waitNumbers, waitsPlaces}
 use Rattle.rongalishu.specs.Reports.{airNumbers, salvageGives, salvageNumbers}
-use Rattle.rongalishu.proofs.boxes.rl_plan.Kinds as plan-kinds
-use Rattle.rongalishu.proofs.boxes.rl_plan.Reads as plan-call
-use Rattle.rongalishu.proofs.boxes.rl_rom_plan.Kinds as rom-plan-kinds
-use Rattle.rongalishu.proofs.boxes.rl_rom_plan.Reads as rom-plan-call
-use Rattle.rongalishu.proofs.boxes.rl_skip_plan.Kinds as skip-plan-kinds
-use Rattle.rongalishu.proofs.boxes.rl_skip_plan.Reads as skip-plan-call
-use Rattle.rongalishu.proofs.pools.rl_share.Kinds as share-kinds
-use Rattle.rongalishu.proofs.pools.rl_share.Reads as share-call
-use Rattle.rongalishu.proofs.reports.rl_waits.Kinds as waits-kinds
-use Rattle.rongalishu.proofs.reports.rl_waits.Reads as waits-call
-use Rattle.rongalishu.proofs.reports.rl_air.Kinds as air-kinds
-use Rattle.rongalishu.proofs.reports.rl_air.Reads as air-call
-use Rattle.rongalishu.proofs.reports.rl_admissions.Kinds as admissions-kinds
-use Rattle.rongalishu.proofs.reports.rl_admissions.Reads as admissions-call
-use Rattle.rongalishu.proofs.reports.rl_salvage.Kinds as salvage-kinds
-use Rattle.rongalishu.proofs.reports.rl_salvage.Reads as salvage-call
+use Rattle.rongalishu.proofs.boxes.rl_plan_row.Kinds as plan-kinds
+use Rattle.rongalishu.proofs.boxes.rl_plan_row.Reads as plan-call
+use Rattle.rongalishu.proofs.boxes.rl_rom_plan_row.Kinds as rom-plan-kinds
+use Rattle.rongalishu.proofs.boxes.rl_rom_plan_row.Reads as rom-plan-call
+use Rattle.rongalishu.proofs.boxes.rl_skip_plan_row.Kinds as skip-plan-kinds
+use Rattle.rongalishu.proofs.boxes.rl_skip_plan_row.Reads as skip-plan-call
+use Rattle.rongalishu.proofs.pools.rl_share_row.Kinds as share-kinds
+use Rattle.rongalishu.proofs.pools.rl_share_row.Reads as share-call
+use Rattle.rongalishu.proofs.reports.rl_waits_row.Kinds as waits-kinds
+use Rattle.rongalishu.proofs.reports.rl_waits_row.Reads as waits-call
+use Rattle.rongalishu.proofs.reports.rl_air_row.Kinds as air-kinds
+use Rattle.rongalishu.proofs.reports.rl_air_row.Reads as air-call
+use Rattle.rongalishu.proofs.reports.rl_admissions_row.Kinds as admissions-kinds
+use Rattle.rongalishu.proofs.reports.rl_admissions_row.Reads as admissions-call
+use Rattle.rongalishu.proofs.reports.rl_salvage_row.Kinds as salvage-kinds
+use Rattle.rongalishu.proofs.reports.rl_salvage_row.Reads as salvage-call
 
 -- ---- plans and sharing; the row is the last parameter
 

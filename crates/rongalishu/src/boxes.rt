@@ -5,7 +5,7 @@ ghost use Rattle.rom.specs.Plan.{RomPlanned};
 
 // The plan of a start of a padded title, into the first 2^cap places of a row.
 #[no_mangle]
-pub extern "C" fn rl_plan(floor: u64, cap: u64, count: u64, arrival: u64, row: &mut [u16]) -> u8
+pub extern "C" fn rl_plan_row(floor: u64, cap: u64, count: u64, arrival: u64, row: &mut [u16]) -> u8
     ensures { λ r. ⌜ Planned floor cap count arrival (now (row .entry)) r (now (row .exit)) ⌝ }
 {
     plans::plan(floor, cap, count, arrival, row)
@@ -13,7 +13,13 @@ pub extern "C" fn rl_plan(floor: u64, cap: u64, count: u64, arrival: u64, row: &
 
 // The same looked up in the small box's table.
 #[no_mangle]
-pub extern "C" fn rl_rom_plan(floor: u64, cap: u64, count: u64, arrival: u64, row: &mut [u16]) -> u8
+pub extern "C" fn rl_rom_plan_row(
+    floor: u64,
+    cap: u64,
+    count: u64,
+    arrival: u64,
+    row: &mut [u16],
+) -> u8
     ensures { λ r. ⌜ RomPlanned floor cap count arrival (now (row .entry)) r (now (row .exit)) ⌝ }
 {
     rom::plan::plan(floor, cap, count, arrival, row)
@@ -21,7 +27,7 @@ pub extern "C" fn rl_rom_plan(floor: u64, cap: u64, count: u64, arrival: u64, ro
 
 // The plan of a start of a skip-forward title, into the first 2^(count - 1) places of a row.
 #[no_mangle]
-pub extern "C" fn rl_skip_plan(count: u64, arrival: u64, row: &mut [u16]) -> u8
+pub extern "C" fn rl_skip_plan_row(count: u64, arrival: u64, row: &mut [u16]) -> u8
     ensures { λ r. ⌜ SkipPlanned count arrival (now (row .entry)) r (now (row .exit)) ⌝ }
 {
     plans::skip_plan(count, arrival, row)

@@ -1,10 +1,59 @@
-// What is asked of a whole pool: the sharing of its lanes.
+// What is asked of a whole pool: its status, the sharing of its lanes, and the planner's list.
 
+use crate::results::put;
+use rules::DONE;
+use rules::WRONG_ROWS;
 ghost use Rattle.sharing.specs.Verdict.{ShareAnswered};
+ghost use Rattle.row_questions.specs.Questions.{RowFilled};
+ghost use Rattle.rongalishu.specs.Pools.{PlannerGiven};
+
+// Counts, lanes held and held marks of the titles asked for, by id.
+#[no_mangle]
+pub extern "C" fn rl_status_row(
+    agent: &[u64],
+    time: u64,
+    ids: &[u64],
+    counts: &mut [u64],
+    held: &mut [u64],
+    marks: &mut [u64],
+) -> u8
+    ensures { λ r. ⌜ RowFilled (now (agent .entry)) time (now (ids .entry)) (now (counts .entry)) (now (held .entry))
+        (now (marks .entry)) r (now (counts .exit)) (now (held .exit)) (now (marks .exit)) ⌝ }
+{
+    row_questions::status(agent, time, ids, counts, held, marks)
+}
+
+// The changes that bring the counts to the sharing of the pool, into the first places of three rows, and how many they are into
+// the first place of a fourth.
+#[no_mangle]
+pub extern "C" fn rl_planner_row(
+    agent: &[u64],
+    time: u64,
+    rates: &[u32],
+    ids: &mut [u64],
+    times: &mut [u64],
+    counts: &mut [u64],
+    moves: &mut [u64],
+) -> u8
+    ensures { λ r. ⌜ PlannerGiven (now (agent .entry)) time (now (rates .entry)) (now (ids .entry)) (now (times .entry))
+        (now (counts .entry)) (now (moves .entry)) r (now (ids .exit)) (now (times .exit)) (now (counts .exit))
+        (now (moves .exit)) ⌝ }
+{
+    if moves.len() < 1 {
+        return WRONG_ROWS;
+    }
+    let told = row_questions::planner(agent, time, rates, ids, times, counts);
+    let answer = told.answer;
+    if answer == DONE {
+        let numbers = [told.many];
+        put(&numbers, 1, moves);
+    }
+    answer
+}
 
 // The counts that share a pool, into the first places of a row.
 #[no_mangle]
-pub extern "C" fn rl_share(
+pub extern "C" fn rl_share_row(
     pool: u64,
     rates: &[u32],
     lengths: &[u32],

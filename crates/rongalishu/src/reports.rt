@@ -17,7 +17,7 @@ const SALVAGE_PLACES: usize = 3;
 
 // The report of waits: arrivals, admitted, longest wait and sum of waits.
 #[no_mangle]
-pub extern "C" fn rl_waits(
+pub extern "C" fn rl_waits_row(
     pool: u64,
     title: u64,
     log: &[u8],
@@ -41,7 +41,7 @@ pub extern "C" fn rl_waits(
 
 // What the air carried: admissions judged, played through, and those that outlast the record.
 #[no_mangle]
-pub extern "C" fn rl_air(
+pub extern "C" fn rl_air_row(
     pool: u64,
     title: u64,
     log: &[u8],
@@ -66,7 +66,7 @@ pub extern "C" fn rl_air(
 
 // Marks each tick of a title's latest opening with 1 where it is an admission.
 #[no_mangle]
-pub extern "C" fn rl_admissions(pool: u64, title: u64, log: &[u8], marks: &mut [u8]) -> u8
+pub extern "C" fn rl_admissions_row(pool: u64, title: u64, log: &[u8], marks: &mut [u8]) -> u8
     ensures { λ r. ⌜ (r ≡ ticksAnswer pool (now (log .entry)) title)
         × (now (marks .exit) ≡ ticksLeaves pool (now (log .entry)) title (now (marks .entry))) ⌝ }
 {
@@ -75,7 +75,7 @@ pub extern "C" fn rl_admissions(pool: u64, title: u64, log: &[u8], marks: &mut [
 
 // What is left of a damaged log: notices taken, their bytes, and stretches skipped.
 #[no_mangle]
-pub extern "C" fn rl_salvage(
+pub extern "C" fn rl_salvage_row(
     log: &[u8],
     area: &mut [u8],
     stretches: &mut [u64],

@@ -6,7 +6,7 @@ use native.Mathlib.Omega.{arith}
 use native.Mathlib.Numerals.{add-one}
 use native.Mathlib.Nat.{le-antisymm}
 use lib.ListN.{length, getD, take, drop, length-set}
-use Rattle.rongalishu.proofs.Filling.{put-more}
+use Rattle.row_questions.proofs.Filling.{put-more}
 use borrow.Author.Needs.{needs}
 use Rattle.rongalishu.proofs.results.put.Statement.{statement}
 use Rattle.rongalishu.proofs.results.put.Tie as tie
@@ -43,7 +43,7 @@ loop-again c =
     let a = c .before .before .before .args in
     let l = c .before .before .loop in (
       omega arith,
-      rw (add-one, l .inv .1) (put-more (a .numbers .now) (a .row .now) (l .i) (omega arith) (omega arith)),
+      rw (add-one, l .inv .1) (put-more (a .numbers .now) (a .row .now) 0 (l .i) (omega arith) (omega arith)),
       length-set (l .row) (l .i) (getD (a .numbers .now) (l .i) 0) ∙ l .inv .2,
     )
 

@@ -1,9 +1,9 @@
--- `rl_air` meets its contract: 10 first, then what the judgement of the air told.
+-- `rl_air_row` meets its contract: 10 first, then what the judgement of the air told.
 use mathlib.Core.Path.{_∙_}
 use Rattle.rongalishu.proofs.Told.{with-numbers, as-it-was, air-short, air-told}
 use borrow.Author.Needs.{needs}
-use Rattle.rongalishu.proofs.reports.rl_air.Statement.{statement}
-use Rattle.rongalishu.proofs.reports.rl_air.Tie as tie
+use Rattle.rongalishu.proofs.reports.rl_air_row.Statement.{statement}
+use Rattle.rongalishu.proofs.reports.rl_air_row.Tie as tie
 
 returns : tie.Need-returns
 returns c = air-short _ _ _ _ _ _ (c .if1 .taken)
@@ -21,8 +21,8 @@ returns-3 c =
     let told = at-told .air in
     air-told _ _ _ _ _ _ (told .result) _ _ (at-told .before .before .if1 .left) (told .ensures .0) (told .ensures .1) (as-it-was _ _ _ (c .if2 .left))
 
-pub rl-air-spec : {M : Type 1} → statement M
-rl-air-spec =
+pub rl-air-row-spec : {M : Type 1} → statement M
+rl-air-row-spec =
     tie.close
     (tie.spec
     returns

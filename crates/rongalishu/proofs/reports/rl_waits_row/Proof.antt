@@ -1,9 +1,9 @@
--- `rl_waits` meets its contract: 10 first, then what the report of waits told.
+-- `rl_waits_row` meets its contract: 10 first, then what the report of waits told.
 use mathlib.Core.Path.{_∙_}
 use Rattle.rongalishu.proofs.Told.{with-numbers, as-it-was, waits-short, waits-told}
 use borrow.Author.Needs.{needs}
-use Rattle.rongalishu.proofs.reports.rl_waits.Statement.{statement}
-use Rattle.rongalishu.proofs.reports.rl_waits.Tie as tie
+use Rattle.rongalishu.proofs.reports.rl_waits_row.Statement.{statement}
+use Rattle.rongalishu.proofs.reports.rl_waits_row.Tie as tie
 
 returns : tie.Need-returns
 returns c = waits-short _ _ _ _ _ (c .if1 .taken)
@@ -20,8 +20,8 @@ returns-3 c =
     let told = c .before .report-of in
     waits-told _ _ _ _ _ (told .result) _ (c .before .before .if1 .left) (told .ensures) (as-it-was _ _ _ (c .if2 .left))
 
-pub rl-waits-spec : {M : Type 1} → statement M
-rl-waits-spec =
+pub rl-waits-row-spec : {M : Type 1} → statement M
+rl-waits-row-spec =
     tie.close
     (tie.spec
     returns

@@ -1,9 +1,9 @@
--- `rl_salvage` meets its contract: 10 first, then what the salvage told.
+-- `rl_salvage_row` meets its contract: 10 first, then what the salvage told.
 use mathlib.Core.Path.{_∙_}
 use Rattle.rongalishu.proofs.Told.{with-numbers, as-it-was, salvage-short, salvage-told}
 use borrow.Author.Needs.{needs}
-use Rattle.rongalishu.proofs.reports.rl_salvage.Statement.{statement}
-use Rattle.rongalishu.proofs.reports.rl_salvage.Tie as tie
+use Rattle.rongalishu.proofs.reports.rl_salvage_row.Statement.{statement}
+use Rattle.rongalishu.proofs.reports.rl_salvage_row.Tie as tie
 
 returns : tie.Need-returns
 returns c = salvage-short _ _ _ _ (c .if1 .taken)
@@ -21,8 +21,8 @@ returns-3 c =
     let told = at-told .salvage in
     salvage-told _ _ _ _ (told .result) _ _ _ (at-told .before .before .before .if1 .left) (told .ensures) (as-it-was _ _ _ (c .if2 .left))
 
-pub rl-salvage-spec : {M : Type 1} → statement M
-rl-salvage-spec =
+pub rl-salvage-row-spec : {M : Type 1} → statement M
+rl-salvage-row-spec =
     tie.close
     (tie.spec
     returns
