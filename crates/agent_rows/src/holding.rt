@@ -69,6 +69,16 @@ fn drops_from(row: &[u64], at: usize, from: u64) -> u64
     all
 }
 
+// A lane of the title at a place, above its ruling count, still sends at a tick.
+pub fn is_sending(row: &[u64], at: usize, lane: u64, tick: u64) -> bool
+    requires { ⌜ at + titlePlaces ≤ length (now row) ⌝ }
+    requires { ⌜ (titleOk (titleFrom (now row) at) ≡ true)
+        × ((rulingOf (titleFrom (now row) at) ≤ lane) × (lane < titleFrom (now row) at .film .cap)) ⌝ }
+    ensures { λ r. ⌜ r ≡ keptHeld (titleFrom (now (row .entry)) at) lane tick ⌝ }
+{
+    tick < row[at + DROPPED_AT + lane as usize] + row[at + OWED_AT + lane as usize]
+}
+
 // How many lanes the title at a place holds at a tick: the active ones, and of those above them the ones that still send.
 fn held_at(row: &[u64], at: usize, active: u64, tick: u64) -> u64
     requires { ⌜ at + titlePlaces ≤ length (now row) ⌝ }
@@ -81,8 +91,7 @@ fn held_at(row: &[u64], at: usize, active: u64, tick: u64) -> u64
     let mut n = active;
     let mut lane = active;
     while lane < cap {
-        let gone = row[at + DROPPED_AT + lane as usize] + row[at + OWED_AT + lane as usize];
-        n += one_if(tick < gone);
+        n += one_if(is_sending(row, at, lane, tick));
         lane += 1;
     }
     n

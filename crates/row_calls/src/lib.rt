@@ -1,1 +1,5 @@
-// The calls on an agent that a caller lends as a row of numbers, in place.
+// The calls on an agent that a caller lends as a row of numbers (`agent_rows`), in place: the state is not copied, and its numbers are
+// tested once for each call. No call has a `requires`: any row may be lent, and a refusal leaves it as it was.
+
+pub mod events;
+pub mod questions;

@@ -1,18 +1,18 @@
 -- `held_at` meets its contract: the loop's number is the count of the lanes passed, the active ones all held.
-use Prim.Native.Nat.{ℕ, _+_, _-_, _≤_, _<_}
+use Prim.Native.Nat.{ℕ, _+_, _-_, _≤_}
 use mathlib.Core.Path.{_≡_, refl, sym, ap, ap₂, _∙_}
 use native.Mathlib.Omega.{arith}
 use native.Mathlib.Numerals.{add-one}
 use native.Mathlib.Nat.{le-antisymm, le-refl}
 use lib.ListN.{getD}
-use Rattle.rules.specs.Limits.{lanePlaces}
 use Rattle.rules.specs.Refusals.{pick}
+use Rattle.rules.specs.Limits.{countMax}
 use Rattle.rules.specs.Search.{howMany}
 use Rattle.story.specs.Kept.{keptHeld}
 use Rattle.measures.proofs.Active.{active-held}
 use Rattle.agent_rows.specs.Layout.{capAt}
 use Rattle.agent_rows.specs.Packed.{titleFrom}
-use Rattle.agent_rows.proofs.Lanes.{cap-high, sends, dropped-high, owed-high}
+use Rattle.agent_rows.proofs.Lanes.{cap-high}
 use borrow.Author.Needs.{needs}
 use Rattle.agent_rows.proofs.holding.held_at.Statement.{statement}
 use Rattle.agent_rows.proofs.holding.held_at.Tie as tie
@@ -28,13 +28,13 @@ Inv-loop row at active tick cap n₀ lane₀ n lane =
 abbrev μ-loop : tie.MeasureT-loop
 μ-loop row at active tick cap n₀ lane₀ n lane = cap - lane
 
--- the function's start, seen from a turn of the loop
-abbrev start : tie.In-loop Inv-loop μ-loop → tie.Start Inv-loop μ-loop
-start c = c .before .before .before .before
-
--- its lane has a place in the rows
-lane-fits : (c : tie.In-loop Inv-loop μ-loop) → c .before .loop .lane < lanePlaces
-lane-fits c = omega (arith, cap-high (titleFrom (start c .args .row .now) (start c .args .at)) (start c .pre .1 .0))
+-- no cap is above the largest count
+cap-fits : (c : tie.In-loop Inv-loop μ-loop) →
+    let a = c .before .before .before .before .args in
+    getD (a .row .now) (a .at + capAt) 0 ≤ countMax
+cap-fits c =
+    let s = c .before .before .before .before in
+    cap-high (titleFrom (s .args .row .now) (s .args .at)) (s .pre .1 .0)
 
 add-cap : tie.Need-add-cap Inv-loop μ-loop
 add-cap c = search needs
@@ -47,50 +47,20 @@ shared-slice-read-cap c = search needs
 
 loop-holds : tie.Need-loop-holds Inv-loop μ-loop
 loop-holds c =
-    let s = c .before .before in
-    let a = s .args in
+    let a = c .before .before .args in
     (omega arith, sym (active-held (titleFrom (a .row .now) (a .at)) (a .tick) (a .active) (omega arith)), le-refl _, le-refl _, refl)
 
-add-gone : tie.Need-add-gone Inv-loop μ-loop
-add-gone c = let f = lane-fits c in omega arith
-
-add-gone-2 : tie.Need-add-gone-2 Inv-loop μ-loop
-add-gone-2 c = let f = lane-fits c in omega arith
-
-mul-gone : tie.Need-mul-gone Inv-loop μ-loop
-mul-gone c = let f = lane-fits c in omega arith
-
-shared-slice-read-gone : tie.Need-shared-slice-read-gone Inv-loop μ-loop
-shared-slice-read-gone c = let f = lane-fits (c .before) in omega arith
-
-add-gone-3 : tie.Need-add-gone-3 Inv-loop μ-loop
-add-gone-3 c = let f = lane-fits (c .before) in omega arith
-
-add-gone-4 : tie.Need-add-gone-4 Inv-loop μ-loop
-add-gone-4 c = let f = lane-fits (c .before) in omega arith
-
-mul-gone-2 : tie.Need-mul-gone-2 Inv-loop μ-loop
-mul-gone-2 c = let f = lane-fits (c .before) in omega arith
-
-shared-slice-read-gone-2 : tie.Need-shared-slice-read-gone-2 Inv-loop μ-loop
-shared-slice-read-gone-2 c = let f = lane-fits (c .before .before) in omega arith
-
-add-gone-5 : tie.Need-add-gone-5 Inv-loop μ-loop
-add-gone-5 c =
-    let turn = c .before .before in
-    let a = start turn .args in
-    let ok = start turn .pre .1 .0 in
-    let l = turn .before .loop .lane in
-    omega (arith, dropped-high (a .row .now) (a .at) l (lane-fits turn) ok, owed-high (a .row .now) (a .at) l (lane-fits turn) ok)
+is-sending-requires : tie.Need-is-sending-requires Inv-loop μ-loop
+is-sending-requires c κs = let s = c .before .before .before .before in (s .pre .0, (s .pre .1 .0, (omega arith, omega arith)))
 
 one-if-requires : tie.Need-one-if-requires Inv-loop μ-loop
 one-if-requires c κs = search needs
 
 add-n : tie.Need-add-n Inv-loop μ-loop
-add-n c = let f = lane-fits (c .before .before .before) in omega arith
+add-n c = let f = cap-fits (c .before .before) in omega arith
 
 add-lane : tie.Need-add-lane Inv-loop μ-loop
-add-lane c = let f = lane-fits (c .before .before .before) in omega arith
+add-lane c = let f = cap-fits (c .before .before) in omega arith
 
 loop-less : tie.Need-loop-less Inv-loop μ-loop
 loop-less c = search needs
@@ -98,12 +68,9 @@ loop-less c = search needs
 loop-again : tie.Need-loop-again Inv-loop μ-loop
 unfolding howMany
 loop-again c =
-    let turn = c .before .before .before in
-    let l = turn .before .loop in
-    let a = start turn .args in
-    let sending = sends (a .row .now) (a .at) (l .lane) (lane-fits turn) (a .tick) (omega arith) in (
+    let l = c .before .before .before .loop in (
       omega arith,
-      rw (add-one (l .lane)) (ap₂ (λ (x y : ℕ). x + y) (l .inv .1) (c .one-if .ensures .0 ∙ ap (λ b. pick b 1 0) (sym sending))),
+      rw (add-one (l .lane)) (ap₂ (λ (x y : ℕ). x + y) (l .inv .1) (c .one-if .ensures .0 ∙ ap (λ b. pick b 1 0) (c .before .is-sending .ensures))),
       omega arith,
       omega arith,
       l .inv .4,
@@ -130,15 +97,7 @@ held-at-spec =
     mul-cap
     shared-slice-read-cap
     loop-holds
-    add-gone
-    add-gone-2
-    mul-gone
-    shared-slice-read-gone
-    add-gone-3
-    add-gone-4
-    mul-gone-2
-    shared-slice-read-gone-2
-    add-gone-5
+    is-sending-requires
     one-if-requires
     add-n
     add-lane

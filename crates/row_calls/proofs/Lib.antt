@@ -1,0 +1,4 @@
+-- Laws of the calls on a row.
+pub mod Rows
+pub mod Cells
+pub mod Unique

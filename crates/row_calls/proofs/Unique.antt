@@ -1,0 +1,24 @@
+-- Each call's contract settles what it gives back and the row that it leaves: two outcomes that it admits are equal. Rests on the contracts
+-- being equations to definitions.
+use Prim.Native.Nat.{ℕ}
+use mathlib.Core.Path.{_≡_, sym, ap₂, _∙_}
+use denote.Ref.{now}
+use Rattle.rules.specs.OneOutcome.{OneOutcome, OneEnd}
+use Rattle.row_calls.proofs.events.event.Kinds as event-kinds
+use Rattle.row_calls.proofs.events.event.Reads as event-call
+use Rattle.row_calls.proofs.questions.lane.Kinds as lane-kinds
+use Rattle.row_calls.proofs.questions.lane.Reads as lane-call
+use Rattle.row_calls.proofs.questions.held.Kinds as held-kinds
+use Rattle.row_calls.proofs.questions.held.Reads as held-call
+
+-- the row is the first parameter
+pub event-one-outcome : OneEnd 1 event-kinds.ps event-kinds.r (λ κs e f. now (e .0) ≡ now (f .0)) event-call.Learnt
+event-one-outcome κs a x y e f p q = (p .0 ∙ sym (q .0), p .1 ∙ sym (q .1))
+
+pub lane-one-outcome : OneOutcome 1 lane-kinds.ps lane-kinds.r lane-call.Learnt
+lane-one-outcome κs a x y e f p q =
+    ap₂ (λ (n m : ℕ). record { answer = n; cell = m }) (p .0 ∙ sym (q .0)) (p .1 ∙ sym (q .1))
+
+pub held-one-outcome : OneOutcome 1 held-kinds.ps held-kinds.r held-call.Learnt
+held-one-outcome κs a x y e f p q =
+    ap₂ (λ (n m : ℕ). record { answer = n; lanes = m }) (p .0 ∙ sym (q .0)) (p .1 ∙ sym (q .1))

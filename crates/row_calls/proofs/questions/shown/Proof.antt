@@ -1,0 +1,91 @@
+-- `shown` meets its contract: the question's numbers, and then what the id's title answers.
+use mathlib.Core.Path.{_≡_, sym, ap, _∙_}
+use mathlib.Core.Bool.{true}
+use Prim.Native.Nat.{ℕ, _<_}
+use lib.Dec.{leb}
+use native.Mathlib.Omega.{arith}
+use borrow.Author.Tests.{leb-true}
+use Rattle.rules.specs.Limits.{both, idMax, laneMax, askedMax, titlesMax}
+use Rattle.rules.proofs.Tests.{both-l, both-r}
+use Rattle.story.specs.declared.Title.{Title}
+use Rattle.measures.proofs.Within.{title-ok}
+use Rattle.agent_rows.specs.Packed.{titleFrom, unpacked}
+use Rattle.agent_rows.proofs.Inverse.{title-at}
+use Rattle.row_calls.specs.inner.Steps.{laneOf, cellOf}
+use Rattle.row_calls.proofs.Cells.{told, lane-in, lane-out}
+use borrow.Author.Needs.{needs}
+use Rattle.row_calls.proofs.questions.shown.Statement.{statement}
+use Rattle.row_calls.proofs.questions.shown.Tie as tie
+
+-- the function's start, seen from where its numbers were tested
+abbrev start : tie.After-also2 → tie.Start
+start c = c .before .before .before
+
+-- the test is that of the question's numbers
+joined : (c : tie.After-also2) →
+    let a = start c .args in
+    c .also2 .result ≡ both (leb (a .id) idMax) (both (leb (a .lane) laneMax) (leb (a .time) askedMax))
+joined c = c .also2 .ensures ∙ ap (both (leb (start c .args .id) idMax)) (c .before .also .ensures)
+
+fits : (c : tie.Then1) →
+    let a = start (c .before) .args in
+    both (leb (a .id) idMax) (both (leb (a .lane) laneMax) (leb (a .time) askedMax)) ≡ true
+fits c = sym (joined (c .before)) ∙ c .if1 .taken
+
+below : (c : tie.Then1) → start (c .before) .args .id < titlesMax
+below c = let f = leb-true (start (c .before) .args .id) idMax (both-l _ _ (fits c)) in omega arith
+
+also-requires : tie.Need-also-requires
+also-requires c κs = search needs
+
+also-requires-2 : tie.Need-also-requires-2
+also-requires-2 c κs = search needs
+
+title-place-requires : tie.Need-title-place-requires
+title-place-requires c κs = let f = fits c in search (both-l, both-r, leb-true)
+
+title-shows-requires : tie.Need-title-shows-requires
+title-shows-requires c κs =
+    let s = start (c .before .before) in
+    let r = s .args .row .now in
+    let f = fits (c .before) in
+    let early = leb-true (s .args .time) askedMax (search (both-l, both-r)) in
+    let low = below (c .before) in
+    (omega (arith, s .pre .long), (rw (c .title-place .ensures, ← title-at r (s .args .id) low) (title-ok (unpacked r .state) (s .pre .ok) (s .args .id) low), early))
+
+returns : tie.Need-returns
+returns c =
+    let at-if = c .before .before in
+    let s = start (at-if .before) in
+    let r = s .args .row .now in
+    let same = title-at r (s .args .id) (below at-if) in
+    let place = c .before .title-place .ensures in
+    told
+    (c .title-shows .ensures .0
+    ∙ ap (λ (n : ℕ). laneOf (titleFrom r n) (s .args .lane) (s .args .time)) place
+    ∙ ap (λ (t : Title). laneOf t (s .args .lane) (s .args .time)) (sym same))
+    (c .title-shows .ensures .1
+    ∙ ap (λ (n : ℕ). cellOf (titleFrom r n) (s .args .lane) (s .args .time)) place
+    ∙ ap (λ (t : Title). cellOf t (s .args .lane) (s .args .time)) (sym same))
+    (lane-in (unpacked r .state) (s .args .id) (s .args .lane) (s .args .time) (s .pre .ok) (fits at-if))
+
+refused-requires : tie.Need-refused-requires
+refused-requires c κs = search needs
+
+returns-2 : tie.Need-returns-2
+returns-2 c =
+    let s = start (c .before .before) in
+    told (c .refused .ensures .0) (c .refused .ensures .1)
+    (lane-out (unpacked (s .args .row .now) .state) (s .args .id) (s .args .lane) (s .args .time) (s .pre .ok) (sym (joined (c .before .before)) ∙ c .before .if1 .left))
+
+pub shown-spec : {M : Type 1} → statement M
+shown-spec =
+    tie.close
+    (tie.spec
+    also-requires
+    also-requires-2
+    title-place-requires
+    title-shows-requires
+    returns
+    refused-requires
+    returns-2)

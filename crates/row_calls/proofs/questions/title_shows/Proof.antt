@@ -1,0 +1,180 @@
+-- `title_shows` meets its contract: each way out decides the tests up to it.
+use mathlib.Core.Path.{_≡_, refl, sym, _∙_}
+use Prim.Native.Nat.{_≤_, _<_}
+use native.Mathlib.Omega.{arith}
+use borrow.Author.Tests.{lt-ltb}
+use Rattle.grid.specs.Bounds.{tickMax}
+use Rattle.story.specs.Kept.{ruling}
+use Rattle.measures.proofs.Within.{readable, sending}
+use Rattle.owed.proofs.Shown.{shows-active}
+use Rattle.agent_rows.specs.Packed.{titleFrom}
+use Rattle.row_calls.proofs.Cells.{told, asked-early, asked-absent, asked-above, asked-held, active-is-held}
+use borrow.Author.Needs.{needs}
+use Rattle.row_calls.proofs.questions.title_shows.Statement.{statement}
+use Rattle.row_calls.proofs.questions.title_shows.Tie as tie
+
+-- the function's start, seen from behind its refusals
+abbrev start : tie.Else3 → tie.Start
+start c = c .before .before .before .before .before .before .before
+
+-- the tick is one that may be asked about
+capped-tick : (c : tie.After-tick-at) → c .tick-at .result ≤ tickMax
+capped-tick c = omega (arith, c .tick-at .ensures .high, start (c .before) .pre .1 .1)
+
+add-last : tie.Need-add-last
+add-last c = search needs
+
+mul-last : tie.Need-mul-last
+mul-last c = search needs
+
+shared-slice-read-last : tie.Need-shared-slice-read-last
+shared-slice-read-last c = search needs
+
+refused-requires : tie.Need-refused-requires
+refused-requires c κs = search needs
+
+returns : tie.Need-returns
+returns c =
+    let s = c .before .before .before .before in
+    told (c .refused .ensures .0) (c .refused .ensures .1) (asked-early (titleFrom (s .args .row .now) (s .args .at)) (s .args .lane) (s .args .time) (c .before .if1 .taken))
+
+add-mode : tie.Need-add-mode
+add-mode c = search needs
+
+mul-mode : tie.Need-mul-mode
+mul-mode c = search needs
+
+shared-slice-read-mode : tie.Need-shared-slice-read-mode
+shared-slice-read-mode c = search needs
+
+refused-requires-2 : tie.Need-refused-requires-2
+refused-requires-2 c κs = search needs
+
+returns-2 : tie.Need-returns-2
+returns-2 c =
+    let late = c .before .before .before in
+    let s = late .before .before .before in
+    told (c .refused2 .ensures .0) (c .refused2 .ensures .1) (asked-absent (titleFrom (s .args .row .now) (s .args .at)) (s .args .lane) (s .args .time) (late .if1 .left) (c .before .if2 .taken))
+
+add-cap : tie.Need-add-cap
+add-cap c = search needs
+
+mul-cap : tie.Need-mul-cap
+mul-cap c = search needs
+
+shared-slice-read-cap : tie.Need-shared-slice-read-cap
+shared-slice-read-cap c = search needs
+
+refused-requires-3 : tie.Need-refused-requires-3
+refused-requires-3 c κs = search needs
+
+returns-3 : tie.Need-returns-3
+returns-3 c =
+    let there = c .before .before .before in
+    let late = there .before .before in
+    let s = late .before .before .before in
+    told (c .refused3 .ensures .0) (c .refused3 .ensures .1) (asked-above (titleFrom (s .args .row .now) (s .args .at)) (s .args .lane) (s .args .time) (late .if1 .left) (there .if2 .left) (c .before .if3 .taken))
+
+tick-at-requires : tie.Need-tick-at-requires
+tick-at-requires c κs =
+    let there = c .before .before in
+    let s = start c in
+    (s .pre .0, readable (titleFrom (s .args .row .now) (s .args .at)) (s .pre .1 .0) (there .if2 .left))
+
+ruling-requires : tie.Need-ruling-requires
+ruling-requires c κs = search needs
+
+add-lane-cell : tie.Need-add-lane-cell
+add-lane-cell c = search needs
+
+mul-lane-cell : tie.Need-mul-lane-cell
+mul-lane-cell c = search needs
+
+shared-slice-read-lane-cell : tie.Need-shared-slice-read-lane-cell
+shared-slice-read-lane-cell c = search needs
+
+add-lane-cell-2 : tie.Need-add-lane-cell-2
+add-lane-cell-2 c = search needs
+
+mul-lane-cell-2 : tie.Need-mul-lane-cell-2
+mul-lane-cell-2 c = search needs
+
+shared-slice-read-lane-cell-2 : tie.Need-shared-slice-read-lane-cell-2
+shared-slice-read-lane-cell-2 c = search needs
+
+lane-cell-requires : tie.Need-lane-cell-requires
+lane-cell-requires c κs =
+    let capped = c .before .before .before .before .before in
+    let s = start capped in
+    let high = capped-tick (c .before .before .before .before) in
+    (readable (titleFrom (s .args .row .now) (s .args .at)) (s .pre .1 .0) (capped .before .before .if2 .left) .cut, (capped .if3 .left, high))
+
+returns-4 : tie.Need-returns-4
+returns-4 c =
+    let ruled = c .before .before .before .before in
+    let capped = ruled .before .before in
+    let there = capped .before .before in
+    let s = start capped in
+    let t = titleFrom (s .args .row .now) (s .args .at) in
+    let tick = ruled .before .tick-at .result in
+    let active : s .args .lane < ruling t = rw (ruled .ruling .ensures) at (c .before .before .before .if4 .taken) in
+    told refl (c .lane-cell .ensures .is ∙ sym (shows-active t (s .args .lane) tick (lt-ltb _ _ active)))
+    (rw (active-is-held t (s .args .lane) tick active) at (asked-held t (s .args .lane) (s .args .time) (there .before .before .if1 .left) (there .if2 .left) (capped .if3 .left) tick (ruled .before .tick-at .ensures .is)))
+
+owed-cell-requires : tie.Need-owed-cell-requires
+owed-cell-requires c κs =
+    let ruled = c .before in
+    let capped = ruled .before .before in
+    let there = capped .before .before in
+    let s = start capped in
+    let t = titleFrom (s .args .row .now) (s .args .at) in (
+      s .pre .0,
+      record {
+        ok = s .pre .1 .0;
+        sending = sending t (s .pre .1 .0) (there .if2 .left);
+        above = rw (ruled .ruling .ensures) at (c .if4 .left);
+        capped = capped .if3 .left;
+        early = capped-tick (ruled .before);
+      },
+    )
+
+returns-5 : tie.Need-returns-5
+returns-5 c =
+    let ruled = c .before .before in
+    let capped = ruled .before .before in
+    let there = capped .before .before in
+    let s = start capped in
+    told (c .owed-cell .ensures .0) (c .owed-cell .ensures .1)
+    (asked-held (titleFrom (s .args .row .now) (s .args .at)) (s .args .lane) (s .args .time) (there .before .before .if1 .left) (there .if2 .left) (capped .if3 .left) (ruled .before .tick-at .result) (ruled .before .tick-at .ensures .is))
+
+pub title-shows-spec : {M : Type 1} → statement M
+title-shows-spec =
+    tie.close
+    (tie.spec
+    add-last
+    mul-last
+    shared-slice-read-last
+    refused-requires
+    returns
+    add-mode
+    mul-mode
+    shared-slice-read-mode
+    refused-requires-2
+    returns-2
+    add-cap
+    mul-cap
+    shared-slice-read-cap
+    refused-requires-3
+    returns-3
+    tick-at-requires
+    ruling-requires
+    add-lane-cell
+    mul-lane-cell
+    shared-slice-read-lane-cell
+    add-lane-cell-2
+    mul-lane-cell-2
+    shared-slice-read-lane-cell-2
+    lane-cell-requires
+    returns-4
+    owed-cell-requires
+    returns-5)

@@ -1,0 +1,44 @@
+-- What is known of a row and of an event once they were tested.
+use Prim.Native.Nat.{ℕ, _≤_, _<_}
+use mathlib.Core.Path.{_≡_}
+use mathlib.Core.Bool.{true, false, not}
+use mathlib.Core.List.{List}
+use lib.Dec.{ltb, eqb}
+use lib.ListN.{length}
+use Rattle.rules.specs.Limits.{both}
+use Rattle.rules.specs.Refusals.{pick, done, tooEarly, notThere}
+use Rattle.grid.specs.Bounds.{tickMax}
+use Rattle.story.specs.declared.Title.{Title}
+use Rattle.story.specs.declared.Act.{Act}
+use Rattle.story.specs.Kept.{stateOk, titleOk, tickAt, ruling, shows}
+use Rattle.story.specs.Story.{actLimits}
+use Rattle.story.specs.Calls.{eventOk, laneHeld}
+use Rattle.measures.specs.Readable.{Sending}
+use Rattle.agent_rows.specs.Layout.{rowLength}
+use Rattle.agent_rows.specs.Packed.{unpacked, rowSound}
+
+-- a row of the right length, sound, with every number within its limits
+pub record Tested (r : List ℕ) : Type 0 where
+  pub long : length r ≡ rowLength
+  pub sound : rowSound r ≡ true
+  pub ok : stateOk (unpacked r .state) ≡ true
+
+-- an event whose numbers are within their limits, and which comes no earlier than the last
+pub record Timely (r : List ℕ) (i τ : ℕ) (a : Act) : Type 0 where
+  pub numbers : both (eventOk (unpacked r .state) i τ) (actLimits a true) ≡ true
+  pub late : ltb τ (unpacked r .state .last) ≡ false
+
+-- a lane above the ruling count of a title that is there, at a tick
+pub record Above (t : Title) (l n : ℕ) : Type 0 where
+  pub ok : titleOk t ≡ true
+  pub sending : Sending t
+  pub above : ruling t ≤ l
+  pub capped : l < t .film .cap
+  pub early : n ≤ tickMax
+
+-- what a title alone answers to a lane question, behind the limits, and the cell; 0 beside a refusal
+unfoldable pub laneOf : Title → ℕ → ℕ → ℕ
+laneOf t l τ = pick (ltb τ (t .last)) tooEarly (pick (not (laneHeld t l τ)) notThere done)
+
+unfoldable pub cellOf : Title → ℕ → ℕ → ℕ
+cellOf t l τ = pick (eqb (laneOf t l τ) done) (shows t l (tickAt t τ)) 0
