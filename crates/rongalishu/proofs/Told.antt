@@ -16,7 +16,7 @@ use Rattle.airing.specs.Air.{airGives, airLeaves}
 use Rattle.salvaging.specs.declared.Salvaged.{Salvaged}
 use Rattle.salvaging.specs.Scan.{scanOf}
 use Rattle.salvaging.specs.Rows.{Salvages, lacksRoom, salvaged, noRoom, flat, filled}
-use Rattle.rongalishu.specs.Results.{needing, resulting}
+use Rattle.rongalishu.specs.Results.{needing, resulting, OneGiven}
 use Rattle.rongalishu.specs.Reports.{WaitsTold, WaitsGiven, waitNumbers, waitsPlaces}
 use Rattle.notice_rows.specs.declared.Written.{Written}
 use Rattle.notice_rows.specs.declared.Step.{Step}
@@ -34,6 +34,21 @@ with-numbers a xs row e = sym (ap (λ b. pick b (filled xs row) row) (eq-eqb a d
 pub as-it-was : (a : ℕ) (xs row : List ℕ) → (a ≡ done → ⊥) → row ≡ resulting a xs row
 unfolding resulting
 as-it-was a xs row n = sym (ap (λ b. pick b (filled xs row) row) (ne-eqb a done n))
+
+-- ---- one number
+
+pub one-short : (row : List ℕ) (a x : ℕ) → length row < 1 → OneGiven row a x wrongRows row
+unfolding needing resulting
+one-short row a x h = record { answers = sym (ap (λ b. pick b wrongRows a) (lt-ltb (length row) 1 h)); leaves = refl }
+
+pub one-told : (row : List ℕ) (a x t n : ℕ) (after : List ℕ) → 1 ≤ length row → t ≡ a → n ≡ x → after ≡ resulting t (n ∷ []) row →
+    OneGiven row a x t after
+unfolding needing
+one-told row a x t n after h e f g =
+    record
+    { answers = e ∙ sym (ap (λ b. pick b wrongRows a) (le-ltb (length row) 1 h))
+    ; leaves = g ∙ ap (λ (m : ℕ). resulting t (m ∷ []) row) f
+    }
 
 -- ---- waits
 

@@ -5,6 +5,8 @@
 use agent_rows::ROW_LENGTH;
 
 mod boxes;
+mod events;
+mod lanes;
 mod notices;
 mod pools;
 mod reports;
