@@ -17,7 +17,7 @@ use Rattle.story.specs.declared.State.{State}
 use Rattle.story.specs.Kept.{noTitle, titleAt}
 use Rattle.agent.specs.declared.Agent.{Agent}
 use Rattle.agent_rows.specs.Layout.{rowVersion, sequenceEnd, versionAt, sequenceAt, poolAt, lastAt, titlesAt, titlePlaces, titlePlace, rowLength}
-use Rattle.agent_rows.specs.Layout.{endsAt, droppedAt, owedAt}
+use Rattle.agent_rows.specs.Layout.{endsAt, dropsAt, owedAt}
 use Rattle.agent_rows.specs.Packed.{packedTitle, packedTitles, packed, titleFrom, titlesFrom, unpacked, rowSound, WholeTitle}
 use Rattle.agent_rows.specs.Packed.{WholeAgent}
 
@@ -51,7 +51,7 @@ pub whole-from : (r : List ℕ) (at : ℕ) → at + titlePlaces ≤ length r →
 whole-from r at l =
     record {
       ends = part-length r (at + endsAt) countPlaces (omega arith);
-      dropped = part-length r (at + droppedAt) lanePlaces (omega arith);
+      dropped = part-length r (at + dropsAt) lanePlaces (omega arith);
       owed = part-length r (at + owedAt) lanePlaces (omega arith);
     }
 
@@ -86,7 +86,7 @@ pub title-repacked : (r : List ℕ) (at : ℕ) → at + titlePlaces ≤ length r
 title-repacked r at l =
     let rows : List ℕ = titleFrom r at .ends ++ (titleFrom r at .dropped ++ titleFrom r at .owed) in
     ap (λ (xs : List ℕ). xs ++ rows) (run-is r at 0 10 (omega arith))
-    ∙ part r at 0 10 37 rows (part r at endsAt countPlaces 24 _ (part r at droppedAt lanePlaces 12 _ refl))
+    ∙ part r at 0 10 37 rows (part r at endsAt countPlaces 24 _ (part r at dropsAt lanePlaces 12 _ refl))
     ∙ rw (add-zero at) refl
 
 pub titles-repacked : (r : List ℕ) (n at : ℕ) → at + n * titlePlaces ≤ length r → packedTitles (titlesFrom r at n) ≡ take (n * titlePlaces) (drop at r)

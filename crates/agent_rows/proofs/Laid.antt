@@ -12,7 +12,7 @@ use Rattle.rules.specs.Limits.{titlesMax}
 use Rattle.story.specs.declared.Title.{Title}
 use Rattle.story.specs.Next.{withTitle}
 use Rattle.agent.specs.declared.Agent.{Agent}
-use Rattle.agent_rows.specs.Layout.{rowVersion, lastAt, titlesAt, endsAt, droppedAt, owedAt, titlePlaces, titlePlace, rowLength}
+use Rattle.agent_rows.specs.Layout.{rowVersion, lastAt, titlesAt, endsAt, dropsAt, owedAt, titlePlaces, titlePlace, rowLength}
 use Rattle.agent_rows.specs.Packed.{packedTitle, packedTitles, packed, unpacked, rowSound, withState, WholeTitle}
 use Rattle.agent_rows.proofs.Inverse.{AllWhole, packed-length, titles-length, whole-unpacked, packed-unpacked}
 use Rattle.agent_rows.specs.inner.Laid.{laid}
@@ -74,13 +74,13 @@ ownNumbers t =
 
 -- a title laid in four parts
 pub title-laid : (r : List ℕ) (at : ℕ) (t : Title) → WholeTitle t → at + titlePlaces ≤ length r →
-    laid (laid (laid (laid r at (ownNumbers t)) (at + endsAt) (t .ends)) (at + droppedAt) (t .dropped)) (at + owedAt) (t .owed)
+    laid (laid (laid (laid r at (ownNumbers t)) (at + endsAt) (t .ends)) (at + dropsAt) (t .dropped)) (at + owedAt) (t .owed)
     ≡ laid r at (packedTitle t)
 title-laid r at t w l =
     let two : laid (laid r at (ownNumbers t)) (at + endsAt) (t .ends) ≡ laid r at (ownNumbers t ++ t .ends) =
     laid-join r at (ownNumbers t) (t .ends) (omega arith) in
-    let far : length (ownNumbers t ++ t .ends) ≡ droppedAt = length-append (ownNumbers t) (t .ends) ∙ ap (λ (n : ℕ). endsAt + n) (w .ends) in
-    let three : laid (laid r at (ownNumbers t ++ t .ends)) (at + droppedAt) (t .dropped) ≡ laid r at ((ownNumbers t ++ t .ends) ++ t .dropped) =
+    let far : length (ownNumbers t ++ t .ends) ≡ dropsAt = length-append (ownNumbers t) (t .ends) ∙ ap (λ (n : ℕ). endsAt + n) (w .ends) in
+    let three : laid (laid r at (ownNumbers t ++ t .ends)) (at + dropsAt) (t .dropped) ≡ laid r at ((ownNumbers t ++ t .ends) ++ t .dropped) =
     rw far at (laid-join r at (ownNumbers t ++ t .ends) (t .dropped) (omega arith)) in
     let further : length ((ownNumbers t ++ t .ends) ++ t .dropped) ≡ owedAt =
     length-append (ownNumbers t ++ t .ends) (t .dropped) ∙ ap₂ (λ (n m : ℕ). n + m) far (w .dropped) in

@@ -22,7 +22,7 @@ use Rattle.story.specs.Kept.{absentMode, openMode, noTitle, titleAt, rowOk, num
 use Rattle.story.specs.Next.{withTitle}
 use Rattle.measures.proofs.Active.{active-held, above-held}
 use Rattle.measures.proofs.Within.{numbers, dropped-ok, in-row, count-fit}
-use Rattle.agent_rows.specs.Layout.{droppedAt, owedAt}
+use Rattle.agent_rows.specs.Layout.{dropsAt, owedAt}
 use Rattle.agent_rows.specs.Packed.{titleFrom}
 use Rattle.agent_rows.specs.Others.{othersHeld}
 
@@ -45,7 +45,7 @@ module _ (t : Title) (ok : titleOk t ≡ true) where
 -- ---- the title at a place
 
 module _ (r : List ℕ) (at l : ℕ) (fits : l < lanePlaces) where
-  dropped-at : getD (titleFrom r at .dropped) l 0 ≡ getD r (at + droppedAt + l) 0
+  dropped-at : getD (titleFrom r at .dropped) l 0 ≡ getD r (at + dropsAt + l) 0
   dropped-at = rw (getD-take, getD-drop) refl
 
   owed-at : getD (titleFrom r at .owed) l 0 ≡ getD r (at + owedAt + l) 0
@@ -53,10 +53,10 @@ module _ (r : List ℕ) (at l : ℕ) (fits : l < lanePlaces) where
 
   -- a lane above the ruling count is held where it still sends
   pub sends : (tick : ℕ) → ruling (titleFrom r at) ≤ l →
-      keptHeld (titleFrom r at) l tick ≡ ltb tick (getD r (at + droppedAt + l) 0 + getD r (at + owedAt + l) 0)
+      keptHeld (titleFrom r at) l tick ≡ ltb tick (getD r (at + dropsAt + l) 0 + getD r (at + owedAt + l) 0)
   sends tick above = above-held (titleFrom r at) l tick above ∙ rw (dropped-at, owed-at) refl
 
-  pub dropped-high : titleOk (titleFrom r at) ≡ true → getD r (at + droppedAt + l) 0 ≤ askedMax
+  pub dropped-high : titleOk (titleFrom r at) ≡ true → getD r (at + dropsAt + l) 0 ≤ askedMax
   dropped-high ok = rw dropped-at at (in-row (titleFrom r at .dropped) lanePlaces l (dropped-ok (titleFrom r at) ok) fits)
 
   pub owed-high : titleOk (titleFrom r at) ≡ true → getD r (at + owedAt + l) 0 ≤ askedMax
@@ -73,7 +73,7 @@ none-above t tick (suc k) f =
 
 -- the same of a title at a place, none of whose lanes above was ever dropped
 pub never-dropped : (r : List ℕ) (at tick : ℕ) → ruling (titleFrom r at) ≤ titleFrom r at .film .cap → titleFrom r at .film .cap ≤ countMax →
-    ((l : ℕ) → ruling (titleFrom r at) ≤ l → l < titleFrom r at .film .cap → (getD r (at + droppedAt + l) 0 ≤ 0) × (getD r (at + owedAt + l) 0 ≤ 0)) →
+    ((l : ℕ) → ruling (titleFrom r at) ≤ l → l < titleFrom r at .film .cap → (getD r (at + dropsAt + l) 0 ≤ 0) × (getD r (at + owedAt + l) 0 ≤ 0)) →
     howMany (λ l. keptHeld (titleFrom r at) l tick) (titleFrom r at .film .cap) ≡ ruling (titleFrom r at)
 never-dropped r at tick fit high none =
     let e : titleFrom r at .film .cap ≡ ruling (titleFrom r at) + (titleFrom r at .film .cap - ruling (titleFrom r at)) = omega arith in

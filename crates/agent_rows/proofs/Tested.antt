@@ -19,7 +19,7 @@ use Rattle.rules.proofs.Search.{every-in}
 use Rattle.scheme.specs.Scheme.{steadyKind}
 use Rattle.story.specs.declared.Title.{Title}
 use Rattle.story.specs.Kept.{absentMode, closingMode, heldMark, titleAt, isSteadyTitle, rowOk, numbersOk, orderOk, titleOk, slotOk, stateOk}
-use Rattle.agent_rows.specs.Layout.{poolAt, lastAt, endsAt, droppedAt, owedAt, openedAt, titleLastAt, tunedAt, titlePlaces}
+use Rattle.agent_rows.specs.Layout.{poolAt, lastAt, endsAt, dropsAt, owedAt, openedAt, titleLastAt, tunedAt, titlePlaces}
 use Rattle.agent_rows.specs.Layout.{titlePlace, rowLength}
 use Rattle.agent_rows.specs.Packed.{titleFrom, unpacked}
 use Rattle.agent_rows.specs.inner.Tested.{smallNumbers, smallOk, timesOk}
@@ -148,7 +148,7 @@ module _ (r : List ℕ) (low : (j : ℕ) → j < length r → getD r j 0 ≤ ask
         le-leb (getD r (at + titleLastAt) 0) askedMax (low (at + titleLastAt) (omega arith)),
         le-leb (getD r (at + tunedAt) 0) askedMax (low (at + tunedAt) (omega arith)),
         low-part (at + endsAt) countPlaces (omega arith),
-        low-part (at + droppedAt) lanePlaces (omega arith),
+        low-part (at + dropsAt) lanePlaces (omega arith),
         low-part (at + owedAt) lanePlaces (omega arith),
       )
       refl

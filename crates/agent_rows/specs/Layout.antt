@@ -31,8 +31,8 @@ titlesAt = 4
 abbrev pub modeAt : ℕ
 modeAt = 0
 
-abbrev pub kindAt : ℕ
-kindAt = 1
+abbrev pub filmKindAt : ℕ
+filmKindAt = 1
 
 abbrev pub openedAt : ℕ
 openedAt = 2
@@ -61,11 +61,11 @@ tunedAt = 9
 abbrev pub endsAt : ℕ
 endsAt = 10
 
-abbrev pub droppedAt : ℕ
-droppedAt = endsAt + countPlaces
+abbrev pub dropsAt : ℕ
+dropsAt = endsAt + countPlaces
 
 abbrev pub owedAt : ℕ
-owedAt = droppedAt + lanePlaces
+owedAt = dropsAt + lanePlaces
 
 -- how many numbers a title has
 abbrev pub titlePlaces : ℕ

@@ -10,9 +10,9 @@ use Rattle.story.specs.declared.Title.{Title}
 use Rattle.story.specs.declared.State.{State}
 use Rattle.story.specs.Kept.{titleAt}
 use Rattle.agent.specs.declared.Agent.{Agent}
-use Rattle.agent_rows.specs.Layout.{rowVersion, sequenceEnd, versionAt, sequenceAt, poolAt, lastAt, titlesAt, modeAt, kindAt}
+use Rattle.agent_rows.specs.Layout.{rowVersion, sequenceEnd, versionAt, sequenceAt, poolAt, lastAt, titlesAt, modeAt, filmKindAt}
 use Rattle.agent_rows.specs.Layout.{openedAt, lengthAt, floorAt, capAt, countAt, markAt, titleLastAt, tunedAt, endsAt}
-use Rattle.agent_rows.specs.Layout.{droppedAt, owedAt, titlePlaces}
+use Rattle.agent_rows.specs.Layout.{dropsAt, owedAt, titlePlaces}
 
 -- a title's numbers, in the order of their places
 abbrev pub packedTitle : Title → List ℕ
@@ -44,14 +44,14 @@ titleFrom r at =
     record {
       mode = getD r (at + modeAt) 0;
       film = record
-          { kind = getD r (at + kindAt) 0; length = getD r (at + lengthAt) 0; floor = getD r (at + floorAt) 0; cap = getD r (at + capAt) 0 };
+          { kind = getD r (at + filmKindAt) 0; length = getD r (at + lengthAt) 0; floor = getD r (at + floorAt) 0; cap = getD r (at + capAt) 0 };
       opened = getD r (at + openedAt) 0;
       count = getD r (at + countAt) 0;
       mark = getD r (at + markAt) 0;
       last = getD r (at + titleLastAt) 0;
       tuned = getD r (at + tunedAt) 0;
       ends = take countPlaces (drop (at + endsAt) r);
-      dropped = take lanePlaces (drop (at + droppedAt) r);
+      dropped = take lanePlaces (drop (at + dropsAt) r);
       owed = take lanePlaces (drop (at + owedAt) r);
     }
 

@@ -26,7 +26,7 @@ ghost use Rattle.rules.specs.Search.{howMany};
 ghost use Rattle.grid.specs.Bounds.{Exactly};
 ghost use Rattle.story.specs.Kept.{ruling as rulingOf, titleAt, titleOk, stateOk, tickAt, keptHeld, titleHeld, lanesHeld};
 ghost use Rattle.measures.specs.Readable.{Filmed};
-ghost use Rattle.agent_rows.specs.Layout.{rowLength, droppedAt, owedAt, titlePlaces};
+ghost use Rattle.agent_rows.specs.Layout.{rowLength, dropsAt, owedAt, titlePlaces};
 ghost use Rattle.agent_rows.specs.Packed.{titleFrom, unpacked};
 ghost use Rattle.agent_rows.specs.Others.{othersHeld};
 
@@ -57,7 +57,7 @@ fn drops_from(row: &[u64], at: usize, from: u64) -> u64
     requires { ⌜ at + titlePlaces ≤ length (now row) ⌝ }
     requires { ⌜ titleFrom (now row) at .film .cap ≤ countMax ⌝ }
     ensures { λ r. ⌜ ((l : ℕ) → from ≤ l → l < titleFrom (now (row .entry)) at .film .cap
-        → (getD (now (row .entry)) (at + droppedAt + l) 0 ≤ r) × (getD (now (row .entry)) (at + owedAt + l) 0 ≤ r)) ⌝ }
+        → (getD (now (row .entry)) (at + dropsAt + l) 0 ≤ r) × (getD (now (row .entry)) (at + owedAt + l) 0 ≤ r)) ⌝ }
 {
     let cap = row[at + CAP_AT];
     let mut all = 0;

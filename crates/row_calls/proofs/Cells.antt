@@ -18,7 +18,7 @@ use Rattle.scheduler.specs.Outcomes.{heldAnswer, heldShown}
 use Rattle.agent_rows.specs.Layout.{rowLength}
 use Rattle.agent_rows.specs.Packed.{unpacked, rowSound}
 use Rattle.row_calls.specs.Answers.{rowLane, rowShows, rowHeld, rowLanes}
-use Rattle.row_calls.specs.inner.Steps.{Tested, laneOf, cellOf}
+use Rattle.row_calls.specs.inner.Steps.{Tested, laneTold, cellTold}
 use Rattle.row_calls.proofs.Rows.{row-out}
 
 -- an answer and what is told beside it, each known by another name
@@ -32,24 +32,24 @@ picked-again false x y = refl
 -- ---- what a title alone answers
 
 module _ (t : Title) (l τ : ℕ) where
-  pub asked-early : τ < t .last → (tooEarly ≡ laneOf t l τ) × (0 ≡ cellOf t l τ)
-  unfolding laneOf cellOf
+  pub asked-early : τ < t .last → (tooEarly ≡ laneTold t l τ) × (0 ≡ cellTold t l τ)
+  unfolding laneTold cellTold
   asked-early early = rw (lt-ltb τ (t .last) early) (refl, refl)
 
   module _ (late : t .last ≤ τ) where
-    pub asked-absent : t .mode ≡ absentMode → (notThere ≡ laneOf t l τ) × (0 ≡ cellOf t l τ)
-    unfolding laneOf cellOf
+    pub asked-absent : t .mode ≡ absentMode → (notThere ≡ laneTold t l τ) × (0 ≡ cellTold t l τ)
+    unfolding laneTold cellTold
     asked-absent none = rw (le-ltb τ (t .last) late, eq-eqb (t .mode) absentMode none) (refl, refl)
 
     module _ (there : t .mode ≡ absentMode → ⊥) where
-      pub asked-above : t .film .cap ≤ l → (notThere ≡ laneOf t l τ) × (0 ≡ cellOf t l τ)
-      unfolding laneOf cellOf
+      pub asked-above : t .film .cap ≤ l → (notThere ≡ laneTold t l τ) × (0 ≡ cellTold t l τ)
+      unfolding laneTold cellTold
       asked-above above = rw (le-ltb τ (t .last) late, ne-eqb (t .mode) absentMode there, le-ltb l (t .film .cap) above) (refl, refl)
 
       -- where it is known whether the lane is held
       pub asked-held : l < t .film .cap → (tick : ℕ) → tick ≡ tickAt t τ →
-          (pick (keptHeld t l tick) 0 notThere ≡ laneOf t l τ) × (pick (keptHeld t l tick) (shows t l tick) 0 ≡ cellOf t l τ)
-      unfolding laneOf cellOf
+          (pick (keptHeld t l tick) 0 notThere ≡ laneTold t l τ) × (pick (keptHeld t l tick) (shows t l tick) 0 ≡ cellTold t l τ)
+      unfolding laneTold cellTold
       asked-held capped tick is-tick =
           rw (le-ltb τ (t .last) late, ne-eqb (t .mode) absentMode there, lt-ltb l (t .film .cap) capped, ← is-tick) (go (keptHeld t l tick))
         where
@@ -68,8 +68,8 @@ active-is-held t l tick active = rw (lt-ltb l (ruling t) active) refl
 
 module _ (s : State) (i l τ : ℕ) (ok : stateOk s ≡ true) where
   pub lane-in : both (leb i idMax) (both (leb l laneMax) (leb τ askedMax)) ≡ true →
-      (laneOf (titleAt s i) l τ ≡ laneAnswer s i l τ) × (cellOf (titleAt s i) l τ ≡ laneShows s i l τ)
-  unfolding laneAnswer laneShows firstHit laneOf cellOf
+      (laneTold (titleAt s i) l τ ≡ laneAnswer s i l τ) × (cellTold (titleAt s i) l τ ≡ laneShows s i l τ)
+  unfolding laneAnswer laneShows firstHit laneTold cellTold
   lane-in fits = rw (ok, fits) (refl, refl)
 
   pub lane-out : both (leb i idMax) (both (leb l laneMax) (leb τ askedMax)) ≡ false →

@@ -1,4 +1,7 @@
 -- Laws of the calls on a row.
 pub mod Rows
 pub mod Cells
+pub mod Heeded
+pub mod Started
+pub mod Follows
 pub mod Unique

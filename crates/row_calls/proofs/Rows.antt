@@ -73,7 +73,7 @@ numbers-of s i τ a ok = rw ok refl
 
 -- ---- a row that is not within its limits
 
-event-out : (s : State) (e : Event) → stateOk s ≡ false → answered s e ≡ outsideLimits
+pub event-out : (s : State) (e : Event) → stateOk s ≡ false → answered s e ≡ outsideLimits
 event-out s e out =
     sym (by-first s (e .title) (e .time) (e .act) outsideLimits (out-by-numbers s (e .title) (e .time) (e .act) (rw out refl)) (λ z. omega arith))
 

@@ -6,6 +6,10 @@ use denote.Ref.{now}
 use Rattle.rules.specs.OneOutcome.{OneOutcome, OneEnd}
 use Rattle.row_calls.proofs.events.event.Kinds as event-kinds
 use Rattle.row_calls.proofs.events.event.Reads as event-call
+use Rattle.row_calls.proofs.notices.take.Kinds as take-kinds
+use Rattle.row_calls.proofs.notices.take.Reads as take-call
+use Rattle.row_calls.proofs.starting.fresh.Kinds as fresh-kinds
+use Rattle.row_calls.proofs.starting.fresh.Reads as fresh-call
 use Rattle.row_calls.proofs.questions.lane.Kinds as lane-kinds
 use Rattle.row_calls.proofs.questions.lane.Reads as lane-call
 use Rattle.row_calls.proofs.questions.held.Kinds as held-kinds
@@ -14,6 +18,12 @@ use Rattle.row_calls.proofs.questions.held.Reads as held-call
 -- the row is the first parameter
 pub event-one-outcome : OneEnd 1 event-kinds.ps event-kinds.r (λ κs e f. now (e .0) ≡ now (f .0)) event-call.Learnt
 event-one-outcome κs a x y e f p q = (p .0 ∙ sym (q .0), p .1 ∙ sym (q .1))
+
+pub take-one-outcome : OneEnd 2 take-kinds.ps take-kinds.r (λ κs e f. now (e .0) ≡ now (f .0)) take-call.Learnt
+take-one-outcome κs a x y e f p q = (p .0 ∙ sym (q .0), p .1 ∙ sym (q .1))
+
+pub fresh-one-outcome : OneEnd 1 fresh-kinds.ps fresh-kinds.r (λ κs e f. now (e .0) ≡ now (f .0)) fresh-call.Learnt
+fresh-one-outcome κs a x y e f p q = (p .0 ∙ sym (q .0), p .1 ∙ sym (q .1))
 
 pub lane-one-outcome : OneOutcome 1 lane-kinds.ps lane-kinds.r lane-call.Learnt
 lane-one-outcome κs a x y e f p q =

@@ -1,9 +1,12 @@
 -- The calls on an agent that a caller lends as a row of numbers (`agent_rows`), in place: the state is not copied, and its numbers are
 -- tested once for each call. Each answer, and each row afterwards, is the agent's own through `unpacked` and `packed`, for every row:
--- `row_calls` specs/Answers.
+-- `row_calls` specs/Answers. A row of another length gets 10, one that is not sound 1, and a refusal leaves the row as it was.
 -- - An event: `row_calls::events::event`, by `rowEvent` and `rowAfterEvent`. It leaves the sequence as it was.
+-- - A notice's bytes: `row_calls::notices::take`, by `rowNotice` and `rowAfterNotice`. An accepted one moves the sequence.
+-- - A fresh agent of a pool, whatever the row was: `row_calls::starting::fresh`, by `rowFresh` and `rowAfterFresh`.
 -- - The lane question and lanes held: `row_calls::questions::lane`, by `rowLane` and `rowShows`; `row_calls::questions::held`, by `rowHeld`
 --   and `rowLanes`.
+-- A sound row of the right length is answered and left as its agent is: proofs/Follows `noticed-as-agent`, `called-as-agent`.
 -- Two outcomes that a call's contract admits are equal, the row that it leaves included: proofs/Unique.
 pub mod Answers
 pub mod inner

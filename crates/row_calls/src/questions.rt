@@ -40,7 +40,7 @@ ghost use Rattle.scheduler.specs.Outcomes.{heldAnswer, heldShown};
 ghost use Rattle.agent_rows.specs.Layout.{titlePlaces};
 ghost use Rattle.agent_rows.specs.Packed.{titleFrom, unpacked};
 ghost use Rattle.row_calls.specs.Answers.{rowLane, rowShows, rowHeld, rowLanes};
-ghost use Rattle.row_calls.specs.inner.Steps.{Tested, Above, laneOf, cellOf};
+ghost use Rattle.row_calls.specs.inner.Steps.{Tested, Above, laneTold, cellTold};
 
 // A refusal of a lane question.
 fn refused(answer: u8) -> Shown
@@ -72,8 +72,8 @@ fn owed_cell(row: &[u64], at: usize, lane: u64, tick: u64) -> Shown
 fn title_shows(row: &[u64], at: usize, lane: u64, time: u64) -> Shown
     requires { ⌜ at + titlePlaces ≤ length (now row) ⌝ }
     requires { ⌜ (titleOk (titleFrom (now row) at) ≡ true) × (time ≤ askedMax) ⌝ }
-    ensures { λ r. ⌜ (r .answer ≡ laneOf (titleFrom (now (row .entry)) at) lane time)
-        × (r .cell ≡ cellOf (titleFrom (now (row .entry)) at) lane time) ⌝ }
+    ensures { λ r. ⌜ (r .answer ≡ laneTold (titleFrom (now (row .entry)) at) lane time)
+        × (r .cell ≡ cellTold (titleFrom (now (row .entry)) at) lane time) ⌝ }
 {
     let last = row[at + TITLE_LAST_AT];
     if time < last {

@@ -37,8 +37,8 @@ pub record Above (t : Title) (l n : ℕ) : Type 0 where
   pub early : n ≤ tickMax
 
 -- what a title alone answers to a lane question, behind the limits, and the cell; 0 beside a refusal
-unfoldable pub laneOf : Title → ℕ → ℕ → ℕ
-laneOf t l τ = pick (ltb τ (t .last)) tooEarly (pick (not (laneHeld t l τ)) notThere done)
+unfoldable pub laneTold : Title → ℕ → ℕ → ℕ
+laneTold t l τ = pick (ltb τ (t .last)) tooEarly (pick (not (laneHeld t l τ)) notThere done)
 
-unfoldable pub cellOf : Title → ℕ → ℕ → ℕ
-cellOf t l τ = pick (eqb (laneOf t l τ) done) (shows t l (tickAt t τ)) 0
+unfoldable pub cellTold : Title → ℕ → ℕ → ℕ
+cellTold t l τ = pick (eqb (laneTold t l τ) done) (shows t l (tickAt t τ)) 0

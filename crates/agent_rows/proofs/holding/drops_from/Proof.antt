@@ -8,7 +8,7 @@ use native.Mathlib.Nat.{le-trans}
 use lib.Bits.{bitOr}
 use lib.ListN.{getD}
 use Rattle.rules.proofs.Search.{below-suc}
-use Rattle.agent_rows.specs.Layout.{droppedAt, owedAt, capAt}
+use Rattle.agent_rows.specs.Layout.{dropsAt, owedAt, capAt}
 use Rattle.agent_rows.proofs.Tested.{or-above}
 use borrow.Author.Needs.{needs}
 use Rattle.agent_rows.proofs.holding.drops_from.Statement.{statement}
@@ -17,7 +17,7 @@ use Rattle.agent_rows.proofs.holding.drops_from.Tie as tie
 abbrev Inv-loop : tie.InvT-loop
 Inv-loop row at from cap all₀ lane₀ all lane =
     (cap ≡ getD row (at + capAt) 0)
-    × ((l : ℕ) → from ≤ l → l < lane → (getD row (at + droppedAt + l) 0 ≤ all) × (getD row (at + owedAt + l) 0 ≤ all))
+    × ((l : ℕ) → from ≤ l → l < lane → (getD row (at + dropsAt + l) 0 ≤ all) × (getD row (at + owedAt + l) 0 ≤ all))
 
 abbrev μ-loop : tie.MeasureT-loop
 μ-loop row at from cap all₀ lane₀ all lane = cap - lane
@@ -69,7 +69,7 @@ loop-again c =
     let l = c .before .before .before .loop in
     let a = c .before .before .before .before .before .args in
     let r = a .row .now in
-    let d = getD r (a .at + droppedAt + l .lane) 0 in
+    let d = getD r (a .at + dropsAt + l .lane) 0 in
     let o = getD r (a .at + owedAt + l .lane) 0 in
     let both-above = or-above (l .all) (bitOr d o) in
     let two-above = or-above d o in (

@@ -3,7 +3,7 @@ use mathlib.Core.Path.{ap, _∙_}
 use mathlib.Core.List.{List}
 use Prim.Native.Nat.{ℕ, _+_}
 use native.Mathlib.Omega.{arith}
-use Rattle.agent_rows.specs.Layout.{endsAt, droppedAt, owedAt}
+use Rattle.agent_rows.specs.Layout.{endsAt, dropsAt, owedAt}
 use Rattle.agent_rows.specs.inner.Laid.{laid}
 use Rattle.agent_rows.specs.Packed.{WholeTitle}
 use Rattle.agent_rows.proofs.Laid.{title-laid}
@@ -75,7 +75,7 @@ returns c =
     c .before .before .lay4 .ensures
     ∙ ap (λ (r : List ℕ). laid r (at + owedAt) (t .owed))
     (owed-lent .before .before .before .before .lay3 .ensures
-    ∙ ap (λ (r : List ℕ). laid r (at + droppedAt) (t .dropped))
+    ∙ ap (λ (r : List ℕ). laid r (at + dropsAt) (t .dropped))
     (dropped-lent .before .before .before .before .lay2 .ensures
     ∙ ap (λ (r : List ℕ). laid r (at + endsAt) (t .ends)) (ends-lent .before .before .before .before .lay .ensures)))
     ∙ title-laid (s .args .row .now) at t (whole s) (s .pre)

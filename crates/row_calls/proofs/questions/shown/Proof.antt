@@ -11,7 +11,7 @@ use Rattle.story.specs.declared.Title.{Title}
 use Rattle.measures.proofs.Within.{title-ok}
 use Rattle.agent_rows.specs.Packed.{titleFrom, unpacked}
 use Rattle.agent_rows.proofs.Inverse.{title-at}
-use Rattle.row_calls.specs.inner.Steps.{laneOf, cellOf}
+use Rattle.row_calls.specs.inner.Steps.{laneTold, cellTold}
 use Rattle.row_calls.proofs.Cells.{told, lane-in, lane-out}
 use borrow.Author.Needs.{needs}
 use Rattle.row_calls.proofs.questions.shown.Statement.{statement}
@@ -62,11 +62,11 @@ returns c =
     let place = c .before .title-place .ensures in
     told
     (c .title-shows .ensures .0
-    ∙ ap (λ (n : ℕ). laneOf (titleFrom r n) (s .args .lane) (s .args .time)) place
-    ∙ ap (λ (t : Title). laneOf t (s .args .lane) (s .args .time)) (sym same))
+    ∙ ap (λ (n : ℕ). laneTold (titleFrom r n) (s .args .lane) (s .args .time)) place
+    ∙ ap (λ (t : Title). laneTold t (s .args .lane) (s .args .time)) (sym same))
     (c .title-shows .ensures .1
-    ∙ ap (λ (n : ℕ). cellOf (titleFrom r n) (s .args .lane) (s .args .time)) place
-    ∙ ap (λ (t : Title). cellOf t (s .args .lane) (s .args .time)) (sym same))
+    ∙ ap (λ (n : ℕ). cellTold (titleFrom r n) (s .args .lane) (s .args .time)) place
+    ∙ ap (λ (t : Title). cellTold t (s .args .lane) (s .args .time)) (sym same))
     (lane-in (unpacked r .state) (s .args .id) (s .args .lane) (s .args .time) (s .pre .ok) (fits at-if))
 
 refused-requires : tie.Need-refused-requires
