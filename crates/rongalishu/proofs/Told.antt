@@ -45,9 +45,9 @@ pub one-told : (row : List ℕ) (a x t n : ℕ) (after : List ℕ) → 1 ≤ len
     OneGiven row a x t after
 unfolding needing
 one-told row a x t n after h e f g =
-    record
-    { answers = e ∙ sym (ap (λ b. pick b wrongRows a) (le-ltb (length row) 1 h))
-    ; leaves = g ∙ ap (λ (m : ℕ). resulting t (m ∷ []) row) f
+    record {
+      answers = e ∙ sym (ap (λ b. pick b wrongRows a) (le-ltb (length row) 1 h));
+      leaves = g ∙ ap (λ (m : ℕ). resulting t (m ∷ []) row) f;
     }
 
 -- ---- waits

@@ -3,7 +3,7 @@
 use Prim.Native.Nat.{ℕ}
 use mathlib.Core.Path.{_≡_, sym, ap, ap₂, _∙_}
 use mathlib.Core.Logic.{⊎-elim}
-use mathlib.Core.List.{List}
+use mathlib.Core.List.{List, [], _∷_}
 use lib.Dec.{ltb}
 use lib.ListN.{length}
 use denote.Ref.{now}
@@ -14,9 +14,46 @@ use Rattle.waiting.proofs.Telling.{told-once}
 use Rattle.airing.specs.Air.{airGives}
 use Rattle.salvaging.specs.Scan.{scanOf}
 use Rattle.salvaging.specs.Rows.{flat}
-use Rattle.rongalishu.specs.Results.{resulting}
+use Rattle.rongalishu.specs.Results.{resulting, OneGiven}
 use Rattle.rongalishu.specs.Reports.{WaitsTold, WaitsGiven, waitNumbers, waitsPlaces}
+use Rattle.notice_rows.specs.declared.Written.{Written}
+use Rattle.notice_rows.specs.declared.Step.{Step}
+use Rattle.row_questions.proofs.Unique.{filled-alike, listed-alike}
+use Rattle.rongalishu.specs.Notices.{WrittenTold, WrittenGiven, NextTold, NextGiven}
+use Rattle.rongalishu.specs.Pools.{PlannerTold, PlannerGiven}
 use Rattle.rongalishu.specs.Reports.{airNumbers, salvageGives, salvageNumbers}
+use Rattle.rongalishu.proofs.events.rl_fresh_row.Kinds as fresh-kinds
+use Rattle.rongalishu.proofs.events.rl_fresh_row.Reads as fresh-call
+use Rattle.rongalishu.proofs.events.rl_open_row.Kinds as open-kinds
+use Rattle.rongalishu.proofs.events.rl_open_row.Reads as open-call
+use Rattle.rongalishu.proofs.events.rl_skip_row.Kinds as skip-kinds
+use Rattle.rongalishu.proofs.events.rl_skip_row.Reads as skip-call
+use Rattle.rongalishu.proofs.events.rl_change_row.Kinds as change-kinds
+use Rattle.rongalishu.proofs.events.rl_change_row.Reads as change-call
+use Rattle.rongalishu.proofs.events.rl_close_row.Kinds as close-kinds
+use Rattle.rongalishu.proofs.events.rl_close_row.Reads as close-call
+use Rattle.rongalishu.proofs.events.rl_hold_row.Kinds as hold-kinds
+use Rattle.rongalishu.proofs.events.rl_hold_row.Reads as hold-call
+use Rattle.rongalishu.proofs.events.rl_lift_row.Kinds as lift-kinds
+use Rattle.rongalishu.proofs.events.rl_lift_row.Reads as lift-call
+use Rattle.rongalishu.proofs.events.rl_take_row.Kinds as take-kinds
+use Rattle.rongalishu.proofs.events.rl_take_row.Reads as take-call
+use Rattle.rongalishu.proofs.lanes.rl_lane_row.Kinds as lane-kinds
+use Rattle.rongalishu.proofs.lanes.rl_lane_row.Reads as lane-call
+use Rattle.rongalishu.proofs.lanes.rl_rom_lane_row.Kinds as rom-lane-kinds
+use Rattle.rongalishu.proofs.lanes.rl_rom_lane_row.Reads as rom-lane-call
+use Rattle.rongalishu.proofs.lanes.rl_held_row.Kinds as held-kinds
+use Rattle.rongalishu.proofs.lanes.rl_held_row.Reads as held-call
+use Rattle.rongalishu.proofs.pools.rl_status_row.Kinds as status-kinds
+use Rattle.rongalishu.proofs.pools.rl_status_row.Reads as status-call
+use Rattle.rongalishu.proofs.pools.rl_planner_row.Kinds as planner-kinds
+use Rattle.rongalishu.proofs.pools.rl_planner_row.Reads as planner-call
+use Rattle.rongalishu.proofs.notices.rl_write_row.Kinds as write-kinds
+use Rattle.rongalishu.proofs.notices.rl_write_row.Reads as write-call
+use Rattle.rongalishu.proofs.notices.rl_read_row.Kinds as read-kinds
+use Rattle.rongalishu.proofs.notices.rl_read_row.Reads as read-call
+use Rattle.rongalishu.proofs.notices.rl_next_row.Kinds as next-kinds
+use Rattle.rongalishu.proofs.notices.rl_next_row.Reads as next-call
 use Rattle.rongalishu.proofs.boxes.rl_plan_row.Kinds as plan-kinds
 use Rattle.rongalishu.proofs.boxes.rl_plan_row.Reads as plan-call
 use Rattle.rongalishu.proofs.boxes.rl_rom_plan_row.Kinds as rom-plan-kinds
@@ -33,6 +70,52 @@ use Rattle.rongalishu.proofs.reports.rl_admissions_row.Kinds as admissi
 use Rattle.rongalishu.proofs.reports.rl_admissions_row.Reads as admissions-call
 use Rattle.rongalishu.proofs.reports.rl_salvage_row.Kinds as salvage-kinds
 use Rattle.rongalishu.proofs.reports.rl_salvage_row.Reads as salvage-call
+
+-- ---- the agent's row, which is the first parameter
+
+pub fresh-one-outcome : OneEnd 1 fresh-kinds.ps fresh-kinds.r (λ κs e f. now (e .0) ≡ now (f .0)) fresh-call.Learnt
+fresh-one-outcome κs a x y e f p q = (p .0 ∙ sym (q .0), p .1 ∙ sym (q .1))
+
+pub open-one-outcome : OneEnd 1 open-kinds.ps open-kinds.r (λ κs e f. now (e .0) ≡ now (f .0)) open-call.Learnt
+open-one-outcome κs a x y e f p q = (p .0 ∙ sym (q .0), p .1 ∙ sym (q .1))
+
+pub skip-one-outcome : OneEnd 1 skip-kinds.ps skip-kinds.r (λ κs e f. now (e .0) ≡ now (f .0)) skip-call.Learnt
+skip-one-outcome κs a x y e f p q = (p .0 ∙ sym (q .0), p .1 ∙ sym (q .1))
+
+pub change-one-outcome : OneEnd 1 change-kinds.ps change-kinds.r (λ κs e f. now (e .0) ≡ now (f .0)) change-call.Learnt
+change-one-outcome κs a x y e f p q = (p .0 ∙ sym (q .0), p .1 ∙ sym (q .1))
+
+pub close-one-outcome : OneEnd 1 close-kinds.ps close-kinds.r (λ κs e f. now (e .0) ≡ now (f .0)) close-call.Learnt
+close-one-outcome κs a x y e f p q = (p .0 ∙ sym (q .0), p .1 ∙ sym (q .1))
+
+pub hold-one-outcome : OneEnd 1 hold-kinds.ps hold-kinds.r (λ κs e f. now (e .0) ≡ now (f .0)) hold-call.Learnt
+hold-one-outcome κs a x y e f p q = (p .0 ∙ sym (q .0), p .1 ∙ sym (q .1))
+
+pub lift-one-outcome : OneEnd 1 lift-kinds.ps lift-kinds.r (λ κs e f. now (e .0) ≡ now (f .0)) lift-call.Learnt
+lift-one-outcome κs a x y e f p q = (p .0 ∙ sym (q .0), p .1 ∙ sym (q .1))
+
+pub take-one-outcome : OneEnd 2 take-kinds.ps take-kinds.r (λ κs e f. now (e .0) ≡ now (f .0)) take-call.Learnt
+take-one-outcome κs a x y e f p q = (p .0 ∙ sym (q .0), p .1 ∙ sym (q .1))
+
+-- ---- one number besides the answer
+
+one-alike : (row : List ℕ) (a x r q : ℕ) (after left : List ℕ) → OneGiven row a x r after → OneGiven row a x q left →
+    (r ≡ q) × (after ≡ left)
+one-alike row a x r q after left s t =
+    let same : r ≡ q = s .answers ∙ sym (t .answers) in
+    (same, s .leaves ∙ ap (λ (n : ℕ). resulting n (x ∷ []) row) same ∙ sym (t .leaves))
+
+-- the result row is parameter 4, from 0
+pub lane-one-outcome : OneEnd 2 lane-kinds.ps lane-kinds.r (λ κs e f. now (e .1 .1 .1 .1 .0) ≡ now (f .1 .1 .1 .1 .0)) lane-call.Learnt
+lane-one-outcome κs a x y e f p q = one-alike _ _ _ x y _ _ p q
+
+pub rom-lane-one-outcome :
+    OneEnd 2 rom-lane-kinds.ps rom-lane-kinds.r (λ κs e f. now (e .1 .1 .1 .1 .0) ≡ now (f .1 .1 .1 .1 .0)) rom-lane-call.Learnt
+rom-lane-one-outcome κs a x y e f p q = one-alike _ _ _ x y _ _ p q
+
+-- and parameter 2
+pub held-one-outcome : OneEnd 2 held-kinds.ps held-kinds.r (λ κs e f. now (e .1 .1 .0) ≡ now (f .1 .1 .0)) held-call.Learnt
+held-one-outcome κs a x y e f p q = one-alike _ _ _ x y _ _ p q
 
 -- ---- plans and sharing; the row is the last parameter
 
@@ -113,3 +196,107 @@ salvage-one-outcome κs a x y e f p q =
         ),
       ),
     )
+
+-- ---- notices
+
+pub read-one-outcome : OneEnd 2 read-kinds.ps read-kinds.r (λ κs e f. now (e .1 .0) ≡ now (f .1 .0)) read-call.Learnt
+read-one-outcome κs a x y e f p q = (p .answers ∙ sym (q .answers), p .leaves ∙ sym (q .leaves))
+
+written-alike : (fields room row : List ℕ) (r q : ℕ) (a b c d : List ℕ) →
+    WrittenTold fields room row r a c → WrittenTold fields room row q b d → (r ≡ q) × ((a ≡ b) × (c ≡ d))
+written-alike fields room row r q a b c d s t =
+    let answer : s .told .answer ≡ t .told .answer = s .writes .answers ∙ sym (t .writes .answers) in
+    let bytes : s .told .bytes ≡ t .told .bytes = s .writes .counts ∙ (rw answer (sym (t .writes .counts))) in
+    let same : r ≡ q = s .answers ∙ answer ∙ sym (t .answers) in (
+      same,
+      (
+        s .writes .leaves ∙ (rw answer (sym (t .writes .leaves))),
+        s .row-is ∙ ap₂ (λ (n m : ℕ). resulting n (m ∷ []) row) same bytes ∙ sym (t .row-is),
+      ),
+    )
+
+-- the room and the result row are parameters 1 and 2, from 0
+pub write-one-outcome :
+    OneEnd 3 write-kinds.ps write-kinds.r
+    (λ κs e f. (now (e .1 .0) ≡ now (f .1 .0)) × (now (e .1 .1 .0) ≡ now (f .1 .1 .0))) write-call.Learnt
+write-one-outcome κs a x y e f p q =
+    ⊎-elim
+    (λ h.
+    let s = p .too-short h in
+    let t = q .too-short h in
+    (s .0 ∙ sym (t .0), (s .1 .0 ∙ sym (t .1 .0), s .1 .1 ∙ sym (t .1 .1))))
+    (λ h. written-alike _ _ _ x y _ _ _ _ (p .tells h) (q .tells h))
+    (decide (ltb (length (now (a .1 .1 .0))) 1))
+
+next-alike : (log row fields : List ℕ) (r q : ℕ) (a b c d : List ℕ) →
+    NextTold log row fields r a c → NextTold log row fields q b d → (r ≡ q) × ((a ≡ b) × (c ≡ d))
+next-alike log row fields r q a b c d s t =
+    let same : r ≡ q = s .answers ∙ s .steps .answers ∙ sym (t .steps .answers) ∙ sym (t .answers) in
+    let place : s .told .place ≡ t .told .place = s .steps .moves ∙ sym (t .steps .moves) in (
+      same,
+      (
+        s .row-is ∙ ap₂ (λ (n m : ℕ). resulting n (m ∷ []) row) same place ∙ sym (t .row-is),
+        s .steps .leaves ∙ sym (t .steps .leaves),
+      ),
+    )
+
+-- the place and the fields are parameters 1 and 2
+pub next-one-outcome :
+    OneEnd 3 next-kinds.ps next-kinds.r
+    (λ κs e f. (now (e .1 .0) ≡ now (f .1 .0)) × (now (e .1 .1 .0) ≡ now (f .1 .1 .0))) next-call.Learnt
+next-one-outcome κs a x y e f p q =
+    ⊎-elim
+    (λ h.
+    let s = p .too-short h in
+    let t = q .too-short h in
+    (s .0 ∙ sym (t .0), (s .1 .0 ∙ sym (t .1 .0), s .1 .1 ∙ sym (t .1 .1))))
+    (λ h. next-alike _ _ _ x y _ _ _ _ (p .tells h) (q .tells h))
+    (decide (ltb (length (now (a .1 .0))) 1))
+
+-- ---- status and the planner
+
+-- the rows of counts, lanes held and marks are parameters 3 to 5, from 0
+pub status-one-outcome :
+    OneEnd 5 status-kinds.ps status-kinds.r
+    (λ κs e f.
+    (now (e .1 .1 .1 .0) ≡ now (f .1 .1 .1 .0))
+    × ((now (e .1 .1 .1 .1 .0) ≡ now (f .1 .1 .1 .1 .0)) × (now (e .1 .1 .1 .1 .1 .0) ≡ now (f .1 .1 .1 .1 .1 .0))))
+    status-call.Learnt
+status-one-outcome κs a x y e f p q = filled-alike _ _ _ _ _ _ x y _ _ _ _ _ _ p q
+
+planner-alike : (agent : List ℕ) (τ : ℕ) (rates is ts ks row : List ℕ) (r q : ℕ) (a b c d a₂ b₂ c₂ d₂ : List ℕ) →
+    PlannerTold agent τ rates is ts ks row r a b c d → PlannerTold agent τ rates is ts ks row q a₂ b₂ c₂ d₂ →
+    (r ≡ q) × ((a ≡ a₂) × ((b ≡ b₂) × ((c ≡ c₂) × (d ≡ d₂))))
+planner-alike agent τ rates is ts ks row r q a b c d a₂ b₂ c₂ d₂ s t =
+    let one = listed-alike agent τ rates is ts ks r (s .many) q (t .many) a b c a₂ b₂ c₂ (s .lists) (t .lists) in (
+      one .0,
+      (
+        one .1 .1 .0,
+        (
+          one .1 .1 .1 .0,
+          (one .1 .1 .1 .1, s .row-is ∙ ap₂ (λ (n m : ℕ). resulting n (m ∷ []) row) (one .0) (one .1 .0) ∙ sym (t .row-is)),
+        ),
+      ),
+    )
+
+-- the rows of ids, times and counts and the result row are parameters 3 to 6
+pub planner-one-outcome :
+    OneEnd 6 planner-kinds.ps planner-kinds.r
+    (λ κs e f.
+    (now (e .1 .1 .1 .0) ≡ now (f .1 .1 .1 .0))
+    × ((now (e .1 .1 .1 .1 .0) ≡ now (f .1 .1 .1 .1 .0))
+    × ((now (e .1 .1 .1 .1 .1 .0) ≡ now (f .1 .1 .1 .1 .1 .0)) × (now (e .1 .1 .1 .1 .1 .1 .0) ≡ now (f .1 .1 .1 .1 .1 .1 .0)))))
+    planner-call.Learnt
+planner-one-outcome κs a x y e f p q =
+    ⊎-elim
+    (λ h.
+    let s = p .too-short h in
+    let t = q .too-short h in (
+      s .0 ∙ sym (t .0),
+      (
+        s .1 .0 ∙ sym (t .1 .0),
+        (s .1 .1 .0 ∙ sym (t .1 .1 .0), (s .1 .1 .1 .0 ∙ sym (t .1 .1 .1 .0), s .1 .1 .1 .1 ∙ sym (t .1 .1 .1 .1))),
+      ),
+    ))
+    (λ h. planner-alike _ _ _ _ _ _ _ x y _ _ _ _ _ _ _ _ (p .tells h) (q .tells h))
+    (decide (ltb (length (now (a .1 .1 .1 .1 .1 .1 .0))) 1))

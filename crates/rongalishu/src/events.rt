@@ -1,4 +1,5 @@
-// The six events on an agent's row. An event leaves the row's sequence as it was: only a notice that is taken moves it.
+// A fresh agent, the six events, and a notice taken, on an agent's row. An event leaves the row's sequence as it was: only a
+// notice that is taken moves it.
 
 use row_calls::events::event;
 use scheduler::event_at;
@@ -9,7 +10,25 @@ use story::Act;
 ghost use mathlib.Core.Path.{_≡_};
 ghost use Rattle.story.specs.declared.Act.the-variants.{Changes, Closes};
 ghost use Rattle.story.specs.Story.{event as eventAt, opens, skips, holds, lifts};
-ghost use Rattle.row_calls.specs.Answers.{rowEvent, rowAfterEvent};
+ghost use Rattle.notice.specs.Decode.{readOf};
+ghost use Rattle.row_calls.specs.Answers.{rowEvent, rowAfterEvent, rowFresh, rowAfterFresh, rowNotice, rowAfterNotice};
+
+// A fresh agent of a pool, whatever the row held.
+#[no_mangle]
+pub extern "C" fn rl_fresh_row(agent: &mut [u64], pool: u64) -> u8
+    ensures { λ r. ⌜ (r ≡ rowFresh (now (agent .entry)) pool) × (now (agent .exit) ≡ rowAfterFresh (now (agent .entry)) pool) ⌝ }
+{
+    row_calls::starting::fresh(agent, pool)
+}
+
+// One notice's bytes, and nothing after them, handed to the agent.
+#[no_mangle]
+pub extern "C" fn rl_take_row(agent: &mut [u64], bytes: &[u8]) -> u8
+    ensures { λ r. ⌜ (r ≡ rowNotice (now (agent .entry)) (readOf (now (bytes .entry))))
+        × (now (agent .exit) ≡ rowAfterNotice (now (agent .entry)) (readOf (now (bytes .entry)))) ⌝ }
+{
+    row_calls::notices::take(agent, bytes)
+}
 
 // Opens a title on the padded grid.
 #[no_mangle]

@@ -10,7 +10,7 @@ use Rattle.rules.specs.OneOutcome.{OneEnd, OneOutcome}
 use Rattle.rules.specs.Refusals.{pick}
 use Rattle.rules.proofs.Tests.{decide}
 use Rattle.agent_rows.specs.Layout.{rowLength}
-use Rattle.row_questions.specs.Questions.{RowListed}
+use Rattle.row_questions.specs.Questions.{RowFilled, RowListed}
 use Rattle.row_questions.proofs.status.Kinds as status-kinds
 use Rattle.row_questions.proofs.status.Reads as status-call
 use Rattle.row_questions.proofs.rom_lane.Kinds as rom-lane-kinds
@@ -22,6 +22,18 @@ use Rattle.row_questions.proofs.planner.Reads as planner-call
 alike : (a b : ℕ) (xs ys : List ℕ) → a ≡ b → pick (eqb a 0) xs ys ≡ pick (eqb b 0) xs ys
 alike a b xs ys e = ap (λ (n : ℕ). pick (eqb n 0) xs ys) e
 
+pub filled-alike : (row : List ℕ) (τ : ℕ) (is cs hs ms : List ℕ) (r q : ℕ) (cs′ hs′ ms′ cs₂ hs₂ ms₂ : List ℕ) →
+    RowFilled row τ is cs hs ms r cs′ hs′ ms′ → RowFilled row τ is cs hs ms q cs₂ hs₂ ms₂ →
+    (r ≡ q) × ((cs′ ≡ cs₂) × ((hs′ ≡ hs₂) × (ms′ ≡ ms₂)))
+filled-alike row τ is cs hs ms r q cs′ hs′ ms′ cs₂ hs₂ ms₂ p t =
+    let same : r ≡ q = p .answer ∙ sym (t .answer) in (
+      same,
+      (
+        p .counts ∙ alike r q _ _ same ∙ sym (t .counts),
+        (p .held ∙ alike r q _ _ same ∙ sym (t .held), p .marks ∙ alike r q _ _ same ∙ sym (t .marks)),
+      ),
+    )
+
 -- the rows of counts, lanes held and marks are parameters 3 to 5, from 0
 pub status-one-outcome :
     OneEnd 5 status-kinds.ps status-kinds.r
@@ -29,21 +41,14 @@ pub status-one-outcome :
     (now (e .1 .1 .1 .0) ≡ now (f .1 .1 .1 .0))
     × ((now (e .1 .1 .1 .1 .0) ≡ now (f .1 .1 .1 .1 .0)) × (now (e .1 .1 .1 .1 .1 .0) ≡ now (f .1 .1 .1 .1 .1 .0))))
     status-call.Learnt
-status-one-outcome κs a x y e f p q =
-    let same : x ≡ y = p .answer ∙ sym (q .answer) in (
-      same,
-      (
-        p .counts ∙ alike x y _ _ same ∙ sym (q .counts),
-        (p .held ∙ alike x y _ _ same ∙ sym (q .held), p .marks ∙ alike x y _ _ same ∙ sym (q .marks)),
-      ),
-    )
+status-one-outcome κs a x y e f p q = filled-alike _ _ _ _ _ _ x y _ _ _ _ _ _ p q
 
 pub rom-lane-one-outcome : OneOutcome 1 rom-lane-kinds.ps rom-lane-kinds.r rom-lane-call.Learnt
 rom-lane-one-outcome κs a x y e f p q =
     ap₂ (λ (n m : ℕ). record { answer = n; cell = m }) (p .0 ∙ sym (q .0)) (p .1 ∙ sym (q .1))
 
 -- what the planner gives and leaves, all at once
-listed-alike : (row : List ℕ) (τ : ℕ) (rates is ts ks : List ℕ) (r n r₂ n₂ : ℕ) (is′ ts′ ks′ is₂ ts₂ ks₂ : List ℕ) →
+pub listed-alike : (row : List ℕ) (τ : ℕ) (rates is ts ks : List ℕ) (r n r₂ n₂ : ℕ) (is′ ts′ ks′ is₂ ts₂ ks₂ : List ℕ) →
     RowListed row τ rates is ts ks r n is′ ts′ ks′ → RowListed row τ rates is ts ks r₂ n₂ is₂ ts₂ ks₂ →
     (r ≡ r₂) × ((n ≡ n₂) × ((is′ ≡ is₂) × ((ts′ ≡ ts₂) × (ks′ ≡ ks₂))))
 listed-alike row τ rates is ts ks r n r₂ n₂ is′ ts′ ks′ is₂ ts₂ ks₂ p q =
