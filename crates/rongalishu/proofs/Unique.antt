@@ -54,6 +54,10 @@ use Rattle.rongalishu.proofs.notices.rl_read_row.Kinds as read-kinds
 use Rattle.rongalishu.proofs.notices.rl_read_row.Reads as read-call
 use Rattle.rongalishu.proofs.notices.rl_next_row.Kinds as next-kinds
 use Rattle.rongalishu.proofs.notices.rl_next_row.Reads as next-call
+use Rattle.rongalishu.proofs.saving.rl_save_row.Kinds as save-kinds
+use Rattle.rongalishu.proofs.saving.rl_save_row.Reads as save-call
+use Rattle.rongalishu.proofs.saving.rl_load_row.Kinds as load-kinds
+use Rattle.rongalishu.proofs.saving.rl_load_row.Reads as load-call
 use Rattle.rongalishu.proofs.boxes.rl_plan_row.Kinds as plan-kinds
 use Rattle.rongalishu.proofs.boxes.rl_plan_row.Reads as plan-call
 use Rattle.rongalishu.proofs.boxes.rl_rom_plan_row.Kinds as rom-plan-kinds
@@ -300,3 +304,15 @@ planner-one-outcome κs a x y e f p q =
     ))
     (λ h. planner-alike _ _ _ _ _ _ _ x y _ _ _ _ _ _ _ _ (p .tells h) (q .tells h))
     (decide (ltb (length (now (a .1 .1 .1 .1 .1 .1 .0))) 1))
+
+-- ---- snapshots
+
+pub save-one-outcome : OneEnd 2 save-kinds.ps save-kinds.r (λ κs e f. now (e .1 .0) ≡ now (f .1 .0)) save-call.Learnt
+save-one-outcome κs a x y e f p q =
+    let answer : x ≡ y = p .answers ∙ sym (q .answers) in
+    (answer, p .leaves ∙ (rw answer (sym (q .leaves))))
+
+pub load-one-outcome : OneEnd 2 load-kinds.ps load-kinds.r (λ κs e f. now (e .0) ≡ now (f .0)) load-call.Learnt
+load-one-outcome κs a x y e f p q =
+    let answer : x ≡ y = p .answers ∙ sym (q .answers) in
+    (answer, p .leaves ∙ (rw answer (sym (q .leaves))))

@@ -11,6 +11,7 @@ mod notices;
 mod pools;
 mod reports;
 mod results;
+mod saving;
 
 // How many numbers an agent's row has.
 pub const AGENT_NUMBERS: usize = ROW_LENGTH;

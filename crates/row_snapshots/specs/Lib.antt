@@ -2,6 +2,9 @@
 -- - `save` answers 10, then 1, and writes the row's snapshot at the room's start; `load` answers 10, 11, then 1, and fills the row. Only a
 --   row that is sound and whose state is within its limits is saved or loaded (`isWithin`), and a refusal writes nothing: `RowSaves`,
 --   `RowLoads`.
+-- - What was saved loads as the same agent: proofs/SameAgent `is-saved`, `is-snapshot`, `is-loaded`, of every agent whose arrays have their
+--   lengths, whose sequence fits 32 bits and whose state is within its limits. Each number of its row fits 64 bits: proofs/Small
+--   `packed-small`.
 -- - The length and the version that snapshots know are the layout's: proofs/SameLayout `same-places`, `same-version`.
 -- No public call has a `requires`, and the contracts settle what is given back and every place lent, for all inputs: proofs/Unique.
 -- What a row is stands in `agent_rows`, what a snapshot is in `snapshots`.
