@@ -12,7 +12,7 @@ use Rattle.rules.proofs.Tests.{decide}
 use Rattle.waiting.specs.declared.Report.{Report}
 use Rattle.waiting.proofs.Telling.{told-once}
 use Rattle.airing.specs.Air.{airGives}
-use Rattle.salvaging.specs.Scan.{scanOf}
+use Rattle.scanning.specs.Scan.{scanOf}
 use Rattle.salvaging.specs.Rows.{flat}
 use Rattle.rongalishu.specs.Results.{resulting, OneGiven}
 use Rattle.rongalishu.specs.Reports.{WaitsTold, WaitsGiven, waitNumbers, waitsPlaces}

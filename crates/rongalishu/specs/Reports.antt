@@ -11,7 +11,7 @@ use Rattle.waiting.specs.Report.{Reports}
 use Rattle.airing.specs.declared.Judgement.{Judgement}
 use Rattle.airing.specs.Air.{airGives, airLeaves}
 use Rattle.salvaging.specs.declared.Salvaged.{Salvaged}
-use Rattle.salvaging.specs.Scan.{scanOf}
+use Rattle.scanning.specs.Scan.{scanOf}
 use Rattle.salvaging.specs.Rows.{lacksRoom, salvaged, noRoom, flat, filled}
 use Rattle.rongalishu.specs.Results.{needing, resulting}
 

@@ -13,7 +13,7 @@ use Rattle.story.specs.declared.Title.{Title}
 use Rattle.story.specs.declared.State.{State}
 use Rattle.story.specs.Kept.{absentMode, titleAt, stateOk, tickAt, ruling, keptHeld, shows, lanesHeld}
 use Rattle.story.specs.Calls.{laneAnswer, laneShows}
-use Rattle.verdicts.specs.Asked.{askedAnswer}
+use Rattle.questions.specs.Asked.{askedAnswer}
 use Rattle.scheduler.specs.Outcomes.{heldAnswer, heldShown}
 use Rattle.agent_rows.specs.Layout.{rowLength}
 use Rattle.agent_rows.specs.Packed.{unpacked, rowSound}
