@@ -1,6 +1,5 @@
 -- Laws of titles that are changed and closed, and of what their boxes want.
 pub mod Fixed
-mod OneChannel
 mod OnLanes
 pub mod Shown
 pub mod Nth

@@ -1,8 +1,7 @@
 // What a change, a close, a hold and a lift make of a title: the ruling count ends, and the lanes above the new count are
 // dropped (01, "Events"; 02, 7).
 
-use crate::owing::owed_within;
-use crate::sending::reach;
+use crate::owing::owes;
 use measures::ticks::tick_at;
 use story::CLEAR;
 use story::CLOSING;
@@ -25,7 +24,7 @@ fn drop_lane(t: Title, tick: u64, lane: u64) -> Title
     requires { ⌜ (lane < t .film .cap) × (tick ≤ askedMax) ⌝ }
     ensures { λ r. ⌜ r ≡ dropLane t tick lane ⌝ }
 {
-    let n = owed_within(t, lane, tick, reach(t));
+    let n = owes(t, lane, tick);
     let mut q = t;
     q.dropped[lane as usize] = tick;
     q.owed[lane as usize] = n;

@@ -1,5 +1,6 @@
 // Which ticks a dropped lane owes, over the boxes of every count (01, "Events").
 
+use crate::sending::reach;
 use grid::carrier;
 use grid::pow2;
 use grid::slot;
@@ -10,6 +11,10 @@ use scheme::holds_film;
 use scheme::lane_cell;
 use scheme::period;
 use story::Title;
+use stretches::latest::latest_above;
+use stretches::upper::is_reached;
+use stretches::upper::owed_in;
+use stretches::upper::walk_of;
 ghost use Prim.Native.Nat.{_+_, _^_, _≤_, _<_};
 ghost use mathlib.Core.Path.{_≡_};
 ghost use mathlib.Core.Bool.{true};
@@ -18,6 +23,7 @@ ghost use Rattle.rules.specs.Limits.{both, askedMax, countMax};
 ghost use Rattle.grid.specs.Lanes.{isInG, laneCell};
 ghost use Rattle.grid.specs.Bounds.{Exactly, CountCap, IsCell, tickMax};
 ghost use Rattle.scheme.specs.Scheme.{padded, steadyKind, period as periodOf};
+ghost use Rattle.story.specs.Life.{reach as reachOf};
 ghost use Rattle.story.specs.Kept.{schemeIn, wants, keptAwaited, keptOwed, keptWithin};
 ghost use Rattle.measures.specs.Readable.{Owing};
 
@@ -100,7 +106,7 @@ pub fn is_owed(t: Title, lane: u64, tick: u64) -> bool
     false
 }
 
-// How many of the n ticks from a tick on a lane owes.
+// How many of the n ticks from a tick on a lane owes, tick by tick.
 pub fn owed_within(t: Title, lane: u64, from: u64, n: u64) -> u64
     requires { ⌜ Owing t ⌝ }
     requires { ⌜ (lane < t .film .cap) × (from + n ≤ tickMax) ⌝ }
@@ -113,4 +119,18 @@ pub fn owed_within(t: Title, lane: u64, from: u64, n: u64) -> u64
         i += 1;
     }
     owed
+}
+
+// How many ticks a lane owes that is dropped at a tick: by stretches, and tick by tick where no events lead.
+pub fn owes(t: Title, lane: u64, at: u64) -> u64
+    requires { ⌜ Owing t ⌝ }
+    requires { ⌜ (lane < t .film .cap) × (at ≤ askedMax) ⌝ }
+    ensures { λ r. ⌜ r ≡ keptWithin t lane at (reachOf (t .film .cap)) ⌝ }
+{
+    let film = t.film;
+    let latest = latest_above(&t.ends, film.cap, lane);
+    if is_reached(film, lane, at, latest.end) {
+        return owed_in(walk_of(film, lane, at, latest.until));
+    }
+    owed_within(t, lane, at, reach(t))
 }

@@ -6,6 +6,10 @@ use measures::lanes::ruling;
 use measures::ticks::since;
 use scheme::lane_cell;
 use story::Title;
+use stretches::latest::latest_above;
+use stretches::upper::is_reached;
+use stretches::upper::nth_in;
+use stretches::upper::walk_of;
 ghost use Prim.Native.Nat.{_+_, _-_, _^_, _≤_, _<_};
 ghost use mathlib.Core.Path.{_≡_};
 ghost use Rattle.rules.specs.Limits.{askedMax, countMax};
@@ -23,8 +27,9 @@ pub fn reach(t: Title) -> u64
     pow2(t.film.cap - 1)
 }
 
-// How far from a tick lies the owed tick that has `nth` owed ticks before it; the reach where there is none.
-fn nth_owed(t: Title, lane: u64, from: u64, nth: u64) -> u64
+// How far from a tick lies the owed tick that has `nth` owed ticks before it; the reach where there is none. Tick by
+// tick.
+fn nth_by_ticks(t: Title, lane: u64, from: u64, nth: u64) -> u64
     requires { ⌜ Owing t ⌝ }
     requires { ⌜ (lane < t .film .cap) × (from ≤ askedMax) ⌝ }
     ensures { λ r. ⌜ Exactly (first (keptNth t lane from nth) (reachOf (t .film .cap))) 0 (2 ^ countMax) r ⌝ }
@@ -42,6 +47,20 @@ fn nth_owed(t: Title, lane: u64, from: u64, nth: u64) -> u64
         i += 1;
     }
     i
+}
+
+// The same by stretches, and tick by tick where no events lead.
+fn nth_owed(t: Title, lane: u64, from: u64, nth: u64) -> u64
+    requires { ⌜ Owing t ⌝ }
+    requires { ⌜ (lane < t .film .cap) × (from ≤ askedMax) ⌝ }
+    ensures { λ r. ⌜ Exactly (first (keptNth t lane from nth) (reachOf (t .film .cap))) 0 (2 ^ countMax) r ⌝ }
+{
+    let film = t.film;
+    let latest = latest_above(&t.ends, film.cap, lane);
+    if is_reached(film, lane, from, latest.end) {
+        return nth_in(walk_of(film, lane, from, latest.until), nth);
+    }
+    nth_by_ticks(t, lane, from, nth)
 }
 
 // The tick whose cell a sending lane shows at a tick.

@@ -3,11 +3,8 @@ use borrow.Author.Needs.{needs}
 use Rattle.owed.proofs.dropping.drop_lane.Statement.{statement}
 use Rattle.owed.proofs.dropping.drop_lane.Tie as tie
 
-reach-requires : tie.Need-reach-requires
-reach-requires c κs = search needs
-
-owed-within-requires : tie.Need-owed-within-requires
-owed-within-requires c κs = search needs
+owes-requires : tie.Need-owes-requires
+owes-requires c κs = search needs
 
 mul-q : tie.Need-mul-q
 mul-q c = search needs
@@ -22,14 +19,13 @@ element-write-q-2 : tie.Need-element-write-q-2
 element-write-q-2 c = search needs
 
 returns : tie.Need-returns
-returns c = simp (← c .before .reach .ensures .is, ← c .owed-within .ensures .is)
+returns c = simp (← c .owes .ensures)
 
 pub drop-lane-spec : {M : Type 1} → statement M
 drop-lane-spec =
     tie.close
     (tie.spec
-    reach-requires
-    owed-within-requires
+    owes-requires
     mul-q
     element-write-q
     mul-q-2

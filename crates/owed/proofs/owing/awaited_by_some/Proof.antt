@@ -14,7 +14,7 @@ use Rattle.rules.specs.Search.{some}
 use Rattle.rules.proofs.Search.{some-none}
 use Rattle.measures.proofs.Within.{in-row}
 use Rattle.story.specs.Kept.{schemeIn, wants, keptAwaited}
-use Rattle.owed.proofs.OneChannel.{padded-wants, own-cell}
+use Rattle.stretches.proofs.OneChannel.{padded-wants, own-cell}
 use Rattle.owed.proofs.owing.awaited_by_some.Statement.{statement}
 use Rattle.owed.proofs.owing.awaited_by_some.Tie as tie
 

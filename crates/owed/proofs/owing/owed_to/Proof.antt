@@ -11,7 +11,7 @@ use borrow.Author.Tests.{le-leb, lt-leb}
 use Rattle.rules.specs.Limits.{countMax}
 use Rattle.grid.specs.Lanes.{isInG}
 use Rattle.story.specs.Kept.{wants}
-use Rattle.owed.proofs.OneChannel.{channel-low, wants-window}
+use Rattle.stretches.proofs.OneChannel.{channel-low, wants-window}
 use Rattle.owed.proofs.owing.owed_to.Statement.{statement}
 use Rattle.owed.proofs.owing.owed_to.Tie as tie
 

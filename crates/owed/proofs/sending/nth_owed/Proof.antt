@@ -1,100 +1,62 @@
--- `nth_owed` meets its contract: while the tick is not met none of those passed is it, and the first to be met is.
--- Rests on the laws of the search for it.
-use Prim.Native.Nat.{_≤_, _-_}
-use mathlib.Core.Path.{_≡_, sym, _∙_}
-use mathlib.Core.Logic.{⊎-elim}
-use native.Mathlib.Omega.{arith}
-use native.Mathlib.Numerals.{add-one}
-use native.Mathlib.Nat.{le-antisymm}
+-- `nth_owed` meets its contract: a lane that events dropped is walked by its channels, any other by its ticks. Rests on the law of that walk.
+use mathlib.Core.Path.{_≡_, sym, ap, _∙_}
+use Rattle.stretches.specs.inner.Walk.{NthIn}
+use Rattle.stretches.proofs.FromFloorUp.{Reached, reached-in, walkable, nth-exactly}
 use borrow.Author.Needs.{needs}
-use Rattle.owed.proofs.Nth.{Unmet, unmet-yet, unmet-owed, unmet-not, met}
 use Rattle.owed.proofs.sending.nth_owed.Statement.{statement}
 use Rattle.owed.proofs.sending.nth_owed.Tie as tie
 
-abbrev Inv-loop : tie.InvT-loop
-Inv-loop t lane from nth end owed₀ i₀ owed i = (i ≤ end) × Unmet t lane from nth i owed
+latest-above-requires : tie.Need-latest-above-requires
+latest-above-requires c κs = search needs
 
-abbrev μ-loop : tie.MeasureT-loop
-μ-loop t lane from nth end owed₀ i₀ owed i = end - i
+is-reached-requires : tie.Need-is-reached-requires
+is-reached-requires c κs = search needs
 
-reach-requires : tie.Need-reach-requires Inv-loop μ-loop
-reach-requires c κs = search needs
-
-loop-holds : tie.Need-loop-holds Inv-loop μ-loop
-loop-holds c = let a = c .before .args in (omega arith, unmet-yet (a .t) (a .lane) (a .from) (a .nth))
-
-add-is-owed : tie.Need-add-is-owed Inv-loop μ-loop
-add-is-owed c = search needs
-
-is-owed-requires : tie.Need-is-owed-requires Inv-loop μ-loop
-is-owed-requires c κs = search needs
-
-returns : tie.Need-returns Inv-loop μ-loop
-returns c =
+-- the lane is one that events dropped
+reached : (c : tie.Then1) →
     let a = c .before .before .before .before .before .before .args in
-    let l = c .before .before .before .before .loop in
-    let end = c .before .before .before .before .before .reach in
-    let low = c .before .before .before .loop-test .taken in
-    record {
-      is =
-          sym
-          (met (a .t) (a .lane) (a .from) (a .nth) _ (l .i) (l .owed) (omega (arith, low, end .ensures .is)) (l .inv .1)
-          (sym (c .before .before .is-owed .ensures) ∙ c .before .if1 .taken) (c .if2 .taken));
-      low = omega arith;
-      high = omega (arith, low, end .ensures .high);
-    }
+    let l = c .before .before .latest-above .result in
+    Reached (a .t1) (a .lane) (a .from) (l .until) (l .end)
+reached c =
+    let s = c .before .before .before .before .before .before in
+    let a = s .args in
+    let l = c .before .before .latest-above in
+    reached-in (a .t1) (a .lane) (a .from) (l .result .until) (l .result .end) (s .pre .1 .0) (l .ensures) (sym (c .before .is-reached .ensures) ∙ c .if1 .taken)
 
-add-owed : tie.Need-add-owed Inv-loop μ-loop
-add-owed c =
-    let l = c .before .before .before .before .loop in
-    let end = c .before .before .before .before .before .reach in
-    record { fits = omega (arith, l .inv .1 .few, c .before .before .before .loop-test .taken, end .ensures .high) }
+walk-of-requires : tie.Need-walk-of-requires
+walk-of-requires c κs =
+    let s = c .before .before .before .before .before .before in
+    (s .pre .0 .film, ((reached c .low, s .pre .1 .0), s .pre .1 .1))
 
-add-i : tie.Need-add-i Inv-loop μ-loop
-add-i c = search needs
+nth-in-requires : tie.Need-nth-in-requires
+nth-in-requires c κs =
+    let s = c .before .before .before .before .before .before .before in
+    let a = s .args in
+    let l = c .before .before .before .latest-above .result in
+    rw (c .walk-of .ensures) (walkable (a .t1) (a .lane) (a .from) (l .until) (l .end) (reached (c .before)) (s .pre .0 .film) (s .pre .1 .1))
 
-loop-less : tie.Need-loop-less Inv-loop μ-loop
-loop-less c = omega arith
+returns : tie.Need-returns
+returns c =
+    let s = c .before .before .before .before .before .before .before .before in
+    let a = s .args in
+    let l = c .before .before .before .before .latest-above .result in
+    nth-exactly (a .t1) (a .lane) (a .from) (l .until) (l .end) (reached (c .before .before)) (s .pre .0 .film) (a .nth) (c .nth-in .result)
+    (rw (c .before .walk-of .ensures) at (c .nth-in .ensures))
 
-loop-again : tie.Need-loop-again Inv-loop μ-loop
-loop-again c =
-    let a = c .before .before .before .before .before .args in
-    let l = c .before .before .before .loop in
-    let here = sym (c .before .is-owed .ensures) in (
-      omega (arith, c .before .before .loop-test .taken),
-      ⊎-elim
-          (λ w. rw (add-one (l .i), w .2, add-one (l .owed))
-          (unmet-owed (a .t) (a .lane) (a .from) (a .nth) (l .i) (l .owed) (l .inv .1) (here ∙ w .0 .taken)
-          (w .1 .left)))
-          (λ w. rw (add-one (l .i), w .1)
-          (unmet-not (a .t) (a .lane) (a .from) (a .nth) (l .i) (l .owed) (l .inv .1) (here ∙ w .0 .left)))
-          (c .if1 .came),
-    )
+nth-by-ticks-requires : tie.Need-nth-by-ticks-requires
+nth-by-ticks-requires c κs = search needs
 
-returns-2 : tie.Need-returns-2 Inv-loop μ-loop
-returns-2 c =
-    let l = c .before .loop in
-    let end = c .before .before .reach in
-    let e : l .i ≡ end .result = le-antisymm (l .inv .0) (c .loop-test .left) in
-    record {
-      is = sym (rw (← end .ensures .is, ← e) (l .inv .1 .none));
-      low = omega arith;
-      high = omega (arith, e, end .ensures .high);
-    }
+returns-2 : tie.Need-returns-2
+returns-2 c = search needs
 
 pub nth-owed-spec : {M : Type 1} → statement M
 nth-owed-spec =
     tie.close
     (tie.spec
-    Inv-loop
-    μ-loop
-    reach-requires
-    loop-holds
-    add-is-owed
-    is-owed-requires
+    latest-above-requires
+    is-reached-requires
+    walk-of-requires
+    nth-in-requires
     returns
-    add-owed
-    add-i
-    loop-less
-    loop-again
+    nth-by-ticks-requires
     returns-2)

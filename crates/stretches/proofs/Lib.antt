@@ -1,0 +1,8 @@
+-- Laws of what is owed in stretches.
+pub mod Counted
+pub mod OneChannel
+pub mod Walked
+pub mod Steps
+pub mod Lately
+pub mod Slots
+pub mod FromFloorUp

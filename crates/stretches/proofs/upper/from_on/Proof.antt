@@ -1,0 +1,41 @@
+-- `from_on` meets its contract: as many slots as are left up to the channel's last place.
+use mathlib.Core.Path.{_≡_, ap, _∙_}
+use Prim.Native.Nat.{_+_, _-_, _*_, _^_, _≤_}
+use native.Mathlib.Omega.{arith}
+use Rattle.rules.specs.Limits.{countMax}
+use Rattle.stretches.proofs.Steps.{from-is, small}
+use borrow.Author.Needs.{needs}
+use Rattle.stretches.proofs.upper.from_on.Statement.{statement}
+use Rattle.stretches.proofs.upper.from_on.Tie as tie
+
+rest-on-requires : tie.Need-rest-on-requires
+rest-on-requires c κs = search needs
+
+add-since : tie.Need-add-since
+add-since c = search needs
+
+pow2-requires : tie.Need-pow2-requires
+pow2-requires c κs = search needs
+
+since-requires : tie.Need-since-requires
+since-requires c κs = search needs
+
+mul-result : tie.Need-mul-result
+mul-result c =
+    let s = c .before .before .before .before in
+    record { fits = omega (arith, small (c .before .since .result) (s .args .s .width) (omega (arith, c .before .since .ensures, c .before .before .pow2 .ensures .high)) (s .pre .walk .width)) }
+
+returns : tie.Need-returns
+returns c =
+    let s = c .before .before .before .before in
+    let p = c .before .before .pow2 in
+    let r = c .before .before .before .rest-on in
+    record {
+      is = rw (c .before .since .ensures, r .ensures .is, p .ensures .is) (from-is (s .args .s) (s .args .channel));
+      low = omega arith;
+      high = omega (arith, small (c .before .since .result) (s .args .s .width) (omega (arith, c .before .since .ensures, p .ensures .high)) (s .pre .walk .width));
+    }
+
+pub from-on-spec : {M : Type 1} → statement M
+from-on-spec =
+    tie.close (tie.spec rest-on-requires add-since pow2-requires since-requires mul-result returns)

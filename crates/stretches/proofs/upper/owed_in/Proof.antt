@@ -1,0 +1,62 @@
+-- `owed_in` meets its contract: the loop's number is that of the channels passed.
+use Prim.Native.Nat.{suc, _+_, _-_, _*_, _^_, _≤_, _<_}
+use mathlib.Core.Path.{_≡_, refl, sym, ap, _∙_}
+use native.Mathlib.Omega.{arith}
+use native.Mathlib.Numerals.{add-one}
+use native.Mathlib.Nat.{le-antisymm}
+use Rattle.rules.specs.Limits.{countMax}
+use Rattle.rules.specs.Search.{total}
+use Rattle.stretches.specs.inner.Walk.{ticksTo, ticksOn}
+use Rattle.stretches.proofs.Steps.{ticks-more}
+use borrow.Author.Needs.{needs}
+use Rattle.stretches.proofs.upper.owed_in.Statement.{statement}
+use Rattle.stretches.proofs.upper.owed_in.Tie as tie
+
+abbrev Inv-loop : tie.InvT-loop
+Inv-loop s lane owed₀ i₀ owed i = (i ≤ lane) × (owed ≡ ticksTo s i) × (owed ≤ 2 ^ countMax * i) × (lane ≡ s .lane)
+
+abbrev μ-loop : tie.MeasureT-loop
+μ-loop s lane owed₀ i₀ owed i = lane - i
+
+loop-holds : tie.Need-loop-holds Inv-loop μ-loop
+unfolding ticksTo total
+loop-holds c = (omega arith, refl, omega arith, refl)
+
+add-ticks-on : tie.Need-add-ticks-on Inv-loop μ-loop
+add-ticks-on c = search needs
+
+ticks-on-requires : tie.Need-ticks-on-requires Inv-loop μ-loop
+ticks-on-requires c κs = search needs
+
+add-owed : tie.Need-add-owed Inv-loop μ-loop
+add-owed c = search needs
+
+add-i : tie.Need-add-i Inv-loop μ-loop
+add-i c = search needs
+
+loop-less : tie.Need-loop-less Inv-loop μ-loop
+loop-less c = search needs
+
+loop-again : tie.Need-loop-again Inv-loop μ-loop
+loop-again c =
+    let l = c .before .before .loop in
+    let s = c .before .before .before .args .s in
+    (omega arith, ticks-more s (l .i) (l .owed) (c .ticks-on .result) (l .inv .1) (c .ticks-on .ensures .is), omega (arith, c .ticks-on .ensures .high), search needs)
+
+returns : tie.Need-returns Inv-loop μ-loop
+returns c = cc (le-antisymm (c .before .loop .inv .0) (c .loop-test .left))
+
+pub owed-in-spec : {M : Type 1} → statement M
+owed-in-spec =
+    tie.close
+    (tie.spec
+    Inv-loop
+    μ-loop
+    loop-holds
+    add-ticks-on
+    ticks-on-requires
+    add-owed
+    add-i
+    loop-less
+    loop-again
+    returns)

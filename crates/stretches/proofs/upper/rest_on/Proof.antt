@@ -1,0 +1,33 @@
+-- `rest_on` meets its contract: a remainder by a power of two.
+use mathlib.Core.Path.{_≡_, sym}
+use native.Mathlib.Omega.{arith}
+use borrow.Author.Needs.{needs}
+use Rattle.stretches.specs.inner.Walk.{restOn}
+use Rattle.stretches.proofs.Steps.{rest-low}
+use Rattle.stretches.proofs.upper.rest_on.Statement.{statement}
+use Rattle.stretches.proofs.upper.rest_on.Tie as tie
+
+add-smaller : tie.Need-add-smaller
+add-smaller c = search needs
+
+smaller-requires : tie.Need-smaller-requires
+smaller-requires c κs = search needs
+
+pow2-requires : tie.Need-pow2-requires
+pow2-requires c κs = search needs
+
+rem-result : tie.Need-rem-result
+rem-result c = search needs
+
+returns : tie.Need-returns
+unfolding restOn
+returns c =
+    let a = c .before .before .before in
+    record {
+      is = simp (c .before .pow2 .ensures .is, c .before .before .smaller .ensures);
+      low = omega arith;
+      high = simp (c .before .pow2 .ensures .is, c .before .before .smaller .ensures) (rest-low (a .args .s) (a .args .channel) (a .pre));
+    }
+
+pub rest-on-spec : {M : Type 1} → statement M
+rest-on-spec = tie.close (tie.spec add-smaller smaller-requires pow2-requires rem-result returns)

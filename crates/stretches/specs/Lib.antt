@@ -1,0 +1,2 @@
+-- What a dropped lane owes, stretch by stretch.
+pub mod inner

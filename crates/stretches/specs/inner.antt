@@ -1,0 +1,2 @@
+-- What this crate's functions promise each other.
+pub mod Walk
