@@ -1,2 +1,11 @@
--- What a dropped lane owes, stretch by stretch.
+-- What a dropped lane owes, stretch by stretch. The crate declares nothing that a customer reads: what is owed is said in `story` specs/Kept
+-- (`keptWithin`, `keptNth`), and its functions compute it for a lane from the floor up that was dropped at one of its slot starts, after
+-- every count above it had ended (`stretches` specs/inner/Walk `isReached`), which is where events drop it.
+-- - In a slot of the lane all cells are those of the last segment of one channel, whose number is the low zeros of the slot's number
+--   (`stretches` proofs/Slots `added-zeros`, `added-cell`), and every larger count takes them for as long (`wants-as-long`); on channel 0 nobody awaits
+--   them who began in time (`wants-none`).
+-- - So of each channel one slot at most is awaited, and of it the first ticks (`stretches` specs/inner/Walk `ticksOn`, `fromOn`), in the order of the
+--   channels: `stretches` proofs/Walked `all-owed`, `nth-owed`.
+-- - Their sum is what the lane owes, and the stretch that reaches past a number has the owed tick of that number: `stretches`
+--   proofs/FromFloorUp `owes-in`, `nth-exactly`.
 pub mod inner
