@@ -12,6 +12,8 @@ use scheme::lane_cell;
 use scheme::period;
 use story::Title;
 use stretches::latest::latest_above;
+use stretches::low::is_idle;
+use stretches::low::owed_low;
 use stretches::upper::is_reached;
 use stretches::upper::owed_in;
 use stretches::upper::walk_of;
@@ -121,8 +123,9 @@ pub fn owed_within(t: Title, lane: u64, from: u64, n: u64) -> u64
     owed
 }
 
-// How many ticks a lane owes that is dropped at a tick: by stretches, and tick by tick where no events lead.
-pub fn owes(t: Title, lane: u64, at: u64) -> u64
+// How many ticks a lane owes that is dropped at a tick, of a lane from the floor up: by its channels, and tick by tick where no events
+// lead.
+fn owes_up(t: Title, lane: u64, at: u64) -> u64
     requires { ⌜ Owing t ⌝ }
     requires { ⌜ (lane < t .film .cap) × (at ≤ askedMax) ⌝ }
     ensures { λ r. ⌜ r ≡ keptWithin t lane at (reachOf (t .film .cap)) ⌝ }
@@ -133,4 +136,35 @@ pub fn owes(t: Title, lane: u64, at: u64) -> u64
         return owed_in(walk_of(film, lane, at, latest.until));
     }
     owed_within(t, lane, at, reach(t))
+}
+
+// Of lane 0: nothing, and tick by tick where no events lead.
+fn owes_first(t: Title, at: u64) -> u64
+    requires { ⌜ Owing t ⌝ }
+    requires { ⌜ (at ≤ askedMax) × (t .film .kind ≡ steadyKind → ⊥) ⌝ }
+    ensures { λ r. ⌜ r ≡ keptWithin t 0 at (reachOf (t .film .cap)) ⌝ }
+{
+    let film = t.film;
+    if is_idle(&t.ends, film, at) {
+        return 0;
+    }
+    owed_within(t, 0, at, reach(t))
+}
+
+// Of any lane: by stretches where it has them.
+pub fn owes(t: Title, lane: u64, at: u64) -> u64
+    requires { ⌜ Owing t ⌝ }
+    requires { ⌜ (lane < t .film .cap) × (at ≤ askedMax) ⌝ }
+    ensures { λ r. ⌜ r ≡ keptWithin t lane at (reachOf (t .film .cap)) ⌝ }
+{
+    if t.film.kind == STEADY {
+        return owed_within(t, lane, at, reach(t));
+    }
+    if t.film.floor <= lane {
+        return owes_up(t, lane, at);
+    }
+    if lane == 0 {
+        return owes_first(t, at);
+    }
+    owed_low(t, lane, at)
 }

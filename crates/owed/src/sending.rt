@@ -4,9 +4,11 @@ use crate::owing::is_owed;
 use grid::pow2;
 use measures::lanes::ruling;
 use measures::ticks::since;
+use scheme::STEADY;
 use scheme::lane_cell;
 use story::Title;
 use stretches::latest::latest_above;
+use stretches::low::nth_low;
 use stretches::upper::is_reached;
 use stretches::upper::nth_in;
 use stretches::upper::walk_of;
@@ -49,8 +51,8 @@ fn nth_by_ticks(t: Title, lane: u64, from: u64, nth: u64) -> u64
     i
 }
 
-// The same by stretches, and tick by tick where no events lead.
-fn nth_owed(t: Title, lane: u64, from: u64, nth: u64) -> u64
+// The same of a lane from the floor up: by its channels, and tick by tick where no events lead.
+fn nth_up(t: Title, lane: u64, from: u64, nth: u64) -> u64
     requires { ⌜ Owing t ⌝ }
     requires { ⌜ (lane < t .film .cap) × (from ≤ askedMax) ⌝ }
     ensures { λ r. ⌜ Exactly (first (keptNth t lane from nth) (reachOf (t .film .cap))) 0 (2 ^ countMax) r ⌝ }
@@ -61,6 +63,24 @@ fn nth_owed(t: Title, lane: u64, from: u64, nth: u64) -> u64
         return nth_in(walk_of(film, lane, from, latest.until), nth);
     }
     nth_by_ticks(t, lane, from, nth)
+}
+
+// The same of any lane: by stretches where it has them. Of lane 0 events leave nothing to find.
+fn nth_owed(t: Title, lane: u64, from: u64, nth: u64) -> u64
+    requires { ⌜ Owing t ⌝ }
+    requires { ⌜ (lane < t .film .cap) × (from ≤ askedMax) ⌝ }
+    ensures { λ r. ⌜ Exactly (first (keptNth t lane from nth) (reachOf (t .film .cap))) 0 (2 ^ countMax) r ⌝ }
+{
+    if t.film.kind == STEADY {
+        return nth_by_ticks(t, lane, from, nth);
+    }
+    if t.film.floor <= lane {
+        return nth_up(t, lane, from, nth);
+    }
+    if lane == 0 {
+        return nth_by_ticks(t, lane, from, nth);
+    }
+    nth_low(t, lane, from, nth)
 }
 
 // The tick whose cell a sending lane shows at a tick.

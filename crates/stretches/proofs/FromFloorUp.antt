@@ -30,7 +30,7 @@ use Rattle.story.specs.Kept.{schemeIn, titleTick, wants, keptAwaited, keptOwed,
 use Rattle.measures.specs.Readable.{Filmed}
 use Rattle.stretches.specs.declared.upper.Walk.{Walk}
 use Rattle.stretches.specs.inner.Walk.{IsLatest, Walkable, isReached, walkOf, behindOn, fromOn, ticksTo, NthIn}
-use Rattle.stretches.proofs.OneChannel.{padded-wants}
+use Rattle.stretches.proofs.OneChannel.{padded-wants, some-awaits, awaits-in}
 use Rattle.stretches.proofs.Walked.{On, owedOn, all-owed, nth-owed, nth-past}
 use Rattle.stretches.proofs.Slots.{added-zeros, added-cell, slot-less, wants-as-long, wants-none, wants-never}
 
@@ -72,21 +72,6 @@ reached-in t l T until end high latest h =
       aligned = eqb-true (T % slot (t .film .cap) (suc l)) 0 (both-r (leb end T) start last);
     }
 
--- the boxes of some count that await a cell
-some-awaits : (t : Title) (l u x : ℕ) → keptAwaited t l x u ≡ true →
-    (c : ℕ) × (l < c) × (c ≤ t .film .cap) × (wants (schemeIn t) (getD (t .ends) c 0) x u c ≡ true)
-unfolding keptAwaited
-some-awaits t l u x b =
-    let p : ℕ → Bool = λ c. both (ltb l c) (both (leb (t .film .floor) c) (wants (schemeIn t) (getD (t .ends) c 0) x u c)) in
-    let r = some-out p (suc (t .film .cap)) b in
-    let c : ℕ = r .0 in
-    let takes : Bool = wants (schemeIn t) (getD (t .ends) c 0) x u c in (
-      c,
-      ltb-true l c (both-l (ltb l c) (both (leb (t .film .floor) c) takes) (r .2)),
-      omega (arith, r .1),
-      both-r (leb (t .film .floor) c) takes (both-r (ltb l c) (both (leb (t .film .floor) c) takes) (r .2)),
-    )
-
 module _ (t : Title) (l T until end : ℕ) (h : Reached t l T until end) (u : ℕ) (from : T + u % slot (t .film .cap) (suc l) ≤ u) where
   -- the boxes of one count
   module _ (c : ℕ) (has : l < c) (fit : c ≤ t .film .cap) where
@@ -105,30 +90,26 @@ module _ (t : Title) (l T until end : ℕ) (h : Reached t l T until end) (u : �
         let some : 0 < d = pos-of-ne-zero (λ z. false≢true (sym (wants-none K l c has fit A u e (h .low) z (omega (arith, h .past))) ∙ b')) in
         let late : u + slot K c < e + slot K (suc l) * 2 ^ d =
         ltb-true (u + slot K c) (e + slot K (suc l) * 2 ^ d) (sym (wants-as-long K l c has fit A u e (h .low) some ruled) ∙ b') in
-        let bound : e + (slot K (suc l) - slot K c) ≤ until = h .latest .bound c has (omega arith) ruled in
-        let less : slot K c ≤ slot K (suc l) = slot-less K l c has fit in
+        let bound : e + (slot K (suc l) - slot K c) ≤ until = h .latest .most .bound c has (omega arith) ruled in
+        let less : slot K c ≤ slot K (suc l) = slot-less K (suc l) c has fit in
         (some, omega arith, omega arith)
 
   latest-wants : 0 < addedChannel (t .film .floor) (t .film .cap) l u → 0 < until →
       u + slot (t .film .cap) (suc l) < until + slot (t .film .cap) (suc l) * 2 ^ addedChannel (t .film .floor) (t .film .cap) l u →
       keptAwaited t l (laneCell (t .film .floor) (t .film .cap) l u) u ≡ true
-  unfolding keptAwaited
   latest-wants some began late =
       let A : ℕ = t .film .floor in
       let K : ℕ = t .film .cap in
       let d : ℕ = addedChannel A K l u in
-      let r = h .latest .hit began in
+      let r = h .latest .most .hit began in
       let c : ℕ = r .0 in
       let e : ℕ = getD (t .ends) c 0 in
       let fit : c ≤ K = omega (arith, r .2) in
-      let less : slot K c ≤ slot K (suc l) = slot-less K l c (r .1) fit in
+      let less : slot K c ≤ slot K (suc l) = slot-less K (suc l) c (r .1) fit in
       let takes : wants (padded A K) e (laneCell A K l u) u c ≡ true =
       wants-as-long K l c (r .1) fit A u e (h .low) some (r .3)
       ∙ lt-ltb (u + slot K c) (e + slot K (suc l) * 2 ^ d) (omega (arith, r .4)) in
-      some-in (λ c. both (ltb l c) (both (leb A c) (wants (schemeIn t) (getD (t .ends) c 0) (laneCell A K l u) u c))) (suc K) c (r .2)
-      (both-in (ltb l c) (both (leb A c) (wants (schemeIn t) e (laneCell A K l u) u c)) (lt-ltb l c (r .1))
-      (both-in (leb A c) (wants (schemeIn t) e (laneCell A K l u) u c) (le-leb A c (omega (arith, r .1, h .low)))
-      (sym (padded-wants t (laneCell A K l u) u c (h .off)) ∙ takes)))
+      awaits-in t l u (laneCell A K l u) c (r .1) (omega (arith, r .1, h .low)) fit (sym (padded-wants t (laneCell A K l u) u c (h .off)) ∙ takes)
 
   awaited : keptAwaited t l (laneCell (t .film .floor) (t .film .cap) l u) u
       ≡ both (ltb 0 until) (both (ltb 0 (addedChannel (t .film .floor) (t .film .cap) l u))
@@ -150,7 +131,7 @@ module _ (t : Title) (l T until end : ℕ) (h : Reached t l T until end) (u : �
       into : keptAwaited t l (laneCell A K l u) u ≡ true → both (ltb 0 until) (both (ltb 0 d) late) ≡ true
       into b =
           let r = some-awaits t l u (laneCell A K l u) b in
-          let v = count-wants (r .0) (r .1) (r .2) (r .3) in
+          let v = count-wants (r .0) (r .1) (r .3) (r .4) in
           both-in (ltb 0 until) (both (ltb 0 d) late) (lt-ltb 0 until (v .1))
           (both-in (ltb 0 d) late (lt-ltb 0 d (v .0)) (lt-ltb (u + slot K (suc l)) (until + slot K (suc l) * 2 ^ d) (v .2)))
 
@@ -181,7 +162,7 @@ module _ (t : Title) (l T until end : ℕ) (h : Reached t l T until end) (f : Fi
     where
       late : eqb until 0 ≡ false → until ≤ T + slot (t .film .cap) (suc l)
       late z =
-          let r = h .latest .hit (pos-of-ne-zero (eqb-false until 0 z)) in
+          let r = h .latest .most .hit (pos-of-ne-zero (eqb-false until 0 z)) in
           omega (arith, r .4, h .latest .ended (r .0) (r .1) (r .2), h .past)
 
   -- there is room for every sum

@@ -5,4 +5,7 @@ pub mod Walked
 pub mod Steps
 pub mod Lately
 pub mod Slots
+pub mod LowSlots
+pub mod LowSteps
 pub mod FromFloorUp
+pub mod BelowFloor

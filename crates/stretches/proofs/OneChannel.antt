@@ -2,15 +2,16 @@
 -- all: where it goes out, just while they take that channel. A lane's own cell goes out under every count that has the
 -- lane. Rests on the grid's laws of lanes and of the one channel of a cell.
 use mathlib.Core.Path.{_≡_, sym, ap, _∙_}
-use mathlib.Core.Bool.{true}
-use Prim.Native.Nat.{ℕ, _+_, _*_, _^_, _≤_, _<_}
+use mathlib.Core.Bool.{Bool, true}
+use Prim.Native.Nat.{ℕ, suc, _+_, _*_, _^_, _≤_, _<_}
 use native.Mathlib.Omega.{arith}
-use lib.Dec.{ltb, eqb}
+use lib.Dec.{leb, ltb, eqb}
 use lib.ListN.{getD}
-use borrow.Author.Tests.{eqb-true, ltb-true, lt-ltb}
+use borrow.Author.Tests.{eqb-true, ltb-true, lt-ltb, le-leb, leb-true}
 use Rattle.rules.specs.Limits.{both}
 use Rattle.rules.specs.Search.{some}
-use Rattle.rules.proofs.Tests.{both-l, both-r, both-true}
+use Rattle.rules.proofs.Tests.{both-l, both-r, both-in, both-true}
+use Rattle.rules.proofs.Search.{some-in, some-out}
 use Rattle.grid.specs.Ticks.{slot}
 use Rattle.grid.specs.Channels.{channelCell}
 use Rattle.grid.specs.Lanes.{isInG, laneCell}
@@ -20,7 +21,7 @@ use Rattle.grid.proofs.Carriers.{carries-only, carrier-one, some-one, in-carrie
 use Rattle.scheme.specs.Scheme.{Scheme, padded, steadyKind}
 use Rattle.scheme.proofs.ByKind.{padded-scheme}
 use Rattle.story.specs.declared.Title.{Title}
-use Rattle.story.specs.Kept.{schemeIn, wantsFrom, wants}
+use Rattle.story.specs.Kept.{schemeIn, wantsFrom, wants, keptAwaited}
 
 module _ (A K c end x u : ℕ) where
   wants-carried : (d : ℕ) → Carrier K c x d
@@ -61,3 +62,27 @@ padded-wants t x u c off =
 -- and of the counts that have lane l, which all have its cell
 pub own-cell : (A K l k u x : ℕ) → k ≤ K → l < k → x ≡ laneCell A K l u → A ≤ k → isInG A K k u x ≡ true
 own-cell A K l k u x high has e low = rw e (isInG-in A K k u (laneCell A K l u) (cell-of-lane A K k l u low high has))
+
+-- the boxes of some count that await a cell
+pub some-awaits : (t : Title) (l u x : ℕ) → keptAwaited t l x u ≡ true →
+    (c : ℕ) × (l < c) × (t .film .floor ≤ c) × (c ≤ t .film .cap) × (wants (schemeIn t) (getD (t .ends) c 0) x u c ≡ true)
+unfolding keptAwaited
+some-awaits t l u x b =
+    let p : ℕ → Bool = λ c. both (ltb l c) (both (leb (t .film .floor) c) (wants (schemeIn t) (getD (t .ends) c 0) x u c)) in
+    let r = some-out p (suc (t .film .cap)) b in
+    let c : ℕ = r .0 in
+    let takes : Bool = wants (schemeIn t) (getD (t .ends) c 0) x u c in (
+      c,
+      ltb-true l c (both-l (ltb l c) (both (leb (t .film .floor) c) takes) (r .2)),
+      leb-true (t .film .floor) c (both-l (leb (t .film .floor) c) takes (both-r (ltb l c) (both (leb (t .film .floor) c) takes) (r .2))),
+      omega (arith, r .1),
+      both-r (leb (t .film .floor) c) takes (both-r (ltb l c) (both (leb (t .film .floor) c) takes) (r .2)),
+    )
+
+pub awaits-in : (t : Title) (l u x c : ℕ) → l < c → t .film .floor ≤ c → c ≤ t .film .cap → wants (schemeIn t) (getD (t .ends) c 0) x u c ≡ true →
+    keptAwaited t l x u ≡ true
+unfolding keptAwaited
+awaits-in t l u x c has low fit takes =
+    some-in (λ c. both (ltb l c) (both (leb (t .film .floor) c) (wants (schemeIn t) (getD (t .ends) c 0) x u c))) (suc (t .film .cap)) c (omega arith)
+    (both-in (ltb l c) (both (leb (t .film .floor) c) (wants (schemeIn t) (getD (t .ends) c 0) x u c)) (lt-ltb l c has)
+    (both-in (leb (t .film .floor) c) (wants (schemeIn t) (getD (t .ends) c 0) x u c) (le-leb (t .film .floor) c low) takes))

@@ -86,16 +86,37 @@ module _ (a P v r : ℕ) (two : 2 ≤ a) (parts : 0 < P) (pos : 0 < v) (within :
           let n : (g + 2) * P ≡ 2 * a * P = ap (λ x. x * P) e in
           (omega arith, omega arith)
 
-module _ (K l c : ℕ) (has : l < c) (fit : c ≤ K) where
-  pub slot-parts : slot K (suc l) ≡ 2 ^ (c - suc l) * slot K c
-  unfolding slot
-  slot-parts = let e : K - suc l ≡ (c - suc l) + (K - c) = omega arith in ap (λ n. 2 ^ n) e ∙ pow-add 2 (c - suc l) (K - c)
+-- a box has a cell by its turn: none that began so long ago awaits it
+pub wants-passed : (A K l c u end : ℕ) → l < c → A ≤ c → c ≤ K → end + laneCell A K l u ≤ u → wants (padded A K) end (laneCell A K l u) u c ≡ false
+wants-passed A K l c u end has low fit early =
+    let x : ℕ = laneCell A K l u in
+    let v : ℕ = slot K c in
+    let out : isInG A K c u x ≡ true = own-cell A K l c u x fit has refl low in
+    let on = isInG-out A K c u x out in
+    let carries : Carrier K c x (on .0) = rw (on .2) at (carries-only A K c (on .0) u (omega (arith, on .1))) in
+    let m : v * 2 ^ on .0 ≤ v * (x / v + 1) = mul-le-mul-left v (carries .low) in
+    let q : v * (x / v) + x % v ≡ x = div-add-mod x v in
+    ⊎-elim
+    (λ t. wants-never (padded A K) end x u c (eqb-true end 0 t))
+    (λ t.
+    wants-window A K c end x u (on .0) carries out (pos-of-ne-zero (eqb-false end 0 t))
+    ∙ le-ltb (u + v) (end + v * 2 ^ on .0) (omega arith))
+    (decide (eqb end 0))
 
-  pub slot-less : slot K c ≤ slot K (suc l)
-  slot-less =
-      let p : 0 < 2 ^ (c - suc l) = pow-pos (c - suc l) in
-      let m : 1 * slot K c ≤ 2 ^ (c - suc l) * slot K c = mul-le-mul-right (slot K c) p in
-      omega (arith, slot-parts)
+-- a slot of a count holds whole slots of a larger one
+pub slot-split : (K k c : ℕ) → k ≤ c → c ≤ K → slot K k ≡ 2 ^ (c - k) * slot K c
+unfolding slot
+slot-split K k c l fit = let e : K - k ≡ (c - k) + (K - c) = omega arith in ap (λ n. 2 ^ n) e ∙ pow-add 2 (c - k) (K - c)
+
+pub slot-less : (K k c : ℕ) → k ≤ c → c ≤ K → slot K c ≤ slot K k
+slot-less K k c l fit =
+    let p : 0 < 2 ^ (c - k) = pow-pos (c - k) in
+    let m : 1 * slot K c ≤ 2 ^ (c - k) * slot K c = mul-le-mul-right (slot K c) p in
+    omega (arith, slot-split K k c l fit)
+
+module _ (K l c : ℕ) (has : l < c) (fit : c ≤ K) where
+  slot-parts : slot K (suc l) ≡ 2 ^ (c - suc l) * slot K c
+  slot-parts = slot-split K (suc l) c has fit
 
   last-carrier : (d r : ℕ) → 0 < d → r < slot K (suc l) → Carrier K c ((2 * 2 ^ d - 2) * slot K (suc l) + r) (d + (c - suc l))
   last-carrier d r some b =
@@ -126,23 +147,7 @@ module _ (K l c : ℕ) (has : l < c) (fit : c ≤ K) where
         ∙ ap (λ n. ltb (u + slot K c) (end + n)) (same-span d)
 
     -- and on channel 0 none that began before the slot
-    wants-past : (e : ℕ) → Carrier K c (laneCell A K l u) e → laneCell A K l u ≡ u % slot K (suc l) → end + u % slot K (suc l) ≤ u → 0 < end →
-        wants (padded A K) end (laneCell A K l u) u c ≡ false
-    wants-past e carries is early ruled =
-        let x : ℕ = laneCell A K l u in
-        let v : ℕ = slot K c in
-        let m : v * 2 ^ e ≤ v * (x / v + 1) = mul-le-mul-left v (carries .low) in
-        let q : v * (x / v) + x % v ≡ x = div-add-mod x v in
-        wants-window A K c end x u e carries (own-cell A K l c u x fit has refl (omega arith)) ruled
-        ∙ le-ltb (u + v) (end + v * 2 ^ e) (omega arith)
-
     pub wants-none : addedChannel A K l u ≡ 0 → end + u % slot K (suc l) ≤ u → wants (padded A K) end (laneCell A K l u) u c ≡ false
     wants-none first-channel early =
-        let x : ℕ = laneCell A K l u in
-        let is : x ≡ u % slot K (suc l) = added-cell A K l u low (omega arith) ∙ rw first-channel (omega arith) in
-        let on = isInG-out A K c u x (own-cell A K l c u x fit has refl (omega arith)) in
-        let carries : Carrier K c x (on .0) = rw (on .2) at (carries-only A K c (on .0) u (omega (arith, on .1))) in
-        ⊎-elim
-        (λ t. wants-never (padded A K) end x u c (eqb-true end 0 t))
-        (λ t. wants-past (on .0) carries is early (pos-of-ne-zero (eqb-false end 0 t)))
-        (decide (eqb end 0))
+        let is : laneCell A K l u ≡ u % slot K (suc l) = added-cell A K l u low (omega arith) ∙ rw first-channel (omega arith) in
+        wants-passed A K l c u end has (omega arith) fit (omega arith)

@@ -19,14 +19,14 @@ pub struct Latest {
 }
 
 // The larger of two numbers.
-fn larger(a: u64, b: u64) -> u64
+pub fn larger(a: u64, b: u64) -> u64
     ensures { λ r. ⌜ r ≡ max a b ⌝ }
 {
     if a <= b { b } else { a }
 }
 
 // A count that ended so, moved by so many ticks; 0 stays, as it never ruled.
-fn moved(end: u64, by: u64) -> u64
+pub fn moved(end: u64, by: u64) -> u64
     requires { ⌜ end + by < 2 ^ 64 ⌝ }
     ensures { λ r. ⌜ r ≡ pick (eqb end 0) 0 (end + by) ⌝ }
 {

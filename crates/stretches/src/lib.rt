@@ -3,4 +3,5 @@
 // come in the order of their channels.
 
 pub mod latest;
+pub mod low;
 pub mod upper;

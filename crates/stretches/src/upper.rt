@@ -55,7 +55,7 @@ pub fn is_reached(film: Film, lane: u64, at: u64, end: u64) -> bool
 }
 
 // How many cells of a film hold some.
-fn film_cells(film: Film) -> u64
+pub fn film_cells(film: Film) -> u64
     requires { ⌜ Filmed film ⌝ }
     ensures { λ r. ⌜ r ≡ roundedUp (film .length) (tickBy film) ⌝ }
 {

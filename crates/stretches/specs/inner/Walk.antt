@@ -52,11 +52,15 @@ ticksOn s d = pick (awaitedOn s d) (min (s .width) (min (s .until + restOn s d *
 unfoldable pub ticksTo : Walk → ℕ → ℕ
 ticksTo s n = total (λ i. ticksOn s (suc i)) n
 
--- of the counts from l + 1 up to, not including, n: a slot of the lane that begins with the latest box of theirs ends at `until`, which is
--- 0 where there is none; and no count ended later than at `end`
+-- of the counts from k up to, not including, n that ever ruled: the largest of their ends, each moved by so many ticks; 0 where there is none
+pub record IsMost (ends : List ℕ) (by : ℕ → ℕ) (k n m : ℕ) : Type 0 where
+  pub bound : (c : ℕ) → k ≤ c → c < n → 0 < getD ends c 0 → getD ends c 0 + by c ≤ m
+  pub hit : 0 < m → (c : ℕ) × (k ≤ c) × (c < n) × (0 < getD ends c 0) × (m ≡ getD ends c 0 + by c)
+
+-- of the counts above lane l up to, not including, n: a slot of the lane that begins with the latest box of theirs ends at `until`, and no
+-- count ended later than at `end`
 pub record IsLatest (ends : List ℕ) (K l n until end : ℕ) : Type 0 where
-  pub bound : (c : ℕ) → l < c → c < n → 0 < getD ends c 0 → getD ends c 0 + (slot K (suc l) - slot K c) ≤ until
-  pub hit : 0 < until → (c : ℕ) × (l < c) × (c < n) × (0 < getD ends c 0) × (until ≡ getD ends c 0 + (slot K (suc l) - slot K c))
+  pub most : IsMost ends (λ c. slot K (suc l) - slot K c) (suc l) n until
   pub ended : (c : ℕ) → l < c → c < n → getD ends c 0 ≤ end
 
 -- lane l, dropped at tick T, is one from the floor up, T is one of its slot starts, and the counts above had ended by then

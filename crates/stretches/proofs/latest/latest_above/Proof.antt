@@ -50,7 +50,7 @@ wide c =
     let a = c .before .before .before .before .before .args in
     let k = c .before .before .before .loop .count in
     let e = c .before .before .before .before .slot .ensures .is ∙ ap (slotOf (a .cap)) (add-one (a .lane)) in
-    (e, omega (arith, e, c .slot2 .ensures .is, slot-less (a .cap) (a .lane) k (c .before .before .before .loop .inv .1) (c .before .before .loop-test .taken)))
+    (e, omega (arith, e, c .slot2 .ensures .is, slot-less (a .cap) (suc (a .lane)) k (c .before .before .before .loop .inv .1) (c .before .before .loop-test .taken)))
 
 sub-moved : tie.Need-sub-moved Inv-loop μ-loop
 sub-moved c = wide c .1

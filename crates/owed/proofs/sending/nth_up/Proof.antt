@@ -1,10 +1,10 @@
--- `nth_owed` meets its contract: a lane that events dropped is walked by its channels, any other by its ticks. Rests on the law of that walk.
+-- `nth_up` meets its contract: a lane that events dropped is walked by its channels, any other by its ticks. Rests on the law of that walk.
 use mathlib.Core.Path.{_≡_, sym, ap, _∙_}
 use Rattle.stretches.specs.inner.Walk.{NthIn}
 use Rattle.stretches.proofs.FromFloorUp.{Reached, reached-in, walkable, nth-exactly}
 use borrow.Author.Needs.{needs}
-use Rattle.owed.proofs.sending.nth_owed.Statement.{statement}
-use Rattle.owed.proofs.sending.nth_owed.Tie as tie
+use Rattle.owed.proofs.sending.nth_up.Statement.{statement}
+use Rattle.owed.proofs.sending.nth_up.Tie as tie
 
 latest-above-requires : tie.Need-latest-above-requires
 latest-above-requires c κs = search needs
@@ -49,8 +49,8 @@ nth-by-ticks-requires c κs = search needs
 returns-2 : tie.Need-returns-2
 returns-2 c = search needs
 
-pub nth-owed-spec : {M : Type 1} → statement M
-nth-owed-spec =
+pub nth-up-spec : {M : Type 1} → statement M
+nth-up-spec =
     tie.close
     (tie.spec
     latest-above-requires

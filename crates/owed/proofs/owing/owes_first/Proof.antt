@@ -1,0 +1,29 @@
+-- `owes_first` meets its contract: events leave nothing to owe, and elsewhere the ticks are counted. Rests on the law of lane 0.
+use mathlib.Core.Path.{sym, _∙_}
+use Rattle.story.specs.Life.{reach as reachOf}
+use Rattle.stretches.proofs.BelowFloor.{idle-owes}
+use borrow.Author.Needs.{needs}
+use Rattle.owed.proofs.owing.owes_first.Statement.{statement}
+use Rattle.owed.proofs.owing.owes_first.Tie as tie
+
+is-idle-requires : tie.Need-is-idle-requires
+is-idle-requires c κs = search needs
+
+returns : tie.Need-returns
+returns c =
+    let s = c .before .before .before .before .before in
+    let a = s .args in
+    idle-owes (a .t1) (a .at) (s .pre .1 .1) (s .pre .0 .film .cut .low) (c .before .is-idle .ensures (c .if1 .taken)) (reachOf (a .t1 .film .cap))
+
+reach-requires : tie.Need-reach-requires
+reach-requires c κs = search needs
+
+owed-within-requires : tie.Need-owed-within-requires
+owed-within-requires c κs = search needs
+
+returns-2 : tie.Need-returns-2
+returns-2 c = rw (← c .before .reach .ensures .is) (c .owed-within .ensures .is)
+
+pub owes-first-spec : {M : Type 1} → statement M
+owes-first-spec =
+    tie.close (tie.spec is-idle-requires returns reach-requires owed-within-requires returns-2)

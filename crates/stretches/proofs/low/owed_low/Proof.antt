@@ -1,0 +1,148 @@
+-- `owed_low` meets its contract: the loop's number is that of the ticks passed. Rests on the laws of stretches.
+use Prim.Native.Nat.{_+_, _-_, _≤_, _<_, min}
+use mathlib.Core.Path.{_≡_, refl, sym, ap, ap₂, _∙_}
+use native.Mathlib.Omega.{arith}
+use native.Mathlib.Nat.{le-antisymm}
+use Rattle.rules.specs.Search.{howMany}
+use Rattle.story.specs.Life.{reach}
+use Rattle.story.specs.Kept.{keptWithin}
+use Rattle.stretches.proofs.LowSteps.{Stepped, step}
+use Rattle.stretches.proofs.BelowFloor.{step-owed, all-within}
+use borrow.Author.Needs.{needs}
+use Rattle.stretches.proofs.low.owed_low.Statement.{statement}
+use Rattle.stretches.proofs.low.owed_low.Tie as tie
+
+abbrev Inv-loop : tie.InvT-loop
+Inv-loop lane at t s cells late end owed₀ i₀ owed i = (i ≤ end) × (owed ≡ keptWithin t lane at i) × (owed ≤ i)
+
+abbrev μ-loop : tie.MeasureT-loop
+μ-loop lane at t s cells late end owed₀ i₀ owed i = end - i
+
+low-of-requires : tie.Need-low-of-requires Inv-loop μ-loop
+low-of-requires c κs = search needs
+
+film-cells-requires : tie.Need-film-cells-requires Inv-loop μ-loop
+film-cells-requires c κs = search needs
+
+till-requires : tie.Need-till-requires Inv-loop μ-loop
+till-requires c κs = search needs
+
+sub-pow2 : tie.Need-sub-pow2 Inv-loop μ-loop
+sub-pow2 c = search needs
+
+pow2-requires : tie.Need-pow2-requires Inv-loop μ-loop
+pow2-requires c κs = search needs
+
+since-requires : tie.Need-since-requires Inv-loop μ-loop
+since-requires c κs = search needs
+
+smaller-requires : tie.Need-smaller-requires Inv-loop μ-loop
+smaller-requires c κs = search needs
+
+loop-holds : tie.Need-loop-holds Inv-loop μ-loop
+unfolding keptWithin howMany
+loop-holds c = (omega arith, refl, omega arith)
+
+add-length-at : tie.Need-add-length-at Inv-loop μ-loop
+add-length-at c = search needs
+
+length-at-requires : tie.Need-length-at-requires Inv-loop μ-loop
+length-at-requires c κs = search needs
+
+sub-smaller : tie.Need-sub-smaller Inv-loop μ-loop
+sub-smaller c = search needs
+
+smaller-requires-2 : tie.Need-smaller-requires-2 Inv-loop μ-loop
+smaller-requires-2 c κs = search needs
+
+add-till-at : tie.Need-add-till-at Inv-loop μ-loop
+add-till-at c = search needs
+
+till-at-requires : tie.Need-till-at-requires Inv-loop μ-loop
+till-at-requires c κs = search needs
+
+add-ticks-at : tie.Need-add-ticks-at Inv-loop μ-loop
+add-ticks-at c = search needs
+
+ticks-at-requires : tie.Need-ticks-at-requires Inv-loop μ-loop
+ticks-at-requires c κs = search needs
+
+-- a step of the loop
+stepped : (c : tie.After-ticks-at Inv-loop μ-loop) →
+    let at = c .before .before .before .before .before .before .before in
+    let q = c .before .before .before .before in
+    Stepped (at .before .smaller .result) (at .loop .i) (q .smaller2 .result) (q .before .length-at .result) (at .loop .owed) (c .ticks-at .result)
+stepped c =
+    let at = c .before .before .before .before .before .before .before in
+    let q = c .before .before .before .before in
+    let far = at .before in
+    step (far .smaller .result) (at .loop .i) (q .smaller2 .result) (q .before .length-at .result) (at .loop .owed) (c .ticks-at .result) (far .before .before .pow2 .result) _ _
+    (far .smaller .ensures) (far .before .before .pow2 .ensures .high) (q .smaller2 .ensures) (q .before .length-at .ensures .some) (q .before .before .loop-test .taken) (c .ticks-at .ensures) (at .loop .inv .2)
+
+add-owed : tie.Need-add-owed Inv-loop μ-loop
+add-owed c = record { fits = stepped c .sum-fits }
+
+add-i : tie.Need-add-i Inv-loop μ-loop
+add-i c = record { fits = stepped c .place-fits }
+
+loop-less : tie.Need-loop-less Inv-loop μ-loop
+loop-less c = stepped c .closer
+
+loop-again : tie.Need-loop-again Inv-loop μ-loop
+loop-again c =
+    let at = c .before .before .before .before .before .before .before in
+    let q = c .before .before .before .before in
+    let low = at .before .before .before .before .before .before .before .before .before in
+    let cells = at .before .before .before .before .before .before .before .before in
+    let start = low .before .before in
+    let a = start .args in
+    let u = stepped c in (
+      u .room,
+      ap (λ n. n + c .ticks-at .result) (at .loop .inv .1)
+          ∙ step-owed (a .t1) (a .lane) (a .at) (low .low-of .result) (start .pre .1 .1) (start .pre .0 .film) (low .low-of .ensures)
+          (at .loop .i) (q .before .length-at .result) (c .before .till-at .result) (cells .film-cells .result) (q .before .length-at .ensures) (c .before .till-at .ensures) (cells .film-cells .ensures) (q .smaller2 .result) (c .ticks-at .result) (u .less) (c .ticks-at .ensures),
+      u .few,
+    )
+
+returns : tie.Need-returns Inv-loop μ-loop
+unfolding reach
+returns c =
+    let at = c .before in
+    let far = at .before in
+    let till = far .before .before .before .before in
+    let low = till .before .before .before .before in
+    let start = low .before .before in
+    let a = start .args in
+    let n = far .before .before .pow2 in
+    let e = le-antisymm (at .loop .inv .0) (c .loop-test .left) in
+    at .loop .inv .1
+    ∙ all-within (a .t1) (a .lane) (a .at) (low .low-of .result) (start .pre .1 .1) (start .pre .0 .film) (low .low-of .ensures) (till .till .result) _ (at .loop .i)
+    (till .till .ensures) (e ∙ far .smaller .ensures ∙ ap₂ min (n .ensures .is) (far .before .since .ensures))
+
+pub owed-low-spec : {M : Type 1} → statement M
+owed-low-spec =
+    tie.close
+    (tie.spec
+    Inv-loop
+    μ-loop
+    low-of-requires
+    film-cells-requires
+    till-requires
+    sub-pow2
+    pow2-requires
+    since-requires
+    smaller-requires
+    loop-holds
+    add-length-at
+    length-at-requires
+    sub-smaller
+    smaller-requires-2
+    add-till-at
+    till-at-requires
+    add-ticks-at
+    ticks-at-requires
+    add-owed
+    add-i
+    loop-less
+    loop-again
+    returns)
