@@ -132,29 +132,32 @@ part-within r from n =
     every-ext (λ j. leb (getD (drop from r) j 0) askedMax) (λ j. leb (getD (take n (drop from r)) j 0) askedMax) n
     (λ j l. ap (λ (x : ℕ). leb x askedMax) (sym (getD-take n (drop from r) j 0 l)))
 
--- where no number is above the limit no time is
-module _ (r : List ℕ) (low : (j : ℕ) → j < length r → getD r j 0 ≤ askedMax) where
-  low-part : (from n : ℕ) → from + n ≤ length r → rowOk (take n (drop from r)) n ≡ true
+-- where no number of the title at a place is above the limit, none of its times is
+module _ (r : List ℕ) (at : ℕ) (low : (j : ℕ) → j < titlePlaces → getD r (at + j) 0 ≤ askedMax) where
+  low-part : (from n : ℕ) → from + n ≤ titlePlaces → rowOk (take n (drop (at + from) r)) n ≡ true
   low-part from n l =
-      sym (part-within r from n)
-      ∙ every-in (λ j. leb (getD (drop from r) j 0) askedMax) n
-      (λ j b. le-leb (getD (drop from r) j 0) askedMax (rw (getD-drop from r j 0) (low (from + j) (omega arith))))
+      sym (part-within r (at + from) n)
+      ∙ every-in (λ j. leb (getD (drop (at + from) r) j 0) askedMax) n
+      (λ j b.
+      le-leb (getD (drop (at + from) r) j 0) askedMax
+      (rw (getD-drop (at + from) r j 0, native.Mathlib.Nat.add-assoc at from j) (low (from + j) (omega arith))))
 
-  pub low-times : (at : ℕ) → at + titlePlaces ≤ length r → timesOk (titleFrom r at) ≡ true
+  pub low-times : timesOk (titleFrom r at) ≡ true
   unfolding timesOk
-  low-times at l =
+  low-times =
       rw (
-        le-leb (getD r (at + openedAt) 0) askedMax (low (at + openedAt) (omega arith)),
-        le-leb (getD r (at + titleLastAt) 0) askedMax (low (at + titleLastAt) (omega arith)),
-        le-leb (getD r (at + tunedAt) 0) askedMax (low (at + tunedAt) (omega arith)),
-        low-part (at + endsAt) countPlaces (omega arith),
-        low-part (at + dropsAt) lanePlaces (omega arith),
-        low-part (at + owedAt) lanePlaces (omega arith),
+        le-leb (getD r (at + openedAt) 0) askedMax (low openedAt (omega arith)),
+        le-leb (getD r (at + titleLastAt) 0) askedMax (low titleLastAt (omega arith)),
+        le-leb (getD r (at + tunedAt) 0) askedMax (low tunedAt (omega arith)),
+        low-part endsAt countPlaces (omega arith),
+        low-part dropsAt lanePlaces (omega arith),
+        low-part owedAt lanePlaces (omega arith),
       )
       refl
 
-  pub all-low : length r ≡ rowLength → times r ≡ true
-  all-low l = every-in (λ i. timesOk (titleFrom r (titlePlace i))) titlesMax (λ i b. low-times (titlePlace i) (omega arith))
+-- the same of every title of a row
+pub all-low : (r : List ℕ) → ((i : ℕ) → i < titlesMax → (j : ℕ) → j < titlePlaces → getD r (titlePlace i + j) 0 ≤ askedMax) → times r ≡ true
+all-low r low = every-in (λ i. timesOk (titleFrom r (titlePlace i))) titlesMax (λ i b. low-times r (titlePlace i) (low i b))
 
 -- neither of two numbers is above them or-ed
 pub or-above : (a b : ℕ) → (a ≤ bitOr a b) × (b ≤ bitOr a b)

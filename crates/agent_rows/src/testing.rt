@@ -123,28 +123,15 @@ fn small_ok(row: &[u64], at: usize, pool: u64) -> bool
     false
 }
 
-// Those of every title.
-fn smalls_ok(row: &[u64], pool: u64) -> bool
-    requires { ⌜ length (now row) ≡ rowLength ⌝ }
-    ensures { λ r. ⌜ r ≡ every (λ i. smallOk pool (titleFrom (now (row .entry)) (titlePlace i))) titlesMax ⌝ }
-{
-    let mut ok = true;
-    let mut i = 0;
-    while i < TITLES_MAX {
-        ok = also(small_ok(row, TITLES_AT + i * TITLE_PLACES, pool), ok);
-        i += 1;
-    }
-    ok
-}
-
-// All numbers or-ed: none is above that.
-fn all_of(row: &[u64]) -> u64
-    ensures { λ r. ⌜ ((j : ℕ) → j < length (now (row .entry)) → getD (now (row .entry)) j 0 ≤ r) ⌝ }
+// The numbers of the title at a place or-ed: none is above that.
+fn all_of(row: &[u64], at: usize) -> u64
+    requires { ⌜ at + titlePlaces ≤ length (now row) ⌝ }
+    ensures { λ r. ⌜ ((j : ℕ) → j < titlePlaces → getD (now (row .entry)) (at + j) 0 ≤ r) ⌝ }
 {
     let mut all = 0;
     let mut i = 0;
-    while i < row.len() {
-        all |= row[i];
+    while i < TITLE_PLACES {
+        all |= row[at + i];
         i += 1;
     }
     all
@@ -200,15 +187,25 @@ fn each_times_ok(row: &[u64]) -> bool
     ok
 }
 
-// The same, looked at once where no number is above the limit.
-fn times_ok(row: &[u64]) -> bool
+// The titles of a row with some pool, in one pass; their times one by one only where some number is above the limit.
+fn titles_ok(row: &[u64], pool: u64) -> bool
     requires { ⌜ length (now row) ≡ rowLength ⌝ }
-    ensures { λ r. ⌜ r ≡ every (λ i. timesOk (titleFrom (now (row .entry)) (titlePlace i))) titlesMax ⌝ }
+    ensures { λ r. ⌜ r ≡ both (every (λ i. smallOk pool (titleFrom (now (row .entry)) (titlePlace i))) titlesMax)
+        (every (λ i. timesOk (titleFrom (now (row .entry)) (titlePlace i))) titlesMax) ⌝ }
 {
-    if all_of(row) <= ASKED_MAX {
-        return true;
+    let mut ok = true;
+    let mut all = 0;
+    let mut i = 0;
+    while i < TITLES_MAX {
+        let at = TITLES_AT + i * TITLE_PLACES;
+        ok = also(small_ok(row, at, pool), ok);
+        all |= all_of(row, at);
+        i += 1;
     }
-    each_times_ok(row)
+    if all <= ASKED_MAX {
+        return ok;
+    }
+    also(ok, each_times_ok(row))
 }
 
 // The version, the sequence, the pool and the time of the last event.
@@ -234,7 +231,7 @@ pub fn row_ok(row: &[u64]) -> bool
     ensures { λ r. ⌜ r ≡ both (rowSound (now (row .entry))) (stateOk (unpacked (now (row .entry)) .state)) ⌝ }
 {
     if head_ok(row) {
-        return also(smalls_ok(row, row[POOL_AT]), times_ok(row));
+        return titles_ok(row, row[POOL_AT]);
     }
     false
 }

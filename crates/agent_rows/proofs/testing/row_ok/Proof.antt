@@ -1,5 +1,5 @@
 -- `row_ok` meets its contract: the head of the row, and then its titles in two parts.
-use mathlib.Core.Path.{sym, ap₂, _∙_}
+use mathlib.Core.Path.{sym, _∙_}
 use lib.Dec.{leb}
 use lib.ListN.{getD}
 use Rattle.rules.specs.Limits.{both, poolMax, askedMax}
@@ -13,25 +13,18 @@ use Rattle.agent_rows.proofs.testing.row_ok.Tie as tie
 head-ok-requires : tie.Need-head-ok-requires
 head-ok-requires c κs = search needs
 
-shared-slice-read-smalls-ok : tie.Need-shared-slice-read-smalls-ok
-shared-slice-read-smalls-ok c = search needs
+shared-slice-read-titles-ok : tie.Need-shared-slice-read-titles-ok
+shared-slice-read-titles-ok c = search needs
 
-smalls-ok-requires : tie.Need-smalls-ok-requires
-smalls-ok-requires c κs = search needs
-
-times-ok-requires : tie.Need-times-ok-requires
-times-ok-requires c κs = search needs
-
-also-requires : tie.Need-also-requires
-also-requires c κs = search needs
+titles-ok-requires : tie.Need-titles-ok-requires
+titles-ok-requires c κs = search needs
 
 returns : tie.Need-returns
 returns c =
-    let at-if = c .before .before .before .before in
+    let at-if = c .before .before in
     let r = at-if .before .before .before .args .row .now in
     rw (state-in-parts r)
-    (c .also .ensures
-    ∙ ap₂ both (c .before .before .smalls-ok .ensures) (c .before .times-ok .ensures)
+    (c .titles-ok .ensures
     ∙ head-in (rowSound r) (leb (getD r poolAt 0) poolMax) (leb (getD r lastAt 0) askedMax) (smalls r) (times r)
     (sym (at-if .before .head-ok .ensures) ∙ at-if .if1 .taken))
 
@@ -45,11 +38,4 @@ returns-2 c =
 pub row-ok-spec : {M : Type 1} → statement M
 row-ok-spec =
     tie.close
-    (tie.spec
-    head-ok-requires
-    shared-slice-read-smalls-ok
-    smalls-ok-requires
-    times-ok-requires
-    also-requires
-    returns
-    returns-2)
+    (tie.spec head-ok-requires shared-slice-read-titles-ok titles-ok-requires returns returns-2)
