@@ -20,10 +20,21 @@ isOtherLength row = not (eqb (length row) rowLength)
 abbrev pub isWithin : List ℕ → Bool
 isWithin row = both (rowSound row) (stateOk (unpacked row .state))
 
+-- the row's snapshot stands at the room's start, and later bytes stay
 pub record RowSaves (row room : List ℕ) (answer : ℕ) (after : List ℕ) : Type 0 where
-  pub answers : answer ≡ firstHit (refuse wrongRows (either (isOtherLength row) (ltb (length room) snapshotSize)) ∷ refuse outsideLimits (not (isWithin row)) ∷ [])
+  pub answers : answer
+      ≡ firstHit
+      (refuse wrongRows (either (isOtherLength row) (ltb (length room) snapshotSize))
+      ∷ refuse outsideLimits (not (isWithin row))
+      ∷ [])
   pub leaves : after ≡ pick (eqb answer done) (snapshotOf row ++ drop snapshotSize room) room
 
+-- the row has the snapshot's numbers
 pub record RowLoads (row bs : List ℕ) (answer : ℕ) (after : List ℕ) : Type 0 where
-  pub answers : answer ≡ firstHit (refuse wrongRows (isOtherLength row) ∷ refuse malformed (not (isSnapshot bs)) ∷ refuse outsideLimits (not (isWithin (numbersIn bs rowLength))) ∷ [])
+  pub answers : answer
+      ≡ firstHit
+      (refuse wrongRows (isOtherLength row)
+      ∷ refuse malformed (not (isSnapshot bs))
+      ∷ refuse outsideLimits (not (isWithin (numbersIn bs rowLength)))
+      ∷ [])
   pub leaves : after ≡ pick (eqb answer done) (numbersIn bs rowLength) row

@@ -50,12 +50,13 @@ pub fn load(row: &mut [u64], bytes: &[u8]) -> u8
     if row.len() != ROW_LENGTH {
         return WRONG_ROWS;
     }
-    let mut loaded = [0; ROW_LENGTH];
-    if snapshots::load(bytes, &mut loaded) != DONE {
+    let mut numbers = [0; ROW_LENGTH];
+    let loaded: &mut [u64] = &mut numbers;
+    if snapshots::load(bytes, loaded) != DONE {
         return MALFORMED;
     }
-    if row_ok(&loaded) {
-        copy(&loaded, row);
+    if row_ok(loaded) {
+        copy(loaded, row);
         return DONE;
     }
     OUTSIDE_LIMITS
