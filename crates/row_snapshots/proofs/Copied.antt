@@ -1,6 +1,6 @@
 -- A row while the numbers of another of its length are copied into it: the places passed have them, and the others what they had.
 -- Rests on the laws of lists.
-use mathlib.Core.Path.{_≡_, sym, ap, _∙_}
+use mathlib.Core.Path.{_≡_, sym, _∙_}
 use mathlib.Core.List.{List, _++_, append-nil}
 use Prim.Native.Nat.{ℕ, suc, _+_, _≤_, _<_}
 use native.Mathlib.Numerals.{add-one}

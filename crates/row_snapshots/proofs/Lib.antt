@@ -6,5 +6,7 @@ pub mod Answered
 pub mod SameAgent
 pub mod Whole
 pub mod Sequence
+pub mod InPlace
+pub mod FromThere
 pub mod GoesOn
 pub mod Unique

@@ -4,11 +4,10 @@
 -- 2. what was saved is a snapshot: `is-snapshot`;
 -- 3. it loads into any row of the right length, as the agent's row, and that row is the agent: `is-loaded`.
 -- Rests on the agent's row being one that a snapshot holds, and on `packed` and `unpacked` being each other's inverse.
-use mathlib.Core.Path.{_≡_, refl, sym, ap, _∙_}
+use mathlib.Core.Path.{_≡_, ap, _∙_}
 use mathlib.Core.Bool.{true}
 use mathlib.Core.List.{List, _++_}
 use Prim.Native.Nat.{ℕ, _≤_, _<_}
-use lib.Dec.{ltb, eqb}
 use lib.ListN.{length, drop}
 use borrow.Author.Tests.{eq-eqb, le-ltb, lt-ltb}
 use Rattle.rules.specs.Refusals.{firstHit}

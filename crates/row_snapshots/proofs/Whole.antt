@@ -1,6 +1,6 @@
 -- The arrays of an agent keep their lengths, whatever byte strings it takes: those of a fresh agent have them, and an accepted event
 -- leaves them as they were. Rests on the laws of lists and on what dropping lanes makes of a title's rows.
-use mathlib.Core.Path.{_≡_, refl, ap, _∙_, subst, sym}
+use mathlib.Core.Path.{_≡_, refl, _∙_, sym}
 use mathlib.Core.Bool.{Bool, true, false}
 use mathlib.Core.Logic.{⊎-elim}
 use mathlib.Core.List.{List, [], _∷_}
@@ -10,18 +10,17 @@ use lib.Dec.{eqb}
 use lib.ListN.{length, getD, set, length-set, length-replicate, getD-replicate}
 use lib.Seq.{getD-set-same, getD-set-other}
 use borrow.Author.Tests.{eqb-true, eqb-false}
-use Rattle.rules.specs.Limits.{titlesMax, countPlaces, lanePlaces}
+use Rattle.rules.specs.Limits.{titlesMax}
 use Rattle.rules.specs.Refusals.{pick}
 use Rattle.rules.proofs.Tests.{decide}
 use Rattle.story.specs.declared.Title.{Title}
-use Rattle.story.specs.declared.State.{State}
 use Rattle.story.specs.declared.Act.{Act}
 use Rattle.story.specs.declared.Act.the-variants.{Opens, Changes, Closes, Doors}
 use Rattle.story.specs.Life.{reach}
 use Rattle.story.specs.Kept.{noTitle, titleAt, isShut, tickAt, keptWithin}
 use Rattle.story.specs.Calls.{blankTitle}
-use Rattle.story.specs.Next.{ended, dropLanes, turned, turnedTitle, changedTitle, closedTitle, doorsTitle, nextTitle, withRows}
-use Rattle.story.proofs.Rows.{filled, filled-length, isDropped, drop-rows}
+use Rattle.story.specs.Next.{ended, dropLanes, turned, turnedTitle, changedTitle, closedTitle, doorsTitle, nextTitle}
+use Rattle.story.proofs.Rows.{filled-length, isDropped, drop-rows}
 use Rattle.notice.specs.declared.Reading.{Reading}
 use Rattle.notice.specs.declared.Reading.the-variants as reading
 use Rattle.notice.specs.Decode.{readOf}

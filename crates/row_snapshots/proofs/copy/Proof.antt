@@ -1,5 +1,5 @@
 -- `copy` meets its contract: the places passed have the numbers copied, and the others what they had.
-use Prim.Native.Nat.{ℕ, _≤_, _<_, _-_}
+use Prim.Native.Nat.{_≤_, _<_, _-_}
 use mathlib.Core.Path.{_≡_, refl, ap, _∙_}
 use mathlib.Core.List.{_++_}
 use native.Mathlib.Nat.{le-antisymm}
