@@ -4,6 +4,7 @@ pub mod Small
 pub mod Copied
 pub mod Answered
 pub mod SameAgent
+pub mod SameRow
 pub mod Whole
 pub mod Sequence
 pub mod InPlace

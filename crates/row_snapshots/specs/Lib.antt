@@ -4,7 +4,7 @@
 --   `RowLoads`.
 -- - What was saved loads as the same agent: proofs/SameAgent `is-saved`, `is-snapshot`, `is-loaded`, of every agent whose arrays have their
 --   lengths, whose sequence fits 32 bits and whose state is within its limits. Each number of its row fits 64 bits: proofs/Small
---   `packed-small`.
+--   `packed-small`. Whatever row `save` accepts comes back from what it wrote: proofs/SameRow `row-comes-back`.
 -- - So a box that loads a snapshot and takes the notices that follow is the agent that heard all of them in order, by value (specs/Taken
 --   `takenFrom`) and in place, number for number (`rowTaken`): proofs/GoesOn `loads-as-heard`, `goes-on`, `row-goes-on`. An agent after any
 --   series of byte strings is one that a snapshot holds: `after-whole`, `after-within`, `after-fits`.
