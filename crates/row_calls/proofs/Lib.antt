@@ -3,5 +3,6 @@ pub mod Rows
 pub mod Cells
 pub mod Heeded
 pub mod Started
+pub mod Listed
 pub mod Follows
 pub mod Unique

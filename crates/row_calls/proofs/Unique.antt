@@ -10,6 +10,8 @@ use Rattle.row_calls.proofs.notices.take.Kinds as take-kinds
 use Rattle.row_calls.proofs.notices.take.Reads as take-call
 use Rattle.row_calls.proofs.starting.fresh.Kinds as fresh-kinds
 use Rattle.row_calls.proofs.starting.fresh.Reads as fresh-call
+use Rattle.row_calls.proofs.titles.status.Kinds as status-kinds
+use Rattle.row_calls.proofs.titles.status.Reads as status-call
 use Rattle.row_calls.proofs.questions.lane.Kinds as lane-kinds
 use Rattle.row_calls.proofs.questions.lane.Reads as lane-call
 use Rattle.row_calls.proofs.questions.held.Kinds as held-kinds
@@ -32,3 +34,18 @@ lane-one-outcome κs a x y e f p q =
 pub held-one-outcome : OneOutcome 1 held-kinds.ps held-kinds.r held-call.Learnt
 held-one-outcome κs a x y e f p q =
     ap₂ (λ (n m : ℕ). record { answer = n; lanes = m }) (p .0 ∙ sym (q .0)) (p .1 ∙ sym (q .1))
+
+-- the rows of counts, of lanes held and of marks, parameters 3 to 5, from 0
+pub status-one-outcome :
+    OneEnd 5 status-kinds.ps status-kinds.r
+    (λ κs e f. (now (e .1 .1 .1 .0) ≡ now (f .1 .1 .1 .0))
+    × ((now (e .1 .1 .1 .1 .0) ≡ now (f .1 .1 .1 .1 .0)) × (now (e .1 .1 .1 .1 .1 .0) ≡ now (f .1 .1 .1 .1 .1 .0))))
+    status-call.Learnt
+status-one-outcome κs a x y e f p q =
+    let same : x ≡ y = p .0 ∙ sym (q .0) in (
+      same,
+      (
+        rw same at (p .1 .0) ∙ sym (q .1 .0),
+        (rw same at (p .1 .1 .0) ∙ sym (q .1 .1 .0), rw same at (p .1 .1 .1) ∙ sym (q .1 .1 .1)),
+      ),
+    )

@@ -5,11 +5,12 @@ use Prim.Native.Nat.{ℕ, suc}
 use mathlib.Core.List.{List}
 use lib.Dec.{eqb}
 use lib.ListN.{length}
+use Rattle.rules.specs.Limits.{both}
 use Rattle.rules.specs.Refusals.{pick, done, outsideLimits, wrongRows, malformed, outOfTurn}
 use Rattle.notice.specs.declared.Reading.{Reading}
 use Rattle.notice.specs.declared.Reading.the-variants as reading
 use Rattle.story.specs.declared.Event.{Event}
-use Rattle.story.specs.Calls.{freshAnswer, laneAnswer, laneShows}
+use Rattle.story.specs.Calls.{freshAnswer, laneAnswer, laneShows, statusAnswer}
 use Rattle.story.specs.Runs.{answered, called}
 use Rattle.scheduler.specs.Outcomes.{heldAnswer, heldShown}
 use Rattle.agent.specs.Turns.{eventOf, freshAgent, noticed}
@@ -63,3 +64,11 @@ rowHeld r τ = onRow r (onSound r (heldAnswer (unpacked r .state) τ))
 
 unfoldable pub rowLanes : List ℕ → ℕ → ℕ
 rowLanes r τ = pick (eqb (rowHeld r τ) done) (heldShown (unpacked r .state) τ) 0
+
+-- status over a row of ids, with rows of m counts, h numbers of lanes held and d marks: rows of different lengths get 10 before all else
+unfoldable pub rowStatus : List ℕ → ℕ → List ℕ → ℕ → ℕ → ℕ → ℕ
+rowStatus r τ ids m h d =
+    onRow r
+    (pick (both (eqb m (length ids)) (both (eqb h (length ids)) (eqb d (length ids))))
+    (onSound r (statusAnswer (unpacked r .state) τ ids m h d))
+    wrongRows)

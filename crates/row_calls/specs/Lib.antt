@@ -6,6 +6,7 @@
 -- - A fresh agent of a pool, whatever the row was: `row_calls::starting::fresh`, by `rowFresh` and `rowAfterFresh`.
 -- - The lane question and lanes held: `row_calls::questions::lane`, by `rowLane` and `rowShows`; `row_calls::questions::held`, by `rowHeld`
 --   and `rowLanes`.
+-- - Status over flat rows: `row_calls::titles::status`, by `rowStatus` and the definitions of status itself.
 -- A sound row of the right length is answered and left as its agent is: proofs/Follows `noticed-as-agent`, `called-as-agent`.
 -- Two outcomes that a call's contract admits are equal, the row that it leaves included: proofs/Unique.
 pub mod Answers

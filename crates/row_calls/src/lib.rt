@@ -5,3 +5,4 @@ pub mod events;
 pub mod notices;
 pub mod questions;
 pub mod starting;
+pub mod titles;
