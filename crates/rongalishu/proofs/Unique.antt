@@ -18,7 +18,7 @@ use Rattle.rongalishu.specs.Results.{resulting, OneGiven}
 use Rattle.rongalishu.specs.Reports.{WaitsTold, WaitsGiven, waitNumbers, waitsPlaces}
 use Rattle.notice_rows.specs.declared.Written.{Written}
 use Rattle.notice_rows.specs.declared.Step.{Step}
-use Rattle.row_questions.proofs.Unique.{filled-alike, listed-alike}
+use Rattle.row_questions.proofs.Unique.{listed-alike}
 use Rattle.rongalishu.specs.Notices.{WrittenTold, WrittenGiven, NextTold, NextGiven}
 use Rattle.rongalishu.specs.Pools.{PlannerTold, PlannerGiven}
 use Rattle.rongalishu.specs.Reports.{airNumbers, salvageGives, salvageNumbers}
@@ -266,7 +266,14 @@ pub status-one-outcome :
     (now (e .1 .1 .1 .0) ≡ now (f .1 .1 .1 .0))
     × ((now (e .1 .1 .1 .1 .0) ≡ now (f .1 .1 .1 .1 .0)) × (now (e .1 .1 .1 .1 .1 .0) ≡ now (f .1 .1 .1 .1 .1 .0))))
     status-call.Learnt
-status-one-outcome κs a x y e f p q = filled-alike _ _ _ _ _ _ x y _ _ _ _ _ _ p q
+status-one-outcome κs a x y e f p q =
+    let same : x ≡ y = p .0 ∙ sym (q .0) in (
+      same,
+      (
+        rw same at (p .1 .0) ∙ sym (q .1 .0),
+        (rw same at (p .1 .1 .0) ∙ sym (q .1 .1 .0), rw same at (p .1 .1 .1) ∙ sym (q .1 .1 .1)),
+      ),
+    )
 
 planner-alike : (agent : List ℕ) (τ : ℕ) (rates is ts ks row : List ℕ) (r q : ℕ) (a b c d a₂ b₂ c₂ d₂ : List ℕ) →
     PlannerTold agent τ rates is ts ks row r a b c d → PlannerTold agent τ rates is ts ks row q a₂ b₂ c₂ d₂ →

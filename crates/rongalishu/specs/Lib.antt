@@ -4,7 +4,7 @@
 -- - A fresh agent, the six events and a notice taken: `row_calls` specs/Answers. An event leaves the sequence alone.
 -- - The lane question, lanes held and the small box's lane: `row_calls` specs/Answers and `row_questions` specs/Questions, with the number in
 --   a result row (`rongalishu` specs/Results `OneGiven`).
--- - Status and the planner: `row_questions` specs/Questions and `rongalishu` specs/Pools. Plans and sharing have their own calls' contracts.
+-- - Status: `row_calls` specs/Answers; the planner: `row_questions` specs/Questions and `rongalishu` specs/Pools. Plans and sharing have their own calls' contracts.
 -- - Notices written, read and found in a log: `notice_rows` specs/Calls and `rongalishu` specs/Notices. Waits, air, admissions and salvage:
 --   `rongalishu` specs/Reports.
 -- - Snapshots saved and loaded: `row_snapshots` specs/Calls.

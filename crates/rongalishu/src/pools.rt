@@ -4,7 +4,14 @@ use crate::results::put;
 use rules::DONE;
 use rules::WRONG_ROWS;
 ghost use Rattle.sharing.specs.Verdict.{ShareAnswered};
-ghost use Rattle.row_questions.specs.Questions.{RowFilled};
+ghost use mathlib.Core.Path.{_≡_};
+ghost use mathlib.Core.List.{map};
+ghost use lib.Dec.{eqb};
+ghost use lib.ListN.{length};
+ghost use Rattle.rules.specs.Refusals.{pick};
+ghost use Rattle.story.specs.Calls.{statusCount, statusHeld, statusMark};
+ghost use Rattle.agent_rows.specs.Packed.{unpacked};
+ghost use Rattle.row_calls.specs.Answers.{rowStatus};
 ghost use Rattle.rongalishu.specs.Pools.{PlannerGiven};
 
 // Counts, lanes held and held marks of the titles asked for, by id.
@@ -17,10 +24,16 @@ pub extern "C" fn rl_status_row(
     held: &mut [u64],
     marks: &mut [u64],
 ) -> u8
-    ensures { λ r. ⌜ RowFilled (now (agent .entry)) time (now (ids .entry)) (now (counts .entry)) (now (held .entry))
-        (now (marks .entry)) r (now (counts .exit)) (now (held .exit)) (now (marks .exit)) ⌝ }
+    ensures { λ r. ⌜ r ≡ rowStatus (now (agent .entry)) time (now (ids .entry))
+        (length (now (counts .entry))) (length (now (held .entry))) (length (now (marks .entry))) ⌝ }
+    ensures { λ r. ⌜ now (counts .exit)
+        ≡ pick (eqb r 0) (map (λ i. statusCount (unpacked (now (agent .entry)) .state) i) (now (ids .entry))) (now (counts .entry)) ⌝ }
+    ensures { λ r. ⌜ now (held .exit)
+        ≡ pick (eqb r 0) (map (λ i. statusHeld (unpacked (now (agent .entry)) .state) i time) (now (ids .entry))) (now (held .entry)) ⌝ }
+    ensures { λ r. ⌜ now (marks .exit)
+        ≡ pick (eqb r 0) (map (λ i. statusMark (unpacked (now (agent .entry)) .state) i) (now (ids .entry))) (now (marks .entry)) ⌝ }
 {
-    row_questions::status(agent, time, ids, counts, held, marks)
+    row_calls::titles::status(agent, time, ids, counts, held, marks)
 }
 
 // The changes that bring the counts to the sharing of the pool, into the first places of three rows, and how many they are into

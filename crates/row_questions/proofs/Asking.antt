@@ -2,18 +2,17 @@
 use Prim.Native.Nat.{ℕ}
 use mathlib.Core.Path.{_≡_, refl, sym, ap, subst, _∙_}
 use mathlib.Core.Bool.{true, false}
-use mathlib.Core.List.{List, map}
+use mathlib.Core.List.{List}
 use native.Mathlib.Omega.{arith}
 use lib.Dec.{eqb}
 use lib.ListN.{length}
 use borrow.Author.Tests.{eq-eqb, ne-eqb, eqb-true, eqb-false}
 use Rattle.rules.specs.Refusals.{pick, wrongRows}
 use Rattle.story.specs.declared.State.{State}
-use Rattle.story.specs.Calls.{statusAnswer, statusCount, statusHeld, statusMark}
 use Rattle.rom.specs.Lanes.{romLaneAnswer, romLaneShows}
 use Rattle.planner.specs.Outcome.{Answered}
 use Rattle.agent_rows.specs.Layout.{rowLength}
-use Rattle.row_questions.specs.Questions.{stateIn, rowStatus, RowFilled, rowRomLane, rowRomShows, RowListed}
+use Rattle.row_questions.specs.Questions.{stateIn, rowRomLane, rowRomShows, RowListed}
 
 -- the answer about a row of the right length, and of another
 on-row : (row : List ℕ) (a : ℕ) → length row ≡ rowLength → pick (eqb (length row) rowLength) a wrongRows ≡ a
@@ -21,30 +20,6 @@ on-row row a e = ap (λ b. pick b a wrongRows) (eq-eqb (length row) rowLength e)
 
 off-row : (row : List ℕ) (a : ℕ) → (length row ≡ rowLength → ⊥) → pick (eqb (length row) rowLength) a wrongRows ≡ wrongRows
 off-row row a n = ap (λ b. pick b a wrongRows) (ne-eqb (length row) rowLength n)
-
--- ---- status
-
-pub status-asked : (row : List ℕ) (τ : ℕ) (is cs hs ms : List ℕ) (s : State) (r : ℕ) (cs′ hs′ ms′ : List ℕ) →
-    length row ≡ rowLength → s ≡ stateIn row →
-    r ≡ statusAnswer s τ is (length cs) (length hs) (length ms) →
-    cs′ ≡ pick (eqb r 0) (map (λ i. statusCount s i) is) cs →
-    hs′ ≡ pick (eqb r 0) (map (λ i. statusHeld s i τ) is) hs →
-    ms′ ≡ pick (eqb r 0) (map (λ i. statusMark s i) is) ms →
-    RowFilled row τ is cs hs ms r cs′ hs′ ms′
-unfolding rowStatus
-status-asked row τ is cs hs ms s r cs′ hs′ ms′ l e a c h m =
-    record {
-      answer = a ∙ ap (λ (q : State). statusAnswer q τ is (length cs) (length hs) (length ms)) e ∙ sym (on-row row _ l);
-      counts = c ∙ ap (λ (q : State). pick (eqb r 0) (map (λ i. statusCount q i) is) cs) e;
-      held = h ∙ ap (λ (q : State). pick (eqb r 0) (map (λ i. statusHeld q i τ) is) hs) e;
-      marks = m ∙ ap (λ (q : State). pick (eqb r 0) (map (λ i. statusMark q i) is) ms) e;
-    }
-
-pub status-refused : (row : List ℕ) (τ : ℕ) (is cs hs ms : List ℕ) → (length row ≡ rowLength → ⊥) →
-    RowFilled row τ is cs hs ms wrongRows cs hs ms
-unfolding rowStatus
-status-refused row τ is cs hs ms n =
-    record { answer = sym (off-row row _ n); counts = refl; held = refl; marks = refl }
 
 -- ---- the small box
 

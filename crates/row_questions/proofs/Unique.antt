@@ -7,41 +7,13 @@ use lib.Dec.{eqb}
 use lib.ListN.{length}
 use denote.Ref.{now}
 use Rattle.rules.specs.OneOutcome.{OneEnd, OneOutcome}
-use Rattle.rules.specs.Refusals.{pick}
 use Rattle.rules.proofs.Tests.{decide}
 use Rattle.agent_rows.specs.Layout.{rowLength}
-use Rattle.row_questions.specs.Questions.{RowFilled, RowListed}
-use Rattle.row_questions.proofs.status.Kinds as status-kinds
-use Rattle.row_questions.proofs.status.Reads as status-call
+use Rattle.row_questions.specs.Questions.{RowListed}
 use Rattle.row_questions.proofs.rom_lane.Kinds as rom-lane-kinds
 use Rattle.row_questions.proofs.rom_lane.Reads as rom-lane-call
 use Rattle.row_questions.proofs.planner.Kinds as planner-kinds
 use Rattle.row_questions.proofs.planner.Reads as planner-call
-
--- equal answers leave the same
-alike : (a b : ℕ) (xs ys : List ℕ) → a ≡ b → pick (eqb a 0) xs ys ≡ pick (eqb b 0) xs ys
-alike a b xs ys e = ap (λ (n : ℕ). pick (eqb n 0) xs ys) e
-
-pub filled-alike : (row : List ℕ) (τ : ℕ) (is cs hs ms : List ℕ) (r q : ℕ) (cs′ hs′ ms′ cs₂ hs₂ ms₂ : List ℕ) →
-    RowFilled row τ is cs hs ms r cs′ hs′ ms′ → RowFilled row τ is cs hs ms q cs₂ hs₂ ms₂ →
-    (r ≡ q) × ((cs′ ≡ cs₂) × ((hs′ ≡ hs₂) × (ms′ ≡ ms₂)))
-filled-alike row τ is cs hs ms r q cs′ hs′ ms′ cs₂ hs₂ ms₂ p t =
-    let same : r ≡ q = p .answer ∙ sym (t .answer) in (
-      same,
-      (
-        p .counts ∙ alike r q _ _ same ∙ sym (t .counts),
-        (p .held ∙ alike r q _ _ same ∙ sym (t .held), p .marks ∙ alike r q _ _ same ∙ sym (t .marks)),
-      ),
-    )
-
--- the rows of counts, lanes held and marks are parameters 3 to 5, from 0
-pub status-one-outcome :
-    OneEnd 5 status-kinds.ps status-kinds.r
-    (λ κs e f.
-    (now (e .1 .1 .1 .0) ≡ now (f .1 .1 .1 .0))
-    × ((now (e .1 .1 .1 .1 .0) ≡ now (f .1 .1 .1 .1 .0)) × (now (e .1 .1 .1 .1 .1 .0) ≡ now (f .1 .1 .1 .1 .1 .0))))
-    status-call.Learnt
-status-one-outcome κs a x y e f p q = filled-alike _ _ _ _ _ _ x y _ _ _ _ _ _ p q
 
 pub rom-lane-one-outcome : OneOutcome 1 rom-lane-kinds.ps rom-lane-kinds.r rom-lane-call.Learnt
 rom-lane-one-outcome κs a x y e f p q =

@@ -1,16 +1,15 @@
--- What is asked of a whole pool and of the small box over a lent row: the calls' own answers of the state that the row stands for. A row of
+-- What the planner and the small box are asked over a lent row: the calls' own answers of the state that the row stands for. A row of
 -- another length gets 10, before all else; one that is not sound (`agent_rows` specs/Packed) stands for a state outside its limits, which
 -- gets 1 at 1's place in the call's order.
 use Prim.Native.Nat.{ℕ, suc}
 use mathlib.Core.Path.{_≡_}
 use mathlib.Core.Bool.{true, false}
-use mathlib.Core.List.{List, map}
+use mathlib.Core.List.{List}
 use lib.Dec.{eqb}
 use lib.ListN.{length}
 use Rattle.rules.specs.Limits.{poolMax}
 use Rattle.rules.specs.Refusals.{pick, wrongRows}
 use Rattle.story.specs.declared.State.{State}
-use Rattle.story.specs.Calls.{statusAnswer, statusCount, statusHeld, statusMark}
 use Rattle.rom.specs.Lanes.{romLaneAnswer, romLaneShows}
 use Rattle.planner.specs.Outcome.{Answered}
 use Rattle.agent_rows.specs.Layout.{rowLength}
@@ -24,16 +23,6 @@ poolIn r = pick (rowSound r) (unpacked r .state .pool) (suc poolMax)
 -- the state that a row stands for
 abbrev pub stateIn : List ℕ → State
 stateIn r = record { pool = poolIn r; last = unpacked r .state .last; titles = unpacked r .state .titles }
-
--- status: its answer, and the rows that it leaves
-unfoldable pub rowStatus : List ℕ → ℕ → List ℕ → ℕ → ℕ → ℕ → ℕ
-rowStatus r τ is counts held marks = onRow r (statusAnswer (stateIn r) τ is counts held marks)
-
-pub record RowFilled (row : List ℕ) (τ : ℕ) (is cs hs ms : List ℕ) (r : ℕ) (cs′ hs′ ms′ : List ℕ) : Type 0 where
-  pub answer : r ≡ rowStatus row τ is (length cs) (length hs) (length ms)
-  pub counts : cs′ ≡ pick (eqb r 0) (map (λ i. statusCount (stateIn row) i) is) cs
-  pub held : hs′ ≡ pick (eqb r 0) (map (λ i. statusHeld (stateIn row) i τ) is) hs
-  pub marks : ms′ ≡ pick (eqb r 0) (map (λ i. statusMark (stateIn row) i) is) ms
 
 -- the small box's lane question, and the cell that goes out; 0 beside a refusal
 unfoldable pub rowRomLane : List ℕ → ℕ → ℕ → ℕ → ℕ

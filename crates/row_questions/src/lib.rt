@@ -1,4 +1,4 @@
-// Questions of a whole pool, and of the small box, asked of an agent that a caller lends as a row of numbers. No public call has a
+// The planner's list and the small box's lane question, asked of an agent that a caller lends as a row of numbers. No public call has a
 // `requires`; a refusal writes nothing.
 
 mod standing;
@@ -9,25 +9,7 @@ use rules::WRONG_ROWS;
 use scheduler::Shown;
 use standing::state_in;
 ghost use mathlib.Core.Path.{_≡_};
-ghost use Rattle.row_questions.specs.Questions.{RowFilled, rowRomLane, rowRomShows, RowListed};
-
-// Fills in counts, lanes held and marks by id.
-pub fn status(
-    row: &[u64],
-    time: u64,
-    ids: &[u64],
-    counts: &mut [u64],
-    held: &mut [u64],
-    marks: &mut [u64],
-) -> u8
-    ensures { λ r. ⌜ RowFilled (now (row .entry)) time (now (ids .entry)) (now (counts .entry)) (now (held .entry))
-        (now (marks .entry)) r (now (counts .exit)) (now (held .exit)) (now (marks .exit)) ⌝ }
-{
-    if row.len() == ROW_LENGTH {
-        return status::status(state_in(row), time, ids, counts, held, marks);
-    }
-    WRONG_ROWS
-}
+ghost use Rattle.row_questions.specs.Questions.{rowRomLane, rowRomShows, RowListed};
 
 // Which cell goes out on a lane of a title in the tick that holds a time, looked up in the small box's table.
 pub fn rom_lane(row: &[u64], id: u64, lane: u64, time: u64) -> Shown
