@@ -1,5 +1,4 @@
 -- Laws of titles that are changed and closed, and of what their boxes want.
 pub mod Fixed
-mod OnLanes
 pub mod Shown
 pub mod Nth

@@ -14,6 +14,7 @@ use story::Title;
 use stretches::latest::latest_above;
 use stretches::low::is_idle;
 use stretches::low::owed_low;
+use stretches::turns::turns_at;
 use stretches::upper::is_reached;
 use stretches::upper::owed_in;
 use stretches::upper::walk_of;
@@ -151,6 +152,23 @@ fn owes_first(t: Title, at: u64) -> u64
     owed_within(t, 0, at, reach(t))
 }
 
+// Of a lane of a skip-forward title: by its turns, and tick by tick where no events lead.
+fn owes_steady(t: Title, lane: u64, at: u64) -> u64
+    requires { ⌜ Owing t ⌝ }
+    requires { ⌜ (lane < t .film .cap) × (at ≤ askedMax) ⌝ }
+    requires { ⌜ t .film .kind ≡ steadyKind ⌝ }
+    ensures { λ r. ⌜ r ≡ keptWithin t lane at (reachOf (t .film .cap)) ⌝ }
+{
+    let film = t.film;
+    let count = film.cap;
+    let ended = t.ends[count as usize];
+    if at < ended {
+        return owed_within(t, lane, at, reach(t));
+    }
+    let turns = turns_at(film, ended, lane, at);
+    turns.first + turns.second
+}
+
 // Of any lane: by stretches where it has them.
 pub fn owes(t: Title, lane: u64, at: u64) -> u64
     requires { ⌜ Owing t ⌝ }
@@ -158,7 +176,7 @@ pub fn owes(t: Title, lane: u64, at: u64) -> u64
     ensures { λ r. ⌜ r ≡ keptWithin t lane at (reachOf (t .film .cap)) ⌝ }
 {
     if t.film.kind == STEADY {
-        return owed_within(t, lane, at, reach(t));
+        return owes_steady(t, lane, at);
     }
     if t.film.floor <= lane {
         return owes_up(t, lane, at);

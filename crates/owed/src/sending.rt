@@ -9,6 +9,7 @@ use scheme::lane_cell;
 use story::Title;
 use stretches::latest::latest_above;
 use stretches::low::nth_low;
+use stretches::turns::turns_at;
 use stretches::upper::is_reached;
 use stretches::upper::nth_in;
 use stretches::upper::walk_of;
@@ -17,6 +18,7 @@ ghost use mathlib.Core.Path.{_≡_};
 ghost use Rattle.rules.specs.Limits.{askedMax, countMax};
 ghost use Rattle.rules.specs.Search.{first};
 ghost use Rattle.grid.specs.Bounds.{Exactly, tickMax};
+ghost use Rattle.scheme.specs.Scheme.{steadyKind};
 ghost use Rattle.story.specs.Life.{reach as reachOf};
 ghost use Rattle.story.specs.Kept.{keptNth, sendingTick, shows as showsOf};
 ghost use Rattle.measures.specs.Readable.{Owing, Sending};
@@ -65,6 +67,29 @@ fn nth_up(t: Title, lane: u64, from: u64, nth: u64) -> u64
     nth_by_ticks(t, lane, from, nth)
 }
 
+// The same of a lane of a skip-forward title: by its turns, and tick by tick where no events lead.
+fn nth_steady(t: Title, lane: u64, from: u64, nth: u64) -> u64
+    requires { ⌜ Owing t ⌝ }
+    requires { ⌜ (lane < t .film .cap) × (from ≤ askedMax) ⌝ }
+    requires { ⌜ t .film .kind ≡ steadyKind ⌝ }
+    ensures { λ r. ⌜ Exactly (first (keptNth t lane from nth) (reachOf (t .film .cap))) 0 (2 ^ countMax) r ⌝ }
+{
+    let film = t.film;
+    let count = film.cap;
+    let ended = t.ends[count as usize];
+    if from < ended {
+        return nth_by_ticks(t, lane, from, nth);
+    }
+    let turns = turns_at(film, ended, lane, from);
+    if nth < turns.first {
+        return nth;
+    }
+    if nth < turns.first + turns.second {
+        return turns.left + (nth - turns.first);
+    }
+    reach(t)
+}
+
 // The same of any lane: by stretches where it has them. Of lane 0 events leave nothing to find.
 fn nth_owed(t: Title, lane: u64, from: u64, nth: u64) -> u64
     requires { ⌜ Owing t ⌝ }
@@ -72,7 +97,7 @@ fn nth_owed(t: Title, lane: u64, from: u64, nth: u64) -> u64
     ensures { λ r. ⌜ Exactly (first (keptNth t lane from nth) (reachOf (t .film .cap))) 0 (2 ^ countMax) r ⌝ }
 {
     if t.film.kind == STEADY {
-        return nth_by_ticks(t, lane, from, nth);
+        return nth_steady(t, lane, from, nth);
     }
     if t.film.floor <= lane {
         return nth_up(t, lane, from, nth);

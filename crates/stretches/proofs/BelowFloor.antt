@@ -8,8 +8,7 @@ use native.Mathlib.Omega.{arith}
 use native.Mathlib.Nat.{mod-lt, mod-le, mod-one, div-add-mod, pos-of-ne-zero}
 use lib.Dec.{leb, ltb, eqb}
 use lib.ListN.{getD}
-use lib.Pow.{pow-pos}
-use borrow.Author.Tests.{eqb-true, eqb-false, eq-eqb, ne-eqb, leb-true, leb-false, lt-ltb, le-ltb, ltb-true, ltb-false, le-leb, lt-leb}
+use borrow.Author.Tests.{eqb-true, eqb-false, leb-true, leb-false, lt-ltb, le-ltb, ltb-true, ltb-false}
 use Rattle.rules.specs.Limits.{both}
 use Rattle.rules.specs.Refusals.{pick}
 use Rattle.rules.specs.Search.{first, howMany}
@@ -25,13 +24,12 @@ use Rattle.story.specs.declared.Title.{Title}
 use Rattle.story.specs.Kept.{schemeIn, titleTick, wants, keptAwaited, keptOwed, keptWithin, keptNth}
 use Rattle.measures.specs.Readable.{Filmed}
 use Rattle.stretches.specs.declared.low.Low.{Low}
-use Rattle.stretches.specs.inner.Walk.{IsMost}
 use Rattle.stretches.specs.inner.Low.{placeAt, leftAt, cellAt, spanBy, IsTill, decisive, IsLength, LowOf, Idle}
 use Rattle.stretches.proofs.Counted.{prefix, nth-is, nth-none}
+use Rattle.stretches.proofs.FilmCells.{film-cells}
 use Rattle.stretches.proofs.OneChannel.{padded-wants, some-awaits, awaits-in}
 use Rattle.stretches.proofs.Slots.{wants-never, wants-passed}
 use Rattle.stretches.proofs.LowSlots.{low-cell, wants-long, wants-short, span-wide, span-most}
-use Rattle.stretches.proofs.FromFloorUp.{film-cells}
 
 -- at tick u the counts whose slots hold so many ticks take the lane's cell long, the others short
 record Decided (A K l u left : ℕ) : Type 0 where

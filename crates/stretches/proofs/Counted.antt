@@ -1,13 +1,13 @@
 -- How many numbers pass a test whose answers come in stretches: of each the first so many pass and no other. And which number is the one
 -- with just so many before it. Rest on the laws of searches and counts.
-use mathlib.Core.Path.{_≡_, refl, sym, ap, _∙_}
+use mathlib.Core.Path.{_≡_, sym, ap, _∙_}
 use mathlib.Core.Bool.{Bool, true, false}
 use mathlib.Core.Logic.{⊎-elim}
 use Prim.Native.Nat.{ℕ, zero, suc, _+_, _-_, _*_, _/_, _%_, _≤_, _<_, min}
 use native.Mathlib.Omega.{arith}
 use native.Mathlib.Nat.{add-zero, add-suc, le-antisymm, mod-lt, div-add-mod', div-lt-iff-lt-mul}
 use lib.Dec.{ltb, eqb}
-use borrow.Author.Tests.{ltb-true, ltb-false, lt-ltb, le-ltb, eqb-true, eq-eqb}
+use borrow.Author.Tests.{ltb-true, ltb-false, le-ltb, eqb-true, eq-eqb}
 use Rattle.rules.specs.Limits.{both}
 use Rattle.rules.specs.Search.{first, howMany}
 use Rattle.rules.proofs.Tests.{decide, both-l, both-r, both-in}

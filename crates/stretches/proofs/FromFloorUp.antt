@@ -2,48 +2,37 @@
 use mathlib.Core.Path.{_≡_, refl, sym, ap, _∙_}
 use mathlib.Core.Bool.{Bool, true, false, not, false≢true}
 use mathlib.Core.Logic.{⊎-elim}
-use Prim.Native.Nat.{ℕ, zero, suc, _+_, _-_, _*_, _/_, _%_, _^_, _≤_, _<_}
+use Prim.Native.Nat.{ℕ, suc, _+_, _-_, _*_, _/_, _%_, _^_, _≤_, _<_}
 use native.Mathlib.Omega.{arith}
-use native.Mathlib.Nat.{mod-lt, div-add-mod, div-add-mod', le-div-iff-mul-le, pos-of-ne-zero, mul-le-mul-right}
+use native.Mathlib.Nat.{div-add-mod, pos-of-ne-zero}
 use lib.Dec.{leb, ltb, eqb}
 use lib.ListN.{getD}
 use lib.Pow.{pow-mono}
-use borrow.Author.Tests.{not-true, eqb-true, eqb-false, eq-eqb, ne-eqb, leb-true, lt-ltb, le-ltb, ltb-true, ltb-false, le-leb}
+use borrow.Author.Tests.{not-true, eqb-true, eqb-false, leb-true, lt-ltb, le-ltb, ltb-true}
 use Rattle.rules.specs.Limits.{both, askedMax, countMax}
 use Rattle.rules.specs.Refusals.{pick}
 use Rattle.rules.specs.Search.{some, first, howMany}
 use Rattle.rules.proofs.Tests.{decide, both-l, both-r, both-in, both-none, same, pick-true, pick-false}
-use Rattle.rules.proofs.Search.{some-in, some-out, first-le}
 use Rattle.grid.specs.Ticks.{slot, roundedUp}
 use Rattle.grid.specs.Lanes.{addedChannel, laneCell}
 use Rattle.grid.specs.Bounds.{Exactly}
 use Rattle.grid.proofs.Numbers.{mod-unique, div-unique}
 use Rattle.grid.proofs.Ticks.{slot-pos, half-cells}
 use Rattle.grid.proofs.Channels.{lifted, nextSlot, lifted-add}
-use Rattle.grid.proofs.Zeros.{LowZeros, zeros-only}
-use Rattle.scheme.specs.Scheme.{Scheme, padded, steadyKind, filmIn}
+use Rattle.grid.proofs.Zeros.{zeros-only}
+use Rattle.scheme.specs.Scheme.{padded, steadyKind, filmIn}
 use Rattle.scheme.proofs.ByKind.{padded-scheme}
 use Rattle.scheme.proofs.Clock.{tick-pos}
 use Rattle.story.specs.declared.Title.{Title}
 use Rattle.story.specs.Life.{reach}
 use Rattle.story.specs.Kept.{schemeIn, titleTick, wants, keptAwaited, keptOwed, keptWithin, keptNth}
 use Rattle.measures.specs.Readable.{Filmed}
-use Rattle.stretches.specs.declared.upper.Walk.{Walk}
 use Rattle.stretches.specs.inner.Walk.{IsLatest, Walkable, isReached, walkOf, behindOn, fromOn, ticksTo, NthIn}
+use Rattle.stretches.proofs.Found.{found-exactly}
+use Rattle.stretches.proofs.FilmCells.{film-cells}
 use Rattle.stretches.proofs.OneChannel.{padded-wants, some-awaits, awaits-in}
 use Rattle.stretches.proofs.Walked.{On, owedOn, all-owed, nth-owed, nth-past}
 use Rattle.stretches.proofs.Slots.{added-zeros, added-cell, slot-less, wants-as-long, wants-none, wants-never}
-
--- a cell that holds film is one of so many
-pub film-cells : (D k c : ℕ) → 0 < k → filmIn D k c ≡ ltb c (roundedUp D k)
-unfolding filmIn roundedUp
-film-cells D k c pos =
-    same (ltb (c * k) D) (ltb c ((D + (k - 1)) / k))
-    (λ t. let h : c * k < D = ltb-true (c * k) D t in lt-ltb c ((D + (k - 1)) / k) (le-div-iff-mul-le {k = k} {x = suc c} {y = D + (k - 1)} pos .1 (omega arith)))
-    (λ t.
-    let h : suc c ≤ (D + (k - 1)) / k = ltb-true c ((D + (k - 1)) / k) t in
-    let m : suc c * k ≤ D + (k - 1) = le-div-iff-mul-le {k = k} {x = suc c} {y = D + (k - 1)} pos .0 h in
-    lt-ltb (c * k) D (omega arith))
 
 -- a lane from the floor up, dropped at one of its slot starts and after every count above it had ended
 pub record Reached (t : Title) (l T until end : ℕ) : Type 0 where
@@ -233,12 +222,10 @@ module _ (t : Title) (l T until end : ℕ) (h : Reached t l T until end) (f : Fi
       ∙ sym (reach-is (t .film .cap) l (h .high))
 
   pub nth-exactly : (n r : ℕ) → NthIn (walkOf (t .film) l T until) n r → Exactly (first (keptNth t l T n) (reach (t .film .cap))) 0 (2 ^ countMax) r
-  unfolding walkOf reach
+  unfolding walkOf
   nth-exactly n r found =
-      let is : r ≡ first (keptNth t l T n) (reach (t .film .cap)) =
-      ⊎-elim
+      found-exactly t l T (f .cut .high) n r
+      (⊎-elim
       (λ x. x .4 ∙ sym (nth-in (x .0) n (x .1) (x .2) (x .3)))
       (λ x. x .1 ∙ sym (reach-is (t .film .cap) l (h .high)) ∙ sym (nth-out n (x .0)))
-      found in
-      let room : 2 ^ (t .film .cap - 1) ≤ 2 ^ countMax = pow-mono {i = t .film .cap - 1} {j = countMax} (omega (arith, f .cut .high)) in
-      record { is = is; low = omega arith; high = omega (arith, is, first-le (keptNth t l T n) (reach (t .film .cap))) }
+      found)

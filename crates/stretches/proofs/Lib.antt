@@ -1,6 +1,10 @@
 -- Laws of what is owed in stretches.
 pub mod Counted
+pub mod Found
+pub mod FilmCells
 pub mod OneChannel
+pub mod OnLanes
+pub mod Turning
 pub mod Walked
 pub mod Steps
 pub mod Lately

@@ -2,7 +2,7 @@
 -- the first for as long as the floor's does; of the first it takes its own last slot for as long, and the others half as long. Of
 -- lane 0 nobody awaits a cell who began in time. Rests on the grid's laws of channels and carriers.
 use mathlib.Core.Path.{_≡_, refl, sym, ap, _∙_}
-use mathlib.Core.Bool.{Bool, true, false}
+use mathlib.Core.Bool.{true, false}
 use mathlib.Core.Logic.{_⊎_, ⊎-elim}
 use Prim.Native.Nat.{ℕ, zero, suc, _+_, _-_, _*_, _/_, _%_, _^_, _≤_, _<_}
 use native.Mathlib.Omega.{arith}

@@ -1,22 +1,20 @@
 -- The numbers of a lane below the floor as the code computes them. Rests on the definitions.
-use mathlib.Core.Path.{_≡_, refl, sym, ap, _∙_}
-use mathlib.Core.Bool.{true, false}
+use mathlib.Core.Path.{_≡_, refl}
 use mathlib.Core.List.{List}
 use mathlib.Core.Logic.{⊎-elim}
-use Prim.Native.Nat.{ℕ, zero, suc, _+_, _-_, _*_, _/_, _%_, _^_, _≤_, _<_, min}
+use Prim.Native.Nat.{ℕ, suc, _+_, _-_, _/_, _%_, _^_, _≤_, _<_, min}
 use native.Mathlib.Omega.{arith}
-use native.Mathlib.Nat.{mod-lt, mul-le-mul, mul-le-mul-right}
-use lib.Dec.{leb, ltb, eqb}
+use native.Mathlib.Nat.{mod-lt}
+use lib.Dec.{ltb, eqb}
 use lib.Pow.{pow-pos, pow-mono}
-use borrow.Author.Tests.{eqb-true, eqb-false, eq-eqb, ne-eqb, ltb-true, ltb-false}
+use borrow.Author.Tests.{eq-eqb, ne-eqb, ltb-true, ltb-false}
 use Rattle.rules.specs.Limits.{countMax}
-use Rattle.rules.specs.Refusals.{pick}
 use Rattle.rules.proofs.Tests.{decide, pick-true, pick-false}
 use Rattle.grid.specs.Ticks.{slot}
 use Rattle.grid.specs.Bounds.{Exactly, IsRest}
-use Rattle.grid.proofs.Ticks.{slot-pos, all-cells}
+use Rattle.grid.proofs.Ticks.{slot-pos}
 use Rattle.stretches.specs.declared.low.Low.{Low}
-use Rattle.stretches.specs.inner.Low.{Lower, placeAt, leftAt, cellAt, IsTill, decisive, IsLength}
+use Rattle.stretches.specs.inner.Low.{Lower, placeAt, leftAt, IsTill, decisive, IsLength}
 
 module _ (s : Low) (h : Lower s) where
   pub width-pos : 0 < s .width

@@ -1,7 +1,7 @@
 -- A lane from the floor up, slot by slot of the count that adds it: in each slot all cells are on one channel, whose number the slot's low
 -- zeros give, and are those of the channel's last segment. Every larger count has them on a channel that is taken for as long; but those
 -- of channel 0 nobody awaits who began in time. Rests on the grid's laws of zeros, lanes and carriers.
-use mathlib.Core.Path.{_≡_, refl, sym, ap, _∙_}
+use mathlib.Core.Path.{_≡_, refl, ap, _∙_}
 use mathlib.Core.Bool.{Bool, true, false, not}
 use mathlib.Core.Logic.{⊎-elim}
 use Prim.Native.Nat.{ℕ, zero, suc, _+_, _-_, _*_, _/_, _%_, _^_, _≤_, _<_}
@@ -9,13 +9,11 @@ use native.Mathlib.Omega.{arith}
 use native.Mathlib.Nat.{mod-lt, mod-one, div-add-mod, div-add-mod', div-lt-iff-lt-mul, mul-le-mul-right, mul-le-mul-left, pos-of-ne-zero, pow-succ'}
 use lib.Dec.{ltb, eqb}
 use lib.Pow.{pow-pos, pow-add, pow-mono}
-use borrow.Author.Tests.{eqb-true, eqb-false, not-true, not-false, lt-ltb, le-ltb, ltb-true, ltb-false}
-use Rattle.rules.specs.Limits.{both}
+use borrow.Author.Tests.{eqb-true, eqb-false, not-true, not-false, le-ltb}
 use Rattle.rules.specs.Search.{first}
 use Rattle.rules.proofs.Tests.{decide}
 use Rattle.rules.proofs.Search.{first-le, first-before, first-hit}
 use Rattle.grid.specs.Ticks.{slot}
-use Rattle.grid.specs.Channels.{channelCell}
 use Rattle.grid.specs.Lanes.{isInG, addedChannel, laneCell}
 use Rattle.grid.specs.Bounds.{Carrier}
 use Rattle.grid.proofs.Numbers.{mod-unique, div-unique}

@@ -1,17 +1,16 @@
 -- The numbers of a walk as the code computes them: each way out of a step, and that every sum has room. Rests on the definitions.
-use mathlib.Core.Path.{_≡_, refl, sym, ap, _∙_}
-use mathlib.Core.Bool.{Bool, true, false}
-use Prim.Native.Nat.{ℕ, zero, suc, _+_, _-_, _*_, _/_, _%_, _^_, _≤_, _<_, min}
+use mathlib.Core.Path.{_≡_, refl, ap}
+use Prim.Native.Nat.{ℕ, _+_, _-_, _*_, _/_, _%_, _^_, _≤_, _<_, min}
 use native.Mathlib.Omega.{arith}
 use native.Mathlib.Numerals.{add-one}
 use native.Mathlib.Nat.{mod-lt, mul-le-mul}
 use lib.Dec.{ltb, eqb}
 use lib.Pow.{pow-pos, pow-mono}
 use borrow.Author.Tests.{lt-ltb, le-ltb}
-use Rattle.rules.specs.Limits.{both, countMax}
+use Rattle.rules.specs.Limits.{countMax}
 use Rattle.rules.specs.Refusals.{pick}
 use Rattle.rules.specs.Search.{total}
-use Rattle.rules.proofs.Tests.{both-in, both-none}
+use Rattle.rules.proofs.Tests.{both-none}
 use Rattle.grid.specs.Ticks.{slot, roundedUp}
 use Rattle.grid.specs.Lifted.{lifted}
 use Rattle.story.specs.declared.Film.{Film}

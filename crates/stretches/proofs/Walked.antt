@@ -5,14 +5,12 @@ use mathlib.Core.Bool.{Bool, true, false, false≢true}
 use mathlib.Core.Logic.{⊎-elim}
 use Prim.Native.Nat.{ℕ, zero, suc, _+_, _-_, _*_, _/_, _%_, _^_, _≤_, _<_, min}
 use native.Mathlib.Omega.{arith}
-use native.Mathlib.Numerals.{add-one}
-use native.Mathlib.Nat.{mod-lt, mod-eq-of-lt, div-add-mod, lt-of-mul-lt-mul-left, le-antisymm, pow-succ', mul-le-mul-right, mul-mod-right, zero-mul}
+use native.Mathlib.Nat.{mod-lt, mod-eq-of-lt, div-add-mod, lt-of-mul-lt-mul-left, pow-succ', mul-le-mul-right, mul-mod-right, zero-mul}
 use lib.Count.{trailingZeros}
 use lib.Dec.{ltb, eqb}
 use lib.Pow.{pow-pos, pow-mono}
-use borrow.Author.Tests.{ltb-true, ltb-false, lt-ltb, le-ltb, eqb-true, eqb-false}
+use borrow.Author.Tests.{ltb-true, ltb-false, lt-ltb, eqb-true, eqb-false}
 use Rattle.rules.specs.Limits.{both}
-use Rattle.rules.specs.Refusals.{pick}
 use Rattle.rules.specs.Search.{first, howMany, total}
 use Rattle.rules.proofs.Tests.{decide, both-l, both-r, both-in, both-none, same, fails}
 use Rattle.rules.proofs.Search.{below-suc}

@@ -1,7 +1,8 @@
-// What a dropped lane owes, stretch by stretch. In a slot of a lane from the floor up all ticks are on one channel of the count that
-// adds the lane, and each channel is still awaited in at most one slot from the drop on: there the first ticks are owed, and those slots
-// come in the order of their channels.
+// What a dropped lane owes, stretch by stretch. Of a lane from the floor up each channel has one stretch at most (`upper`), of a lane below
+// it each slot of the floor's count has a few (`low`), and a lane of a skip-forward title has two (`turns`). The functions require a title
+// whose numbers are within their limits; where events drop a lane they say what it owes, and `owed` counts any other tick by tick.
 
 pub mod latest;
 pub mod low;
+pub mod turns;
 pub mod upper;

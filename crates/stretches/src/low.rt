@@ -44,6 +44,7 @@ pub struct Low {
     pub own: u64,
 }
 
+// The numbers of a lane of a film.
 fn low_of(film: Film, lane: u64) -> Low
     requires { ⌜ (0 < lane) × (lane < film .floor) ⌝ }
     requires { ⌜ (film .floor ≤ film .cap) × (film .cap ≤ countMax) ⌝ }

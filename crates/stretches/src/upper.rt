@@ -6,7 +6,7 @@ use measures::ticks::since;
 use rules::truth::smaller;
 use scheme::STEADY;
 use story::Film;
-ghost use Prim.Native.Nat.{suc, _+_, _*_, _-_, _^_, _≤_, _<_};
+ghost use Prim.Native.Nat.{_+_, _*_, _-_, _^_, _≤_, _<_};
 ghost use mathlib.Core.Path.{_≡_};
 ghost use Rattle.rules.specs.Limits.{askedMax, countMax};
 ghost use Rattle.grid.specs.Ticks.{roundedUp};

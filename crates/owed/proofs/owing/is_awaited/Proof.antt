@@ -5,7 +5,7 @@ use native.Mathlib.Omega.{arith}
 use Rattle.rules.specs.Limits.{countPlaces}
 use Rattle.scheme.proofs.ByKind.{padded-scheme}
 use Rattle.measures.proofs.Within.{in-row}
-use Rattle.owed.proofs.OnLanes.{awaited-own}
+use Rattle.stretches.proofs.OnLanes.{awaited-own}
 use borrow.Author.Needs.{needs}
 use Rattle.owed.proofs.owing.is_awaited.Statement.{statement}
 use Rattle.owed.proofs.owing.is_awaited.Tie as tie

@@ -1,17 +1,13 @@
 -- `owes` meets its contract: each kind of lane has its own way.
-use mathlib.Core.Path.{sym, _∙_}
 use borrow.Author.Needs.{needs}
 use Rattle.owed.proofs.owing.owes.Statement.{statement}
 use Rattle.owed.proofs.owing.owes.Tie as tie
 
-reach-requires : tie.Need-reach-requires
-reach-requires c κs = search needs
-
-owed-within-requires : tie.Need-owed-within-requires
-owed-within-requires c κs = search needs
+owes-steady-requires : tie.Need-owes-steady-requires
+owes-steady-requires c κs = search needs
 
 returns : tie.Need-returns
-returns c = rw (← c .before .reach .ensures .is) (c .owed-within .ensures .is)
+returns c = search needs
 
 owes-up-requires : tie.Need-owes-up-requires
 owes-up-requires c κs = search needs
@@ -35,8 +31,7 @@ pub owes-spec : {M : Type 1} → statement M
 owes-spec =
     tie.close
     (tie.spec
-    reach-requires
-    owed-within-requires
+    owes-steady-requires
     returns
     owes-up-requires
     returns-2

@@ -1,5 +1,4 @@
 -- `owes_first` meets its contract: events leave nothing to owe, and elsewhere the ticks are counted. Rests on the law of lane 0.
-use mathlib.Core.Path.{sym, _∙_}
 use Rattle.story.specs.Life.{reach as reachOf}
 use Rattle.stretches.proofs.BelowFloor.{idle-owes}
 use borrow.Author.Needs.{needs}

@@ -1,6 +1,6 @@
 -- `owes_up` meets its contract: a lane that events dropped is walked by its channels, any other by its ticks. Rests on the law of that walk.
-use mathlib.Core.Path.{_≡_, sym, ap, _∙_}
-use Rattle.stretches.specs.inner.Walk.{walkOf, ticksTo}
+use mathlib.Core.Path.{sym, _∙_}
+use Rattle.stretches.specs.inner.Walk.{walkOf}
 use Rattle.stretches.proofs.FromFloorUp.{Reached, reached-in, walkable, owes-in}
 use borrow.Author.Needs.{needs}
 use Rattle.owed.proofs.owing.owes_up.Statement.{statement}

@@ -1,11 +1,10 @@
 -- `latest_above` meets its contract: the loop's numbers are those of the counts passed.
-use Prim.Native.Nat.{suc, _+_, _-_, _≤_, _<_}
-use mathlib.Core.Path.{_≡_, refl, sym, ap, _∙_}
+use Prim.Native.Nat.{suc, _-_, _≤_, _<_}
+use mathlib.Core.Path.{_≡_, ap, _∙_}
 use native.Mathlib.Omega.{arith}
 use native.Mathlib.Numerals.{add-one}
 use native.Mathlib.Nat.{le-antisymm}
-use Rattle.rules.specs.Limits.{countPlaces, askedMax}
-use lib.ListN.{getD}
+use Rattle.rules.specs.Limits.{countPlaces}
 use Rattle.grid.specs.Ticks.{slot as slotOf}
 use Rattle.measures.proofs.Within.{in-row}
 use Rattle.stretches.specs.inner.Walk.{IsLatest}

@@ -1,12 +1,12 @@
 -- `nth_low` meets its contract: the first stretch that reaches past the number has the tick. Rests on the laws of stretches.
-use Prim.Native.Nat.{_+_, _-_, _^_, _≤_, _<_, min}
+use Prim.Native.Nat.{_+_, _-_, _^_, _≤_, min}
 use mathlib.Core.Path.{_≡_, refl, sym, ap, ap₂, _∙_}
 use native.Mathlib.Omega.{arith}
 use native.Mathlib.Nat.{le-antisymm}
 use Rattle.rules.specs.Limits.{countMax}
 use Rattle.rules.specs.Search.{first, howMany}
 use Rattle.story.specs.Life.{reach}
-use Rattle.story.specs.Kept.{keptWithin, keptNth}
+use Rattle.story.specs.Kept.{keptWithin}
 use Rattle.stretches.proofs.LowSteps.{Stepped, step, reach-low, found-low}
 use Rattle.stretches.proofs.BelowFloor.{step-owed, step-nth, none-left}
 use borrow.Author.Needs.{needs}

@@ -1,6 +1,6 @@
 -- `owed_low` meets its contract: the loop's number is that of the ticks passed. Rests on the laws of stretches.
-use Prim.Native.Nat.{_+_, _-_, _≤_, _<_, min}
-use mathlib.Core.Path.{_≡_, refl, sym, ap, ap₂, _∙_}
+use Prim.Native.Nat.{_+_, _-_, _≤_, min}
+use mathlib.Core.Path.{_≡_, refl, ap, ap₂, _∙_}
 use native.Mathlib.Omega.{arith}
 use native.Mathlib.Nat.{le-antisymm}
 use Rattle.rules.specs.Search.{howMany}

@@ -1,6 +1,6 @@
 -- `ticks_at` meets its contract: the cell is the definition's, and the smallest of three numbers is taken.
-use mathlib.Core.Path.{_≡_, refl, sym, _∙_}
-use Prim.Native.Nat.{ℕ, _+_, _-_, _*_, _%_, _^_, _≤_, _<_}
+use mathlib.Core.Path.{refl, _∙_}
+use Prim.Native.Nat.{ℕ, _+_, _-_, _*_, _^_, _≤_, _<_}
 use native.Mathlib.Omega.{arith}
 use native.Mathlib.Nat.{mod-lt}
 use Rattle.stretches.proofs.LowSteps.{width-pos, width-high, own-pos, own-high}

@@ -1,11 +1,10 @@
 -- `till` meets its contract: the loop's number is that of the counts passed.
-use Prim.Native.Nat.{suc, _+_, _-_, _*_, _^_, _≤_, _<_}
-use mathlib.Core.Path.{_≡_, refl, sym, ap, _∙_}
+use Prim.Native.Nat.{suc, _-_, _*_, _^_, _≤_}
+use mathlib.Core.Path.{_≡_}
 use native.Mathlib.Omega.{arith}
 use native.Mathlib.Numerals.{add-one}
 use native.Mathlib.Nat.{le-antisymm}
 use lib.Dec.{leb}
-use lib.ListN.{getD}
 use Rattle.rules.specs.Limits.{countPlaces}
 use Rattle.rules.specs.Refusals.{pick}
 use Rattle.grid.specs.Ticks.{slot as slotOf}

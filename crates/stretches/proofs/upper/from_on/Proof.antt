@@ -1,8 +1,5 @@
 -- `from_on` meets its contract: as many slots as are left up to the channel's last place.
-use mathlib.Core.Path.{_≡_, ap, _∙_}
-use Prim.Native.Nat.{_+_, _-_, _*_, _^_, _≤_}
 use native.Mathlib.Omega.{arith}
-use Rattle.rules.specs.Limits.{countMax}
 use Rattle.stretches.proofs.Steps.{from-is, small}
 use borrow.Author.Needs.{needs}
 use Rattle.stretches.proofs.upper.from_on.Statement.{statement}

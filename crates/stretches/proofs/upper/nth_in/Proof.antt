@@ -1,13 +1,13 @@
 -- `nth_in` meets its contract: the first channel whose stretch reaches past the number has the tick.
-use Prim.Native.Nat.{suc, _+_, _-_, _*_, _^_, _≤_, _<_}
-use mathlib.Core.Path.{_≡_, refl, sym, ap, _∙_}
+use Prim.Native.Nat.{_-_, _*_, _^_, _≤_}
+use mathlib.Core.Path.{_≡_, refl}
 use mathlib.Core.Logic.{inl, inr}
 use native.Mathlib.Omega.{arith}
 use native.Mathlib.Numerals.{add-one}
 use native.Mathlib.Nat.{le-antisymm}
 use Rattle.rules.specs.Limits.{countMax}
 use Rattle.rules.specs.Search.{total}
-use Rattle.stretches.specs.inner.Walk.{ticksTo, ticksOn, fromOn}
+use Rattle.stretches.specs.inner.Walk.{ticksTo}
 use Rattle.stretches.proofs.Steps.{ticks-more, small}
 use borrow.Author.Needs.{needs}
 use Rattle.stretches.proofs.upper.nth_in.Statement.{statement}

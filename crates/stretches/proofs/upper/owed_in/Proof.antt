@@ -1,12 +1,11 @@
 -- `owed_in` meets its contract: the loop's number is that of the channels passed.
-use Prim.Native.Nat.{suc, _+_, _-_, _*_, _^_, _≤_, _<_}
-use mathlib.Core.Path.{_≡_, refl, sym, ap, _∙_}
+use Prim.Native.Nat.{_-_, _*_, _^_, _≤_}
+use mathlib.Core.Path.{_≡_, refl}
 use native.Mathlib.Omega.{arith}
-use native.Mathlib.Numerals.{add-one}
 use native.Mathlib.Nat.{le-antisymm}
 use Rattle.rules.specs.Limits.{countMax}
 use Rattle.rules.specs.Search.{total}
-use Rattle.stretches.specs.inner.Walk.{ticksTo, ticksOn}
+use Rattle.stretches.specs.inner.Walk.{ticksTo}
 use Rattle.stretches.proofs.Steps.{ticks-more}
 use borrow.Author.Needs.{needs}
 use Rattle.stretches.proofs.upper.owed_in.Statement.{statement}

@@ -1,5 +1,4 @@
 -- `rest_on` meets its contract: a remainder by a power of two.
-use mathlib.Core.Path.{_≡_, sym}
 use native.Mathlib.Omega.{arith}
 use borrow.Author.Needs.{needs}
 use Rattle.stretches.specs.inner.Walk.{restOn}

@@ -1,6 +1,6 @@
 -- `ticks_on` meets its contract: each way out decides a test of the step.
-use mathlib.Core.Path.{_≡_, sym, _∙_}
-use Prim.Native.Nat.{_+_, _-_, _*_, _^_, _≤_, _<_}
+use mathlib.Core.Path.{_∙_}
+use Prim.Native.Nat.{_-_, _*_}
 use native.Mathlib.Omega.{arith}
 use Rattle.stretches.proofs.Steps.{ticks-short, ticks-past, ticks-here, small}
 use borrow.Author.Needs.{needs}

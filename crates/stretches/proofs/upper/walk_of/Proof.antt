@@ -1,6 +1,6 @@
 -- `walk_of` meets its contract: each number is its part of the definition.
 use Prim.Native.Nat.{_+_, _-_, _^_, _≤_}
-use mathlib.Core.Path.{_≡_, refl, sym, ap, _∙_}
+use mathlib.Core.Path.{sym, _∙_}
 use native.Mathlib.Omega.{arith}
 use native.Mathlib.Nat.{div-le-self}
 use lib.Pow.{pow-mono}

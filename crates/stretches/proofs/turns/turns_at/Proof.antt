@@ -1,0 +1,51 @@
+-- `turns_at` meets its contract: what is left of the turn, and what is owed of it and of the next.
+use mathlib.Core.Path.{refl}
+use native.Mathlib.Omega.{arith}
+use native.Mathlib.Nat.{mod-lt}
+use Rattle.scheme.specs.Scheme.{period}
+use borrow.Author.Needs.{needs}
+use Rattle.stretches.proofs.turns.turns_at.Statement.{statement}
+use Rattle.stretches.proofs.turns.turns_at.Tie as tie
+
+period-requires : tie.Need-period-requires
+period-requires c κs = search needs
+
+rem-left : tie.Need-rem-left
+rem-left c = search needs
+
+sub-left : tie.Need-sub-left
+sub-left c = omega (arith, mod-lt (c .before .args .at) {m = c .period .result} (omega (arith, c .period .ensures .low)))
+
+due-at-requires : tie.Need-due-at-requires
+due-at-requires c κs = search needs
+
+smaller-requires : tie.Need-smaller-requires
+smaller-requires c κs = search needs
+
+add-due-at : tie.Need-add-due-at
+add-due-at c = search needs
+
+due-at-requires-2 : tie.Need-due-at-requires-2
+due-at-requires-2 c κs = search needs
+
+returns : tie.Need-returns
+returns c =
+    let p = c .before .before .before .period in
+    record {
+      left = rw (p .ensures .is) refl;
+      first = rw (c .before .smaller .ensures, c .before .before .due-at .ensures, p .ensures .is) refl;
+      second = rw (c .due-at2 .ensures, p .ensures .is) refl;
+    }
+
+pub turns-at-spec : {M : Type 1} → statement M
+turns-at-spec =
+    tie.close
+    (tie.spec
+    period-requires
+    rem-left
+    sub-left
+    due-at-requires
+    smaller-requires
+    add-due-at
+    due-at-requires-2
+    returns)
