@@ -16,7 +16,7 @@ pub extern "C" fn rl_lane_row(agent: &[u64], id: u64, lane: u64, time: u64, cell
     if cell.len() < 1 {
         return WRONG_ROWS;
     }
-    let told = row_calls::questions::lane(agent, id, lane, time);
+    let told = row_calls::lanes::lane(agent, id, lane, time);
     let answer = told.answer;
     if answer == DONE {
         let numbers = [told.cell];
@@ -58,7 +58,7 @@ pub extern "C" fn rl_held_row(agent: &[u64], time: u64, lanes: &mut [u64]) -> u8
     if lanes.len() < 1 {
         return WRONG_ROWS;
     }
-    let told = row_calls::questions::held(agent, time);
+    let told = row_calls::lanes::held(agent, time);
     let answer = told.answer;
     if answer == DONE {
         let numbers = [told.lanes];

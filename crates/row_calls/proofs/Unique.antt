@@ -12,10 +12,10 @@ use Rattle.row_calls.proofs.starting.fresh.Kinds as fresh-kinds
 use Rattle.row_calls.proofs.starting.fresh.Reads as fresh-call
 use Rattle.row_calls.proofs.titles.status.Kinds as status-kinds
 use Rattle.row_calls.proofs.titles.status.Reads as status-call
-use Rattle.row_calls.proofs.questions.lane.Kinds as lane-kinds
-use Rattle.row_calls.proofs.questions.lane.Reads as lane-call
-use Rattle.row_calls.proofs.questions.held.Kinds as held-kinds
-use Rattle.row_calls.proofs.questions.held.Reads as held-call
+use Rattle.row_calls.proofs.lanes.lane.Kinds as lane-kinds
+use Rattle.row_calls.proofs.lanes.lane.Reads as lane-call
+use Rattle.row_calls.proofs.lanes.held.Kinds as held-kinds
+use Rattle.row_calls.proofs.lanes.held.Reads as held-call
 
 -- the row is the first parameter
 pub event-one-outcome : OneEnd 1 event-kinds.ps event-kinds.r (λ κs e f. now (e .0) ≡ now (f .0)) event-call.Learnt

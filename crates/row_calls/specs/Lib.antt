@@ -4,7 +4,7 @@
 -- - An event: `row_calls::events::event`, by `rowEvent` and `rowAfterEvent`. It leaves the sequence as it was.
 -- - A notice's bytes: `row_calls::notices::take`, by `rowNotice` and `rowAfterNotice`. An accepted one moves the sequence.
 -- - A fresh agent of a pool, whatever the row was: `row_calls::starting::fresh`, by `rowFresh` and `rowAfterFresh`.
--- - The lane question and lanes held: `row_calls::questions::lane`, by `rowLane` and `rowShows`; `row_calls::questions::held`, by `rowHeld`
+-- - The lane question and lanes held: `row_calls::lanes::lane`, by `rowLane` and `rowShows`; `row_calls::lanes::held`, by `rowHeld`
 --   and `rowLanes`.
 -- - Status over flat rows: `row_calls::titles::status`, by `rowStatus` and the definitions of status itself.
 -- A sound row of the right length is answered and left as its agent is: proofs/Follows `noticed-as-agent`, `called-as-agent`.

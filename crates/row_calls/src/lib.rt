@@ -2,7 +2,7 @@
 // tested once for each call. No call has a `requires`: any row may be lent, and a refusal leaves it as it was.
 
 pub mod events;
+pub mod lanes;
 pub mod notices;
-pub mod questions;
 pub mod starting;
 pub mod titles;

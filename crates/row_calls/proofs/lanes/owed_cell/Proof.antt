@@ -3,8 +3,8 @@ use mathlib.Core.Path.{refl, ap, _∙_}
 use Rattle.story.specs.declared.Title.{Title}
 use Rattle.story.specs.Kept.{shows}
 use borrow.Author.Needs.{needs}
-use Rattle.row_calls.proofs.questions.owed_cell.Statement.{statement}
-use Rattle.row_calls.proofs.questions.owed_cell.Tie as tie
+use Rattle.row_calls.proofs.lanes.owed_cell.Statement.{statement}
+use Rattle.row_calls.proofs.lanes.owed_cell.Tie as tie
 
 is-sending-requires : tie.Need-is-sending-requires
 is-sending-requires c κs = search needs

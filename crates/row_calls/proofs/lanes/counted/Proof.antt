@@ -3,8 +3,8 @@ use mathlib.Core.Path.{refl}
 use Rattle.agent_rows.specs.Packed.{unpacked}
 use Rattle.row_calls.proofs.Cells.{told, held-outside, held-early, held-told}
 use borrow.Author.Needs.{needs}
-use Rattle.row_calls.proofs.questions.counted.Statement.{statement}
-use Rattle.row_calls.proofs.questions.counted.Tie as tie
+use Rattle.row_calls.proofs.lanes.counted.Statement.{statement}
+use Rattle.row_calls.proofs.lanes.counted.Tie as tie
 
 unheld-requires : tie.Need-unheld-requires
 unheld-requires c κs = search needs

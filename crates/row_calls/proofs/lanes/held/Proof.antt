@@ -6,8 +6,8 @@ use Rattle.agent_rows.specs.Packed.{unpacked, rowSound}
 use Rattle.row_calls.specs.inner.Steps.{Tested}
 use Rattle.row_calls.proofs.Cells.{told, held-elsewhere, held-row-in, held-row-out}
 use borrow.Author.Needs.{needs}
-use Rattle.row_calls.proofs.questions.held.Statement.{statement}
-use Rattle.row_calls.proofs.questions.held.Tie as tie
+use Rattle.row_calls.proofs.lanes.held.Statement.{statement}
+use Rattle.row_calls.proofs.lanes.held.Tie as tie
 
 -- past the tests the row is within its limits
 tested : (c : tie.Then2) → Tested (c .before .before .before .before .args .row .now)

@@ -10,8 +10,8 @@ use Rattle.owed.proofs.Shown.{shows-active}
 use Rattle.agent_rows.specs.Packed.{titleFrom}
 use Rattle.row_calls.proofs.Cells.{told, asked-early, asked-absent, asked-above, asked-held, active-is-held}
 use borrow.Author.Needs.{needs}
-use Rattle.row_calls.proofs.questions.title_shows.Statement.{statement}
-use Rattle.row_calls.proofs.questions.title_shows.Tie as tie
+use Rattle.row_calls.proofs.lanes.title_shows.Statement.{statement}
+use Rattle.row_calls.proofs.lanes.title_shows.Tie as tie
 
 -- the function's start, seen from behind its refusals
 abbrev start : tie.Else3 → tie.Start

@@ -14,8 +14,8 @@ use Rattle.agent_rows.proofs.Inverse.{title-at}
 use Rattle.row_calls.specs.inner.Steps.{laneTold, cellTold}
 use Rattle.row_calls.proofs.Cells.{told, lane-in, lane-out}
 use borrow.Author.Needs.{needs}
-use Rattle.row_calls.proofs.questions.shown.Statement.{statement}
-use Rattle.row_calls.proofs.questions.shown.Tie as tie
+use Rattle.row_calls.proofs.lanes.shown.Statement.{statement}
+use Rattle.row_calls.proofs.lanes.shown.Tie as tie
 
 -- the function's start, seen from where its numbers were tested
 abbrev start : tie.After-also2 → tie.Start
