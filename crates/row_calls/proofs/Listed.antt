@@ -12,7 +12,7 @@ use Rattle.rules.specs.Refusals.{pick, firstHit, outsideLimits, tooEarly, wrong
 use Rattle.story.specs.declared.State.{State}
 use Rattle.story.specs.Kept.{stateOk}
 use Rattle.story.specs.Calls.{statusAnswer}
-use Rattle.verdicts.specs.Asked.{askedAnswer}
+use Rattle.questions.specs.Asked.{askedAnswer}
 use Rattle.status.specs.Rows.{idsOk}
 use Rattle.status.proofs.Asked.{rows-state}
 use Rattle.agent_rows.specs.Layout.{rowLength}

@@ -24,7 +24,7 @@ ghost use lib.ListN.{length};
 ghost use Rattle.rules.specs.Refusals.{pick};
 ghost use Rattle.story.specs.Kept.{clearMark, ruling as rulingOf};
 ghost use Rattle.story.specs.Calls.{statusCount, statusHeld, statusMark};
-ghost use Rattle.verdicts.specs.Asked.{askedAnswer};
+ghost use Rattle.questions.specs.Asked.{askedAnswer};
 ghost use Rattle.status.specs.Rows.{idsOk};
 ghost use Rattle.agent_rows.specs.Layout.{titlePlaces};
 ghost use Rattle.agent_rows.specs.Packed.{titleFrom, unpacked};
