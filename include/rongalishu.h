@@ -349,9 +349,10 @@ static inline struct rl_notice rl_notice_of(const uint64_t fields[RL_NOTICE_FIEL
   return notice;
 }
 
-/* Writes a notice at the start of a room and says how many bytes it has; later bytes stay. 1 is for an unknown kind or
- * a number that its field does not hold; fields has eight places, written one.
- * Refusals: 1 10 */
+/* Writes a notice at the start of a room and says how many bytes it has; later bytes stay. 10 is for a room that is
+ * shorter than a notice of its kind, 1 for an unknown kind, whatever the room, and for a number that its field does not
+ * hold; fields has eight places and no more, written one.
+ * Refusals: 10 1 */
 uint8_t rl_write_row(const uint64_t *fields, size_t fields_len, uint8_t *room, size_t room_len, uint64_t *written,
                      size_t written_len);
 
@@ -369,7 +370,7 @@ static inline enum rl_answer rl_write(const struct rl_notice *notice, uint8_t *r
   return (enum rl_answer)rl_write_row(fields, RL_NOTICE_FIELDS, room, room_len, written, 1);
 }
 
-/* Reads one notice's bytes, and nothing after them; fields has eight places.
+/* Reads one notice's bytes, and nothing after them; fields has eight places, and later ones stay.
  * Refusals: 11 */
 uint8_t rl_read_row(const uint8_t *bytes, size_t bytes_len, uint64_t *fields, size_t fields_len);
 

@@ -128,7 +128,7 @@ fn status_wants_an_agent_of_its_length() {
 
 #[test]
 fn notices_want_eight_fields() {
-    for (fields, written) in [(0, 1), (7, 1), (8, 0)] {
+    for (fields, written) in [(0, 1), (7, 1), (9, 1), (8, 0)] {
         is_refused("write", |l| unsafe {
             let room = l.bytes.as_mut_ptr();
             rl_write_row(l.numbers.as_ptr(), fields, room, 45, l.more.as_mut_ptr(), written)

@@ -26,7 +26,7 @@ const ANSWERS: [(&str, &[u8]); 26] = [
     ("rom_plan", &[DONE, 1, 13, 14, 8, 10]),
     ("skip_plan", &[DONE, 1, 10]),
     ("share", &[DONE, 10, 1, 15, 9]),
-    ("write", &[DONE, 1, 10]),
+    ("write", &[DONE, 10, 1]),
     ("read", &[DONE, 11]),
     ("next", &[DONE, 11, END]),
     ("waits", &[DONE, 1, 10, 11]),

@@ -90,18 +90,17 @@ pub fn bytes_of(fields: &Fields) -> Option<Vec<u8>> {
     Some(bytes)
 }
 
-/// Writes a notice at the start of a room, and how many bytes it has: 1 for a row that is no notice's, then 10.
+/// Writes a notice at the start of a room, and how many bytes it has: 10 for a room that is too short for its kind, then 1 for
+/// a row that is no notice's. What is no kind asks for no room.
 pub fn write(fields: &Fields, room: &mut [u8]) -> (u8, u64) {
+    let Some(start) = room.get_mut(..size(fields[0]).unwrap_or(0)) else {
+        return (WRONG_ROWS, 0);
+    };
     let Some(bytes) = bytes_of(fields) else {
         return (OUTSIDE_LIMITS, 0);
     };
-    match room.get_mut(..bytes.len()) {
-        Some(start) => {
-            start.copy_from_slice(&bytes);
-            (DONE, bytes.len() as u64)
-        }
-        None => (WRONG_ROWS, 0),
-    }
+    start.copy_from_slice(&bytes);
+    (DONE, bytes.len() as u64)
 }
 
 /// The event that a notice tells.

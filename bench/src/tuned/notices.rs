@@ -141,15 +141,16 @@ fn fits(fields: &Fields) -> bool {
     common && own
 }
 
-/// Writes a notice at the start of a room, and how many bytes it has: 1 for a row that is no notice's, then 10.
+/// Writes a notice at the start of a room, and how many bytes it has: 10 for a room that is too short for its kind, then 1 for
+/// a row that is no notice's.
 pub fn write(fields: &Fields, room: &mut [u8]) -> (u8, u64) {
-    if !fits(fields) {
-        return (OUTSIDE_LIMITS, 0);
-    }
     let [kind, sequence, title, time, length, floor, cap, count] = *fields;
     let size = size(kind);
     if room.len() < size {
         return (WRONG_ROWS, 0);
+    }
+    if !fits(fields) {
+        return (OUTSIDE_LIMITS, 0);
     }
     let (common, own) = room[..size].split_at_mut(COMMON);
     common[..7].copy_from_slice(&[1, 0, 1, kind as u8, 2, 0, 4]);
