@@ -46,6 +46,32 @@ static long read(int file, void *to, size_t size) {
 static long write(int file, const void *from, size_t size) {
   return system_call(1, file, from, size);
 }
+
+/* What the library wants of a C library: it copies and clears with these two. Words first, as most of it is words. */
+void *memcpy(void *to, const void *from, size_t size);
+void *memset(void *to, int byte, size_t size);
+
+typedef uint64_t __attribute__((may_alias, aligned(1))) word;
+
+void *memcpy(void *to, const void *from, size_t size) {
+  unsigned char *left = (unsigned char *)to;
+  const unsigned char *next = (const unsigned char *)from;
+  for (; size >= sizeof(word); size -= sizeof(word), left += sizeof(word), next += sizeof(word))
+    *(word *)left = *(const word *)next;
+  for (; size > 0; size--)
+    *left++ = *next++;
+  return to;
+}
+
+void *memset(void *to, int byte, size_t size) {
+  unsigned char *left = (unsigned char *)to;
+  const word filled = UINT64_C(0x0101010101010101) * (unsigned char)byte;
+  for (; size >= sizeof(word); size -= sizeof(word), left += sizeof(word))
+    *(word *)left = filled;
+  for (; size > 0; size--)
+    *left++ = (unsigned char)byte;
+  return to;
+}
 #endif
 
 /* All of so many bytes; 0 where the other side has gone. */

@@ -1,7 +1,7 @@
 //! No call of the tuned version allocates, and none of the library.
 
 use bench::subject::Subject;
-use bench::times::all_cases;
+use bench::times::{all_cases, Logs};
 use bench::tuned::Tuned;
 use std::alloc::{GlobalAlloc, Layout, System};
 use std::cell::Cell;
@@ -29,7 +29,7 @@ unsafe impl GlobalAlloc for Counting {
 static COUNTING: Counting = Counting;
 
 fn none_allocates<S: Subject>(mut subject: S) {
-    for mut case in all_cases::<S>() {
+    for mut case in all_cases::<S>(Logs::Full) {
         if let Some(row) = &case.lent {
             subject.lend(row);
         }

@@ -1,5 +1,5 @@
 //! The product's console, as it is built, against the model.
-//!   console PROGRAM [--lines N] [--seed S]
+//!   console PROGRAM [--lines N] [--seed S]      PROGRAM is one word of the words that start it, an emulator's before its name
 //! Its last line says whether everything held.
 
 #![deny(warnings)]
@@ -19,8 +19,10 @@ fn behind(words: &[String], word: &str, other: u64) -> u64 {
 /// What a program writes for an input.
 fn output_of(program: &str, input: String) -> Result<String, String> {
     let said = |why: std::io::Error| format!("{program}: {why}");
-    let mut command = Command::new(program);
+    let mut words = program.split_whitespace();
+    let mut command = Command::new(words.next().ok_or("which program?")?);
     let mut child = command
+        .args(words)
         .stdin(Stdio::piped())
         .stdout(Stdio::piped())
         .spawn()

@@ -41,9 +41,18 @@ fn tell(words: &[String], tables: &[(&str, String)]) -> Result<(), String> {
     Ok(())
 }
 
+/// Which machines' code the two are: an emulated library is x86-64 code, and goes as deep as on an x86-64 machine.
+fn machines() -> String {
+    let here = std::env::consts::ARCH;
+    match cfg!(feature = "emulated") {
+        true => format!("tuned is {here} code, the library x86-64 code under an emulator\n"),
+        false => format!("both are {here} code\n"),
+    }
+}
+
 fn tell_stacks(words: &[String]) -> Result<(), String> {
     let taken = [stacks(&mut Tuned::new(), deepest), stacks(&mut Second::new(), DEEPEST)];
-    let table = table::stacks(NAMES, [&taken[0], &taken[1]]);
+    let table = table::stacks(NAMES, [&taken[0], &taken[1]]) + &machines();
     let goals = Goals::of_stacks(&taken[1]).told();
     tell(words, &[("stacks", table), ("stack goals", goals)])
 }

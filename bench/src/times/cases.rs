@@ -10,6 +10,18 @@ use std::hint::black_box;
 /// A call and its answer.
 type Asked<S> = Box<dyn FnMut(&mut S) -> u8>;
 
+/// The cases over logs, by how long those are: waits, air and salvage.
+const FULL_LOGS: [&str; 3] = [
+    "waits, 1 MiB of changes and 4,096 arrivals",
+    "air, 1 MiB of changes and 4,096 ticks",
+    "salvage of 1 MiB",
+];
+const SHORT_LOGS: [&str; 3] = [
+    "waits, 4 KiB of changes and 4,096 arrivals",
+    "air, 4 KiB of changes and 4,096 ticks",
+    "salvage of 4 KiB",
+];
+
 pub struct Case<S> {
     /// What is asked, and the number that it grows with, if any.
     pub name: &'static str,
@@ -58,7 +70,7 @@ fn calls<S>(name: &'static str, size: Option<u64>, call: impl FnMut(&mut S) -> u
     }
 }
 
-pub fn all<S: Subject>() -> Vec<Case<S>> {
+pub fn all<S: Subject>(length: Logs) -> Vec<Case<S>> {
     let mut cases = lanes();
     cases.extend(events());
     cases.extend(drops());
@@ -66,7 +78,7 @@ pub fn all<S: Subject>() -> Vec<Case<S>> {
     cases.extend(plans());
     cases.extend(notices());
     cases.extend(snapshots());
-    cases.extend(logs());
+    cases.extend(logs(length));
     cases
 }
 
@@ -299,15 +311,19 @@ fn snapshots<S: Subject>() -> Vec<Case<S>> {
     ]
 }
 
-fn logs<S: Subject>() -> Vec<Case<S>> {
-    let damaged = damaged_log();
+fn logs<S: Subject>(length: Logs) -> Vec<Case<S>> {
+    let damaged = damaged_log(length);
     let (mut area, mut stretches) = (vec![0; damaged.len()], vec![0; damaged.len()]);
     let salvage = move |subject: &mut S| black_box(subject.salvage(black_box(&damaged), &mut area, &mut stretches)).0;
+    let names = match length {
+        Logs::Full => FULL_LOGS,
+        Logs::Short => SHORT_LOGS,
+    };
     vec![
-        waits_case(),
-        air_case(),
+        waits_case(names[0], length),
+        air_case(names[1], length),
         admissions_case(),
-        calls("salvage of 1 MiB", None, salvage),
+        calls(names[2], None, salvage),
     ]
 }
 
@@ -320,29 +336,27 @@ fn played(bytes: &[u8], title: u64) -> PlayedLog<'_> {
     }
 }
 
-fn waits_case<S: Subject>() -> Case<S> {
-    let (log, last) = full_log();
+fn waits_case<S: Subject>(name: &'static str, length: Logs) -> Case<S> {
+    let (log, last) = full_log(length);
     let arrivals: Vec<u64> = (0..ARRIVALS_MAX as u64)
         .map(|i| i * 7_919 % 4_096 * (last / 4_096))
         .collect();
-    calls(
-        "waits, 1 MiB of changes and 4,096 arrivals",
-        None,
-        move |subject: &mut S| black_box(subject.waits(played(&log, 0), black_box(&arrivals))).0,
-    )
+    calls(name, None, move |subject: &mut S| {
+        black_box(subject.waits(played(&log, 0), black_box(&arrivals))).0
+    })
 }
 
-fn air_case<S: Subject>() -> Case<S> {
-    let (log, record) = full_air();
+fn air_case<S: Subject>(name: &'static str, length: Logs) -> Case<S> {
+    let (log, record) = full_air(length);
     let mut row = vec![0; TICKS_MAX];
-    calls("air, 1 MiB of changes and 4,096 ticks", None, move |subject: &mut S| {
+    calls(name, None, move |subject: &mut S| {
         black_box(subject.air(played(&log, 1), black_box(&record), &mut row)).0
     })
 }
 
 /// Over a log of two openings: what it plays besides is the waits' and the air's.
 fn admissions_case<S: Subject>() -> Case<S> {
-    let (log, mut marks) = (full_air().0[..90].to_vec(), vec![0; TICKS_MAX]);
+    let (log, mut marks) = (full_air(Logs::Short).0[..90].to_vec(), vec![0; TICKS_MAX]);
     calls("admissions of 4,096 ticks", None, move |subject: &mut S| {
         black_box(subject.admissions(played(&log, 1), black_box(&mut marks)))
     })

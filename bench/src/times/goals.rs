@@ -13,7 +13,15 @@ const WAITS: (&str, f64) = ("waits, ", 1e9);
 const BOX_STACK: usize = 24 << 10;
 const STACK: usize = 64 << 10;
 /// How the names of a box's calls begin.
-const BOX: [&str; 5] = ["lane", "small box", "status", "plan", "take"];
+const BOX: [&str; 7] = [
+    "lane, ",
+    "lane 2 ",
+    "small box",
+    "status",
+    "plan, ",
+    "skip-forward plan",
+    "take",
+];
 
 /// Which goals were missed, and how many there are.
 #[derive(Default)]

@@ -3,6 +3,7 @@
 
 use super::cases::{all, Case};
 use super::clock;
+use super::scenes::Logs;
 use crate::refusals::DONE;
 use crate::subject::Subject;
 use std::hint::black_box;
@@ -104,7 +105,7 @@ fn timing<A: Subject, B: Subject>(mut first: Runner<A>, mut second: Runner<B>) -
 
 /// The cases whose names have a word, for two subjects.
 pub fn timings<A: Subject, B: Subject>(first: &mut A, second: &mut B, word: &str) -> Vec<Timing> {
-    let cases = all::<A>().into_iter().zip(all::<B>());
+    let cases = all::<A>(Logs::Full).into_iter().zip(all::<B>(Logs::Full));
     let cases = cases.filter(|(case, _)| case.name.contains(word));
     let timed = cases.map(|(one, two)| timing(Runner::new(first, one), Runner::new(second, two)));
     timed.collect()

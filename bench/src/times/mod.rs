@@ -11,4 +11,5 @@ pub mod table;
 
 pub use cases::{all as all_cases, Case};
 pub use measure::{timings, Timing};
+pub use scenes::Logs;
 pub use stack::{deepest, stacks, Measure, Stack};

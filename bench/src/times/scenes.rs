@@ -7,8 +7,23 @@ use crate::subject::{Film, Subject};
 use crate::tuned::Tuned;
 
 pub const SECOND: u64 = 1_000;
-/// As long as a log that the programs take.
-const LOG_BYTES: usize = 1 << 20;
+
+/// How long the logs are: as long as the programs take them, for times; or short, for stacks, which are as deep then, since a
+/// log is read notice by notice.
+#[derive(Clone, Copy, PartialEq)]
+pub enum Logs {
+    Full,
+    Short,
+}
+
+impl Logs {
+    fn bytes(self) -> usize {
+        match self {
+            Logs::Full => 1 << 20,
+            Logs::Short => 1 << 12,
+        }
+    }
+}
 
 pub fn film(cap: u64, count: u64) -> Film {
     Film {
@@ -112,10 +127,10 @@ impl LogWriter {
     }
 
     /// Changes of a title between its floor and its cap, a floor slot apart, until the log is full.
-    fn fill(&mut self, id: u64, cap: u64) -> u64 {
+    fn fill(&mut self, id: u64, cap: u64, logs: Logs) -> u64 {
         let mut time = 0;
         let mut count = cap;
-        while self.bytes.len() + 45 < LOG_BYTES {
+        while self.bytes.len() + 45 < logs.bytes() {
             time += floor_slot(cap);
             count = if count == cap { 2 } else { cap };
             self.put([2, id, time, 0, 0, 0, count]);
@@ -125,20 +140,20 @@ impl LogWriter {
 }
 
 /// A full log of changes between 2 and 12 lanes, and the time of its last.
-pub fn full_log() -> (Vec<u8>, u64) {
+pub fn full_log(logs: Logs) -> (Vec<u8>, u64) {
     let mut log = LogWriter::new();
     log.open(0, film(12, 12));
-    let last = log.fill(0, 12);
+    let last = log.fill(0, 12, logs);
     (log.bytes, last)
 }
 
 /// A full log whose first title admits at each tick, and a full record of that title's lanes.
-pub fn full_air() -> (Vec<u8>, Vec<u16>) {
+pub fn full_air(logs: Logs) -> (Vec<u8>, Vec<u16>) {
     let cap = 11;
     let mut log = LogWriter::new();
     log.open(1, film(cap, cap));
     log.open(0, film(12, 12));
-    log.fill(0, 12);
+    log.fill(0, 12, logs);
     let mut agent = titles(2, cap, cap);
     let record = (0..TICKS_MAX as u64).flat_map(|tick| (0..LANES as u64).map(move |lane| (tick, lane)));
     let shown = record.map(|(tick, lane)| match agent.lane(1, lane, tick * SECOND) {
@@ -149,8 +164,8 @@ pub fn full_air() -> (Vec<u8>, Vec<u16>) {
 }
 
 /// A full log with a byte turned in every thousand.
-pub fn damaged_log() -> Vec<u8> {
-    let (mut bytes, _) = full_log();
+pub fn damaged_log(logs: Logs) -> Vec<u8> {
+    let (mut bytes, _) = full_log(logs);
     for byte in bytes.iter_mut().step_by(1_000) {
         *byte ^= 0x55;
     }

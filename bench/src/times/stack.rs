@@ -1,6 +1,7 @@
 //! The deepest stack of a call: a thread runs it on memory that was painted, and the paint that is gone is looked for.
 
 use super::cases::all;
+use super::scenes::Logs;
 use crate::subject::Subject;
 use std::ffi::{c_int, c_void};
 use std::ptr;
@@ -100,7 +101,7 @@ pub type Measure = fn(&mut dyn FnMut()) -> usize;
 /// What each case takes beyond a call that does nothing.
 pub fn stacks<S: Subject>(subject: &mut S, deepest: Measure) -> Vec<Stack> {
     let nothing = deepest(&mut || ());
-    let taken = all::<S>().into_iter().map(|mut case| {
+    let taken = all::<S>(Logs::Short).into_iter().map(|mut case| {
         if let Some(row) = &case.lent {
             subject.lend(row);
         }
