@@ -124,22 +124,7 @@ pub fn owed_within(t: Title, lane: u64, from: u64, n: u64) -> u64
     owed
 }
 
-// How many ticks a lane owes that is dropped at a tick, of a lane from the floor up: by its channels, and tick by tick where no events
-// lead.
-fn owes_up(t: Title, lane: u64, at: u64) -> u64
-    requires { ⌜ Owing t ⌝ }
-    requires { ⌜ (lane < t .film .cap) × (at ≤ askedMax) ⌝ }
-    ensures { λ r. ⌜ r ≡ keptWithin t lane at (reachOf (t .film .cap)) ⌝ }
-{
-    let film = t.film;
-    let latest = latest_above(&t.ends, film.cap, lane);
-    if is_reached(film, lane, at, latest.end) {
-        return owed_in(walk_of(film, lane, at, latest.until));
-    }
-    owed_within(t, lane, at, reach(t))
-}
-
-// Of lane 0: nothing, and tick by tick where no events lead.
+// How many ticks lane 0 owes that is dropped at a tick: nothing, and tick by tick where no events lead.
 fn owes_first(t: Title, at: u64) -> u64
     requires { ⌜ Owing t ⌝ }
     requires { ⌜ (at ≤ askedMax) × (t .film .kind ≡ steadyKind → ⊥) ⌝ }
@@ -169,8 +154,8 @@ fn owes_steady(t: Title, lane: u64, at: u64) -> u64
     turns.first + turns.second
 }
 
-// Of any lane: by stretches where it has them.
-pub fn owes(t: Title, lane: u64, at: u64) -> u64
+// Of a lane that has no stretches by channels.
+fn owes_else(t: Title, lane: u64, at: u64) -> u64
     requires { ⌜ Owing t ⌝ }
     requires { ⌜ (lane < t .film .cap) × (at ≤ askedMax) ⌝ }
     ensures { λ r. ⌜ r ≡ keptWithin t lane at (reachOf (t .film .cap)) ⌝ }
@@ -179,10 +164,24 @@ pub fn owes(t: Title, lane: u64, at: u64) -> u64
         return owes_steady(t, lane, at);
     }
     if t.film.floor <= lane {
-        return owes_up(t, lane, at);
+        return owed_within(t, lane, at, reach(t));
     }
     if lane == 0 {
         return owes_first(t, at);
     }
     owed_low(t, lane, at)
+}
+
+// Of any lane: one from the floor up by its channels, where events drop it. A title is handed on, and so copied, for the others alone.
+pub fn owes(t: Title, lane: u64, at: u64) -> u64
+    requires { ⌜ Owing t ⌝ }
+    requires { ⌜ (lane < t .film .cap) × (at ≤ askedMax) ⌝ }
+    ensures { λ r. ⌜ r ≡ keptWithin t lane at (reachOf (t .film .cap)) ⌝ }
+{
+    let film = t.film;
+    let latest = latest_above(&t.ends, film.cap, lane);
+    if is_reached(film, lane, at, latest.end) {
+        return owed_in(walk_of(film, lane, at, latest.until));
+    }
+    owes_else(t, lane, at)
 }

@@ -1,41 +1,63 @@
--- `owes` meets its contract: each kind of lane has its own way.
+-- `owes` meets its contract: a lane from the floor up that events dropped is walked by its channels, any other goes its own way. Rests on the law of that walk.
+use mathlib.Core.Path.{sym, _∙_}
+use Rattle.stretches.specs.inner.Walk.{walkOf}
+use Rattle.stretches.proofs.FromFloorUp.{Reached, reached-in, walkable, owes-in}
 use borrow.Author.Needs.{needs}
 use Rattle.owed.proofs.owing.owes.Statement.{statement}
 use Rattle.owed.proofs.owing.owes.Tie as tie
 
-owes-steady-requires : tie.Need-owes-steady-requires
-owes-steady-requires c κs = search needs
+latest-above-requires : tie.Need-latest-above-requires
+latest-above-requires c κs = search needs
+
+is-reached-requires : tie.Need-is-reached-requires
+is-reached-requires c κs = search needs
+
+-- the lane is one that events dropped
+reached : (c : tie.Then1) →
+    let a = c .before .before .before .before .before .before .args in
+    let l = c .before .before .latest-above .result in
+    Reached (a .t1) (a .lane) (a .at) (l .until) (l .end)
+reached c =
+    let s = c .before .before .before .before .before .before in
+    let a = s .args in
+    let l = c .before .before .latest-above in
+    reached-in (a .t1) (a .lane) (a .at) (l .result .until) (l .result .end) (s .pre .1 .0) (l .ensures) (sym (c .before .is-reached .ensures) ∙ c .if1 .taken)
+
+walk-of-requires : tie.Need-walk-of-requires
+walk-of-requires c κs =
+    let s = c .before .before .before .before .before .before in
+    (s .pre .0 .film, ((reached c .low, s .pre .1 .0), s .pre .1 .1))
+
+owed-in-requires : tie.Need-owed-in-requires
+owed-in-requires c κs =
+    let s = c .before .before .before .before .before .before .before in
+    let a = s .args in
+    let l = c .before .before .before .latest-above .result in
+    rw (c .walk-of .ensures) (walkable (a .t1) (a .lane) (a .at) (l .until) (l .end) (reached (c .before)) (s .pre .0 .film) (s .pre .1 .1))
 
 returns : tie.Need-returns
-returns c = search needs
+unfolding walkOf
+returns c =
+    let s = c .before .before .before .before .before .before .before .before in
+    let a = s .args in
+    let l = c .before .before .before .before .latest-above .result in
+    rw (c .before .walk-of .ensures) at (c .owed-in .ensures)
+    ∙ sym (owes-in (a .t1) (a .lane) (a .at) (l .until) (l .end) (reached (c .before .before)) (s .pre .0 .film))
 
-owes-up-requires : tie.Need-owes-up-requires
-owes-up-requires c κs = search needs
+owes-else-requires : tie.Need-owes-else-requires
+owes-else-requires c κs = search needs
 
 returns-2 : tie.Need-returns-2
-returns-2 c = search needs
-
-owes-first-requires : tie.Need-owes-first-requires
-owes-first-requires c κs = search needs
-
-returns-3 : tie.Need-returns-3
-returns-3 c = rw (c .before .if3 .taken) (c .owes-first .ensures)
-
-owed-low-requires : tie.Need-owed-low-requires
-owed-low-requires c κs = search needs
-
-returns-4 : tie.Need-returns-4
-returns-4 c = search needs
+returns-2 c = c .owes-else .ensures
 
 pub owes-spec : {M : Type 1} → statement M
 owes-spec =
     tie.close
     (tie.spec
-    owes-steady-requires
+    latest-above-requires
+    is-reached-requires
+    walk-of-requires
+    owed-in-requires
     returns
-    owes-up-requires
-    returns-2
-    owes-first-requires
-    returns-3
-    owed-low-requires
-    returns-4)
+    owes-else-requires
+    returns-2)

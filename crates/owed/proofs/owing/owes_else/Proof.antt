@@ -1,0 +1,45 @@
+-- `owes_else` meets its contract: each kind of lane has its own way.
+use borrow.Author.Needs.{needs}
+use Rattle.owed.proofs.owing.owes_else.Statement.{statement}
+use Rattle.owed.proofs.owing.owes_else.Tie as tie
+
+owes-steady-requires : tie.Need-owes-steady-requires
+owes-steady-requires c κs = search needs
+
+returns : tie.Need-returns
+returns c = search needs
+
+reach-requires : tie.Need-reach-requires
+reach-requires c κs = search needs
+
+owed-within-requires : tie.Need-owed-within-requires
+owed-within-requires c κs = search needs
+
+returns-2 : tie.Need-returns-2
+returns-2 c = rw (← c .before .reach .ensures .is) (c .owed-within .ensures .is)
+
+owes-first-requires : tie.Need-owes-first-requires
+owes-first-requires c κs = search needs
+
+returns-3 : tie.Need-returns-3
+returns-3 c = rw (c .before .if3 .taken) (c .owes-first .ensures)
+
+owed-low-requires : tie.Need-owed-low-requires
+owed-low-requires c κs = search needs
+
+returns-4 : tie.Need-returns-4
+returns-4 c = search needs
+
+pub owes-else-spec : {M : Type 1} → statement M
+owes-else-spec =
+    tie.close
+    (tie.spec
+    owes-steady-requires
+    returns
+    reach-requires
+    owed-within-requires
+    returns-2
+    owes-first-requires
+    returns-3
+    owed-low-requires
+    returns-4)
