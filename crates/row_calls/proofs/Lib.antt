@@ -5,4 +5,5 @@ pub mod Heeded
 pub mod Started
 pub mod Listed
 pub mod Follows
+pub mod Whole
 pub mod Unique

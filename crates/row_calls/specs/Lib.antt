@@ -7,7 +7,8 @@
 -- - The lane question and lanes held: `row_calls::lanes::lane`, by `rowLane` and `rowShows`; `row_calls::lanes::held`, by `rowHeld`
 --   and `rowLanes`.
 -- - Status over flat rows: `row_calls::titles::status`, by `rowStatus` and the definitions of status itself.
--- A sound row of the right length is answered and left as its agent is: proofs/Follows `noticed-as-agent`, `called-as-agent`.
+-- A sound row of the right length is answered and left as its agent is: proofs/Follows `noticed-as-agent`, `called-as-agent`; and the agent of
+-- the row that is left is the agent that is left: proofs/Whole `agent-after-notice`, `agent-after-event`.
 -- Two outcomes that a call's contract admits are equal, the row that it leaves included: proofs/Unique.
 pub mod Answers
 pub mod inner
