@@ -10,7 +10,7 @@ use native.Mathlib.Nat.{add-zero, add-suc, le-refl}
 use lib.Dec.{ltb, eqb}
 use lib.ListN.{length, getD, set}
 use lib.Seq.{getD-take, getD-drop, getD-set-same, getD-set-other}
-use borrow.Author.Tests.{leb-true, le-ltb, ltb-true, ltb-false, eq-eqb, ne-eqb}
+use borrow.Author.Tests.{leb-true, le-ltb, eq-eqb, ne-eqb}
 use Rattle.rules.specs.Limits.{countMax, askedMax, lanePlaces, titlesMax}
 use Rattle.rules.specs.Refusals.{pick}
 use Rattle.rules.specs.Search.{howMany, total}
@@ -18,7 +18,7 @@ use Rattle.rules.proofs.Tests.{decide, both-l, both-r}
 use Rattle.rules.proofs.Search.{below-suc, howMany-miss, total-ext}
 use Rattle.story.specs.declared.Title.{Title}
 use Rattle.story.specs.declared.State.{State}
-use Rattle.story.specs.Kept.{absentMode, openMode, noTitle, titleAt, rowOk, numbersOk, titleOk, tickAt, ruling, keptHeld, titleHeld, lanesHeld}
+use Rattle.story.specs.Kept.{absentMode, openMode, noTitle, titleAt, rowOk, numbersOk, titleOk, ruling, keptHeld, titleHeld, lanesHeld}
 use Rattle.story.specs.Next.{withTitle}
 use Rattle.measures.proofs.Active.{active-held, above-held}
 use Rattle.measures.proofs.Within.{numbers, dropped-ok, in-row, count-fit}

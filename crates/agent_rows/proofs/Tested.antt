@@ -5,7 +5,7 @@ use mathlib.Core.Bool.{Bool, true, false}
 use mathlib.Core.List.{List}
 use Prim.Native.Nat.{ℕ, zero, suc, _+_, _≤_, _<_}
 use native.Mathlib.Omega.{arith}
-use lib.Bits.{bitOr, bitAnd, or-add-and, and-le-l, and-le-r}
+use lib.Bits.{bitOr, or-add-and, and-le-l, and-le-r}
 use lib.Dec.{leb, eqb}
 use lib.ListN.{length, getD, take, drop}
 use lib.Seq.{getD-take, getD-drop}
@@ -18,9 +18,9 @@ use Rattle.rules.proofs.Tests.{both-none}
 use Rattle.rules.proofs.Search.{every-in}
 use Rattle.scheme.specs.Scheme.{steadyKind}
 use Rattle.story.specs.declared.Title.{Title}
-use Rattle.story.specs.Kept.{absentMode, closingMode, heldMark, titleAt, isSteadyTitle, rowOk, numbersOk, orderOk, titleOk, slotOk, stateOk}
+use Rattle.story.specs.Kept.{absentMode, closingMode, heldMark, isSteadyTitle, rowOk, numbersOk, orderOk, titleOk, slotOk, stateOk}
 use Rattle.agent_rows.specs.Layout.{poolAt, lastAt, endsAt, dropsAt, owedAt, openedAt, titleLastAt, tunedAt, titlePlaces}
-use Rattle.agent_rows.specs.Layout.{titlePlace, rowLength}
+use Rattle.agent_rows.specs.Layout.{titlePlace}
 use Rattle.agent_rows.specs.Packed.{titleFrom, unpacked}
 use Rattle.agent_rows.specs.inner.Tested.{smallNumbers, smallOk, timesOk}
 use Rattle.agent_rows.proofs.Inverse.{title-at}

@@ -1,8 +1,7 @@
 -- A row of the right length that is sound is answered as its agent is, and left as its agent is left: by a notice and by an event.
 -- Rests on `packed` and `unpacked` being each other's inverse.
-use mathlib.Core.Path.{_≡_, refl, sym, ap, _∙_}
+use mathlib.Core.Path.{_≡_, refl, sym}
 use mathlib.Core.Bool.{Bool, true, false}
-use mathlib.Core.Logic.{⊎-elim}
 use mathlib.Core.List.{List}
 use Prim.Native.Nat.{ℕ}
 use lib.Dec.{eqb}

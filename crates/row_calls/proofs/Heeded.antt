@@ -1,7 +1,7 @@
 -- What a notice is answered on a row, as the code meets its cases: another length, no notice, out of its turn, out of its limits, and its
 -- event's own answer. Rests on the laws of tests.
 use mathlib.Core.Path.{_≡_, refl, sym, subst, _∙_}
-use mathlib.Core.Bool.{Bool, true, false}
+use mathlib.Core.Bool.{true, false}
 use mathlib.Core.List.{List}
 use Prim.Native.Nat.{ℕ, suc}
 use lib.Dec.{eqb}
@@ -15,12 +15,10 @@ use Rattle.notice.specs.declared.Reading.the-variants as reading
 use Rattle.story.specs.Kept.{stateOk}
 use Rattle.story.specs.Next.{callNext}
 use Rattle.story.specs.Runs.{answered}
-use Rattle.agent.specs.declared.Agent.{Agent}
 use Rattle.agent.specs.Turns.{actOf, eventOf, noticeAnswer}
 use Rattle.agent_rows.specs.Layout.{sequenceAt, rowLength}
 use Rattle.agent_rows.specs.Packed.{packed, unpacked, rowSound, withState}
 use Rattle.row_calls.specs.Answers.{rowReading, rowNotice, rowAfterNotice}
-use Rattle.row_calls.specs.inner.Steps.{Tested}
 use Rattle.row_calls.proofs.Rows.{event-out, row-out}
 
 -- what is answered to a reading of a row, and the row afterwards

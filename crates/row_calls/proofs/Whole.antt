@@ -1,16 +1,16 @@
 -- The agent of the row that a call leaves is the agent that the call leaves: titles keep the lengths of their rows through every event.
 -- Rests on `packed` and `unpacked` being each other's inverse, and on what an accepted event has passed.
-use mathlib.Core.Path.{_≡_, refl, sym, ap, _∙_}
+use mathlib.Core.Path.{_≡_, refl, ap, _∙_}
 use mathlib.Core.Bool.{Bool, true, false}
 use mathlib.Core.Logic.{⊎-elim}
 use mathlib.Core.List.{List}
 use Prim.Native.Nat.{ℕ, zero, suc, _≤_}
 use native.Mathlib.Omega.{arith}
 use lib.Dec.{leb, ltb, eqb}
-use lib.ListN.{length, getD, set, length-set}
+use lib.ListN.{length, set, length-set}
 use borrow.Author.Tests.{eqb-true, eqb-false}
-use Rattle.rules.specs.Limits.{both, idMax, titlesMax}
-use Rattle.rules.specs.Refusals.{pick, outOfTurn, malformed}
+use Rattle.rules.specs.Limits.{both, idMax}
+use Rattle.rules.specs.Refusals.{pick, outOfTurn}
 use Rattle.rules.proofs.Tests.{decide}
 use Rattle.notice.specs.declared.Reading.{Reading}
 use Rattle.notice.specs.declared.Reading.the-variants as reading

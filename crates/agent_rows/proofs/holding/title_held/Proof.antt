@@ -1,7 +1,7 @@
 -- `title_held` meets its contract: a slot without a title holds none; where nothing was dropped the active lanes are held; another is counted
 -- at its tick.
-use mathlib.Core.Path.{_≡_, sym, ap, _∙_}
-use Prim.Native.Nat.{ℕ, _≤_}
+use mathlib.Core.Path.{sym, ap, _∙_}
+use Prim.Native.Nat.{_≤_}
 use native.Mathlib.Omega.{arith}
 use borrow.Author.Tests.{eq-eqb, ne-eqb}
 use Rattle.rules.specs.Limits.{countMax}

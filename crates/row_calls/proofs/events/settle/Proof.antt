@@ -1,10 +1,8 @@
 -- `settle` meets its contract: the lanes of the others and of the next title are those of the next state.
-use mathlib.Core.Path.{_≡_, refl, sym, _∙_}
+use mathlib.Core.Path.{refl}
 use mathlib.Core.Logic.{⊎-elim}
 use native.Mathlib.Omega.{arith}
-use Rattle.rules.specs.Limits.{idMax}
 use Rattle.story.specs.Next.{withTitle}
-use Rattle.scheduler.specs.Outcomes.{settledAnswer}
 use Rattle.agent_rows.specs.Packed.{unpacked}
 use Rattle.row_calls.proofs.Rows.{too-few, enough, asks-none}
 use borrow.Author.Needs.{needs}

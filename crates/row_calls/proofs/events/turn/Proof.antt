@@ -1,8 +1,6 @@
 -- `turn` meets its contract: what its title refuses changes nothing, and the lanes decide the rest.
 use mathlib.Core.Path.{_≡_, refl, sym, ap, _∙_}
 use mathlib.Core.Bool.{true}
-use mathlib.Core.List.{List}
-use Prim.Native.Nat.{ℕ}
 use lib.Dec.{eqb}
 use borrow.Author.Tests.{ne-eqb}
 use Rattle.rules.specs.Refusals.{pick, firstHit}

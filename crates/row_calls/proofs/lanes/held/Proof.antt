@@ -1,5 +1,5 @@
 -- `held` meets its contract: the row's length and its numbers, and then the count.
-use mathlib.Core.Path.{_≡_, sym, _∙_}
+use mathlib.Core.Path.{sym, _∙_}
 use Rattle.rules.proofs.Tests.{both-l, both-r}
 use Rattle.story.specs.Kept.{stateOk}
 use Rattle.agent_rows.specs.Packed.{unpacked, rowSound}

@@ -1,5 +1,5 @@
 -- `fresh` meets its contract: the row's length, the pool, and then a row of a fresh agent.
-use mathlib.Core.Path.{_≡_, sym, _∙_}
+use mathlib.Core.Path.{sym, _∙_}
 use Rattle.row_calls.proofs.Started.{fresh-elsewhere, fresh-refused, fresh-taken}
 use borrow.Author.Needs.{needs}
 use Rattle.row_calls.proofs.starting.fresh.Statement.{statement}
