@@ -61,7 +61,7 @@ fn tell_times(words: &[String]) -> Result<(), String> {
     let only = behind(words, "--only").map_or("", |word| word);
     let timed = timings(&mut Tuned::new(), &mut Second::new(), only);
     let tables = [
-        ("times", table::times(NAMES, &timed)),
+        ("times", table::times(NAMES, &timed) + &machines()),
         ("growth", table::growth(NAMES, &timed)),
         ("time goals", Goals::of_times(&timed).told()),
     ];
