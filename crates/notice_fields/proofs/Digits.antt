@@ -3,11 +3,11 @@
 use mathlib.Core.Path.{_≡_, refl, ap, _∙_}
 use mathlib.Core.List.{List, [], _∷_}
 use Prim.Native.Nat.{ℕ, zero, suc, _+_, _*_, _-_, _≤_, _<_, _^_, _/_, _%_}
-use native.Mathlib.Nat.{pow-suc, pow-le-pow-right, div-div-eq-div-mul}
+use native.Mathlib.Nat.{add-suc, add-assoc, pow-suc, pow-le-pow-right, div-div-eq-div-mul}
 use native.Mathlib.Omega.{arith}
 use lib.ListN.{length, set}
 use lib.Seq.{sets, set-comm}
-use Rattle.notice_fields.specs.Numbers.{bigEndian}
+use Rattle.notice_fields.specs.Numbers.{bigEndian, numberAt}
 
 pub length-big : (n v : ℕ) → length (bigEndian n v) ≡ n
 unfolding bigEndian
@@ -19,6 +19,14 @@ pub fits-64 : (i : ℕ) → i < 8 → 256 ^ i * 256 ≤ 2 ^ 64
 fits-64 i h =
     let top : 256 ^ suc i ≤ 256 ^ 8 = pow-le-pow-right (omega arith) h in
     omega (arith, pow-suc 256 i)
+
+-- the first bytes of a number count past all that the later ones hold
+pub number-split : (bs : List ℕ) (at m n : ℕ) → numberAt bs at m * 256 ^ n + numberAt bs (at + m) n ≡ numberAt bs at (m + n)
+unfolding numberAt
+number-split bs at m zero =
+    let e : m + 0 ≡ m = omega arith in
+    rw e (omega arith)
+number-split bs at m (suc n) = rw (add-suc, add-assoc, pow-suc, ← number-split bs at m n) (omega arith)
 
 -- a store before a run of stores can be made first
 first-store : (vs l : List ℕ) (a b x : ℕ) → a < b → set (sets l b vs) a x ≡ sets (set l a x) b vs

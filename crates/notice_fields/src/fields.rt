@@ -3,6 +3,8 @@
 
 ghost use mathlib.Core.Path.{_≡_};
 ghost use Prim.Native.Nat.{_<_, _≤_};
+ghost use lib.Dec.{ltb};
+ghost use Rattle.rules.specs.Refusals.{pick};
 ghost use Rattle.notice_fields.specs.Fields.{rows, fieldOf, isCarried, spanOf, startOf};
 
 // A row: bit k of kinds is set where kind k carries the field.
@@ -37,65 +39,80 @@ pub const HEAD: usize = 3;
 // The bits of the rows that every kind carries: one for each kind that there is.
 const ALL: u8 = 0b0111_1110;
 
-const FIELDS: [Field; ROWS] = [
-    Field {
-        tag: 1,
-        size: 1,
-        kinds: ALL,
-    },
-    Field {
-        tag: 2,
-        size: 4,
-        kinds: ALL,
-    },
-    Field {
-        tag: 3,
-        size: 1,
-        kinds: ALL,
-    },
-    Field {
-        tag: 4,
-        size: 8,
-        kinds: ALL,
-    },
-    Field {
-        tag: 5,
-        size: 4,
-        kinds: 0b0100_0010,
-    },
-    Field {
-        tag: 6,
-        size: 1,
-        kinds: 0b0000_0010,
-    },
-    Field {
-        tag: 7,
-        size: 1,
-        kinds: 0b0000_0010,
-    },
-    Field {
-        tag: 8,
-        size: 1,
-        kinds: 0b0100_0110,
-    },
-];
+// The table, row by row. Its rows are no array: one that is indexed would be laid out anew at every look.
+const KIND_FIELD: Field = Field {
+    tag: 1,
+    size: 1,
+    kinds: ALL,
+};
+
+const SEQUENCE_FIELD: Field = Field {
+    tag: 2,
+    size: 4,
+    kinds: ALL,
+};
+
+const TITLE_FIELD: Field = Field {
+    tag: 3,
+    size: 1,
+    kinds: ALL,
+};
+
+const TIME_FIELD: Field = Field {
+    tag: 4,
+    size: 8,
+    kinds: ALL,
+};
+
+const LENGTH_FIELD: Field = Field {
+    tag: 5,
+    size: 4,
+    kinds: 0b0100_0010,
+};
+
+const FLOOR_FIELD: Field = Field {
+    tag: 6,
+    size: 1,
+    kinds: 0b0000_0010,
+};
+
+const CAP_FIELD: Field = Field {
+    tag: 7,
+    size: 1,
+    kinds: 0b0000_0010,
+};
+
+const COUNT_FIELD: Field = Field {
+    tag: 8,
+    size: 1,
+    kinds: 0b0100_0110,
+};
 
 // The bytes of the longest notice, an open, which has every field of the table.
 pub const LONGEST: usize = ROWS * HEAD
-    + FIELDS[KIND].size
-    + FIELDS[SEQUENCE].size
-    + FIELDS[TITLE].size
-    + FIELDS[TIME].size
-    + FIELDS[LENGTH].size
-    + FIELDS[FLOOR].size
-    + FIELDS[CAP].size
-    + FIELDS[COUNT].size;
+    + KIND_FIELD.size
+    + SEQUENCE_FIELD.size
+    + TITLE_FIELD.size
+    + TIME_FIELD.size
+    + LENGTH_FIELD.size
+    + FLOOR_FIELD.size
+    + CAP_FIELD.size
+    + COUNT_FIELD.size;
 
 pub fn entry(row: usize) -> Field
     requires { ⌜ row < rows ⌝ }
     ensures { λ r. ⌜ r ≡ fieldOf row ⌝ }
 {
-    FIELDS[row]
+    match row {
+        KIND => KIND_FIELD,
+        SEQUENCE => SEQUENCE_FIELD,
+        TITLE => TITLE_FIELD,
+        TIME => TIME_FIELD,
+        LENGTH => LENGTH_FIELD,
+        FLOOR => FLOOR_FIELD,
+        CAP => CAP_FIELD,
+        _ => COUNT_FIELD,
+    }
 }
 
 // Whether a notice of the kind has the row's field. The table has no bit for a kind from 8 on.
@@ -122,16 +139,43 @@ pub fn span(kind: u8, row: usize) -> usize
     if carried(kind, row) { HEAD + f.size } else { 0 }
 }
 
-// Where the row stands in a notice of the kind; past the last row, how long the notice is.
+// How many bytes a row takes before another one: none where it stands behind it.
+fn span_before(kind: u8, i: usize, row: usize) -> usize
+    requires { ⌜ i < rows ⌝ }
+    ensures { λ r. ⌜ (r ≡ pick (ltb i row) (spanOf kind i) 0) × (r ≤ 11) ⌝ }
+{
+    if i < row { span(kind, i) } else { 0 }
+}
+
+// The spans of all rows before one.
+fn spans_before(kind: u8, row: usize) -> usize
+    requires { ⌜ row ≤ rows ⌝ }
+    ensures { λ r. ⌜ r ≡ startOf kind row ⌝ }
+{
+    let a = span_before(kind, KIND, row);
+    let b = span_before(kind, SEQUENCE, row);
+    let c = span_before(kind, TITLE, row);
+    let d = span_before(kind, TIME, row);
+    let e = span_before(kind, LENGTH, row);
+    let f = span_before(kind, FLOOR, row);
+    let g = span_before(kind, CAP, row);
+    let h = span_before(kind, COUNT, row);
+    a + b + c + d + e + f + g + h
+}
+
+// Where the row stands in a notice of the kind; past the last row, how long the notice is. Each kind has an arm of its own, so that
+// the place of a row that is known is a number, and no sum when the code runs.
 pub fn start(kind: u8, row: usize) -> usize
     requires { ⌜ row ≤ rows ⌝ }
     ensures { λ r. ⌜ r ≡ startOf kind row ⌝ }
 {
-    let mut at: usize = 0;
-    let mut i: usize = 0;
-    while i < row {
-        at += span(kind, i);
-        i += 1;
+    match kind {
+        1 => spans_before(1, row),
+        2 => spans_before(2, row),
+        3 => spans_before(3, row),
+        4 => spans_before(4, row),
+        5 => spans_before(5, row),
+        6 => spans_before(6, row),
+        _ => 0,
     }
-    at
 }

@@ -1,52 +1,67 @@
--- `fields::start` meets its contract: a running sum of the spans before the row.
--- Rests on the table's bound of a start.
-use Prim.Native.Nat.{_≤_, _-_}
-use mathlib.Core.Path.{_≡_}
-use native.Mathlib.Numerals.{add-one}
-use native.Mathlib.Nat.{le-antisymm}
+-- `fields::start` meets its contract: by the kind, and nothing for a number that is no kind's.
+-- Rests on the table's law of such numbers.
+use mathlib.Core.Path.{_≡_, sym, _∙_}
 use native.Mathlib.Omega.{arith}
 use borrow.Author.Needs.{needs}
-use Rattle.notice_fields.specs.Fields.{startOf}
-use Rattle.notice_fields.proofs.Table.{start-small, span-small}
+use Rattle.notice_fields.proofs.Table.{no-start}
 use Rattle.notice_fields.proofs.fields.start.Statement.{statement}
 use Rattle.notice_fields.proofs.fields.start.Tie as tie
 
-abbrev Inv-loop : tie.InvT-loop
-Inv-loop kind row at₀ i₀ at i = (i ≤ row) × (at ≡ startOf kind i)
+spans-before-requires : tie.Need-spans-before-requires
+spans-before-requires c κs = search needs
 
-abbrev μ-loop : tie.MeasureT-loop
-μ-loop kind row at₀ i₀ at i = row - i
+spans-before-requires-2 : tie.Need-spans-before-requires-2
+spans-before-requires-2 c κs = search needs
 
-loop-holds : tie.Need-loop-holds Inv-loop μ-loop
-unfolding startOf
-loop-holds c = search needs
+spans-before-requires-3 : tie.Need-spans-before-requires-3
+spans-before-requires-3 c κs = search needs
 
-span-requires : tie.Need-span-requires Inv-loop μ-loop
-span-requires c κs = search needs
+spans-before-requires-4 : tie.Need-spans-before-requires-4
+spans-before-requires-4 c κs = search needs
 
-add-at : tie.Need-add-at Inv-loop μ-loop
-add-at c =
-    omega (
-      arith,
-      c .span .ensures,
-      start-small (c .before .before .before .args .kind) (c .before .before .loop .i) (omega arith),
-      span-small (c .before .before .before .args .kind) (c .before .before .loop .i) (omega arith),
-    )
+spans-before-requires-5 : tie.Need-spans-before-requires-5
+spans-before-requires-5 c κs = search needs
 
-add-i : tie.Need-add-i Inv-loop μ-loop
-add-i c = omega arith
+spans-before-requires-6 : tie.Need-spans-before-requires-6
+spans-before-requires-6 c κs = search needs
 
-loop-less : tie.Need-loop-less Inv-loop μ-loop
-loop-less c = omega arith
+returns : tie.Need-returns
+returns c = c .spans-before .ensures ∙ rw (c .before .match .keys1)
 
-loop-again : tie.Need-loop-again Inv-loop μ-loop
-unfolding startOf
-loop-again c = (omega arith, rw add-one (omega (arith, c .before .before .loop .inv .1, c .span .ensures)))
+returns-2 : tie.Need-returns-2
+returns-2 c = c .spans-before2 .ensures ∙ rw (c .before .match .keys2)
 
-returns : tie.Need-returns Inv-loop μ-loop
-returns c = cc (le-antisymm (c .before .loop .inv .0) (c .loop-test .left))
+returns-3 : tie.Need-returns-3
+returns-3 c = c .spans-before3 .ensures ∙ rw (c .before .match .keys3)
+
+returns-4 : tie.Need-returns-4
+returns-4 c = c .spans-before4 .ensures ∙ rw (c .before .match .keys4)
+
+returns-5 : tie.Need-returns-5
+returns-5 c = c .spans-before5 .ensures ∙ rw (c .before .match .keys5)
+
+returns-6 : tie.Need-returns-6
+returns-6 c = c .spans-before6 .ensures ∙ rw (c .before .match .keys6)
+
+returns-7 : tie.Need-returns-7
+returns-7 c =
+    let none = c .match .rest in
+    sym (no-start _ _ (c .before .pre) (λ some le. omega (arith, none .0 .0 .0 .0 .0 .1, none .0 .0 .0 .0 .1, none .0 .0 .0 .1, none .0 .0 .1, none .0 .1, none .1)))
 
 pub start-spec : {M : Type 1} → statement M
 start-spec =
     tie.close
-    (tie.spec Inv-loop μ-loop loop-holds span-requires add-at add-i loop-less loop-again returns)
+    (tie.spec
+    spans-before-requires
+    spans-before-requires-2
+    spans-before-requires-3
+    spans-before-requires-4
+    spans-before-requires-5
+    spans-before-requires-6
+    returns
+    returns-2
+    returns-3
+    returns-4
+    returns-5
+    returns-6
+    returns-7)

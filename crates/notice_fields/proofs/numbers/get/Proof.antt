@@ -1,69 +1,53 @@
--- `numbers::get` meets its contract: the bytes passed spell what is gathered, which stays below a power of 256.
--- Rests on the bound of eight bytes.
-use Prim.Native.Nat.{_≤_, _<_, _-_, _^_}
+-- `numbers::get` meets its contract: a number of eight bytes by its halves, any other byte by byte.
+-- Rests on the law of a number in two parts.
 use mathlib.Core.Path.{_≡_}
-use native.Mathlib.Nat.{le-antisymm, pow-suc}
-use native.Mathlib.Numerals.{add-one}
 use native.Mathlib.Omega.{arith}
 use borrow.Author.Needs.{needs}
-use Rattle.notice_fields.specs.Numbers.{numberAt}
-use Rattle.notice_fields.proofs.Digits.{fits-64}
+use denote.Ref.{now}
+use Rattle.notice_fields.proofs.Digits.{number-split}
 use Rattle.notice_fields.proofs.numbers.get.Statement.{statement}
 use Rattle.notice_fields.proofs.numbers.get.Tie as tie
 
-abbrev Inv-loop : tie.InvT-loop
-Inv-loop bytes at width v₀ i₀ v i = (i ≤ width) × ((v ≡ numberAt bytes at i) × (v < 256 ^ i))
+gathered-requires : tie.Need-gathered-requires
+gathered-requires c κs = search needs
 
-abbrev μ-loop : tie.MeasureT-loop
-μ-loop bytes at width v₀ i₀ v i = width - i
+add-gathered : tie.Need-add-gathered
+add-gathered c = search needs
 
-loop-holds : tie.Need-loop-holds Inv-loop μ-loop
-unfolding numberAt
-loop-holds c = search needs
+gathered-requires-2 : tie.Need-gathered-requires-2
+gathered-requires-2 c κs = search needs
 
-add-wide : tie.Need-add-wide Inv-loop μ-loop
-add-wide c = omega arith
+mul-result : tie.Need-mul-result
+mul-result c = search needs
 
-shared-slice-read-wide : tie.Need-shared-slice-read-wide Inv-loop μ-loop
-shared-slice-read-wide c = omega arith
+add-result : tie.Need-add-result
+add-result c = search needs
 
-wide-requires : tie.Need-wide-requires Inv-loop μ-loop
-wide-requires c κs = search needs
-
-mul-v : tie.Need-mul-v Inv-loop μ-loop
-mul-v c = omega (arith, fits-64 (c .before .before .before .loop .i) (omega arith))
-
-add-v : tie.Need-add-v Inv-loop μ-loop
-add-v c = omega (arith, fits-64 (c .before .before .before .loop .i) (omega arith))
-
-add-i : tie.Need-add-i Inv-loop μ-loop
-add-i c = omega arith
-
-loop-less : tie.Need-loop-less Inv-loop μ-loop
-loop-less c = omega arith
-
-loop-again : tie.Need-loop-again Inv-loop μ-loop
-unfolding numberAt
-loop-again c = (omega arith, (rw add-one (omega arith), rw (add-one, pow-suc) (omega arith)))
-
-returns : tie.Need-returns Inv-loop μ-loop
+returns : tie.Need-returns
 returns c =
-    let e : c .before .loop .i ≡ c .before .before .before .args .width = le-antisymm (c .before .loop .inv .0) (c .loop-test .left) in
-    (cc, rw e at (c .before .loop .inv .1 .1))
+    let high = c .before in
+    let tested = high .before in
+    let a = tested .before .before .args in
+    rw (tested .if1 .taken) (
+      rw (high .gathered .ensures .0, c .gathered2 .ensures .0) (number-split (now (a .bytes)) (a .at) 4 4),
+      omega (arith, high .gathered .ensures .1, c .gathered2 .ensures .1),
+    )
+
+gathered-requires-3 : tie.Need-gathered-requires-3
+gathered-requires-3 c κs = search needs
+
+returns-2 : tie.Need-returns-2
+returns-2 c = search needs
 
 pub get-spec : {M : Type 1} → statement M
 get-spec =
     tie.close
     (tie.spec
-    Inv-loop
-    μ-loop
-    loop-holds
-    add-wide
-    shared-slice-read-wide
-    wide-requires
-    mul-v
-    add-v
-    add-i
-    loop-less
-    loop-again
-    returns)
+    gathered-requires
+    add-gathered
+    gathered-requires-2
+    mul-result
+    add-result
+    returns
+    gathered-requires-3
+    returns-2)
