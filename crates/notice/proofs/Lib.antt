@@ -3,6 +3,7 @@ pub mod Alike
 pub mod Answers
 pub mod Bytes
 pub mod Cases
+pub mod Common
 pub mod CaseSplits
 pub mod Has
 pub mod Held

@@ -62,10 +62,10 @@ pub fn notice_in(bytes: &[u8], place: usize, kind: u8) -> Notice
     requires { ⌜ (place + lengthOf kind ≤ length (now bytes)) × (isKnown kind ≡ true) ⌝ }
     ensures { λ r. ⌜ r ≡ noticeIn (now (bytes .entry)) place kind ⌝ }
 {
-    let sequence = value(bytes, place, kind, SEQUENCE) as u32;
-    let title = value(bytes, place, kind, TITLE) as u8;
-    let time = value(bytes, place, kind, TIME);
     let data = kind_in(bytes, place, kind);
+    let sequence = value(bytes, place, CLOSE, SEQUENCE) as u32;
+    let title = value(bytes, place, CLOSE, TITLE) as u8;
+    let time = value(bytes, place, CLOSE, TIME);
     Notice {
         sequence,
         title,
