@@ -52,7 +52,7 @@ here log p =
       is = sym (append-nil log);
       there = sym (zero-add p);
       ended = λ _. refl;
-      decided = at-end-decided (length log) p;
+      decided = at-end-decided log p;
     }
 
 -- a run that has ended

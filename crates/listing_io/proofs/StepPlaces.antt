@@ -98,5 +98,5 @@ pub kept-few : (g : Agent) (l part : List ℕ) (over : Bool) (r : Printed) (to n
 unfolding table startOf spanOf
 kept-few g l part over r to n d written is many more =
     let place = r .listed .place in
-    let few = few-left over (length part) place (d .undecided written more) in
+    let few = few-left over part place (d .undecided written more) in
     omega (arith, few, count-low l place to)

@@ -46,4 +46,4 @@ pub record UpTo (g : Agent) (log : List ℕ) (r : ListedStep) : Type 0 where
 pub record Drained (g : Agent) (log : List ℕ) (over : Bool) (r : Printed) : Type 0 where
   pub up-to : UpTo g log (r .listed)
   pub undecided : r .written ≡ true → r .listed .more ≡ true
-      → isDecided (length log) (r .listed .place) over ≡ false
+      → isDecided log (r .listed .place) over ≡ false

@@ -79,7 +79,7 @@ fn drain(agent: Agent, bytes: &[u8], over: bool) -> Printed
         more: true,
     };
     let mut written = true;
-    while written && listed.more && decided(bytes.len(), listed.place, over) {
+    while written && listed.more && decided(bytes, listed.place, over) {
         let printed = show(listed.agent, bytes, listed.place);
         listed = printed.listed;
         written = printed.written;

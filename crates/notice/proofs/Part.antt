@@ -1,8 +1,10 @@
--- Which bytes matter at a place of a log: those from the place on, and of these no more than the longest notice has. So a reading
--- is that of the log's part from the place on, and a log that comes in pieces reads as the whole.
--- Rests on bytes that agree reading alike.
+-- Which bytes matter at a place of a log: those from the place on, and of these no more than decide it. So a reading is that of the
+-- log's part from the place on, and a log that comes in pieces reads as the whole.
+-- Rests on bytes that agree reading alike, and on what is no beginning of a notice never becoming one (`notice_bytes` proofs/Decided).
 use mathlib.Core.Path.{_≡_, sym, ap, _∙_}
+use mathlib.Core.Bool.{true, false}
 use mathlib.Core.List.{List, _++_}
+use mathlib.Core.Logic.{⊎-elim}
 use Prim.Native.Nat.{ℕ, _+_, _-_, _≤_, _<_, _^_}
 use native.Mathlib.Nat.{add-assoc, add-zero, zero-add}
 use native.Mathlib.Omega.{arith}
@@ -11,37 +13,71 @@ use lib.Seq.{getD-append-add, length-take-le}
 use Rattle.notice.specs.declared.Notice.{Notice}
 use Rattle.notice.specs.declared.Found.{Found}
 use Rattle.notice.specs.declared.Found.the-variants as found
-use Rattle.notice_fields.specs.Fields.{table, spanOf, startOf, lengthOf, longestNotice}
-use Rattle.notice.specs.Decode.{kindAt, readAt, placeAfter, further}
-use Rattle.notice_fields.proofs.Each.{by-order, same-order}
-use Rattle.notice_fields.proofs.Table.{longest-kind}
-use Rattle.notice.proofs.Cases.{at-end}
+use Rattle.notice_fields.specs.Fields.{isKnown, lengthOf}
+use Rattle.notice_bytes.specs.Window.{isBeginning, isDecided}
+use Rattle.notice.specs.Decode.{kindAt, isWhole, readAt, placeAfter, further}
+use Rattle.rules.proofs.Tests.{decide}
+use Rattle.notice_fields.proofs.Each.{by-order, same-order, false-true}
+use Rattle.notice_bytes.proofs.Whole.{no-kind, no-room}
+use Rattle.notice_bytes.proofs.Decided.{none-there, no-beginning, GoesOn, never-whole}
+use Rattle.notice.proofs.Cases.{at-end, at-none}
 use Rattle.notice.proofs.NoticePlaces.{there, inside}
 use Rattle.notice.proofs.Alike.{found-alike}
 
 module _ (before bs : List ℕ) (p : ℕ) where
-  -- where the longest notice would be there, bytes before and after change nothing
-  pub amid : (after : List ℕ) → p + longestNotice ≤ length bs
-      → readAt (before ++ (bs ++ after)) (length before + p) ≡ further (length before) (readAt bs p)
-  unfolding table startOf spanOf
-  amid after there =
-      let cs = before ++ (bs ++ after) in
-      let long : length cs ≡ length before + (length bs + length after) =
-      length-append before (bs ++ after) ∙ ap (λ (n : ℕ). length before + n) (length-append bs after) in
-      let at : (j : ℕ) → j < longestNotice → getD bs (p + j) 0 ≡ getD cs (length before + p + j) 0 =
-      λ j lt.
+  -- the bytes that are there stand in the whole too
+  goes-on : (after : List ℕ) → GoesOn bs p (before ++ (bs ++ after)) (length before + p)
+  goes-on after j lt =
       rw (add-assoc (length before) p j)
-      (sym (getD-append-add before (bs ++ after) (p + j) 0 ∙ List·getD-append bs after 0 (p + j) (omega arith))) in
+      (sym (getD-append-add before (bs ++ after) (p + j) 0 ∙ List·getD-append bs after 0 (p + j) lt))
+
+  longer : (after : List ℕ) → length (before ++ (bs ++ after)) ≡ length before + (length bs + length after)
+  longer after = length-append before (bs ++ after) ∙ ap (λ (n : ℕ). length before + n) (length-append bs after)
+
+  -- a notice of which all bytes are there, or none of its kind, reads alike in the whole
+  by-kind : (after : List ℕ) → p + 3 < length bs
+      → (isKnown (kindAt bs p) ≡ true → p + lengthOf (kindAt bs p) ≤ length bs)
+      → readAt (before ++ (bs ++ after)) (length before + p) ≡ further (length before) (readAt bs p)
+  by-kind after there all =
+      let cs = before ++ (bs ++ after) in
+      let long = longer after in
       found-alike bs cs p (length before)
       (record {
-        kind = at 3 (omega arith);
+        kind = goes-on after 3 there;
         room = λ known.
-            let short = longest-kind (kindAt bs p) in
             same-order (p + lengthOf (kindAt bs p)) (length bs) (length before + p + lengthOf (kindAt bs p)) (length cs)
-            (λ h. omega arith) (λ h. omega arith);
-        bytes = λ known j lt. at j (omega (arith, lt, longest-kind (kindAt bs p)));
+            (λ h. omega arith) (λ h. absurd (omega (arith, h, all known)));
+        bytes = λ known j lt. goes-on after j (omega (arith, lt, all known));
       })
       (same-order (length bs) p (length cs) (length before + p) (λ h. omega arith) (λ h. omega arith))
+
+  -- where no byte to come can make a notice, none is read in the whole
+  by-none : (after : List ℕ) → isBeginning bs p ≡ false → isWhole bs p ≡ false
+      → (p + 3 < length bs → length bs < p + lengthOf (kindAt bs p))
+      → readAt (before ++ (bs ++ after)) (length before + p) ≡ further (length before) (readAt bs p)
+  by-none after none part short =
+      let cs = before ++ (bs ++ after) in
+      let long = longer after in
+      let here : p < length bs =
+      by-order p (length bs) (λ lt. lt) (λ le. false-true (sym none ∙ sym (none-there bs p le))) in
+      let whole = never-whole bs cs p (length before + p) (goes-on after) none short in
+      sym (at-none cs (length before + p) (omega arith) whole) ∙ ap (further (length before)) (at-none bs p here part)
+
+  -- where a place is decided, bytes before and after change nothing
+  pub amid : (after : List ℕ) → isDecided bs p false ≡ true
+      → readAt (before ++ (bs ++ after)) (length before + p) ≡ further (length before) (readAt bs p)
+  amid after decided =
+      let k = kindAt bs p in
+      let none = no-beginning bs p decided in
+      by-order (p + 3) (length bs)
+      (λ there.
+      by-order (length bs) (p + lengthOf k)
+      (λ short.
+      ⊎-elim (λ known. by-none after none (no-room bs p short) (λ _. short))
+      (λ unknown. by-kind after there (λ known. false-true (sym unknown ∙ known)))
+      (decide (isKnown k)))
+      (λ all. by-kind after there (λ _. all)))
+      (λ few. by-none after none (no-kind bs p few) (λ there. absurd (omega arith)))
 
   -- with nothing after, bytes before change nothing at any place
   pub at-last : readAt (before ++ bs) (length before + p) ≡ further (length before) (readAt bs p)

@@ -30,8 +30,8 @@ use Rattle.notice.proofs.read_at.Kinds as read-at-kinds
 use Rattle.notice.proofs.read_at.Reads as read-at
 use Rattle.notice.proofs.next_in.Kinds as next-in-kinds
 use Rattle.notice.proofs.next_in.Reads as next-in
-use Rattle.notice_fields.proofs.window.decided.Kinds as decided-kinds
-use Rattle.notice_fields.proofs.window.decided.Reads as decided
+use Rattle.notice_bytes.proofs.window.decided.Kinds as decided-kinds
+use Rattle.notice_bytes.proofs.window.decided.Reads as decided
 use Rattle.notice.proofs.next as next
 
 pub size-one-outcome : OneOutcome 0 size-kinds.ps size-kinds.r size.Learnt
@@ -78,5 +78,5 @@ module _ {M : Type 1} (𝓤 : URA M) (H : Heap 𝓤) (A : Atoms 𝓤) (at-mem : 
       (λ p. fact-use 𝓤 _ (snd∗ 𝓤 (Said κs log r d) (Said κs log s e))
       (λ q. factI 𝓤 _ _ (same-reader (now log) (now d) (now e) r s p q)))
 
-pub decided-one-outcome : OneOutcome 0 decided-kinds.ps decided-kinds.r decided.Learnt
+pub decided-one-outcome : OneOutcome 1 decided-kinds.ps decided-kinds.r decided.Learnt
 decided-one-outcome κs a x y e f p q = p ∙ sym q

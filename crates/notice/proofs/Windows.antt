@@ -5,19 +5,17 @@ use mathlib.Core.Path.{_≡_, refl}
 use mathlib.Core.Bool.{Bool, true, false}
 use mathlib.Core.List.{List, [], _++_, append-nil}
 use Prim.Native.Nat.{ℕ, _+_}
-use borrow.Author.Tests.{leb-true}
 use lib.ListN.{length}
 use Rattle.notice.specs.Decode.{readAt, further}
-use Rattle.notice_fields.specs.Window.{isDecided, Seen}
-pub use Rattle.notice_fields.proofs.Decided.{few-left, at-end-decided}
+use Rattle.notice_bytes.specs.Window.{isDecided, Seen}
+pub use Rattle.notice_bytes.proofs.Decided.{few-left, at-end-decided}
 use Rattle.notice.proofs.Part.{amid, at-last}
 
-reads : (before window later : List ℕ) (p : ℕ) (over : Bool) → isDecided (length window) p over ≡ true
+reads : (before window later : List ℕ) (p : ℕ) (over : Bool) → isDecided window p over ≡ true
     → (over ≡ true → later ≡ [])
     → readAt (before ++ (window ++ later)) (length before + p) ≡ further (length before) (readAt window p)
-unfolding isDecided
 reads before window later p true d ended = rw (ended refl, append-nil) (at-last before window p)
-reads before window later p false d ended = amid before window p later (leb-true _ _ d)
+reads before window later p false d ended = amid before window p later d
 
 pub seen-reads : (log window : List ℕ) (place p : ℕ) (s : Seen log place window p)
     → readAt log place ≡ further (length (s .before)) (readAt window p)

@@ -1,3 +1,3 @@
--- A log that comes in windows, as `notice_fields` has it.
-unfoldable pub use Rattle.notice_fields.specs.Window.{isDecided}
-pub use Rattle.notice_fields.specs.Window.{Seen}
+-- A log that comes in windows, as `notice_bytes` has it.
+unfoldable pub use Rattle.notice_bytes.specs.Window.{isDecided}
+pub use Rattle.notice_bytes.specs.Window.{Seen}

@@ -20,7 +20,7 @@ ghost use Rattle.notice.specs.Decode.{Reads, Finds, Steps, placeAfter, f
 mod decode;
 pub mod encode;
 
-pub use notice_fields::window;
+pub use notice_bytes::window;
 
 pub struct Notice {
     pub sequence: u32,

@@ -1,3 +1,4 @@
 -- What holds of a notice's fields in bytes.
 pub mod Laid
 pub mod Whole
+pub mod Decided

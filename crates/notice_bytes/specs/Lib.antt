@@ -1,3 +1,4 @@
--- A notice's fields in bytes: when they stand, and how they are laid.
+-- A notice's fields in bytes: when they stand, how they are laid, and which places a window of a log decides.
 pub mod Standing
 pub mod Laying
+pub mod Window

@@ -2,6 +2,5 @@
 pub mod Each
 pub mod Table
 pub mod Digits
-pub mod Decided
 pub mod Has
 pub mod Stores

@@ -1,4 +1,3 @@
--- The fields of notices: their table, big-endian numbers, and which places a window of a log decides.
+-- The fields of notices: their table, and big-endian numbers.
 pub mod Fields
 pub mod Numbers
-pub mod Window

@@ -80,7 +80,7 @@ module _ (window : List ℕ) (over : Bool) (start : Progress) (area told : List 
       (taken : page area-next at-next ≡ puts (page area-now at) (takenIn window (start .place) p q))
       (tell : page told-next said-next ≡ puts (page told-now said) (saidIn p q))
       (h : p .place - start .place < length window)
-      (decided : isDecided (length window) (p .place - start .place) over ≡ true) where
+      (decided : isDecided window (p .place - start .place) over ≡ true) where
     told-on : (log : List ℕ) (k : ℕ) → Stands log (start .place) window over → start ≡ progressOf (scanTo log k)
         → TellsOn log k q at-next said-next area told area-next told-next
     unfolding scanTo
@@ -164,9 +164,9 @@ module _ (window : List ℕ) (over : Bool) (start : Progress) (area told : List 
       walked p at said area-now told-now f (omega (arith, f .ahead)) (λ _. omega (arith, f .ahead, f .within))
 
   pub undecided : (p : Progress) (at said : ℕ) (area-now told-now : List ℕ) → WalkedTo p at said area-now told-now
-      → isDecided (length window) (p .place - start .place) over ≡ false
+      → isDecided window (p .place - start .place) over ≡ false
       → Walks window over start (record { progress = p; at = at; said = said }) area told area-now told-now
   undecided p at said area-now told-now f none =
-      let few = few-left over (length window) (p .place - start .place) none in
+      let few = few-left over window (p .place - start .place) none in
       walked p at said area-now told-now f (omega (arith, f .ahead, few))
-      (λ q. false-true (sym none ∙ rw q (at-end-decided (length window) (p .place - start .place))))
+      (λ q. false-true (sym none ∙ rw q (at-end-decided window (p .place - start .place))))

@@ -42,9 +42,7 @@ fn walk(window: &[u8], over: bool, p: Progress, area: &mut [u8], told: &mut [u8]
     let mut progress = p;
     let mut at = 0;
     let mut said = 0;
-    while progress.place - base < window.len()
-        && decided(window.len(), progress.place - base, over)
-    {
+    while progress.place - base < window.len() && decided(window, progress.place - base, over) {
         let next = advance(window, base, progress);
         at = put_taken(window, base, progress, next, area, at);
         said = put_said(told, said, progress, next);

@@ -191,7 +191,7 @@ moved-further d p found.Malformed = refl
 
 module _ (log window : List ℕ) (over : Bool) (d : ℕ) (st : Stands log d window over) where
   -- at a place that the window decides, one step over it is the step of the log's scan
-  pub step-in : (p q : Progress) (n : ℕ) → d ≤ p .place → isDecided (length window) (p .place - d) over ≡ true
+  pub step-in : (p q : Progress) (n : ℕ) → d ≤ p .place → isDecided window (p .place - d) over ≡ true
       → p ≡ progressOf (scanTo log n) → Advances window d p q → q ≡ progressOf (scanTo log (suc n))
   unfolding scanTo
   step-in p q n low decided is a =
@@ -289,7 +289,7 @@ module _ (window : List ℕ) (over : Bool) (start : Progress) (area row : List �
       (f : Pouring p to area-now row-now) (a : Advances window (start .place) p q)
       (l : Lays window (start .place) p q to r area-now row-now area-next row-next)
       (h : p .place - start .place < length window)
-      (decided : isDecided (length window) (p .place - start .place) over ≡ true) where
+      (decided : isDecided window (p .place - start .place) over ≡ true) where
     followed : (log : List ℕ) (k : ℕ) → Stands log (start .place) window over → start ≡ progressOf (scanTo log k)
         → PoursOn log k q r area row area-next row-next
     unfolding scanTo
@@ -373,12 +373,12 @@ module _ (window : List ℕ) (over : Bool) (start : Progress) (area row : List �
       poured p to area-now row-now f (omega (arith, f .ahead)) (λ _. omega (arith, f .ahead, f .within))
 
   pub undecided : (p : Progress) (to : Laid) (area-now row-now : List ℕ) → Pouring p to area-now row-now
-      → isDecided (length window) (p .place - start .place) over ≡ false
+      → isDecided window (p .place - start .place) over ≡ false
       → Pours window over start (record { progress = p; to = to }) area row area-now row-now
   undecided p to area-now row-now f none =
-      let few = few-left over (length window) (p .place - start .place) none in
+      let few = few-left over window (p .place - start .place) none in
       poured p to area-now row-now f (omega (arith, f .ahead, few))
-      (λ q. false-true (sym none ∙ rw q (at-end-decided (length window) (p .place - start .place))))
+      (λ q. false-true (sym none ∙ rw q (at-end-decided window (p .place - start .place))))
 
 -- ---- all of a log
 

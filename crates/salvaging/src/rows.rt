@@ -93,9 +93,7 @@ fn pour(window: &[u8], over: bool, p: Progress, area: &mut [u8], row: &mut [u64]
     let base = p.place;
     let mut progress = p;
     let mut to = Laid { at: 0, cells: 0 };
-    while progress.place - base < window.len()
-        && decided(window.len(), progress.place - base, over)
-    {
+    while progress.place - base < window.len() && decided(window, progress.place - base, over) {
         let next = advance(window, base, progress);
         to = lay(window, base, progress, next, to, area, row);
         progress = next;
