@@ -1,6 +1,10 @@
-// The arguments that programs over a log have in common: POOL TITLE LOG, and a file of the program's own.
+// The arguments that programs over a log have in common: POOL TITLE LOG, and a file of the program's own; or POOL alone, where a
+// usual one stands for it.
 
 use crate::complaints::complain;
+use rules::POOL_MAX;
+use rules::POOL_MIN;
+use rules::within;
 use text::bytes::Sort;
 use text::bytes::run_end;
 use text::numbers::spelt;
@@ -17,6 +21,12 @@ enum Given {
 // The pool and the title that were given, or that standard error says what is wrong.
 pub enum Asked {
     About(u64, u64),
+    Nothing,
+}
+
+// The pool that was given, or that standard error says what is wrong.
+pub enum Pool {
+    Lanes(u64),
     Nothing,
 }
 
@@ -58,4 +68,34 @@ pub fn pool_and_title(names: &[u8]) -> Asked {
         return Asked::Nothing;
     };
     Asked::About(pool, title)
+}
+
+fn complain_of_pool(wrong: &[u8]) {
+    complain(wrong, b": give the lanes of the pool, 1 to 64");
+}
+
+// The pool that an argument names.
+pub fn pool_given(i: usize) -> Pool {
+    let Given::Number(pool) = number_given(i) else {
+        complain_of_pool(b"POOL is no number");
+        return Pool::Nothing;
+    };
+    if within(POOL_MIN, POOL_MAX, pool) {
+        return Pool::Lanes(pool);
+    }
+    complain_of_pool(b"POOL is out of range");
+    Pool::Nothing
+}
+
+// The pool that the only argument names, the usual one without. Where there are more, what to give is said.
+pub fn pool_or(usual: u64, give: &[u8]) -> Pool {
+    let given = os::arg_count();
+    if given < 2 {
+        return Pool::Lanes(usual);
+    }
+    if given > 2 {
+        complain(b"too many arguments: ", give);
+        return Pool::Nothing;
+    }
+    pool_given(1)
 }

@@ -1,5 +1,14 @@
-// Lists the notices on standard input, back to back, as a fresh agent with pool 8 hears them (01, "Numbers worked through").
+// Lists the notices on standard input, back to back, as a fresh agent hears them (01, "Numbers worked through"): argument POOL.
+
+use files::arguments::Pool;
+use files::arguments::pool_or;
+
+// 01's pool, where none is given.
+const USUAL_POOL: u64 = 8;
 
 fn main() {
-    listing_io::input::list_input(8);
+    let Pool::Lanes(pool) = pool_or(USUAL_POOL, b"give one POOL, or none for 8") else {
+        return;
+    };
+    listing_io::input::list_input(pool);
 }
