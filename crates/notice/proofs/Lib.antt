@@ -13,6 +13,7 @@ pub mod ReadBack
 pub mod Refused
 pub mod RoundTrip
 pub mod Windows
+pub mod Undecided
 pub mod Table
 pub mod NoticePlaces
 pub mod ReadThrough

@@ -68,7 +68,7 @@ module _ (bs : List ℕ) (p k : ℕ) (vs : List ℕ) where
         let e : suc i + (rows - suc i) ≡ rows = omega arith in
         rw c at (row-has i (rows - suc i) (rw e has))
 
-    rows-back : (i : ℕ) → i ≤ rows → standsTo bs p k i ≡ true
+    pub rows-back : (i : ℕ) → i ≤ rows → standsTo bs p k i ≡ true
     unfolding standsTo rowStands
     rows-back zero h = refl
     rows-back (suc i) h = rw (rows-back i (omega arith)) (go (isCarried k i) refl)
@@ -77,7 +77,7 @@ module _ (bs : List ℕ) (p k : ℕ) (vs : List ℕ) where
         go true c = head-back bs (p + startOf k i) i (getD vs i 0) h (field-has i h c)
         go false c = refl
 
-    values-back : (i : ℕ) → i < rows → isCarried k i ≡ true → getD vs i 0 < 256 ^ sizeOf i
+    pub values-back : (i : ℕ) → i < rows → isCarried k i ≡ true → getD vs i 0 < 256 ^ sizeOf i
         → valueAt bs p k i ≡ getD vs i 0
     unfolding valueAt
     values-back i h c small = value-back bs (p + startOf k i) i (getD vs i 0) h (field-has i h c) small

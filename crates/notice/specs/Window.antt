@@ -1,3 +1,15 @@
--- A log that comes in windows, as `notice_bytes` has it.
+-- A log that comes in windows, as `notice_bytes` has it, and what a place is that a window does not decide.
+use Prim.Native.Nat.{ℕ}
+use mathlib.Core.Path.{_≡_}
+use mathlib.Core.Bool.{true, false}
+use mathlib.Core.List.{List, _++_}
+use Rattle.notice.specs.Decode.{readAt}
+use Rattle.notice.specs.Log.{isNotice}
 unfoldable pub use Rattle.notice_bytes.specs.Window.{isDecided}
 pub use Rattle.notice_bytes.specs.Window.{Seen}
+
+-- no notice is read at a place, and with some bytes more one would be
+pub record StillOpen (bs : List ℕ) (p : ℕ) : Type 0 where
+  pub no-notice : isNotice (readAt bs p) ≡ false
+  pub later : List ℕ
+  pub notice : isNotice (readAt (bs ++ later) p) ≡ true

@@ -6,7 +6,7 @@ use mathlib.Core.Bool.{Bool, true, false}
 use mathlib.Core.List.{List}
 use mathlib.Core.Logic.{⊎-elim}
 use Prim.Native.Nat.{ℕ, zero, suc, _+_, _*_, _≤_, _<_}
-use native.Mathlib.Nat.{add-zero}
+use native.Mathlib.Nat.{add-zero, add-assoc}
 use native.Mathlib.Omega.{arith}
 use lib.Dec.{eqb, ltb}
 use lib.ListN.{length, getD}
@@ -107,8 +107,40 @@ no-beginning bs p d = not-true (isBeginning bs p) d
 
 -- ---- bytes that go on from those that are there
 
+-- the three bytes of a head that stands
+pub record HeadAt (bs : List ℕ) (at i : ℕ) : Type 0 where
+  pub tag : getD bs at 0 ≡ tagOf i
+  pub first : getD bs (at + 1) 0 ≡ 0
+  pub second : getD bs (at + 2) 0 ≡ sizeOf i
+
+module _ (bs : List ℕ) (at i : ℕ) where
+  two-bytes : numberAt bs (at + 1) 2 ≡ (0 * 256 + getD bs (at + 1) 0) * 256 + getD bs (at + 2) 0
+  unfolding numberAt
+  two-bytes =
+      let a : at + 1 + 0 ≡ at + 1 = omega arith in
+      let b : at + 1 + 1 ≡ at + 2 = omega arith in
+      rw (a, b)
+
+  pub head-at : i < rows → headStands bs at i ≡ true → HeadAt bs at i
+  unfolding headStands
+  head-at h stands =
+      let size : numberAt bs (at + 1) 2 ≡ sizeOf i =
+      eqb-true _ _ (both-r (eqb (getD bs at 0) (tagOf i)) (eqb (numberAt bs (at + 1) 2) (sizeOf i)) stands) in
+      let small = sound i h .small in
+      record {
+        tag = eqb-true _ _ (both-l _ _ stands);
+        first = omega (arith, size, two-bytes, small);
+        second = omega (arith, size, two-bytes, small);
+      }
+
+  pub at-head : HeadAt bs at i → headStands bs at i ≡ true
+  unfolding headStands
+  at-head t =
+      let size : numberAt bs (at + 1) 2 ≡ sizeOf i = omega (arith, two-bytes, t .first, t .second) in
+      simp (eq-eqb _ _ (t .tag), eq-eqb _ _ size)
+
 -- of rows that stand, the head of each that the kind carries does
-stands-at : (bs : List ℕ) (p k m : ℕ) → standsTo bs p k m ≡ true → (i : ℕ) → i < m → isCarried k i ≡ true
+pub stands-at : (bs : List ℕ) (p k m : ℕ) → standsTo bs p k m ≡ true → (i : ℕ) → i < m → isCarried k i ≡ true
     → headStands bs (p + startOf k i) i ≡ true
 unfolding standsTo rowStands
 stands-at bs p k zero all i h has = absurd (omega arith)
@@ -131,20 +163,12 @@ module _ (bs cs : List ℕ) (p q : ℕ) (same : GoesOn bs p cs q) where
 
   -- a head that stands there can stand here
   head-begins : (s i : ℕ) → i < rows → headStands cs (q + s) i ≡ true → headBegins bs (p + s) i ≡ true
-  unfolding headStands headBegins numberAt
+  unfolding headBegins
   head-begins s i h stands =
-      let tag : getD cs (q + s) 0 ≡ tagOf i = eqb-true _ _ (both-l _ _ stands) in
-      let two : numberAt cs (q + s + 1) 2 ≡ sizeOf i =
-      eqb-true _ _ (both-r (eqb (getD cs (q + s) 0) (tagOf i)) (eqb (numberAt cs (q + s + 1) 2) (sizeOf i)) stands) in
-      let a : q + s + 1 + 0 ≡ q + (s + 1) = omega arith in
-      let b : q + s + 1 + 1 ≡ q + (s + 2) = omega arith in
-      let size : (0 * 256 + getD cs (q + (s + 1)) 0) * 256 + getD cs (q + (s + 2)) 0 ≡ sizeOf i = rw (a, b) at two in
-      let small = sound i h .small in
-      let zero : getD cs (q + (s + 1)) 0 ≡ 0 = omega (arith, size, small) in
-      let low : getD cs (q + (s + 2)) 0 ≡ sizeOf i = omega (arith, size, small) in
-      let at-one : p + s + 1 ≡ p + (s + 1) = omega arith in
-      let at-two : p + s + 2 ≡ p + (s + 2) = omega arith in
-      rw (can-be s (tagOf i) tag, at-one, at-two, can-be (s + 1) 0 zero) (can-be (s + 2) (sizeOf i) low)
+      let t = head-at cs (q + s) i h stands in
+      let first = can-be (s + 1) 0 (rw add-assoc at (t .first)) in
+      let second = can-be (s + 2) (sizeOf i) (rw add-assoc at (t .second)) in
+      rw (can-be s (tagOf i) (t .tag), add-assoc p s 1, add-assoc p s 2, first) second
 
   -- of the rows of a notice that stands there each begins here
   row-begins : (k : ℕ) → standsTo cs q k rows ≡ true → (i : ℕ) → i < rows → rowBegins bs p k i ≡ true

@@ -2,3 +2,4 @@
 pub mod Laid
 pub mod Whole
 pub mod Decided
+pub mod Beginnings

@@ -1,5 +1,4 @@
 -- `window::decided` meets its contract, by its tests.
-use mathlib.Core.Path.{sym}
 use borrow.Author.Needs.{needs}
 use Rattle.notice_bytes.specs.Window.{isDecided}
 use Rattle.notice_bytes.proofs.window.decided.Statement.{statement}

@@ -1,6 +1,5 @@
 -- `window::row_begins` meets its contract: by whether the kind carries the row.
 use borrow.Author.Needs.{needs}
-use mathlib.Core.Path.{_∙_}
 use native.Mathlib.Omega.{arith}
 use Rattle.notice_fields.proofs.Table.{row-inside, longest-kind}
 use Rattle.notice_bytes.specs.Window.{rowBegins}
