@@ -14,9 +14,10 @@ use Rattle.notice.specs.declared.Found.the-variants as found
 use Rattle.notice.specs.Decode.{readAt, placeAfter, further}
 use Rattle.notice.specs.Encode.{bytesOf}
 use Rattle.notice.specs.Log.{Bytes, placeTo, isNotice, withFound, noticesTo, noticesOf, stopOf, isWholeLog}
-use Rattle.notice.specs.Window.{isDecided, Seen}
+use Rattle.notice.specs.Window.{isDecided, Seen, Unfinished}
 use Rattle.notice.proofs.CaseSplits.{false-true}
 use Rattle.notice.proofs.Windows.{seen-reads}
+use Rattle.notice.proofs.Undecided.{unfinished}
 use Rattle.notice.proofs.ReadThrough.{Stopped, stopped-on, all-read, last-read}
 use Rattle.agent.specs.declared.Agent.{Agent}
 use Rattle.agent.specs.Turns.{freshAgent}
@@ -28,6 +29,7 @@ use Rattle.listing_io.specs.declared.input.Shown.{Shown}
 use Rattle.listing_io.specs.Step.{cutLine, lineAfter, Shows}
 use Rattle.listing_io.specs.Listing.{linesOf, listingOf, Run, nothing-listed, step-listed, Drained}
 use Rattle.listing_io.proofs.Decided.{same-line, same-notices, same-more, same-place}
+use Rattle.listing_io.proofs.StepPlaces.{low}
 
 -- ---- one step
 
@@ -148,3 +150,10 @@ drained-all g log r d written =
     let over : r .listed .more ≡ false = fails (r .listed .more) (λ q. false-true (sym (d .undecided written q))) in
     let all = all-read log (u .reads) (rw (u .place-is) at (u .stopped over)) in
     (u .place-is ∙ all .0, u .agent-is ∙ ap (agentTold g) (all .1))
+
+-- before the end it is listed up to where a notice is unfinished: every one of which all bytes were read has its line
+pub drained-unfinished : (g : Agent) (log : List ℕ) (r : Printed) → Drained g log false r → r .written ≡ true
+    → r .listed .more ≡ true
+    → Unfinished log (r .listed .place)
+drained-unfinished g log r d written more =
+    unfinished log (r .listed .place) (low g log (r .listed) (d .up-to)) (d .undecided written more)

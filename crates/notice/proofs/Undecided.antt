@@ -1,5 +1,5 @@
--- A place that is not decided is open: no notice is read there, and with some bytes more one would be. So no place is decided later
--- than its bytes allow; `Windows` says that none is decided earlier.
+-- At a place that is not decided a notice is unfinished: none is read there, and with some bytes more one would be. So no place is
+-- decided later than its bytes allow; `Windows` says that none is decided earlier.
 -- Rests on a beginning becoming a notice (`notice_bytes` proofs/Beginnings), and on rows that are laid standing.
 use mathlib.Core.Path.{_≡_, refl, sym, ap, _∙_}
 use mathlib.Core.Bool.{true, false}
@@ -26,7 +26,7 @@ use Rattle.notice.specs.declared.Found.{Found}
 use Rattle.notice.specs.declared.Found.the-variants as found
 use Rattle.notice.specs.Decode.{kindAt, isWhole, readAt}
 use Rattle.notice.specs.Log.{isNotice}
-use Rattle.notice.specs.Window.{StillOpen}
+use Rattle.notice.specs.Window.{Unfinished}
 use Rattle.notice.proofs.Has.{Has}
 use Rattle.notice.proofs.Made.{first-value}
 use Rattle.notice.proofs.Cases.{at-whole}
@@ -61,7 +61,7 @@ module _ (k : ℕ) (known : isKnown k ≡ true) where
       whole (sample k) 0 (rw sample-kind known) (rw sample-kind long)
       (rw sample-kind (rows-back (sample k) 0 k (k ∷ []) itself rows (omega arith)))
 
--- ---- an open place
+-- ---- a place that is not decided
 
 -- where a notice is read, the bytes are no mere beginning
 none-read : (bs : List ℕ) (p : ℕ) → isBeginning bs p ≡ true → isNotice (readAt bs p) ≡ false
@@ -74,9 +74,9 @@ none-read bs p begins = go (readAt bs p) refl
     go found.End is = refl
     go found.Malformed is = refl
 
-opened : (bs : List ℕ) (p k : ℕ) → p ≤ length bs → isBeginning bs p ≡ true → isKnown k ≡ true
-    → (p + 3 < length bs → kindAt bs p ≡ k) → length bs < p + lengthOf k → StillOpen bs p
-opened bs p k low begins known same short =
+grows : (bs : List ℕ) (p k : ℕ) → p ≤ length bs → isBeginning bs p ≡ true → isKnown k ≡ true
+    → (p + 3 < length bs → kindAt bs p ≡ k) → length bs < p + lengthOf k → Unfinished bs p
+grows bs p k low begins known same short =
     let ws = sample k in
     let kind = sample-kind k known in
     let later = drop (length bs - p) ws in
@@ -89,14 +89,14 @@ opened bs p k low begins known same short =
       notice = ap isNotice (sym (at-whole (bs ++ later) p (omega (arith, s .fits, s .headed)) all));
     }
 
-pub undecided-open : (bs : List ℕ) (p : ℕ) → p ≤ length bs → isDecided bs p false ≡ false → StillOpen bs p
+pub unfinished : (bs : List ℕ) (p : ℕ) → p ≤ length bs → isDecided bs p false ≡ false → Unfinished bs p
 unfolding isDecided table startOf spanOf
-undecided-open bs p low e =
+unfinished bs p low e =
     let begins = not-false (isBeginning bs p) e in
     by-order (p + 3) (length bs)
     (λ here.
     let k = kindAt bs p in
     let tests = sym (of-kind bs p here) ∙ begins in
     let rest = both-r (isKnown k) (both (ltb (length bs) (p + lengthOf k)) (every (rowBegins bs p k) rows)) tests in
-    opened bs p k low begins (both-l _ _ tests) (λ _. refl) (ltb-true _ _ (both-l _ _ rest)))
-    (λ few. opened bs p openKind low begins refl (λ h. absurd (omega arith)) (omega arith))
+    grows bs p k low begins (both-l _ _ tests) (λ _. refl) (ltb-true _ _ (both-l _ _ rest)))
+    (λ few. grows bs p openKind low begins refl (λ h. absurd (omega arith)) (omega arith))

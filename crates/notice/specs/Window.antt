@@ -8,8 +8,8 @@ use Rattle.notice.specs.Log.{isNotice}
 unfoldable pub use Rattle.notice_bytes.specs.Window.{isDecided}
 pub use Rattle.notice_bytes.specs.Window.{Seen}
 
--- no notice is read at a place, and with some bytes more one would be
-pub record StillOpen (bs : List ℕ) (p : ℕ) : Type 0 where
+-- a notice is unfinished at a place: none is read there, and with some bytes more one would be
+pub record Unfinished (bs : List ℕ) (p : ℕ) : Type 0 where
   pub no-notice : isNotice (readAt bs p) ≡ false
   pub later : List ℕ
   pub notice : isNotice (readAt (bs ++ later) p) ≡ true
