@@ -1,5 +1,5 @@
 -- Of the plan of a padded title's box.
 pub mod Refusals
 pub mod Places
-pub mod Parts
+pub mod Channels
 pub mod Row

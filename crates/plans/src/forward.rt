@@ -1,9 +1,12 @@
-// The plan of a skip-forward title's box (02, 12): the call's answer, and how many ticks after its start it takes each block.
+// The plan of a skip-forward title's box (02, 12): the call's answer, and the row that says how many ticks after its start it takes each block.
 
-ghost use Prim.Native.Nat.{_-_, _^_, _≤_, _<_};
+ghost use Prim.Native.Nat.{_-_, _^_, _≤_};
 ghost use mathlib.Core.Path.{_≡_};
-ghost use Rattle.rules.specs.Limits.{countMin, steadyMax, askedMax};
+ghost use lib.ListN.{length};
+ghost use Rattle.rules.specs.Limits.{countMin, steadyMax};
 ghost use Rattle.plans.specs.Forward.{skipAt, skipPlanLimits, skipAnswer};
+ghost use Rattle.plans.specs.Row.{written};
+use super::rows::runs;
 use grid::pow2;
 use rules::ASKED_MAX;
 use rules::COUNT_MIN;
@@ -36,16 +39,12 @@ pub(crate) fn answer(count: u64, arrival: u64, places: usize) -> u8
     OUTSIDE_LIMITS
 }
 
-// How many ticks after its start a box takes cell `cell`: the first is always on air, and any other comes once in the period
-// of its lane.
-pub(crate) fn taken_after(count: u64, arrival: u64, cell: u64) -> u16
+// Writes the plan into the first places of the row, one for each block: the first is always on air, and the others are the lanes' runs.
+pub(crate) fn fill(count: u64, arrival: u64, row: &mut [u16])
     requires { ⌜ (countMin ≤ count) × (count ≤ steadyMax) ⌝ }
-    requires { ⌜ (arrival ≤ askedMax) × (cell < 2 ^ (count - 1)) ⌝ }
-    ensures { λ r. ⌜ r ≡ skipAt count arrival cell ⌝ }
+    requires { ⌜ 2 ^ (count - 1) ≤ length (now row) ⌝ }
+    ensures { λ _. ⌜ now (row .exit) ≡ written (skipAt count arrival) (now (row .entry)) (2 ^ (count - 1)) ⌝ }
 {
-    if cell == 0 {
-        return 0;
-    }
-    let period = pow2(63 - u64::leading_zeros(cell) as u64);
-    ((cell + (period - arrival % period)) % period) as u16
+    row[0] = 0;
+    runs(0, count - 1, 0, arrival, row);
 }

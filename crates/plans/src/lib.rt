@@ -2,8 +2,6 @@
 // and `skip_plan` are customers' calls and have no `requires`.
 
 ghost use Rattle.plans.specs.Row.{Planned, SkipPlanned};
-use grid::pow2;
-use rows::Start;
 use rules::DONE;
 
 pub mod forward;
@@ -20,7 +18,7 @@ pub fn plan(floor: u64, cap: u64, count: u64, arrival: u64, row: &mut [u16]) -> 
 {
     let number = padded::answer(floor, cap, count, arrival, row.len());
     if number == DONE {
-        rows::fill(Start::Padded(floor, cap, count, arrival), pow2(cap), row);
+        padded::fill(floor, cap, count, arrival, row);
     }
     number
 }
@@ -32,7 +30,7 @@ pub fn skip_plan(count: u64, arrival: u64, row: &mut [u16]) -> u8
 {
     let number = forward::answer(count, arrival, row.len());
     if number == DONE {
-        rows::fill(Start::Forward(count, arrival), pow2(count - 1), row);
+        forward::fill(count, arrival, row);
     }
     number
 }

@@ -1,14 +1,17 @@
-// The plan of a padded title's box: the call's answer, and at which tick after its start the box takes each cell.
+// The plan of a padded title's box: the call's answer, and the row that says at which tick after its start the box takes each cell.
 
-ghost use Prim.Native.Nat.{_^_, _≤_, _<_};
+ghost use Prim.Native.Nat.{_^_, _≤_};
 ghost use mathlib.Core.Path.{_≡_};
 ghost use mathlib.Core.Bool.{true};
+ghost use lib.ListN.{length};
 ghost use Rattle.rules.specs.Limits.{askedMax};
 ghost use Rattle.grid.specs.Bounds.{Counted};
 ghost use Rattle.scheme.specs.Scheme.{padded, starts as startsAt};
 ghost use Rattle.plans.specs.Padded.{planAt, planLimits, planAnswer};
+ghost use Rattle.plans.specs.Row.{written};
 use super::NEVER;
-use grid::place;
+use super::rows::level;
+use super::rows::runs;
 use grid::pow2;
 use grid::slot;
 use rules::ABOVE_CAP;
@@ -66,21 +69,17 @@ pub fn answer(floor: u64, cap: u64, count: u64, arrival: u64, places: usize) -> 
     OUTSIDE_LIMITS
 }
 
-// What the plan gives for cell `cell`: the slots until the channel that carries it has its segment, and the ticks within.
-pub(crate) fn plan_at(floor: u64, cap: u64, count: u64, arrival: u64, cell: u64) -> u16
+// Writes the plan into the first places of the row, one for each cell: the channels' runs, and the last slot's cells, which no
+// channel carries.
+pub(crate) fn fill(floor: u64, cap: u64, count: u64, arrival: u64, row: &mut [u16])
     requires { ⌜ Counted floor cap count ⌝ }
     requires { ⌜ startsAt (padded floor cap) count arrival ≡ true ⌝ }
-    requires { ⌜ (arrival ≤ askedMax) × (cell < 2 ^ cap) ⌝ }
-    ensures { λ r. ⌜ r ≡ planAt floor cap count arrival cell ⌝ }
+    requires { ⌜ (arrival ≤ askedMax) × (2 ^ cap ≤ length (now row)) ⌝ }
+    ensures { λ _. ⌜ now (row .exit) ≡ written (planAt floor cap count arrival) (now (row .entry)) (2 ^ cap) ⌝ }
 {
     let width = slot(cap, count);
-    let before = cell / width;
-    if before + 1 < pow2(count) {
-        let channel = 63 - u64::leading_zeros(before + 1) as u64;
-        let size = pow2(channel);
-        let at = place(floor, count, channel, arrival / width);
-        let wait = (before + 1 + (size - at)) % size;
-        return (wait * width + cell % width) as u16;
-    }
-    NEVER
+    // the start behind the shift, and a whole round of every channel more: never below zero
+    let phase = arrival + width + (pow2(cap) - pow2(cap - floor));
+    runs(cap - count, cap, width, phase, row);
+    level(pow2(cap) - width, width, NEVER, row);
 }

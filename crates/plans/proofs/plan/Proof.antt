@@ -2,7 +2,6 @@
 -- Rests on the laws of refusals and of the row.
 use mathlib.Core.Path.{refl, sym, _∙_}
 use borrow.Author.Needs.{needs}
-use native.Mathlib.Omega.{arith}
 use lib.ListN.{length}
 use Rattle.plans.specs.Row.{planRow}
 use Rattle.plans.proofs.padded.Refusals.{Accepted, accepted-only}
@@ -21,13 +20,10 @@ clear c =
     let a = c .before .before .before .args in
     accepted-only (a .floor) (a .cap) (a .count) (a .arrival) (length (a .row .now)) (sym (c .before .answer .ensures) ∙ c .if1 .taken)
 
-pow2-requires : tie.Need-pow2-requires
-pow2-requires c κs = clear c .count .high
-
 fill-requires : tie.Need-fill-requires
 fill-requires c κs =
-    let t = clear (c .before .before) in
-    ((t .count, t .start, t .arrival), (c .before .pow2 .ensures .is, omega (arith, c .before .pow2 .ensures .is, t .room)))
+    let t = clear (c .before) in
+    (t .count, (t .start, (t .arrival, t .room)))
 
 same-length : tie.Need-same-length
 same-length c = search needs
@@ -35,7 +31,7 @@ same-length c = search needs
 returns : tie.Need-returns
 unfolding planRow
 returns c =
-    let i = c .before .before .before .before .before in
+    let i = c .before .before .before .before in
     let e = i .before .answer .ensures in
     record { answer = e; left = left-done _ _ _ _ _ _ e (i .if1 .taken) (c .before .before .fill .ensures) }
 
@@ -46,4 +42,4 @@ returns-2 c =
     record { answer = e; left = left-refused _ _ _ _ _ _ e (c .if1 .left) refl }
 
 pub plan-spec : {M : Type 1} → statement M
-plan-spec = tie.close (tie.spec answer-requires pow2-requires fill-requires same-length returns returns-2)
+plan-spec = tie.close (tie.spec answer-requires fill-requires same-length returns returns-2)

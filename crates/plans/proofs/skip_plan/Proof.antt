@@ -2,7 +2,6 @@
 -- Rests on the laws of refusals and of the row.
 use mathlib.Core.Path.{refl, sym, _∙_}
 use borrow.Author.Needs.{needs}
-use native.Mathlib.Omega.{arith}
 use lib.ListN.{length}
 use Rattle.plans.specs.Row.{skipRow}
 use Rattle.plans.proofs.forward.Refusals.{Accepted, accepted-only}
@@ -21,18 +20,11 @@ clear c =
     let a = c .before .before .before .args in
     accepted-only (a .count) (a .arrival) (length (a .row .now)) (sym (c .before .answer .ensures) ∙ c .if1 .taken)
 
-sub-pow2 : tie.Need-sub-pow2
-sub-pow2 c = omega (arith, clear c .within .low)
-
-pow2-requires : tie.Need-pow2-requires
-pow2-requires c κs = omega (arith, clear c .within .high)
-
 fill-requires : tie.Need-fill-requires
 fill-requires c κs =
-    let t = clear (c .before .before) in
+    let t = clear (c .before) in
     let w = t .within in
-    let p = c .before .pow2 .ensures .is in
-    ((w .low, w .high, w .arrival), (p, omega (arith, p, t .room)))
+    ((w .low, w .high), t .room)
 
 same-length : tie.Need-same-length
 same-length c = search needs
@@ -40,7 +32,7 @@ same-length c = search needs
 returns : tie.Need-returns
 unfolding skipRow
 returns c =
-    let i = c .before .before .before .before .before in
+    let i = c .before .before .before .before in
     let e = i .before .answer .ensures in
     record { answer = e; left = left-done _ _ _ _ _ _ e (i .if1 .taken) (c .before .before .fill .ensures) }
 
@@ -52,4 +44,4 @@ returns-2 c =
 
 pub skip-plan-spec : {M : Type 1} → statement M
 skip-plan-spec =
-    tie.close (tie.spec answer-requires sub-pow2 pow2-requires fill-requires same-length returns returns-2)
+    tie.close (tie.spec answer-requires fill-requires same-length returns returns-2)

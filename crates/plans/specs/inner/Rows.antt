@@ -1,25 +1,26 @@
--- A row that is filled for either kind of title: what holds of a start that is not refused, how many places its plan takes, and what
--- the plan gives for a cell.
-use Prim.Native.Nat.{ℕ, _≤_}
-use mathlib.Core.Path.{_≡_}
-use mathlib.Core.Bool.{true}
-use Rattle.rules.specs.Limits.{countMin, steadyMax, askedMax}
-use Rattle.grid.specs.Ticks.{cells}
-use Rattle.grid.specs.Bounds.{Counted}
-use Rattle.scheme.specs.Scheme.{padded, starts}
-use Rattle.plans.specs.declared.rows.Start.{Start}
-use Rattle.plans.specs.declared.rows.Start.the-variants.{Padded, Forward}
-use Rattle.plans.specs.Padded.{planAt}
-use Rattle.plans.specs.Forward.{blocks, skipAt}
+-- What is written into a row from a place on, and what the runs of a plan give for a cell.
+use Prim.Native.Nat.{ℕ, zero, suc, _+_, _-_, _%_, _^_}
+use mathlib.Core.List.{List}
+use lib.Count.{leadingZeros}
+use lib.ListN.{set}
 
-abbrev pub MayStart : Start → Type 0
-MayStart (Padded A K k a) = Counted A K k × (starts (padded A K) k a ≡ true) × (a ≤ askedMax)
-MayStart (Forward k a) = (countMin ≤ k) × (k ≤ steadyMax) × (a ≤ askedMax)
+-- the row with f's values in the n places from `from` on
+unfoldable pub writtenFrom : (ℕ → ℕ) → List ℕ → ℕ → ℕ → List ℕ
+writtenFrom f row from zero = row
+writtenFrom f row from (suc n) = set (writtenFrom f row from n) (from + n) (f (from + n))
 
-abbrev pub placesOf : Start → ℕ
-placesOf (Padded A K k a) = cells K
-placesOf (Forward k a) = blocks k
+-- numbers that rise from `first` on, in the places from `from` on
+abbrev pub risingAt : ℕ → ℕ → ℕ → ℕ
+risingAt from first c = first + (c - from)
 
-abbrev pub givenAt : Start → ℕ → ℕ
-givenAt (Padded A K k a) c = planAt A K k a c
-givenAt (Forward k a) c = skipAt k a c
+-- a run of `many` cells in the places from `from` on, of which the one behind `off` others is taken first
+abbrev pub runAt : ℕ → ℕ → ℕ → ℕ → ℕ
+runAt from many off c = (c - from + (many - off)) % many
+
+-- of runs that are `phase` cells on: a cell is in the run of the highest power of two within its place and `base`, and comes after as many
+-- ticks as that run takes to it
+unfoldable pub runsAt : ℕ → ℕ → ℕ → ℕ
+runsAt base phase c = (c + base + (run - phase % run)) % run
+  where
+    run : ℕ
+    run = 2 ^ (63 - leadingZeros 64 (c + base))
