@@ -1,0 +1,3 @@
+-- Of registers that are moved on by many bits at once.
+pub mod Linear
+pub mod Bits
