@@ -10,13 +10,15 @@ use lib.Dec.{leb}
 use lib.ListN.{length}
 use Rattle.rules.specs.Limits.{within, poolMin, poolMax, idMax}
 use Rattle.rules.specs.Refusals.{pick, firstHit, done, notThere, malformed}
-use Rattle.rules.proofs.Tests.{both-r}
+use Rattle.rules.proofs.Tests.{both-l, both-r}
 use Rattle.notice.specs.Log.{Bytes, noticesOf, isWholeLog}
 use Rattle.plans.specs.Row.{written}
 use Rattle.story.specs.declared.Title.{Title}
 use Rattle.story.specs.Kept.{titleAt}
 use Rattle.logs.specs.declared.PlayedLog.{PlayedLog}
+use Rattle.agent.specs.declared.Agent.{Agent}
 use Rattle.agent.specs.Played.{agentPlayed, lifeIn}
+use Rattle.agent_rows.specs.Packed.{unpacked}
 use Rattle.logs.specs.Reading.{Plays}
 use Rattle.agent.proofs.Played.{log-series}
 use Rattle.airing.specs.declared.follow.Ending.{Ending}
@@ -31,18 +33,21 @@ endingOf a t = record { answer = a; title = t }
 -- ---- pool and title within their limits
 
 module _ (pool i : ℕ) (fits : inLimits pool i ≡ true) where
+  pub pool-in : within poolMin poolMax pool ≡ true
+  pool-in = both-l (within poolMin poolMax pool) (leb i idMax) fits
+
   pub id-low : i ≤ idMax
   id-low = leb-true i idMax (both-r (within poolMin poolMax pool) (leb i idMax) fits)
 
   -- ---- a log that was played to where its reading stops
 
-  module _ (log row : List ℕ) (p : PlayedLog) (m : List ℕ) (all : Plays (heardMarks i) pool log row p m) (small : Bytes log) (t : Title)
-      (at : t ≡ titleAt (p .agent .state) i) (a : ℕ) (is : a ≡ followedAnswer (p .place) (length log) t) where
+  module _ (log row r : List ℕ) (p : PlayedLog) (m : List ℕ) (all : Plays (heardMarks i) pool log row r p m) (small : Bytes log) (t : Title)
+      (at : t ≡ titleAt (unpacked r .state) i) (a : ℕ) (is : a ≡ followedAnswer (p .place) (length log) t) where
     abbrev stands : Title
     stands = titleAt (agentPlayed pool log .state) i
 
     here : t ≡ stands
-    here = at ∙ ap (λ (g : Rattle.agent.specs.declared.Agent.Agent). titleAt (g .state) i) (all .agent-is)
+    here = at ∙ ap (λ (g : Agent). titleAt (g .state) i) (all .agent-is)
 
     film : isFilmTitle (lifeIn pool log i) ≡ isFilmSlot stands
     film = told-film pool i id-low row _ (noticesOf log) (log-series log small (length log))

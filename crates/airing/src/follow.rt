@@ -1,10 +1,11 @@
 // A log played into a fresh agent, notice by notice, while the ticks of one title are marked.
 
 use crate::marks::mark_to;
+use agent_rows::ROW_LENGTH;
+use agent_rows::reading::title_at;
 use logs::PlayedLog;
 use logs::not_begun;
 use logs::read_for;
-use measures::slots::title_of;
 use measures::ticks::tick_at;
 use rules::DONE;
 use rules::MALFORMED;
@@ -12,11 +13,13 @@ use rules::NOT_THERE;
 use scheme::PADDED;
 use story::OPEN;
 use story::Title;
-ghost use Prim.Native.Nat.{_≤_};
 ghost use mathlib.Core.Path.{_≡_};
 ghost use mathlib.Core.Bool.{true};
-ghost use Rattle.rules.specs.Limits.{idMax};
+ghost use lib.ListN.{length};
 ghost use Rattle.notice.specs.Decode.{readAt};
+ghost use Rattle.agent_rows.specs.Layout.{rowLength};
+ghost use Rattle.agent_rows.specs.Packed.{unpacked};
+ghost use Rattle.row_calls.specs.inner.Steps.{Tested};
 ghost use Rattle.logs.specs.Reading.{PlayedStep, Plays};
 ghost use Rattle.airing.specs.Air.{inLimits};
 ghost use Rattle.airing.specs.inner.Steps.{heardMarks, ReadyToMark, followedAnswer, Ends, Follows};
@@ -29,11 +32,13 @@ pub struct Ending {
 
 // One read more of the log. An accepted event of the title while it is open settles its ticks so far; any other is an opening, with
 // which they begin anew.
-fn step(played: PlayedLog, log: &[u8], title: u64, marks: &mut [u8]) -> PlayedLog
-    requires { ⌜ ReadyToMark (played .agent) title ⌝ }
-    ensures { λ r. ⌜ PlayedStep (heardMarks title) played (now (marks .entry)) (readAt (now (log .entry)) (played .place)) r (now (marks .exit)) ⌝ }
+fn step(row: &mut [u64], place: usize, log: &[u8], title: u64, marks: &mut [u8]) -> PlayedLog
+    requires { ⌜ Tested (now row) ⌝ }
+    requires { ⌜ ReadyToMark (unpacked (now row)) title ⌝ }
+    ensures { λ r. ⌜ PlayedStep (heardMarks title) (now (row .entry)) place (now (marks .entry)) (readAt (now (log .entry)) place)
+        (now (row .exit)) r (now (marks .exit)) ⌝ }
 {
-    let read = read_for(played, log, title);
+    let read = read_for(row, place, log, title);
     let next = read.played;
     let t = read.before;
     let mode = t.mode;
@@ -46,14 +51,15 @@ fn step(played: PlayedLog, log: &[u8], title: u64, marks: &mut [u8]) -> PlayedLo
     next
 }
 
-// A log, played into a fresh agent up to where its reading stops.
-fn play(pool: u64, log: &[u8], title: u64, marks: &mut [u8]) -> PlayedLog
-    requires { ⌜ title ≤ idMax ⌝ }
-    ensures { λ r. ⌜ Plays (heardMarks title) pool (now (log .entry)) (now (marks .entry)) r (now (marks .exit)) ⌝ }
+// A log, played into a fresh agent in a row up to where its reading stops.
+fn play(row: &mut [u64], pool: u64, log: &[u8], title: u64, marks: &mut [u8]) -> PlayedLog
+    requires { ⌜ length (now row) ≡ rowLength ⌝ }
+    requires { ⌜ inLimits pool title ≡ true ⌝ }
+    ensures { λ r. ⌜ Plays (heardMarks title) pool (now (log .entry)) (now (marks .entry)) (now (row .exit)) r (now (marks .exit)) ⌝ }
 {
-    let mut played = not_begun(pool);
+    let mut played = not_begun(row, pool);
     while played.more {
-        played = step(played, log, title, marks);
+        played = step(row, played.place, log, title, marks);
     }
     played
 }
@@ -81,9 +87,9 @@ pub fn follow(pool: u64, log: &[u8], title: u64, marks: &mut [u8]) -> Ending
     requires { ⌜ inLimits pool title ≡ true ⌝ }
     ensures { λ r. ⌜ Follows pool (now (log .entry)) title (now (marks .entry)) r (now (marks .exit)) ⌝ }
 {
-    let played = play(pool, log, title, marks);
-    let agent = played.agent;
-    let t = title_of(agent.state, title);
+    let mut row = [0; ROW_LENGTH];
+    let played = play(&mut row, pool, log, title, marks);
+    let t = title_at(&row, title);
     let answer = answer_of(played.place, log.len(), t);
     if answer == DONE {
         mark_to(t, marks.len() as u64, marks);

@@ -17,7 +17,7 @@ use Rattle.rules.proofs.Tests.{decide, either-false-l}
 use Rattle.notice.specs.declared.Notice.{Notice}
 use Rattle.story.specs.declared.Title.{Title}
 use Rattle.story.specs.declared.State.{State}
-use Rattle.story.specs.Kept.{openMode, titleAt, titleHeld, isThere}
+use Rattle.story.specs.Kept.{openMode, titleAt, titleHeld, isThere, stateOk}
 use Rattle.story.specs.Life.{Life, Course, onCourse}
 use Rattle.story.specs.declared.Act.{Act}
 use Rattle.story.specs.declared.Act.the-variants.{Opens, Changes, Closes, Doors}
@@ -28,7 +28,7 @@ use Rattle.story.proofs.Admissions.{SameAt}
 use Rattle.story.proofs.Passed.{Turned, opening, changing, closing, doored}
 use Rattle.story.proofs.Boxes.{courseAfter, same-before}
 use Rattle.story.proofs.Tells.{TellsTitle, absent, present, count-told, closed-none, there-told}
-use Rattle.story.proofs.Runs.{Told}
+use Rattle.story.proofs.Runs.{Told, lanes-limit, sound-state}
 use Rattle.story.proofs.Reached.{run-told}
 use Rattle.agent.specs.Turns.{eventOf, freshAgent}
 use Rattle.agent.specs.Series.{Hearing}
@@ -159,3 +159,10 @@ pub told-title : (pool i : ℕ) → i ≤ idMax → (bss : List (List ℕ)) (ns 
 told-title pool i id bss ns r =
     run-told pool (map eventOf (heardOf (lanesOf pool) ns)) (agentTold (freshAgent pool) ns .state) (told-follows pool bss ns r .run)
     .tells .title i (omega arith)
+
+-- and the agent's numbers are within their limits
+pub told-ok : (pool : ℕ) (bss : List (List ℕ)) (ns : List Notice) → ReadAs bss ns → stateOk (agentTold (freshAgent pool) ns .state) ≡ true
+told-ok pool bss ns r =
+    let es : List Event = map eventOf (heardOf (lanesOf pool) ns) in
+    let s : State = agentTold (freshAgent pool) ns .state in
+    sound-state (lanesOf pool) (lanes-limit pool) es s (run-told pool es s (told-follows pool bss ns r .run))

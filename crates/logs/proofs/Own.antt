@@ -6,9 +6,10 @@ use mathlib.Core.List.{List}
 use mathlib.Core.Logic.{⊎-elim}
 use Prim.Native.Nat.{ℕ, suc, _≤_}
 use native.Mathlib.Omega.{arith}
-use borrow.Author.Tests.{eqb-true, leb-true, not-false}
+use borrow.Author.Tests.{lt-ltb, eqb-true, leb-true, not-false}
 use lib.Dec.{leb, eqb}
-use Rattle.rules.specs.Limits.{both, within, idMax, eventTimeMax, countMin, countMax}
+use lib.ListN.{length}
+use Rattle.rules.specs.Limits.{both, within, poolMin, poolMax, idMax, eventTimeMax, countMin, countMax}
 use Rattle.rules.specs.Refusals.{pick, done, outsideLimits, outOfTurn}
 use Rattle.rules.proofs.Tests.{decide, both-l, both-r}
 use Rattle.rules.proofs.Refusals.{hitsOf, numbered, cleared}
@@ -26,28 +27,48 @@ use Rattle.story.specs.Calls.{eventOk, testsIn, callAnswer}
 use Rattle.story.specs.Story.{filmLimits, orderOf}
 use Rattle.agent.specs.declared.Agent.{Agent}
 use Rattle.agent.specs.Turns.{actOf, noticeAnswer}
-use Rattle.agent.proofs.Turns.{Turn}
-use Rattle.logs.specs.declared.PlayedLog.{PlayedLog}
+use Rattle.agent_rows.specs.Layout.{sequenceEnd, rowLength}
+use Rattle.agent_rows.specs.Packed.{unpacked}
+use Rattle.row_calls.specs.Answers.{rowAfterFresh}
+use Rattle.row_calls.specs.inner.Steps.{Tested, TakesNotice}
+use Rattle.row_calls.proofs.Started.{fresh-left}
+use Rattle.row_calls.proofs.Whole.{agent-after-fresh}
 use Rattle.logs.specs.declared.ReadOn.{ReadOn}
 use Rattle.logs.specs.declared.OwnRead.{OwnRead}
-use Rattle.logs.specs.Reading.{playedOf, noneRead, stepped, keptRead, readNext, heardOwn, ownRead, PlayedStep, Meets}
+use Rattle.logs.specs.Reading.{playedOf, Unplayed, noneRead, stepped, agentRead, RowRead, keptRead, readNext}
+use Rattle.logs.specs.Reading.{heardOwn, ownRead, PlayedStep, Reads, Meets}
+
+-- ---- nothing is played
+
+pub begins : (r : List ℕ) (pool : ℕ) (s : List ℕ) → length r ≡ rowLength → within poolMin poolMax pool ≡ true → s ≡ rowAfterFresh r pool →
+    length s ≡ rowLength → Unplayed pool s (playedOf 0 true)
+begins r pool s long fits is same =
+    record {
+      is-row = record { long = same; sound = rw (is ∙ fresh-left r pool long fits) (lt-ltb 0 sequenceEnd (omega arith)) };
+      agent-is = ap unpacked is ∙ agent-after-fresh r pool long fits;
+      played-is = refl;
+    }
 
 -- ---- one read, as the code meets its cases
 
-module _ (log : List ℕ) (p : PlayedLog) where
-  pub reads-notice : (n : Notice) (e a : ℕ) (h : Agent) → readAt log (p .place) ≡ found.At n e → Turn (p .agent) n a h →
-      _≡_ {A = ReadOn} (record { played = playedOf h e true; answer = a; title = n .title; time = n .time })
-      (readNext p (readAt log (p .place)))
-  unfolding readNext stepped
-  reads-notice n e a h is told = rw (is, told .0, told .1) refl
+module _ (log r : List ℕ) (at : ℕ) where
+  pub reads-notice : (n : Notice) (e a : ℕ) (s : List ℕ) → readAt log at ≡ found.At n e → TakesNotice r n a s →
+      Reads r at (readAt log at) (record { played = playedOf e true; answer = a; title = n .title; time = n .time }) s
+  unfolding readNext agentRead
+  reads-notice n e a s is told =
+      rw (is, told .answers) (record { is = refl; row-read = record { is-row = told .is-row; agent-is = told .agent-is } })
 
-  pub reads-end : (r : ReadOn) → readAt log (p .place) ≡ found.End → r ≡ noneRead p → r ≡ readNext p (readAt log (p .place))
-  unfolding readNext
-  reads-end r is e = rw is e
+  -- the row stays
+  stays : Tested r → (f : Found) → agentRead (unpacked r) f ≡ unpacked r → RowRead r f r
+  stays tested f same = record { is-row = record { long = tested .long; sound = tested .sound }; agent-is = sym same }
 
-  pub reads-none : (r : ReadOn) → readAt log (p .place) ≡ found.Malformed → r ≡ noneRead p → r ≡ readNext p (readAt log (p .place))
-  unfolding readNext
-  reads-none r is e = rw is e
+  pub reads-end : Tested r → (o : ReadOn) → readAt log at ≡ found.End → o ≡ noneRead at → Reads r at (readAt log at) o r
+  unfolding readNext agentRead
+  reads-end tested o is e = rw is (record { is = e; row-read = stays tested found.End refl })
+
+  pub reads-none : Tested r → (o : ReadOn) → readAt log at ≡ found.Malformed → o ≡ noneRead at → Reads r at (readAt log at) o r
+  unfolding readNext agentRead
+  reads-none tested o is e = rw is (record { is = e; row-read = stays tested found.Malformed refl })
 
 -- ---- an accepted event is within its limits
 
@@ -75,78 +96,85 @@ notice-early g n ok =
 
 -- ---- what a read does to one title
 
-module _ (i : ℕ) (p : PlayedLog) where
-  own-early : (t : Title) (f : Found) → ownRead i t (readNext p f) .own ≡ true → ownRead i t (readNext p f) .time ≤ eventTimeMax
+module _ (r : List ℕ) (at i : ℕ) where
+  own-early : (t : Title) (f : Found) →
+      ownRead i t (readNext (unpacked r) at f) .own ≡ true → ownRead i t (readNext (unpacked r) at f) .time ≤ eventTimeMax
   unfolding readNext
   own-early t (found.At n e) own =
-      notice-early (p .agent) n (eqb-true _ 0 (both-l (eqb (noticeAnswer (p .agent) (reading.Whole n)) 0) (eqb (n .title) i) own))
+      notice-early (unpacked r) n (eqb-true _ 0 (both-l (eqb (noticeAnswer (unpacked r) (reading.Whole n)) 0) (eqb (n .title) i) own))
   own-early t found.End own = omega arith
   own-early t found.Malformed own = omega arith
 
-  pub meets : (f : Found) (t : Title) (r : ReadOn) (b : Bool) → t ≡ titleAt (p .agent .state) i → r ≡ readNext p f →
-      b ≡ both (eqb (r .answer) done) (eqb (r .title) i) →
-      Meets p i f (record { played = r .played; own = b; before = t; time = r .time })
-  meets f t r b at is own =
-      rw (own, is, at) (record { is = refl; early = own-early (titleAt (p .agent .state) i) f })
+  pub meets : (f : Found) (t : Title) (o : ReadOn) (s : List ℕ) (b : Bool) → t ≡ titleAt (unpacked r .state) i → Reads r at f o s →
+      b ≡ both (eqb (o .answer) done) (eqb (o .title) i) →
+      Meets r at i f (record { played = o .played; own = b; before = t; time = o .time }) s
+  meets f t o s b here read own =
+      rw (own, read .is, here)
+      (record { is = refl; early = own-early (titleAt (unpacked r .state) i) f; row-read = read .row-read })
 
 -- what holds of the title as it stands holds of it as it was met
-pub of-before : (Q : Title → Type 0) (p : PlayedLog) (i : ℕ) (f : Found) (r : OwnRead) → Meets p i f r →
-    Q (titleAt (p .agent .state) i) → Q (r .before)
-of-before Q p i f r met q = subst Q (sym (ap (λ (o : OwnRead). o .before) (met .is))) q
+pub of-before : (Q : Title → Type 0) (r : List ℕ) (at i : ℕ) (f : Found) (o : OwnRead) (s : List ℕ) → Meets r at i f o s →
+    Q (titleAt (unpacked r .state) i) → Q (o .before)
+of-before Q r at i f o s met q = subst Q (sym (ap (λ (z : OwnRead). z .before) (met .is))) q
 
 -- ---- what the read makes of what is kept
 
-pub read-played : (p : PlayedLog) (f : Found) → readNext p f .played ≡ stepped p f
+read-played : (g : Agent) (at : ℕ) (f : Found) → readNext g at f .played ≡ stepped at f
 unfolding readNext stepped
-read-played p (found.At n e) = refl
-read-played p found.End = refl
-read-played p found.Malformed = refl
+read-played g at (found.At n e) = refl
+read-played g at found.End = refl
+read-played g at found.Malformed = refl
 
 -- by what each notice is answered
-module _ {A : Type 0} (turn : ℕ → A → A) (p : PlayedLog) (x : A) (f : Found) (r : ReadOn) (is : r ≡ readNext p f) where
+module _ {A : Type 0} (turn : ℕ → A → A) (r : List ℕ) (at : ℕ) (x : A) (f : Found) (o : ReadOn) (s : List ℕ) (read : Reads r at f o s) where
   abbrev hear : Agent → Notice → A → A
   hear g n = turn (noticeAnswer g (reading.Whole n))
 
-  kept-told : (f : Found) → pick (readNext p f .played .more) (turn (readNext p f .answer) x) x ≡ keptRead hear (p .agent) x f
-  unfolding readNext stepped keptRead
+  kept-told : (f : Found) →
+      pick (readNext (unpacked r) at f .played .more) (turn (readNext (unpacked r) at f .answer) x) x ≡ keptRead hear (unpacked r) x f
+  unfolding readNext keptRead
   kept-told (found.At n e) = refl
   kept-told found.End = refl
   kept-told found.Malformed = refl
 
-  told : (y : A) → y ≡ pick (r .played .more) (turn (r .answer) x) x → PlayedStep hear p x f (r .played) y
+  told : (y : A) → y ≡ pick (o .played .more) (turn (o .answer) x) x → PlayedStep hear r at x f s (o .played) y
   told y e =
       record {
-        played-is = ap (λ (q : ReadOn). q .played) is ∙ read-played p f;
-        kept-is = e ∙ ap (λ (q : ReadOn). pick (q .played .more) (turn (q .answer) x) x) is ∙ kept-told f;
+        row-read = read .row-read;
+        played-is = ap (λ (q : ReadOn). q .played) (read .is) ∙ read-played (unpacked r) at f;
+        kept-is = e ∙ ap (λ (q : ReadOn). pick (q .played .more) (turn (q .answer) x) x) (read .is) ∙ kept-told f;
       }
 
-  pub steps-told : (y : A) → r .played .more ≡ true → y ≡ turn (r .answer) x → PlayedStep hear p x f (r .played) y
+  pub steps-told : (y : A) → o .played .more ≡ true → y ≡ turn (o .answer) x → PlayedStep hear r at x f s (o .played) y
   steps-told y more e = told y (rw more e)
 
-  pub steps-nowhere : r .played .more ≡ false → PlayedStep hear p x f (r .played) x
+  pub steps-nowhere : o .played .more ≡ false → PlayedStep hear r at x f s (o .played) x
   steps-nowhere none = told x (rw none refl)
 
 -- by the accepted events of one title
-module _ {A : Type 0} (turn : Title → ℕ → A → A) (i : ℕ) (p : PlayedLog) (x : A) (f : Found) (r : OwnRead) (met : Meets p i f r) where
+module _ {A : Type 0} (turn : Title → ℕ → A → A) (i : ℕ) (r : List ℕ) (at : ℕ) (x : A) (f : Found) (o : OwnRead) (s : List ℕ)
+    (met : Meets r at i f o s) where
   abbrev before : Title
-  before = titleAt (p .agent .state) i
+  before = titleAt (unpacked r .state) i
 
-  kept-own : (f : Found) → pick (ownRead i before (readNext p f) .own) (turn before (readNext p f .time) x) x
-      ≡ keptRead (heardOwn turn i) (p .agent) x f
+  kept-own : (f : Found) →
+      pick (ownRead i before (readNext (unpacked r) at f) .own) (turn before (readNext (unpacked r) at f .time) x) x
+      ≡ keptRead (heardOwn turn i) (unpacked r) x f
   unfolding readNext keptRead heardOwn
   kept-own (found.At n e) = refl
   kept-own found.End = refl
   kept-own found.Malformed = refl
 
-  own : (y : A) → y ≡ pick (r .own) (turn (r .before) (r .time) x) x → PlayedStep (heardOwn turn i) p x f (r .played) y
+  own : (y : A) → y ≡ pick (o .own) (turn (o .before) (o .time) x) x → PlayedStep (heardOwn turn i) r at x f s (o .played) y
   own y e =
       record {
-        played-is = ap (λ (q : OwnRead). q .played) (met .is) ∙ read-played p f;
+        row-read = met .row-read;
+        played-is = ap (λ (q : OwnRead). q .played) (met .is) ∙ read-played (unpacked r) at f;
         kept-is = e ∙ ap (λ (q : OwnRead). pick (q .own) (turn (q .before) (q .time) x) x) (met .is) ∙ kept-own f;
       }
 
-  pub steps-own : (y : A) → r .own ≡ true → y ≡ turn (r .before) (r .time) x → PlayedStep (heardOwn turn i) p x f (r .played) y
+  pub steps-own : (y : A) → o .own ≡ true → y ≡ turn (o .before) (o .time) x → PlayedStep (heardOwn turn i) r at x f s (o .played) y
   steps-own y mine e = own y (rw mine e)
 
-  pub steps-past : r .own ≡ false → PlayedStep (heardOwn turn i) p x f (r .played) x
+  pub steps-past : o .own ≡ false → PlayedStep (heardOwn turn i) r at x f s (o .played) x
   steps-past other = own x (rw other refl)

@@ -1,25 +1,27 @@
-// A log of notices, played into a fresh agent read by read, and what each read does to one title. These functions are for the
-// crates above, and say in a `requires` what they build on.
+// A log of notices, played read by read into a fresh agent that is kept in a row and changed in place, and what each read does to one
+// title. These functions are for the crates above, and say in a `requires` what they build on.
 
-use agent::Agent;
-use agent::fresh_agent;
-use agent::heed;
-use measures::slots::title_of;
+use agent_rows::reading::title_at;
 use notice::Found;
 use notice::next_in;
+use row_calls::notices::heed_tested;
+use row_calls::starting::fresh;
 use rules::DONE;
 use rules::MALFORMED;
 use rules::truth::also;
 use story::Title;
 ghost use Prim.Native.Nat.{_≤_};
 ghost use mathlib.Core.Path.{_≡_};
-ghost use Rattle.rules.specs.Limits.{idMax};
+ghost use mathlib.Core.Bool.{true};
+ghost use lib.ListN.{length};
+ghost use Rattle.rules.specs.Limits.{within, poolMin, poolMax, idMax};
 ghost use Rattle.notice.specs.Decode.{readAt};
-ghost use Rattle.logs.specs.Reading.{unplayed, noneRead, readNext, Meets};
+ghost use Rattle.agent_rows.specs.Layout.{rowLength};
+ghost use Rattle.row_calls.specs.inner.Steps.{Tested};
+ghost use Rattle.logs.specs.Reading.{Unplayed, noneRead, Reads, Meets};
 
-// A log as far as it was played into an agent: the place of the next notice, and whether one may follow.
+// A log as far as it was played into the agent of a row: the place of the next notice, and whether one may follow.
 pub struct PlayedLog {
-    pub agent: Agent,
     pub place: usize,
     pub more: bool,
 }
@@ -40,25 +42,27 @@ pub struct OwnRead {
     pub time: u64,
 }
 
-// A log of which nothing is played, and a fresh agent of a pool.
-pub fn not_begun(pool: u64) -> PlayedLog
-    ensures { λ r. ⌜ r ≡ unplayed pool ⌝ }
+// A log of which nothing is played, and a row with a fresh agent of a pool.
+pub fn not_begun(row: &mut [u64], pool: u64) -> PlayedLog
+    requires { ⌜ length (now row) ≡ rowLength ⌝ }
+    requires { ⌜ within poolMin poolMax pool ≡ true ⌝ }
+    ensures { λ r. ⌜ Unplayed pool (now (row .exit)) r ⌝ }
 {
-    let started = fresh_agent(pool);
-    let agent = started.agent;
+    fresh(row, pool);
     PlayedLog {
-        agent: agent,
         place: 0,
         more: true,
     }
 }
 
 // No notice is there, which is answered as malformed.
-fn nothing_read(played: PlayedLog) -> ReadOn
-    ensures { λ r. ⌜ r ≡ noneRead played ⌝ }
+fn nothing_read(place: usize) -> ReadOn
+    ensures { λ r. ⌜ r ≡ noneRead place ⌝ }
 {
-    let mut still = played;
-    still.more = false;
+    let still = PlayedLog {
+        place: place,
+        more: false,
+    };
     ReadOn {
         played: still,
         answer: MALFORMED,
@@ -67,41 +71,39 @@ fn nothing_read(played: PlayedLog) -> ReadOn
     }
 }
 
-// Past a notice, and no further at the log's end or where bytes are no notice.
-pub fn read_on(played: PlayedLog, log: &[u8]) -> ReadOn
-    ensures { λ r. ⌜ r ≡ readNext played (readAt (now (log .entry)) (played .place)) ⌝ }
+// Past the notice at a place, and no further at the log's end or where bytes are no notice.
+pub fn read_on(row: &mut [u64], place: usize, log: &[u8]) -> ReadOn
+    requires { ⌜ Tested (now row) ⌝ }
+    ensures { λ r. ⌜ Reads (now (row .entry)) place (readAt (now (log .entry)) place) r (now (row .exit)) ⌝ }
 {
-    let agent = played.agent;
-    let place = played.place;
     let found = next_in(log, place);
     match found {
         Found::At(n, end) => {
-            let followed = heed(agent, n);
-            let next = followed.agent;
+            let answer = heed_tested(row, n);
             let on = PlayedLog {
-                agent: next,
                 place: end,
                 more: true,
             };
             ReadOn {
                 played: on,
-                answer: followed.answer,
+                answer: answer,
                 title: n.title as u64,
                 time: n.time,
             }
         }
-        Found::End => nothing_read(played),
-        Found::Malformed => nothing_read(played),
+        Found::End => nothing_read(place),
+        Found::Malformed => nothing_read(place),
     }
 }
 
 // The same, as a title meets it.
-pub fn read_for(played: PlayedLog, log: &[u8], title: u64) -> OwnRead
+pub fn read_for(row: &mut [u64], place: usize, log: &[u8], title: u64) -> OwnRead
+    requires { ⌜ Tested (now row) ⌝ }
     requires { ⌜ title ≤ idMax ⌝ }
-    ensures { λ r. ⌜ Meets played title (readAt (now (log .entry)) (played .place)) r ⌝ }
+    ensures { λ r. ⌜ Meets (now (row .entry)) place title (readAt (now (log .entry)) place) r (now (row .exit)) ⌝ }
 {
-    let before = title_of(played.agent.state, title);
-    let read = read_on(played, log);
+    let before = title_at(row, title);
+    let read = read_on(row, place, log);
     let next = read.played;
     OwnRead {
         played: next,

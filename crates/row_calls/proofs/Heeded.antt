@@ -3,12 +3,15 @@
 use mathlib.Core.Path.{_≡_, refl, sym, subst, _∙_}
 use mathlib.Core.Bool.{true, false}
 use mathlib.Core.List.{List}
-use Prim.Native.Nat.{ℕ, suc}
+use mathlib.Core.Logic.{⊎-elim}
+use Prim.Native.Nat.{ℕ, suc, _-_}
+use native.Mathlib.Omega.{arith}
 use lib.Dec.{eqb}
 use lib.ListN.{length, set}
-use borrow.Author.Tests.{eq-eqb, ne-eqb}
+use borrow.Author.Tests.{eq-eqb, ne-eqb, eqb-true, eqb-false}
 use Rattle.rules.specs.Limits.{both}
 use Rattle.rules.specs.Refusals.{pick, outsideLimits, wrongRows, malformed, outOfTurn}
+use Rattle.rules.proofs.Tests.{decide}
 use Rattle.notice.specs.declared.Notice.{Notice}
 use Rattle.notice.specs.declared.Reading.{Reading}
 use Rattle.notice.specs.declared.Reading.the-variants as reading
@@ -32,6 +35,13 @@ heeds-as r q p a x e w = subst (λ (z : Reading). Heeds r z a x) (sym e) w
 pub notice-elsewhere : (r : List ℕ) (q : Reading) → (length r ≡ rowLength → ⊥) → Heeds r q wrongRows r
 unfolding rowNotice rowAfterNotice
 notice-elsewhere r q other = rw (ne-eqb (length r) rowLength other) (refl, refl)
+
+-- a number one below another has that other after it
+pub same-next : (a b : ℕ) → (b ≡ 0 → ⊥) → eqb a (b - 1) ≡ eqb b (suc a)
+same-next a b some =
+    ⊎-elim (λ z. z ∙ sym (eq-eqb b (suc a) (omega (arith, eqb-true a (b - 1) z, some))))
+    (λ no. no ∙ sym (ne-eqb b (suc a) (λ e. eqb-false a (b - 1) no (omega (arith, e)))))
+    (decide (eqb a (b - 1)))
 
 module _ (r : List ℕ) (long : length r ≡ rowLength) where
   pub no-notice : Heeds r reading.Malformed malformed r

@@ -6,4 +6,5 @@ pub mod Started
 pub mod Listed
 pub mod Follows
 pub mod Whole
+pub mod TakenNotice
 pub mod Unique

@@ -59,3 +59,7 @@ module _ (r : List ℕ) (pool : ℕ) where
         ap (λ (z : List ℕ). set (set z versionAt rowVersion) poolAt pool) (zeros ∙ ap (λ (n : ℕ). replicate n 0) long) ∙ fresh-row pool fits in
         let answer : firstHit (refuse outsideLimits (not (within poolMin poolMax pool)) ∷ []) ≡ 0 = rw fits refl in
         rw (eq-eqb (length r) rowLength long, answer) (refl, laid)
+
+    pub fresh-left : within poolMin poolMax pool ≡ true → rowAfterFresh r pool ≡ packed (freshAgent pool)
+    unfolding rowFresh rowAfterFresh firstHit
+    fresh-left fits = rw (eq-eqb (length r) rowLength long, fits) refl

@@ -7,9 +7,9 @@ use mathlib.Core.List.{List}
 use Prim.Native.Nat.{ℕ, zero, suc, _≤_}
 use native.Mathlib.Omega.{arith}
 use lib.Dec.{leb, ltb, eqb}
-use lib.ListN.{length, set, length-set}
+use lib.ListN.{length, set, length-set, length-replicate, getD-replicate}
 use borrow.Author.Tests.{eqb-true, eqb-false}
-use Rattle.rules.specs.Limits.{both, idMax}
+use Rattle.rules.specs.Limits.{both, within, poolMin, poolMax, idMax, titlesMax}
 use Rattle.rules.specs.Refusals.{pick, outOfTurn}
 use Rattle.rules.proofs.Tests.{decide}
 use Rattle.notice.specs.declared.Reading.{Reading}
@@ -22,18 +22,19 @@ use Rattle.story.specs.Kept.{noTitle, titleAt, tickAt, isShut, keptWithin}
 use Rattle.story.specs.Story.{event}
 use Rattle.story.specs.Life.{reach}
 use Rattle.story.specs.Next.{ended, dropLane, dropLanes, changedTitle, closedTitle, doorsTitle, nextTitle, callNext}
-use Rattle.story.specs.Calls.{callAnswer}
+use Rattle.story.specs.Calls.{blankTitle, callAnswer}
 use Rattle.story.specs.Runs.{answered, called}
 use Rattle.owed.proofs.Fixed.{stored}
 use Rattle.verdicts.specs.Before.{firstAnswer}
 use Rattle.verdicts.proofs.Event.{taken-event, event-id}
 use Rattle.agent.specs.declared.Agent.{Agent}
-use Rattle.agent.specs.Turns.{actOf, eventOf, noticeAnswer, noticed}
+use Rattle.agent.specs.Turns.{actOf, eventOf, freshAgent, noticeAnswer, noticed}
 use Rattle.agent_rows.specs.Layout.{rowLength}
 use Rattle.agent_rows.specs.Packed.{unpacked, rowSound, withState, WholeTitle, WholeAgent}
 use Rattle.agent_rows.proofs.Inverse.{unpacked-packed, whole-unpacked}
-use Rattle.row_calls.specs.Answers.{rowAfterEvent, rowAfterNotice}
+use Rattle.row_calls.specs.Answers.{rowAfterEvent, rowAfterNotice, rowAfterFresh}
 use Rattle.row_calls.proofs.Rows.{by-first}
+use Rattle.row_calls.proofs.Started.{fresh-left}
 use Rattle.row_calls.proofs.Follows.{noticed-as-agent, called-as-agent}
 
 -- ---- a title
@@ -78,6 +79,13 @@ whole-next t τ (Doors b) w =
 
 -- ---- an agent
 
+pub whole-fresh : (pool : ℕ) → WholeAgent (freshAgent pool)
+whole-fresh pool =
+    record {
+      titles = length-replicate titlesMax blankTitle;
+      each = λ i l. rw (getD-replicate titlesMax i blankTitle noTitle l) (record { ends = refl; dropped = refl; owed = refl });
+    }
+
 -- an accepted event names an id
 taken-id : (g : Agent) (i τ : ℕ) (a : Act) → callAnswer (g .state) i τ a ≡ 0 → i ≤ idMax
 taken-id g i τ a none = event-id (g .state) i τ (taken-event (g .state) i τ a first)
@@ -107,7 +115,7 @@ picked-zero : (b : Bool) (x : ℕ) → pick b x outOfTurn ≡ 0 → x ≡ 0
 picked-zero true x none = none
 picked-zero false x none = absurd (omega arith)
 
-whole-noticed : (g : Agent) (q : Reading) → WholeAgent g → WholeAgent (noticed g q)
+pub whole-noticed : (g : Agent) (q : Reading) → WholeAgent g → WholeAgent (noticed g q)
 unfolding noticeAnswer
 whole-noticed g (reading.Whole n) w =
     ⊎-elim
@@ -130,3 +138,9 @@ module _ (r : List ℕ) (long : length r ≡ rowLength) (sound : rowSound r ≡ 
   agent-after-event e =
       ap unpacked (called-as-agent r long sound e .1)
       ∙ unpacked-packed (withState (unpacked r) (called (unpacked r .state) e)) (whole-called (unpacked r) e (whole-unpacked r long))
+
+-- a row that a fresh agent of a pool was laid into is that agent's
+pub agent-after-fresh : (r : List ℕ) (pool : ℕ) → length r ≡ rowLength → within poolMin poolMax pool ≡ true →
+    unpacked (rowAfterFresh r pool) ≡ freshAgent pool
+agent-after-fresh r pool long fits =
+    ap unpacked (fresh-left r pool long fits) ∙ unpacked-packed (freshAgent pool) (whole-fresh pool)

@@ -22,7 +22,7 @@ ghost use Rattle.notice.specs.Decode.{readOf};
 ghost use Rattle.agent_rows.specs.Layout.{rowLength};
 ghost use Rattle.agent_rows.specs.Packed.{unpacked};
 ghost use Rattle.row_calls.specs.Answers.{onSound, rowReading, rowNotice, rowAfterNotice};
-ghost use Rattle.row_calls.specs.inner.Steps.{Tested};
+ghost use Rattle.row_calls.specs.inner.Steps.{Tested, TakesNotice};
 
 // The event of a notice in its turn, on a row that was tested; the notice's sequence is the row's from then on.
 fn follow(row: &mut [u64], n: Notice) -> u8
@@ -38,20 +38,40 @@ fn follow(row: &mut [u64], n: Notice) -> u8
     answer
 }
 
+// Whether a notice with this sequence is the next in turn.
+fn is_next(row: &[u64], sequence: u32) -> bool
+    requires { ⌜ length (now row) ≡ rowLength ⌝ }
+    ensures { λ r. ⌜ r ≡ eqb sequence (suc (unpacked (now (row .entry)) .sequence)) ⌝ }
+{
+    let number = sequence as u64;
+    if number == 0 {
+        return false;
+    }
+    row[SEQUENCE_AT] == number - 1
+}
+
 // A notice: its turn, and then the row's numbers.
 fn heed(row: &mut [u64], n: Notice) -> u8
     requires { ⌜ length (now row) ≡ rowLength ⌝ }
     ensures { λ r. ⌜ (r ≡ rowNotice (now (row .entry)) (reading.Whole n)) × (now (row .exit) ≡ rowAfterNotice (now (row .entry)) (reading.Whole n)) ⌝ }
 {
-    let sequence = n.sequence as u64;
-    if sequence == 0 {
-        return OUT_OF_TURN;
-    }
-    if row[SEQUENCE_AT] == sequence - 1 {
+    if is_next(row, n.sequence) {
         if row_ok(row) {
             return follow(row, n);
         }
         return OUTSIDE_LIMITS;
+    }
+    OUT_OF_TURN
+}
+
+// The same on a row that was tested. For crates that play a log: what notices make of a fresh agent stays within its limits, and is not
+// tested at each.
+pub fn heed_tested(row: &mut [u64], n: Notice) -> u8
+    requires { ⌜ Tested (now row) ⌝ }
+    ensures { λ r. ⌜ TakesNotice (now (row .entry)) n r (now (row .exit)) ⌝ }
+{
+    if is_next(row, n.sequence) {
+        return follow(row, n);
     }
     OUT_OF_TURN
 }

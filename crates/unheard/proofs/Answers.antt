@@ -1,5 +1,5 @@
 -- What the call gives back, way by way. Rests on the laws of one count and on the definition of the refusals.
-use mathlib.Core.Path.{_≡_, refl, ap, _∙_}
+use mathlib.Core.Path.{_≡_, refl, sym, ap, _∙_}
 use mathlib.Core.Bool.{true, false}
 use mathlib.Core.List.{List}
 use Prim.Native.Nat.{ℕ, _+_, _≤_, _<_, _^_}
@@ -16,7 +16,8 @@ use Rattle.notice.proofs.CaseSplits.{false-true}
 use Rattle.notice.proofs.NoticePlaces.{inside}
 use Rattle.logs.specs.declared.PlayedLog.{PlayedLog}
 use Rattle.logs.specs.declared.ReadOn.{ReadOn}
-use Rattle.logs.specs.Reading.{stepped, readNext, Plays}
+use Rattle.agent_rows.specs.Packed.{unpacked}
+use Rattle.logs.specs.Reading.{readNext, Reads, Plays}
 use Rattle.unheard.specs.declared.MissedTally.{MissedTally}
 use Rattle.unheard.specs.declared.Unheard.{Unheard}
 use Rattle.unheard.specs.Unheard.{noneTold, refusedUnheard, unheardAnswer, unheardIn}
@@ -40,14 +41,16 @@ module _ (t : MissedTally) (a : ℕ) where
     counts-later some = rw (ne-eqb a done not-ok, ne-eqb (t .missed) 0 some) refl
 
 -- a notice that a log has at a place leaves room to count it
-pub roomy : (log : List ℕ) (p : PlayedLog) (t : MissedTally) (r : ReadOn) → Small (p .place) t → r ≡ readNext p (readAt log (p .place))
-    → r .played .more ≡ true → r .played .place < 2 ^ 64 → RoomToCount t
-unfolding readNext stepped
-roomy log p t r s is more typed = go (readAt log (p .place)) refl (rw is at more) (rw is at typed)
+pub roomy : (log row : List ℕ) (place : ℕ) (t : MissedTally) (o : ReadOn) (left : List ℕ) → Small place t →
+    Reads row place (readAt log place) o left → o .played .more ≡ true → o .played .place < 2 ^ 64 → RoomToCount t
+unfolding readNext
+roomy log row place t o left s read more typed =
+    go (readAt log place) refl (ap (λ (z : ReadOn). z .played .more) (sym (read .is)) ∙ more) (rw (read .is) at typed)
   where
-    go : (f : Found) → readAt log (p .place) ≡ f → readNext p f .played .more ≡ true → readNext p f .played .place < 2 ^ 64 → RoomToCount t
+    go : (f : Found) → readAt log place ≡ f → readNext (unpacked row) place f .played .more ≡ true →
+        readNext (unpacked row) place f .played .place < 2 ^ 64 → RoomToCount t
     go (found.At n e) at going fits =
-        let i = inside log (p .place) n e at in
+        let i = inside log place n e at in
         record { fits = omega (arith, s .few, i .ahead); missed-low = s .missed-low }
     go found.End at going fits = false-true going
     go found.Malformed at going fits = false-true going
@@ -66,7 +69,7 @@ module _ (pool : ℕ) (log : List ℕ) where
   unfolding unheardAnswer firstHit
   outside r e out = refuses outsideLimits r e (rw out refl) (λ h. omega arith)
 
-  module _ (fits : within poolMin poolMax pool ≡ true) (p : PlayedLog) (t : MissedTally) (all : Plays heardCount pool log noneTold p t) where
+  module _ (fits : within poolMin poolMax pool ≡ true) (row : List ℕ) (p : PlayedLog) (t : MissedTally) (all : Plays heardCount pool log noneTold row p t) where
     pub cut : (r : Unheard) → r ≡ refusedUnheard malformed → p .place < length log → r ≡ unheardIn pool log
     unfolding unheardAnswer firstHit
     cut r e short =

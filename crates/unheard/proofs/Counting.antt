@@ -79,7 +79,8 @@ few-notices log (suc k) = go (readAt log (placeTo log k)) refl (few-notices log 
     go found.End is few = few
     go found.Malformed is few = few
 
-pub small : (pool : ℕ) (log : List ℕ) (p : PlayedLog) (t : MissedTally) → PlayedTo heardCount pool log noneTold p t → Small (p .place) t
-small pool log p t w =
+pub small : (pool : ℕ) (log row : List ℕ) (p : PlayedLog) (t : MissedTally) → PlayedTo heardCount pool log noneTold row p t →
+    Small (p .place) t
+small pool log row p t w =
     rw (w .kept-is ∙ told-tally pool (noticesTo log (w .reads)), w .place-is)
     (record { few = few-notices log (w .reads); missed-low = missed-few pool (noticesTo log (w .reads)) })

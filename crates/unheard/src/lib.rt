@@ -1,6 +1,7 @@
 // Which notices of a log did not count: they are told one after the other to a fresh agent of a pool, which refuses some. No
 // public function has a `requires`: any pool and any bytes have an answer.
 
+use agent_rows::ROW_LENGTH;
 use logs::PlayedLog;
 use logs::not_begun;
 use logs::read_on;
@@ -11,7 +12,12 @@ use rules::POOL_MAX;
 use rules::POOL_MIN;
 use rules::within;
 ghost use mathlib.Core.Path.{_≡_};
+ghost use mathlib.Core.Bool.{true};
+ghost use lib.ListN.{length};
+ghost use Rattle.rules.specs.Limits.{within as isWithin, poolMin, poolMax};
 ghost use Rattle.notice.specs.Decode.{readAt};
+ghost use Rattle.agent_rows.specs.Layout.{rowLength};
+ghost use Rattle.row_calls.specs.inner.Steps.{Tested};
 ghost use Rattle.logs.specs.Reading.{PlayedStep, Plays};
 ghost use Rattle.unheard.specs.Unheard.{noneTold, refusedUnheard, unheardIn};
 ghost use Rattle.unheard.specs.inner.Steps.{counted as countedOf, heardCount, RoomToCount, Small};
@@ -70,14 +76,14 @@ fn count(tally: MissedTally, answer: u8) -> MissedTally
 }
 
 // One read more of the log: what a notice is answered is counted.
-fn step(counted: Counted, log: &[u8]) -> Counted
+fn step(row: &mut [u64], counted: Counted, log: &[u8]) -> Counted
+    requires { ⌜ Tested (now row) ⌝ }
     requires { ⌜ Small (counted .played .place) (counted .tally) ⌝ }
-    ensures { λ r. ⌜ PlayedStep heardCount (counted .played) (counted .tally)
-        (readAt (now (log .entry)) (counted .played .place)) (r .played) (r .tally) ⌝ }
+    ensures { λ r. ⌜ PlayedStep heardCount (now (row .entry)) (counted .played .place) (counted .tally)
+        (readAt (now (log .entry)) (counted .played .place)) (now (row .exit)) (r .played) (r .tally) ⌝ }
 {
-    let played = counted.played;
     let tally = counted.tally;
-    let read = read_on(played, log);
+    let read = read_on(row, counted.played.place, log);
     let next = read.played;
     if next.more {
         return Counted {
@@ -91,18 +97,20 @@ fn step(counted: Counted, log: &[u8]) -> Counted
     }
 }
 
-// A log, played into a fresh agent up to where its reading stops.
-fn play(pool: u64, log: &[u8]) -> Counted
-    ensures { λ r. ⌜ Plays heardCount pool (now (log .entry)) noneTold (r .played) (r .tally) ⌝ }
+// A log, played into a fresh agent in a row up to where its reading stops.
+fn play(row: &mut [u64], pool: u64, log: &[u8]) -> Counted
+    requires { ⌜ length (now row) ≡ rowLength ⌝ }
+    requires { ⌜ isWithin poolMin poolMax pool ≡ true ⌝ }
+    ensures { λ r. ⌜ Plays heardCount pool (now (log .entry)) noneTold (now (row .exit)) (r .played) (r .tally) ⌝ }
 {
-    let played = not_begun(pool);
+    let played = not_begun(row, pool);
     let tally = none_told();
     let mut counted = Counted {
         played: played,
         tally: tally,
     };
     while counted.played.more {
-        counted = step(counted, log);
+        counted = step(row, counted, log);
     }
     counted
 }
@@ -128,7 +136,8 @@ pub fn unheard_in(pool: u64, log: &[u8]) -> Unheard
     ensures { λ r. ⌜ r ≡ unheardIn pool (now (log .entry)) ⌝ }
 {
     if within(POOL_MIN, POOL_MAX, pool) {
-        let counted = play(pool, log);
+        let mut row = [0; ROW_LENGTH];
+        let counted = play(&mut row, pool, log);
         let played = counted.played;
         let tally = counted.tally;
         if played.place < log.len() {

@@ -69,6 +69,7 @@ module _ (pool title : ℕ) (xs : List ℕ) where
 
   -- what passes them
   pub record Fits : Type 0 where
+    pub pool-in : within poolMin poolMax pool ≡ true
     pub id : title ≤ idMax
     pub low : (j : ℕ) → getD xs j 0 ≤ askedMax
     pub short : length xs ≤ rowMax
@@ -80,6 +81,7 @@ module _ (pool title : ℕ) (xs : List ℕ) where
       let all = not-false (allInLimits pool title xs) (clear outsideLimits) in
       let rest = both-r (within poolMin poolMax pool) (both (leb title idMax) (rowInLimits xs)) all in
       record {
+        pool-in = both-l (within poolMin poolMax pool) (both (leb title idMax) (rowInLimits xs)) all;
         id = leb-true title idMax (both-l (leb title idMax) (rowInLimits xs) rest);
         low = row-low xs (both-r (leb title idMax) (rowInLimits xs) rest);
         short = ltb-false rowMax (length xs) (clear wrongRows);

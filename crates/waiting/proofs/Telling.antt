@@ -1,6 +1,6 @@
 -- The report says what the events say: what the log comes to where it is played to its end is the tally of the title's life, and a
 -- refusal has no other number. So two outcomes of the call are equal. Rests on `told-tallied`.
-use mathlib.Core.Path.{_≡_, refl, sym, ap, _∙_}
+use mathlib.Core.Path.{_≡_, refl, sym, ap, subst, _∙_}
 use mathlib.Core.Logic.{⊎-elim}
 use mathlib.Core.List.{List}
 use Prim.Native.Nat.{ℕ}
@@ -10,7 +10,10 @@ use lib.ListN.{length}
 use Rattle.rules.specs.Refusals.{done}
 use Rattle.rules.proofs.Tests.{decide}
 use Rattle.notice.specs.Log.{Bytes, noticesOf}
+use Rattle.story.specs.declared.Title.{Title}
 use Rattle.story.specs.Kept.{titleAt}
+use Rattle.agent.specs.declared.Agent.{Agent}
+use Rattle.agent_rows.specs.Packed.{unpacked}
 use Rattle.logs.specs.declared.PlayedLog.{PlayedLog}
 use Rattle.agent.specs.Played.{agentPlayed, lifeIn}
 use Rattle.logs.specs.Reading.{Plays}
@@ -41,23 +44,26 @@ module _ (pool : ℕ) (log : List ℕ) (title : ℕ) (xs : List ℕ) where
         refuses = λ h. refl;
       })
 
-  module _ (p : PlayedLog) (y : Tally) (all : Plays (heardTally title xs) pool log (freshTally 0) p y) (fit : Fits pool title xs) (small : Bytes log) where
-    pub played-ready : ReadyToTally (p .agent) title xs y
+  module _ (row : List ℕ) (p : PlayedLog) (y : Tally) (all : Plays (heardTally title xs) pool log (freshTally 0) row p y) (fit : Fits pool title xs) (small : Bytes log) where
+    pub played-ready : ReadyToTally (unpacked row) title xs y
     played-ready =
-        rw (all .agent-is, all .kept-is)
-        (told-ready pool title (fit .id) xs _ (noticesOf log) (log-series log small (length log)) (fit .short))
+        subst (λ (g : Agent). ReadyToTally g title xs y) (sym (all .agent-is))
+        (rw (all .kept-is)
+        (told-ready pool title (fit .id) xs _ (noticesOf log) (log-series log small (length log)) (fit .short)))
 
-    pub reports-waits : (w : Waits) → done ≡ reportAnswer pool log title xs →
-        w ≡ allSettled (titleAt (p .agent .state) title) xs y
-        → Reports pool log title xs (reportOf done (length xs) w)
-    reports-waits w whole is =
+    pub reports-waits : (t : Title) (w : Waits) → done ≡ reportAnswer pool log title xs → t ≡ titleAt (unpacked row .state) title →
+        w ≡ allSettled t xs y → Reports pool log title xs (reportOf done (length xs) w)
+    reports-waits t w whole at is =
         record {
           answers = whole;
           all-counted = λ h. refl;
-          tallied = λ h. rw (is, all .agent-is, all .kept-is) by-the-log;
+          tallied = λ h. rw (is, here, all .kept-is) by-the-log;
           refuses = λ h. absurd (h refl);
         }
       where
+        here : t ≡ titleAt (agentPlayed pool log .state) title
+        here = at ∙ ap (λ (g : Agent). titleAt (g .state) title) (all .agent-is)
+
         by-the-log : Tallied (lifeIn pool log title) xs (length xs) (allSettled (titleAt (agentPlayed pool log .state) title) xs (toldTally pool title xs (noticesOf log)))
         by-the-log =
             told-tallied pool title (fit .id) xs _ (noticesOf log) (log-series log small (length log)) (fit .low)

@@ -6,6 +6,8 @@ use admissions::Waits;
 use admissions::ended;
 use admissions::endless;
 use admissions::opened;
+use agent_rows::ROW_LENGTH;
+use agent_rows::reading::title_at;
 use logs::PlayedLog;
 use logs::not_begun;
 use logs::read_for;
@@ -22,9 +24,13 @@ use story::OPEN;
 use story::Title;
 ghost use Prim.Native.Nat.{_≤_};
 ghost use mathlib.Core.Path.{_≡_};
+ghost use mathlib.Core.Bool.{true};
 ghost use lib.ListN.{length};
-ghost use Rattle.rules.specs.Limits.{eventTimeMax, idMax};
+ghost use Rattle.rules.specs.Limits.{within as isWithin, poolMin, poolMax, eventTimeMax, idMax};
 ghost use Rattle.notice.specs.Decode.{readAt};
+ghost use Rattle.agent_rows.specs.Layout.{rowLength};
+ghost use Rattle.agent_rows.specs.Packed.{unpacked};
+ghost use Rattle.row_calls.specs.inner.Steps.{Tested};
 ghost use Rattle.admissions.specs.Waits.{rowMax};
 ghost use Rattle.admissions.specs.Stretches.{Playing, Few, freshTally};
 ghost use Rattle.logs.specs.Reading.{PlayedStep, Plays};
@@ -62,14 +68,14 @@ fn count_event(t: Title, time: u64, arrivals: &[u64], tally: Tally) -> Tally
 }
 
 // One read more of the log.
-fn step(counted: Counted, log: &[u8], title: u64, arrivals: &[u64]) -> Counted
-    requires { ⌜ ReadyToTally (counted .played .agent) title (now arrivals) (counted .tally) ⌝ }
-    ensures { λ r. ⌜ PlayedStep (heardTally title (now (arrivals .entry))) (counted .played) (counted .tally)
-        (readAt (now (log .entry)) (counted .played .place)) (r .played) (r .tally) ⌝ }
+fn step(row: &mut [u64], counted: Counted, log: &[u8], title: u64, arrivals: &[u64]) -> Counted
+    requires { ⌜ Tested (now row) ⌝ }
+    requires { ⌜ ReadyToTally (unpacked (now row)) title (now arrivals) (counted .tally) ⌝ }
+    ensures { λ r. ⌜ PlayedStep (heardTally title (now (arrivals .entry))) (now (row .entry)) (counted .played .place) (counted .tally)
+        (readAt (now (log .entry)) (counted .played .place)) (now (row .exit)) (r .played) (r .tally) ⌝ }
 {
-    let played = counted.played;
     let tally = counted.tally;
-    let read = read_for(played, log, title);
+    let read = read_for(row, counted.played.place, log, title);
     let next = read.played;
     let before = read.before;
     if read.own {
@@ -84,20 +90,23 @@ fn step(counted: Counted, log: &[u8], title: u64, arrivals: &[u64]) -> Counted
     }
 }
 
-// A log, played into a fresh agent up to where its reading stops.
-fn play(pool: u64, log: &[u8], title: u64, arrivals: &[u64]) -> Counted
+// A log, played into a fresh agent in a row up to where its reading stops.
+fn play(row: &mut [u64], pool: u64, log: &[u8], title: u64, arrivals: &[u64]) -> Counted
+    requires { ⌜ length (now row) ≡ rowLength ⌝ }
+    requires { ⌜ isWithin poolMin poolMax pool ≡ true ⌝ }
     requires { ⌜ title ≤ idMax ⌝ }
     requires { ⌜ length (now arrivals) ≤ rowMax ⌝ }
-    ensures { λ r. ⌜ Plays (heardTally title (now (arrivals .entry))) pool (now (log .entry)) (freshTally 0) (r .played) (r .tally) ⌝ }
+    ensures { λ r. ⌜ Plays (heardTally title (now (arrivals .entry))) pool (now (log .entry)) (freshTally 0)
+        (now (row .exit)) (r .played) (r .tally) ⌝ }
 {
-    let played = not_begun(pool);
+    let played = not_begun(row, pool);
     let tally = opened(0);
     let mut counted = Counted {
         played: played,
         tally: tally,
     };
     while counted.played.more {
-        counted = step(counted, log, title, arrivals);
+        counted = step(row, counted, log, title, arrivals);
     }
     counted
 }
@@ -159,15 +168,14 @@ pub fn report_of(pool: u64, log: &[u8], title: u64, arrivals: &[u64]) -> Report
     if answer != DONE {
         return refused(answer);
     }
-    let counted = play(pool, log, title, arrivals);
+    let mut row = [0; ROW_LENGTH];
+    let counted = play(&mut row, pool, log, title, arrivals);
     let played = counted.played;
     if played.place < log.len() {
         return refused(MALFORMED);
     }
-    let agent = played.agent;
     let tally = counted.tally;
-    let s = agent.state;
-    let t = s.titles[title as usize];
+    let t = title_at(&row, title);
     let waits = endless(t, arrivals, tally);
     Report {
         answer: DONE,

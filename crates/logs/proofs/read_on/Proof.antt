@@ -11,8 +11,8 @@ next-in-requires c κs = search needs
 enum-known-found : tie.Need-enum-known-found
 enum-known-found c = search needs
 
-heed-requires : tie.Need-heed-requires
-heed-requires c κs = search needs
+heed-tested-requires : tie.Need-heed-tested-requires
+heed-tested-requires c κs = search needs
 
 cast-t12 : tie.Need-cast-t12
 cast-t12 c = search needs
@@ -29,17 +29,24 @@ enum-told-2 c = search needs
 nothing-read-requires-2 : tie.Need-nothing-read-requires-2
 nothing-read-requires-2 c κs = search needs
 
+same-length : tie.Need-same-length
+same-length c = search needs
+
 returns : tie.Need-returns
 returns c =
-    let at-heed = c .before .before in
-    let read = at-heed .before .before in
-    reads-notice _ _ _ _ _ _ (sym (read .before .before .next-in .ensures .is) ∙ read .found .given .1) (at-heed .heed .ensures)
+    let at-heed = c .before .before .before in
+    let read = at-heed .before .before .before in
+    reads-notice _ _ _ _ _ _ _ (sym (read .before .before .next-in .ensures .is) ∙ read .found .given .1) (at-heed .heed-tested .ensures)
 
 returns-2 : tie.Need-returns-2
-returns-2 c = reads-end _ _ _ (sym (c .before .before .before .next-in .ensures .is) ∙ c .before .enum-told .given .1) (c .nothing-read .ensures)
+returns-2 c =
+    let read = c .before .before .before in
+    reads-end _ _ _ (read .before .before .before .pre) _ (sym (read .next-in .ensures .is) ∙ c .before .enum-told .given .1) (c .nothing-read .ensures)
 
 returns-3 : tie.Need-returns-3
-returns-3 c = reads-none _ _ _ (sym (c .before .before .before .next-in .ensures .is) ∙ c .before .enum-told2 .given .1) (c .nothing-read2 .ensures)
+returns-3 c =
+    let read = c .before .before .before in
+    reads-none _ _ _ (read .before .before .before .pre) _ (sym (read .next-in .ensures .is) ∙ c .before .enum-told2 .given .1) (c .nothing-read2 .ensures)
 
 pub read-on-spec : {M : Type 1} → statement M
 read-on-spec =
@@ -47,12 +54,13 @@ read-on-spec =
     (tie.spec
     next-in-requires
     enum-known-found
-    heed-requires
+    heed-tested-requires
     cast-t12
     enum-told
     nothing-read-requires
     enum-told-2
     nothing-read-requires-2
+    same-length
     returns
     returns-2
     returns-3)

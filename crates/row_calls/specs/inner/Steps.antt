@@ -1,4 +1,4 @@
--- What is known of a row and of an event once they were tested.
+-- What is known of a row and of an event once they were tested, and what a notice makes of such a row.
 use Prim.Native.Nat.{ℕ, _≤_, _<_}
 use mathlib.Core.Path.{_≡_}
 use mathlib.Core.Bool.{true, false, not}
@@ -8,12 +8,15 @@ use lib.ListN.{length}
 use Rattle.rules.specs.Limits.{both}
 use Rattle.rules.specs.Refusals.{pick, done, tooEarly, notThere}
 use Rattle.grid.specs.Bounds.{tickMax}
+use Rattle.notice.specs.declared.Notice.{Notice}
+use Rattle.notice.specs.declared.Reading.the-variants as reading
 use Rattle.story.specs.declared.Title.{Title}
 use Rattle.story.specs.declared.Act.{Act}
 use Rattle.story.specs.Kept.{stateOk, titleOk, tickAt, ruling, shows}
 use Rattle.story.specs.Story.{actLimits}
 use Rattle.story.specs.Calls.{eventOk, laneHeld}
 use Rattle.measures.specs.Readable.{Sending}
+use Rattle.agent.specs.Turns.{noticeAnswer, noticed}
 use Rattle.agent_rows.specs.Layout.{rowLength}
 use Rattle.agent_rows.specs.Packed.{unpacked, rowSound}
 
@@ -22,6 +25,17 @@ pub record Tested (r : List ℕ) : Type 0 where
   pub long : length r ≡ rowLength
   pub sound : rowSound r ≡ true
   pub ok : stateOk (unpacked r .state) ≡ true
+
+-- a row that an agent has: of the right length, and sound
+pub record AgentRow (r : List ℕ) : Type 0 where
+  pub long : length r ≡ rowLength
+  pub sound : rowSound r ≡ true
+
+-- what a notice is answered on a row that was tested, and the row x that it leaves: that of the agent that took it
+pub record TakesNotice (r : List ℕ) (n : Notice) (a : ℕ) (x : List ℕ) : Type 0 where
+  pub answers : a ≡ noticeAnswer (unpacked r) (reading.Whole n)
+  pub agent-is : unpacked x ≡ noticed (unpacked r) (reading.Whole n)
+  pub is-row : AgentRow x
 
 -- an event whose numbers are within their limits, and which comes no earlier than the last
 pub record Timely (r : List ℕ) (i τ : ℕ) (a : Act) : Type 0 where

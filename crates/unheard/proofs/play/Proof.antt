@@ -1,6 +1,8 @@
 -- `unheard::play` meets its contract and ends: each step is one read more, and one that goes on moves ahead.
+use mathlib.Core.Path.{sym, _∙_}
+use native.Mathlib.Omega.{arith}
 use borrow.Author.Needs.{needs}
-use Rattle.logs.proofs.Reading.{PlayedTo, not-begun, played-on, all-played, left, falls}
+use Rattle.logs.proofs.Reading.{PlayedTo, not-begun, played-on, tested, all-played, left, falls}
 use Rattle.unheard.specs.Unheard.{noneTold}
 use Rattle.unheard.specs.inner.Steps.{heardCount}
 use Rattle.unheard.proofs.Counting.{small}
@@ -8,10 +10,10 @@ use Rattle.unheard.proofs.play.Statement.{statement}
 use Rattle.unheard.proofs.play.Tie as tie
 
 abbrev Inv-loop : tie.InvT-loop
-Inv-loop pool log counted₀ counted = PlayedTo heardCount pool log noneTold (counted .played) (counted .tally)
+Inv-loop row₀ pool log counted₀ row counted = PlayedTo heardCount pool log noneTold row (counted .played) (counted .tally)
 
 abbrev μ-loop : tie.MeasureT-loop
-μ-loop pool log counted₀ counted = left log (counted .played)
+μ-loop row₀ pool log counted₀ row counted = left log (counted .played)
 
 not-begun-requires : tie.Need-not-begun-requires Inv-loop μ-loop
 not-begun-requires c κs = search needs
@@ -20,19 +22,29 @@ none-told-requires : tie.Need-none-told-requires Inv-loop μ-loop
 none-told-requires c κs = search needs
 
 loop-holds : tie.Need-loop-holds Inv-loop μ-loop
-loop-holds c = not-begun _ _ _ _ _ _ (c .before .not-begun .ensures) (c .none-told .ensures)
+loop-holds c = not-begun _ _ _ _ _ _ _ (c .before .before .before .not-begun .ensures) (c .none-told .ensures)
 
 step-requires : tie.Need-step-requires Inv-loop μ-loop
-step-requires c κs = small _ _ _ _ (c .before .loop .inv)
+step-requires c κs =
+    let at-loop = c .before .before in
+    let known = at-loop .before .before .before .before .before .before in
+    (tested _ _ _ _ _ _ _ (at-loop .loop .inv) (λ j. omega (arith, known .shared-slice-known .given j)), small _ _ _ _ _ (at-loop .loop .inv))
 
 loop-less : tie.Need-loop-less Inv-loop μ-loop
-loop-less c = falls _ _ _ (c .before .loop-test .taken) (c .step .ensures .played-is)
+loop-less c =
+    let at-step = c .before .before in
+    falls _ _ _ (at-step .before .before .loop-test .taken) (at-step .step .ensures .played-is)
 
 loop-again : tie.Need-loop-again Inv-loop μ-loop
-loop-again c = played-on _ _ _ _ _ _ _ _ (c .step .ensures) (c .before .before .loop .inv)
+loop-again c =
+    let at-step = c .before .before in
+    played-on _ _ _ _ _ _ _ _ _ _ (at-step .step .ensures) (at-step .before .before .before .loop .inv)
+
+same-length : tie.Need-same-length Inv-loop μ-loop
+same-length c = c .before .loop .inv .is-row .long ∙ sym (c .before .before .before .before .before .before .before .before .before .pre .0)
 
 returns : tie.Need-returns Inv-loop μ-loop
-returns c = all-played _ _ _ _ _ _ (c .before .loop .inv) (c .loop-test .left)
+returns c = all-played _ _ _ _ _ _ _ (c .before .loop .inv) (c .loop-test .left)
 
 pub play-spec : {M : Type 1} → statement M
 play-spec =
@@ -46,4 +58,5 @@ play-spec =
     step-requires
     loop-less
     loop-again
+    same-length
     returns)

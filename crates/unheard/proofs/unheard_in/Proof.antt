@@ -1,5 +1,5 @@
 -- `unheard::unheard_in` meets its contract: the refusals in their order, then the count of the log's notices.
-use mathlib.Core.Path.{sym, _∙_}
+use mathlib.Core.Path.{refl, sym, _∙_}
 use Rattle.unheard.proofs.Answers.{outside, cut, told}
 use borrow.Author.Needs.{needs}
 use Rattle.unheard.proofs.unheard_in.Statement.{statement}
@@ -8,21 +8,26 @@ use Rattle.unheard.proofs.unheard_in.Tie as tie
 within-requires : tie.Need-within-requires
 within-requires c κs = search needs
 
+slice-aggregate-play : tie.Need-slice-aggregate-play
+slice-aggregate-play c = search needs
+
 play-requires : tie.Need-play-requires
-play-requires c κs = search needs
+play-requires c κs = (refl, sym (c .before .before .within .ensures) ∙ c .before .if1 .taken)
 
 refused-requires : tie.Need-refused-requires
 refused-requires c κs = search needs
 
 returns : tie.Need-returns
 returns c =
-    let fits = sym (c .before .before .before .before .before .before .before .within .ensures) ∙ c .before .before .before .before .before .before .if1 .taken in
-    cut _ _ fits _ _ (c .before .before .before .before .before .play .ensures) _ (c .refused .ensures) (c .before .if2 .taken)
+    let at-play = c .before .before .before .before .before .before in
+    let fits = sym (at-play .before .before .before .within .ensures) ∙ at-play .before .before .if1 .taken in
+    cut _ _ fits _ _ _ (at-play .play .ensures) _ (c .refused .ensures) (c .before .if2 .taken)
 
 returns-2 : tie.Need-returns-2
 returns-2 c =
-    let fits = sym (c .before .before .before .before .before .before .within .ensures) ∙ c .before .before .before .before .before .if1 .taken in
-    told _ _ fits _ _ (c .before .before .before .before .play .ensures) (c .if2 .left)
+    let at-play = c .before .before .before .before .before in
+    let fits = sym (at-play .before .before .before .within .ensures) ∙ at-play .before .before .if1 .taken in
+    told _ _ fits _ _ _ (at-play .play .ensures) (c .if2 .left)
 
 refused-requires-2 : tie.Need-refused-requires-2
 refused-requires-2 c κs = search needs
@@ -35,6 +40,7 @@ unheard-in-spec =
     tie.close
     (tie.spec
     within-requires
+    slice-aggregate-play
     play-requires
     refused-requires
     returns

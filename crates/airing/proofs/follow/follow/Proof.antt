@@ -5,13 +5,19 @@ use borrow.Author.Needs.{needs}
 use Rattle.airing.proofs.follow.follow.Statement.{statement}
 use Rattle.airing.proofs.follow.follow.Tie as tie
 
-play-requires : tie.Need-play-requires
-play-requires c κs = let start = c .before .before .before in id-low (start .args .pool) (start .args .title) (start .pre)
+slice-aggregate-play : tie.Need-slice-aggregate-play
+slice-aggregate-play c = search needs
 
-title-of-requires : tie.Need-title-of-requires
-title-of-requires c κs =
-    let start = c .before .before .before .before .before .before .before in
-    id-low (start .args .pool) (start .args .title) (start .pre)
+play-requires : tie.Need-play-requires
+play-requires c κs = search needs
+
+slice-aggregate-title-at : tie.Need-slice-aggregate-title-at
+slice-aggregate-title-at c = search needs
+
+title-at-requires : tie.Need-title-at-requires
+title-at-requires c κs =
+    let start = c .before .before .before .before .before .before .before .before .before in
+    (search needs, id-low (start .args .pool) (start .args .title) (start .pre))
 
 answer-of-requires : tie.Need-answer-of-requires
 answer-of-requires c κs = search needs
@@ -19,10 +25,10 @@ answer-of-requires c κs = search needs
 mark-to-requires : tie.Need-mark-to-requires
 mark-to-requires c κs =
     let at-answer-of = c .before .before in
-    let at-title-of = at-answer-of .before in
-    let at-play = at-title-of .before .before .before .before in
-    let known = at-play .before .before .before in
-    markable _ _ (known .before .pre) _ _ _ _ (at-play .play .ensures) (λ j. omega (arith, known .shared-slice-known .given j)) _ (at-title-of .title-of .ensures) _ (at-answer-of .answer-of .ensures) (c .before .if1 .taken)
+    let at-title-at = at-answer-of .before in
+    let at-play = at-title-at .before .before .before .before .before in
+    let known = at-play .before .before .before .before in
+    markable _ _ (known .before .pre) _ _ _ _ _ (at-play .play .ensures) (λ j. omega (arith, known .shared-slice-known .given j)) _ (at-title-at .title-at .ensures) _ (at-answer-of .answer-of .ensures) (c .before .if1 .taken)
 
 same-length : tie.Need-same-length
 same-length c = search needs
@@ -32,10 +38,10 @@ returns c =
     let at-mark-to = c .before .before in
     let at-if1 = at-mark-to .before .before in
     let at-answer-of = at-if1 .before in
-    let at-title-of = at-answer-of .before in
-    let at-play = at-title-of .before .before .before .before in
-    let known = at-play .before .before .before in
-    follows-done _ _ (known .before .pre) _ _ _ _ (at-play .play .ensures) (λ j. omega (arith, known .shared-slice-known .given j)) _ (at-title-of .title-of .ensures) _ (at-answer-of .answer-of .ensures) _ (at-if1 .if1 .taken) (at-mark-to .mark-to .ensures)
+    let at-title-at = at-answer-of .before in
+    let at-play = at-title-at .before .before .before .before .before in
+    let known = at-play .before .before .before .before in
+    follows-done _ _ (known .before .pre) _ _ _ _ _ (at-play .play .ensures) (λ j. omega (arith, known .shared-slice-known .given j)) _ (at-title-at .title-at .ensures) _ (at-answer-of .answer-of .ensures) _ (at-if1 .if1 .taken) (at-mark-to .mark-to .ensures)
 
 same-length-2 : tie.Need-same-length-2
 same-length-2 c = search needs
@@ -43,17 +49,19 @@ same-length-2 c = search needs
 returns-2 : tie.Need-returns-2
 returns-2 c =
     let at-answer-of = c .before in
-    let at-title-of = at-answer-of .before in
-    let at-play = at-title-of .before .before .before .before in
-    let known = at-play .before .before .before in
-    follows-refused _ _ (known .before .pre) _ _ _ _ (at-play .play .ensures) (λ j. omega (arith, known .shared-slice-known .given j)) _ (at-title-of .title-of .ensures) _ (at-answer-of .answer-of .ensures) (c .if1 .left)
+    let at-title-at = at-answer-of .before in
+    let at-play = at-title-at .before .before .before .before .before in
+    let known = at-play .before .before .before .before in
+    follows-refused _ _ (known .before .pre) _ _ _ _ _ (at-play .play .ensures) (λ j. omega (arith, known .shared-slice-known .given j)) _ (at-title-at .title-at .ensures) _ (at-answer-of .answer-of .ensures) (c .if1 .left)
 
 pub follow-spec : {M : Type 1} → statement M
 follow-spec =
     tie.close
     (tie.spec
+    slice-aggregate-play
     play-requires
-    title-of-requires
+    slice-aggregate-title-at
+    title-at-requires
     answer-of-requires
     mark-to-requires
     same-length

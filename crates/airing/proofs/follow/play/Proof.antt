@@ -1,46 +1,56 @@
 -- `airing::follow::play` meets its contract and ends: each step is one read more, and one that goes on moves ahead.
-use mathlib.Core.Path.{refl}
+use mathlib.Core.Path.{refl, sym, _∙_}
 use native.Mathlib.Omega.{arith}
 use borrow.Author.Needs.{needs}
-use Rattle.logs.proofs.Reading.{PlayedTo, not-begun, played-on, all-played, left, falls}
+use Rattle.logs.proofs.Reading.{PlayedTo, not-begun, played-on, tested, all-played, left, falls}
 use Rattle.airing.specs.inner.Steps.{heardMarks}
+use Rattle.airing.proofs.Answers.{pool-in, id-low}
 use Rattle.airing.proofs.Reading.{ready, kept-length}
 use Rattle.airing.proofs.follow.play.Statement.{statement}
 use Rattle.airing.proofs.follow.play.Tie as tie
 
 abbrev Inv-loop : tie.InvT-loop
-Inv-loop pool log title marks₀ played₀ marks played = PlayedTo (heardMarks title) pool log marks₀ played marks
+Inv-loop row₀ pool log title marks₀ played₀ row marks played = PlayedTo (heardMarks title) pool log marks₀ row played marks
 
 abbrev μ-loop : tie.MeasureT-loop
-μ-loop pool log title marks₀ played₀ marks played = left log played
+μ-loop row₀ pool log title marks₀ played₀ row marks played = left log played
 
 not-begun-requires : tie.Need-not-begun-requires Inv-loop μ-loop
-not-begun-requires c κs = search needs
+not-begun-requires c κs =
+    let s = c .before .before .before .before in
+    (s .pre .0, pool-in (s .args .pool) (s .args .title) (s .pre .1))
 
 loop-holds : tie.Need-loop-holds Inv-loop μ-loop
-loop-holds c = not-begun _ _ _ _ _ _ (c .not-begun .ensures) refl
+loop-holds c = not-begun _ _ _ _ _ _ _ (c .before .before .not-begun .ensures) refl
 
 step-requires : tie.Need-step-requires Inv-loop μ-loop
 step-requires c κs =
-    let at-loop = c .before .before in
-    let known = at-loop .before .before .before in
-    ready _ _ _ _ _ _ (at-loop .loop .inv) (λ j. omega (arith, known .shared-slice-known .given j)) (known .before .pre)
+    let at-loop = c .before .before .before in
+    let known = at-loop .before .before .before .before .before .before in
+    let s = known .before .before in (
+      tested _ _ _ _ _ _ _ (at-loop .loop .inv) (λ j. omega (arith, known .shared-slice-known .given j)),
+      ready _ _ _ _ _ _ _ (at-loop .loop .inv) (λ j. omega (arith, known .shared-slice-known .given j))
+          (id-low (s .args .pool) (s .args .title) (s .pre .1)),
+    )
 
 loop-less : tie.Need-loop-less Inv-loop μ-loop
 loop-less c =
-    let at-step = c .before .before in
-    falls _ _ _ (at-step .before .before .loop-test .taken) (at-step .step .ensures .played-is)
+    let at-step = c .before .before .before .before in
+    falls _ _ _ (at-step .before .before .before .loop-test .taken) (at-step .step .ensures .played-is)
 
 loop-again : tie.Need-loop-again Inv-loop μ-loop
 loop-again c =
-    let at-step = c .before .before in
-    played-on _ _ _ _ _ _ _ _ (at-step .step .ensures) (at-step .before .before .before .loop .inv)
+    let at-step = c .before .before .before .before in
+    played-on _ _ _ _ _ _ _ _ _ _ (at-step .step .ensures) (at-step .before .before .before .before .loop .inv)
 
 same-length : tie.Need-same-length Inv-loop μ-loop
-same-length c = kept-length _ _ _ _ _ _ (c .before .loop .inv)
+same-length c = c .before .loop .inv .is-row .long ∙ sym (c .before .before .before .before .before .before .before .before .before .pre .0)
+
+same-length-2 : tie.Need-same-length-2 Inv-loop μ-loop
+same-length-2 c = kept-length _ _ _ _ _ _ _ (c .before .loop .inv)
 
 returns : tie.Need-returns Inv-loop μ-loop
-returns c = all-played _ _ _ _ _ _ (c .before .loop .inv) (c .loop-test .left)
+returns c = all-played _ _ _ _ _ _ _ (c .before .loop .inv) (c .loop-test .left)
 
 pub play-spec : {M : Type 1} → statement M
 play-spec =
@@ -54,4 +64,5 @@ play-spec =
     loop-less
     loop-again
     same-length
+    same-length-2
     returns)

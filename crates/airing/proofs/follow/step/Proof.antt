@@ -13,17 +13,20 @@ read-for-requires c κs = search needs
 
 tick-at-requires : tie.Need-tick-at-requires
 tick-at-requires c κs =
-    let at-read = c .before .before .before .before in
-    of-before (λ t. t .mode ≡ openMode → Markable t) _ _ _ _ (at-read .read-for .ensures) (at-read .before .before .before .pre .markable) (c .if2 .taken) .film
+    let at-read = c .before .before .before .before .before .before in
+    of-before (λ t. t .mode ≡ openMode → Markable t) _ _ _ _ _ _ (at-read .read-for .ensures) (at-read .before .before .before .before .before .pre .1 .markable) (c .if2 .taken) .film
 
 mark-to-requires : tie.Need-mark-to-requires
 mark-to-requires c κs =
     let at-open = c .before .before in
-    let at-read = at-open .before .before .before .before in
-    of-before (λ t. t .mode ≡ openMode → Markable t) _ _ _ _ (at-read .read-for .ensures) (at-read .before .before .before .pre .markable) (at-open .if2 .taken)
+    let at-read = at-open .before .before .before .before .before .before in
+    of-before (λ t. t .mode ≡ openMode → Markable t) _ _ _ _ _ _ (at-read .read-for .ensures) (at-read .before .before .before .before .before .pre .1 .markable) (at-open .if2 .taken)
 
 same-length : tie.Need-same-length
 same-length c = search needs
+
+same-length-2 : tie.Need-same-length-2
+same-length-2 c = search needs
 
 returns : tie.Need-returns
 returns c =
@@ -31,16 +34,22 @@ returns c =
     let at-tick-at = at-mark-to .before .before in
     let at-open = at-tick-at .before in
     let at-own = at-open .before in
-    steps-own _ _ _ _ _ _ (at-own .before .before .before .read-for .ensures) _ (at-own .if1 .taken)
+    steps-own _ _ _ _ _ _ _ _ (at-own .before .before .before .before .before .read-for .ensures) _ (at-own .if1 .taken)
     (marks-open _ _ _ _ _ (at-open .if2 .taken) (at-tick-at .tick-at .ensures .is) (at-mark-to .mark-to .ensures))
+
+same-length-3 : tie.Need-same-length-3
+same-length-3 c = search needs
 
 returns-2 : tie.Need-returns-2
 returns-2 c =
     let at-own = c .before in
-    steps-own _ _ _ _ _ _ (at-own .before .before .before .read-for .ensures) _ (at-own .if1 .taken) (marks-opening _ _ _ (c .if2 .left))
+    steps-own _ _ _ _ _ _ _ _ (at-own .before .before .before .before .before .read-for .ensures) _ (at-own .if1 .taken) (marks-opening _ _ _ (c .if2 .left))
+
+same-length-4 : tie.Need-same-length-4
+same-length-4 c = search needs
 
 returns-3 : tie.Need-returns-3
-returns-3 c = steps-past _ _ _ _ _ _ (c .before .before .before .read-for .ensures) (c .if1 .left)
+returns-3 c = steps-past _ _ _ _ _ _ _ _ (c .before .before .before .before .before .read-for .ensures) (c .if1 .left)
 
 pub step-spec : {M : Type 1} → statement M
 step-spec =
@@ -50,6 +59,9 @@ step-spec =
     tick-at-requires
     mark-to-requires
     same-length
+    same-length-2
     returns
+    same-length-3
     returns-2
+    same-length-4
     returns-3)

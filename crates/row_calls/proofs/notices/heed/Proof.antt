@@ -1,7 +1,7 @@
 -- `heed` meets its contract: the notice's turn, the row's numbers, and then its event.
 use mathlib.Core.Path.{_≡_, sym, _∙_}
 use Prim.Native.Nat.{suc}
-use native.Mathlib.Omega.{arith}
+use borrow.Author.Tests.{eqb-true, eqb-false}
 use Rattle.rules.proofs.Tests.{both-l, both-r}
 use Rattle.story.specs.Kept.{stateOk}
 use Rattle.agent_rows.specs.Packed.{unpacked, rowSound}
@@ -12,33 +12,22 @@ use Rattle.row_calls.proofs.notices.heed.Statement.{statement}
 use Rattle.row_calls.proofs.notices.heed.Tie as tie
 
 -- the function's start, seen from where the notice is in its turn
-abbrev start : tie.Then2 → tie.Start
-start c = c .before .before .before .before .before
+abbrev start : tie.Then1 → tie.Start
+start c = c .before .before .before .before
 
-in-turn : (c : tie.Then2) → start c .args .n .sequence ≡ suc (unpacked (start c .args .row .now) .sequence)
-in-turn c = omega (arith, c .if2 .taken, c .before .before .if1 .left)
+in-turn : (c : tie.Then1) → start c .args .n .sequence ≡ suc (unpacked (start c .args .row .now) .sequence)
+in-turn c = eqb-true _ _ (sym (c .before .is-next .ensures) ∙ c .if1 .taken)
 
 -- past the tests the row is within its limits
-tested : (c : tie.Then3) → Tested (start (c .before .before .before) .args .row .now)
+tested : (c : tie.Then2) → Tested (start (c .before .before .before) .args .row .now)
 tested c =
     let s = start (c .before .before .before) in
     let r = s .args .row .now in
-    let ok = sym (c .before .row-ok .ensures) ∙ c .if3 .taken in
+    let ok = sym (c .before .row-ok .ensures) ∙ c .if2 .taken in
     record { long = s .pre; sound = both-l (rowSound r) (stateOk (unpacked r .state)) ok; ok = both-r (rowSound r) (stateOk (unpacked r .state)) ok }
 
-cast-sequence : tie.Need-cast-sequence
-cast-sequence c = search needs
-
-returns : tie.Need-returns
-returns c =
-    let s = c .before .before .before in
-    not-its-turn (s .args .row .now) (s .pre) (s .args .n) (λ e. omega (arith, e, c .if1 .taken))
-
-slice-read-if2 : tie.Need-slice-read-if2
-slice-read-if2 c = search needs
-
-sub-if2 : tie.Need-sub-if2
-sub-if2 c = search needs
+is-next-requires : tie.Need-is-next-requires
+is-next-requires c κs = search needs
 
 row-ok-requires : tie.Need-row-ok-requires
 row-ok-requires c κs = search needs
@@ -49,35 +38,36 @@ follow-requires c κs = (tested (c .before), in-turn (c .before .before .before 
 same-length : tie.Need-same-length
 same-length c = search needs
 
-returns-2 : tie.Need-returns-2
-returns-2 c = search needs
+returns : tie.Need-returns
+returns c = search needs
 
 same-length-2 : tie.Need-same-length-2
 same-length-2 c = search needs
 
-returns-3 : tie.Need-returns-3
-returns-3 c =
+returns-2 : tie.Need-returns-2
+returns-2 c =
     let turn = c .before .before .before in
     let s = start turn in
-    turn-out (s .args .row .now) (s .pre) (s .args .n) (in-turn turn) (sym (c .before .row-ok .ensures) ∙ c .if3 .left)
+    turn-out (s .args .row .now) (s .pre) (s .args .n) (in-turn turn) (sym (c .before .row-ok .ensures) ∙ c .if2 .left)
 
-returns-4 : tie.Need-returns-4
-returns-4 c =
-    let s = c .before .before .before .before .before in
-    not-its-turn (s .args .row .now) (s .pre) (s .args .n) (λ e. c .if2 .left (omega (arith, e)))
+same-length-3 : tie.Need-same-length-3
+same-length-3 c = search needs
+
+returns-3 : tie.Need-returns-3
+returns-3 c =
+    let s = c .before .before .before .before in
+    not-its-turn (s .args .row .now) (s .pre) (s .args .n) (eqb-false _ _ (sym (c .before .is-next .ensures) ∙ c .if1 .left))
 
 pub heed-spec : {M : Type 1} → statement M
 heed-spec =
     tie.close
     (tie.spec
-    cast-sequence
-    returns
-    slice-read-if2
-    sub-if2
+    is-next-requires
     row-ok-requires
     follow-requires
     same-length
-    returns-2
+    returns
     same-length-2
-    returns-3
-    returns-4)
+    returns-2
+    same-length-3
+    returns-3)
