@@ -3,6 +3,7 @@
 -- `row_calls` specs/Answers. A row of another length gets 10, one that is not sound 1, and a refusal leaves the row as it was.
 -- - An event: `row_calls::events::event`, by `rowEvent` and `rowAfterEvent`. It leaves the sequence as it was.
 -- - A notice's bytes: `row_calls::notices::take`, by `rowNotice` and `rowAfterNotice`. An accepted one moves the sequence.
+--   A row that is known to be within its limits takes a notice without a test, `row_calls::notices::heed_tested`: so a log is played.
 -- - A fresh agent of a pool, whatever the row was: `row_calls::starting::fresh`, by `rowFresh` and `rowAfterFresh`.
 -- - The lane question and lanes held: `row_calls::lanes::lane`, by `rowLane` and `rowShows`; `row_calls::lanes::held`, by `rowHeld`
 --   and `rowLanes`.
