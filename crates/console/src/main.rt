@@ -1,10 +1,8 @@
 // The operator's console: commands as lines on standard input, an answer for each on standard output. `help` lists them.
 
-mod desk;
-
-use crate::desk::Turned;
 use agent::Agent;
 use console_commands::commands::PLACES_MOST;
+use console_desk::Turned;
 use console_lines::lines::LONGEST_LINE;
 use sessions::Session;
 
@@ -24,7 +22,7 @@ fn answered(agent: Agent, session: Session, input: &[u8], out: &mut [u8]) -> Tur
     if session.found {
         if end <= input.len() {
             if from <= end {
-                return desk::answer(agent, &input[from..end], out, session.at);
+                return console_desk::answer(agent, &input[from..end], out, session.at);
             }
         }
     }

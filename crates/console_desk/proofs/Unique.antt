@@ -6,10 +6,10 @@ use Rattle.rules.specs.OneOutcome.{OneEnd}
 use mathlib.Core.List.{List}
 use Rattle.agent.specs.declared.Agent.{Agent}
 use Rattle.text.specs.Output.{Page, page}
-use Rattle.console.specs.declared.desk.Turned.{Turned}
-use Rattle.console.specs.Desk.{Left}
-use Rattle.console.proofs.desk.answer.Kinds as answer-kinds
-use Rattle.console.proofs.desk.answer.Reads as answer-call
+use Rattle.console_desk.specs.declared.Turned.{Turned}
+use Rattle.console_desk.specs.Desk.{Left}
+use Rattle.console_desk.proofs.answer.Kinds as answer-kinds
+use Rattle.console_desk.proofs.answer.Reads as answer-call
 
 -- of `answer`: the agent and the place, and the lent row, parameter 2, from 0
 same-left : {g : Agent} {o : List ℕ} {n : ℕ} {t : List ℕ} (x y : Turned) (c d : List ℕ) →

@@ -1,9 +1,9 @@
--- `console::desk::may_change` meets its contract.
+-- `console_desk::may_change` meets its contract.
 use borrow.Author.Tests.{eq-eqb, ne-eqb}
-use Rattle.console.specs.Desk.{mayChange}
+use Rattle.console_desk.specs.Desk.{mayChange}
 use borrow.Author.Needs.{needs}
-use Rattle.console.proofs.desk.may_change.Statement.{statement}
-use Rattle.console.proofs.desk.may_change.Tie as tie
+use Rattle.console_desk.proofs.may_change.Statement.{statement}
+use Rattle.console_desk.proofs.may_change.Tie as tie
 
 returns : tie.Need-returns
 unfolding mayChange

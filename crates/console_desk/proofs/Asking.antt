@@ -29,7 +29,7 @@ use Rattle.console_notices.specs.Hex.{bytesIn}
 use Rattle.console_acts.specs.Acts.{answerAfter, agentActed}
 use Rattle.console_acts.specs.Named.{namedIn}
 use Rattle.console_acts.specs.Writing.{writtenNotice}
-use Rattle.console.specs.Desk.{followedText, actText, tellText, askText}
+use Rattle.console_desk.specs.Desk.{followedText, actText, tellText, askText}
 
 module _ (l : Line) (s : List ℕ) (p q : Page) where
   pub acts-fresh : (g : Agent) (n : ℕ) → l .command ≡ Commands.doFresh → n ≡ answerAfter g l s

@@ -1,9 +1,9 @@
--- `console::desk::tell` meets its contract: help, a reading, or the bytes of the line's notice.
+-- `console_desk::tell` meets its contract: help, a reading, or the bytes of the line's notice.
 use Rattle.text.specs.Output.{page}
-use Rattle.console.proofs.Asking.{tells-help, tells-reading, tells-bytes}
+use Rattle.console_desk.proofs.Asking.{tells-help, tells-reading, tells-bytes}
 use borrow.Author.Needs.{needs}
-use Rattle.console.proofs.desk.tell.Statement.{statement}
-use Rattle.console.proofs.desk.tell.Tie as tie
+use Rattle.console_desk.proofs.tell.Statement.{statement}
+use Rattle.console_desk.proofs.tell.Tie as tie
 
 put-help-requires : tie.Need-put-help-requires
 put-help-requires c κs = search needs

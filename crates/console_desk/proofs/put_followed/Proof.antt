@@ -1,8 +1,8 @@
--- `console::desk::put_followed` meets its contract: the scheduler's lanes held behind the answer.
-use Rattle.console.specs.Desk.{followedText}
+-- `console_desk::put_followed` meets its contract: the scheduler's lanes held behind the answer.
+use Rattle.console_desk.specs.Desk.{followedText}
 use borrow.Author.Needs.{needs}
-use Rattle.console.proofs.desk.put_followed.Statement.{statement}
-use Rattle.console.proofs.desk.put_followed.Tie as tie
+use Rattle.console_desk.proofs.put_followed.Statement.{statement}
+use Rattle.console_desk.proofs.put_followed.Tie as tie
 
 held-requires : tie.Need-held-requires
 held-requires c κs = search needs

@@ -28,7 +28,7 @@ ghost use lib.ListN.{length};
 ghost use Rattle.text.specs.Output.{Written};
 ghost use Rattle.console_lines.specs.Lines.{longest};
 ghost use Rattle.console_acts.specs.Acts.{agentActed};
-ghost use Rattle.console.specs.Desk.{
+ghost use Rattle.console_desk.specs.Desk.{
   mayChange,
   followedText,
   actText,

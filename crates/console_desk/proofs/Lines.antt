@@ -16,7 +16,7 @@ use Rattle.text.specs.Output.{Page, puts}
 use Rattle.console_answers.specs.Faults.{faultText}
 use Rattle.text.proofs.Pages.{puts-append}
 use Rattle.console_acts.specs.Acts.{agentActed}
-use Rattle.console.specs.Desk.{mayChange, actText, askText, lineEnd, wholeText, afterWhole, lineText, afterLine, Left}
+use Rattle.console_desk.specs.Desk.{mayChange, actText, askText, lineEnd, wholeText, afterWhole, lineText, afterLine, Left}
 
 -- a line that is too long is read as such
 too-long : (s : List ℕ) → ltb longest (length s) ≡ true → (meaning s) .fault ≡ Commands.tooLong

@@ -1,10 +1,10 @@
--- `console::desk::act` meets its contract: a fresh agent answers alone, an event or a notice with the lanes held,
+-- `console_desk::act` meets its contract: a fresh agent answers alone, an event or a notice with the lanes held,
 -- and a refusal of theirs with the number that it names.
 use Rattle.text.specs.Output.{page}
-use Rattle.console.proofs.Asking.{acts-fresh, acts-other}
+use Rattle.console_desk.proofs.Asking.{acts-fresh, acts-other}
 use borrow.Author.Needs.{needs}
-use Rattle.console.proofs.desk.act.Statement.{statement}
-use Rattle.console.proofs.desk.act.Tie as tie
+use Rattle.console_desk.proofs.act.Statement.{statement}
+use Rattle.console_desk.proofs.act.Tie as tie
 
 follow-requires : tie.Need-follow-requires
 follow-requires c κs = search needs

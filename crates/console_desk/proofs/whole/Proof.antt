@@ -1,9 +1,9 @@
--- `console::desk::whole` meets its contract: nothing asked, an act, or a question, with a newline behind its answer.
+-- `console_desk::whole` meets its contract: nothing asked, an act, or a question, with a newline behind its answer.
 use Rattle.text.specs.Output.{page}
-use Rattle.console.proofs.Lines.{asks-nothing, it-acts, it-asks}
+use Rattle.console_desk.proofs.Lines.{asks-nothing, it-acts, it-asks}
 use borrow.Author.Needs.{needs}
-use Rattle.console.proofs.desk.whole.Statement.{statement}
-use Rattle.console.proofs.desk.whole.Tie as tie
+use Rattle.console_desk.proofs.whole.Statement.{statement}
+use Rattle.console_desk.proofs.whole.Tie as tie
 
 returns : tie.Need-returns
 returns c = let x = c .before .before .before .args in

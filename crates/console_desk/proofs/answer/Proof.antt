@@ -1,11 +1,11 @@
--- `console::desk::answer` meets its contract: a line with nothing wrong, or what is wrong with it.
+-- `console_desk::answer` meets its contract: a line with nothing wrong, or what is wrong with it.
 use mathlib.Core.Path.{sym, _∙_, ap}
 use Rattle.console_lines.specs.declared.lines.Line.{Line}
 use Rattle.text.specs.Output.{page}
-use Rattle.console.proofs.Lines.{readable, it-is-whole, it-is-faulty}
+use Rattle.console_desk.proofs.Lines.{readable, it-is-whole, it-is-faulty}
 use borrow.Author.Needs.{needs}
-use Rattle.console.proofs.desk.answer.Statement.{statement}
-use Rattle.console.proofs.desk.answer.Tie as tie
+use Rattle.console_desk.proofs.answer.Statement.{statement}
+use Rattle.console_desk.proofs.answer.Tie as tie
 
 parse-requires : tie.Need-parse-requires
 parse-requires c κs = search needs

@@ -1,6 +1,6 @@
--- `console::desk::ask` meets its contract: each question's own answer.
+-- `console_desk::ask` meets its contract: each question's own answer.
 use Rattle.text.specs.Output.{page}
-use Rattle.console.proofs.Asking.{
+use Rattle.console_desk.proofs.Asking.{
   asks-lane,
   asks-status,
   asks-share,
@@ -10,8 +10,8 @@ use Rattle.console.proofs.Asking.{
   asks-told,
 }
 use borrow.Author.Needs.{needs}
-use Rattle.console.proofs.desk.ask.Statement.{statement}
-use Rattle.console.proofs.desk.ask.Tie as tie
+use Rattle.console_desk.proofs.ask.Statement.{statement}
+use Rattle.console_desk.proofs.ask.Tie as tie
 
 array-read-put-lane : tie.Need-array-read-put-lane
 array-read-put-lane c = search needs
