@@ -8,11 +8,12 @@ use Prim.Native.Nat.{ℕ, zero, suc, _^_, _≤_, _<_}
 use native.Mathlib.Omega.{arith}
 use lib.Dec.{leb, eqb}
 use lib.ListN.{length}
-use borrow.Author.Tests.{leb-true, eqb-true, eqb-false, eq-eqb}
+use borrow.Author.Tests.{leb-true, eqb-true, eqb-false, eq-eqb, not-false}
 use Rattle.rules.specs.Limits.{both, within, idMax, eventTimeMax, lengthMax, floorMax, countMin}
 use Rattle.rules.specs.Limits.{countMax, steadyMax}
-use Rattle.rules.specs.Refusals.{pick}
+use Rattle.rules.specs.Refusals.{pick, outsideLimits}
 use Rattle.rules.proofs.Tests.{both-l, both-r, both-in, pick-true}
+use Rattle.rules.proofs.Refusals.{hitsOf, numbered, cleared}
 use Rattle.notice.specs.declared.Notice.{Notice}
 use Rattle.notice.specs.declared.Kind.the-variants.{Open, Skip}
 use Rattle.notice.specs.declared.Reading.the-variants as reading
@@ -26,8 +27,11 @@ use Rattle.story.specs.declared.Act.{Act}
 use Rattle.story.specs.declared.Act.the-variants.{Opens, Changes, Closes, Doors}
 use Rattle.story.specs.declared.Event.{Event}
 use Rattle.story.specs.Story.{event, filmOf, answer, accepted, Accepted, none}
-use Rattle.story.specs.Story.{more, withinLimits, paddedLimits, steadyLimits, filmLimits, actLimits}
-use Rattle.story.specs.Runs.{stateAfter, lanesOf}
+use Rattle.story.specs.Story.{more, withinLimits, paddedLimits, steadyLimits, filmLimits, actLimits, orderOf}
+use Rattle.story.specs.declared.State.{State}
+use Rattle.story.specs.Kept.{stateOk}
+use Rattle.story.specs.Calls.{eventOk, testsIn, callAnswer}
+use Rattle.story.specs.Runs.{answered, stateAfter, lanesOf}
 use Rattle.story.proofs.Passed.{in-limits}
 use Rattle.story.proofs.Reached.{accepted-is, accepted-all}
 use Rattle.agent.specs.Turns.{actOf, eventOf}
@@ -63,24 +67,44 @@ act-typed Closes b h = tt
 act-typed (Doors true) b h = tt
 act-typed (Doors false) b h = tt
 
-named : (a : Act) (e : Event) → actLimits a (withinLimits e) ≡ true → withinLimits e ≡ true
-named (Opens f k) e h = both-l (withinLimits e) (filmLimits f k) h
-named (Changes k) e h = both-l (withinLimits e) (within countMin countMax k) h
-named Closes e h = h
-named (Doors b) e h = h
+named : (a : Act) (b : Bool) → actLimits a b ≡ true → b ≡ true
+named (Opens f k) b h = both-l b (filmLimits f k) h
+named (Changes k) b h = both-l b (within countMin countMax k) h
+named Closes b h = h
+named (Doors d) b h = h
 
-typed : (lanes : ℕ) (es : List Event) (e : Event) (q : ℕ) → q < 2 ^ 32 → answer lanes es e ≡ 0 → Typed (noticeFor q e)
-typed lanes es e q small h =
-    let all = in-limits lanes es (e .title) (e .time) (e .act) h in
-    let id-time : withinLimits e ≡ true = named (e .act) e all in
+typed-within : (e : Event) (q : ℕ) (b : Bool) → q < 2 ^ 32 → withinLimits e ≡ true → actLimits (e .act) b ≡ true → Typed (noticeFor q e)
+typed-within e q b small id-time all =
     let id : e .title ≤ idMax = leb-true (e .title) idMax (both-l (leb (e .title) idMax) (leb (e .time) eventTimeMax) id-time) in
     let time : e .time ≤ eventTimeMax = leb-true (e .time) eventTimeMax (both-r (leb (e .title) idMax) (leb (e .time) eventTimeMax) id-time) in
     record {
       sequence-fits = small;
       title-fits = omega arith;
       time-fits = omega arith;
-      kind-fits = act-typed (e .act) (withinLimits e) all;
+      kind-fits = act-typed (e .act) b all;
     }
+
+typed : (lanes : ℕ) (es : List Event) (e : Event) (q : ℕ) → q < 2 ^ 32 → answer lanes es e ≡ 0 → Typed (noticeFor q e)
+typed lanes es e q small h =
+    let all = in-limits lanes es (e .title) (e .time) (e .act) h in
+    typed-within e q (withinLimits e) small (named (e .act) (withinLimits e) all) all
+
+-- the same of an event that any state accepts
+called-in-limits : (s : State) (i τ : ℕ) (a : Act) → callAnswer s i τ a ≡ 0 → actLimits a (eventOk s i τ) ≡ true
+unfolding callAnswer numbered hitsOf
+called-in-limits s i τ (Opens f k) h = not-false _ (cleared (orderOf (Opens f k) (testsIn s i τ (Opens f k))) refl h outsideLimits)
+called-in-limits s i τ (Changes k) h = not-false _ (cleared (orderOf (Changes k) (testsIn s i τ (Changes k))) refl h outsideLimits)
+called-in-limits s i τ Closes h = not-false _ (cleared (orderOf Closes (testsIn s i τ Closes)) refl h outsideLimits)
+called-in-limits s i τ (Doors b) h = not-false _ (cleared (orderOf (Doors b) (testsIn s i τ (Doors b))) refl h outsideLimits)
+
+pub called-ok : (s : State) (i τ : ℕ) (a : Act) → callAnswer s i τ a ≡ 0 → eventOk s i τ ≡ true
+called-ok s i τ a h = named a (eventOk s i τ) (called-in-limits s i τ a h)
+
+pub typed-called : (s : State) (e : Event) (q : ℕ) → q < 2 ^ 32 → answered s e ≡ 0 → Typed (noticeFor q e)
+typed-called s e q small h =
+    let ok = called-ok s (e .title) (e .time) (e .act) h in
+    typed-within e q (eventOk s (e .title) (e .time)) small (both-r (stateOk s) (withinLimits e) ok)
+    (called-in-limits s (e .title) (e .time) (e .act) h)
 
 below-one : (m : ℕ) → m ≤ 1 → (m ≡ 1 → ⊥) → m ≡ 0
 below-one zero low not-one = refl

@@ -1,4 +1,4 @@
-// The notice that a line writes.
+// The notice of an event, and that which a line writes.
 
 use crate::events::written_event;
 use console_lines::lines::Line;
@@ -6,13 +6,14 @@ use notice::Kind;
 use notice::Notice;
 use scheme::STEADY;
 use story::Act;
+use story::Event;
 use story::Film;
 use text::numbers::as_byte;
 use text::numbers::as_four_bytes;
 ghost use mathlib.Core.Path.{_≡_};
 ghost use Rattle.story.specs.declared.Act.the-variants.{Opens};
-ghost use Rattle.agent.specs.Series.{kindFor};
-ghost use Rattle.console_acts.specs.Writing.{cutAct, writtenNotice};
+ghost use Rattle.agent.specs.Series.{kindFor, noticeFor};
+ghost use Rattle.console_acts.specs.Writing.{cutAct, cutEvent, writtenNotice};
 
 // The kind of an opening's notice, by the scheme of its film.
 fn opening_kind(film: Film, count: u64) -> Kind
@@ -47,17 +48,23 @@ fn kind_for(act: Act) -> Kind
     }
 }
 
-pub fn notice_of(line: Line) -> Notice
-    ensures { λ r. ⌜ r ≡ writtenNotice line ⌝ }
+// The notice of an event with a sequence. A number too large for its field is cut, which none of an accepted event is.
+pub fn notice_with(sequence: u32, e: Event) -> Notice
+    ensures { λ r. ⌜ r ≡ noticeFor sequence (cutEvent e) ⌝ }
 {
-    let n = line.numbers;
-    let e = written_event(line);
     let act = e.act;
     let kind = kind_for(act);
     Notice {
-        sequence: as_four_bytes(n[0]),
+        sequence: sequence,
         title: as_byte(e.title),
         time: e.time,
         kind: kind,
     }
+}
+
+pub fn notice_of(line: Line) -> Notice
+    ensures { λ r. ⌜ r ≡ writtenNotice line ⌝ }
+{
+    let n = line.numbers;
+    notice_with(as_four_bytes(n[0]), written_event(line))
 }

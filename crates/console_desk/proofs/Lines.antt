@@ -13,10 +13,9 @@ use Rattle.console_commands.specs.Commands
 use Rattle.console_lines.specs.declared.lines.Line.{Line}
 use Rattle.console_lines.specs.Lines.{withFault, begun, readOn, meaning, longest}
 use Rattle.text.specs.Output.{Page, puts}
-use Rattle.console_answers.specs.Faults.{faultText}
 use Rattle.text.proofs.Pages.{puts-append}
 use Rattle.console_acts.specs.Acts.{agentActed}
-use Rattle.console_desk.specs.Desk.{mayChange, actText, askText, lineEnd, wholeText, afterWhole, lineText, afterLine, Left}
+use Rattle.console_desk.specs.Desk.{mayChange, actText, askText, lineEnd, wholeText, afterWhole, faultLine, lineText, afterLine, Left}
 
 -- a line that is too long is read as such
 too-long : (s : List ℕ) → ltb longest (length s) ≡ true → (meaning s) .fault ≡ Commands.tooLong
@@ -66,12 +65,7 @@ module _ (g : Agent) (s : List ℕ) (l : Line) (is : l ≡ meaning s) (p : Page)
   unfolding afterLine lineText
   it-is-whole h after q d = rw (← is, eq-eqb _ _ h) d
 
-  pub it-is-faulty : (l .fault ≡ Commands.noFault → ⊥) → (q r : Page) → q ≡ puts p (faultText (l .fault) (l .place))
-      → r ≡ puts q lineEnd
-      → Leaves (afterLine g s) p (lineText g s) g r
+  pub it-is-faulty : (l .fault ≡ Commands.noFault → ⊥) → (q : Page) → q ≡ puts p (faultLine (l .fault) (l .place))
+      → Leaves (afterLine g s) p (lineText g s) g q
   unfolding afterLine lineText
-  it-is-faulty h q r d f =
-      record {
-        agent = rw (← is, ne-eqb _ _ h);
-        written = rw (← is, ne-eqb _ _ h, puts-append, ← d) f;
-      }
+  it-is-faulty h q d = record { agent = rw (← is, ne-eqb _ _ h); written = rw (← is, ne-eqb _ _ h) d }

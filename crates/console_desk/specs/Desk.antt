@@ -74,11 +74,15 @@ wholeText g l s =
 unfoldable pub afterWhole : Agent → Line → List ℕ → Agent
 afterWhole g l s = pick (mayChange (l .command)) (agentActed g l s) g
 
+-- what is wrong with a line
+abbrev pub faultLine : ℕ → ℕ → List ℕ
+faultLine f p = faultText f p ++ lineEnd
+
 -- what the line s is answered: what is wrong with it, or what it asks for
 unfoldable pub lineText : Agent → List ℕ → List ℕ
 lineText g s =
     pick (eqb ((meaning s) .fault) Commands.noFault) (wholeText g (meaning s) s)
-    (faultText ((meaning s) .fault) ((meaning s) .place) ++ lineEnd)
+    (faultLine ((meaning s) .fault) ((meaning s) .place))
 
 -- the agent after the line s: as it was after a line that cannot be read, and after a question
 unfoldable pub afterLine : Agent → List ℕ → Agent

@@ -1,7 +1,7 @@
 // The operator's desk: one line of the console, answered over an agent. `answer` takes the agent, the line's bytes, a
 // lent row and a place in it, and gives back the agent after the line and the place behind its answer, as
 // specs/Desk.antt defines them. It has no `requires`: any agent and any bytes have an answer, and no answer goes past
-// the row's end.
+// the row's end. `reply`, `put_followed` and `put_fault_line` are for the head-end's desk, which reads lines alike.
 
 use agent::Agent;
 use console_acts::acts;
@@ -26,7 +26,7 @@ ghost use mathlib.Core.Path.{_≡_};
 ghost use Prim.Native.Nat.{_≤_};
 ghost use lib.ListN.{length};
 ghost use Rattle.text.specs.Output.{Written};
-ghost use Rattle.console_lines.specs.Lines.{longest};
+ghost use Rattle.console_lines.specs.Lines.{longest, meaning};
 ghost use Rattle.console_acts.specs.Acts.{agentActed};
 ghost use Rattle.console_desk.specs.Desk.{
   mayChange,
@@ -37,6 +37,7 @@ ghost use Rattle.console_desk.specs.Desk.{
   Left,
   afterWhole,
   wholeText,
+  faultLine,
   afterLine,
   lineText,
 };
@@ -62,7 +63,7 @@ fn may_change(command: u8) -> bool
 }
 
 // What an event or a notice was answered, and the lanes held at the time of the last that was accepted.
-fn put_followed(out: &mut [u8], at: usize, answer: u8, agent: Agent, named: u64) -> usize
+pub fn put_followed(out: &mut [u8], at: usize, answer: u8, agent: Agent, named: u64) -> usize
     ensures { λ r. ⌜ Written (now (out .entry)) at (followedText answer agent named) (now (out .exit)) r ⌝ }
 {
     let state = agent.state;
@@ -161,17 +162,32 @@ fn whole(agent: Agent, line: Line, s: &[u8], out: &mut [u8], at: usize) -> Turne
     Turned { agent, at: e }
 }
 
+// What is wrong with a line, and its newline.
+pub fn put_fault_line(out: &mut [u8], at: usize, fault: u8, place: usize) -> usize
+    ensures { λ r. ⌜ Written (now (out .entry)) at (faultLine fault place) (now (out .exit)) r ⌝ }
+{
+    let p = faults::put_fault(out, at, fault, place);
+    output::put(out, p, b"\n")
+}
+
+// Answers one line that has been read.
+pub fn reply(agent: Agent, line: Line, s: &[u8], out: &mut [u8], at: usize) -> Turned
+    requires { ⌜ line ≡ meaning (now s) ⌝ }
+    ensures { λ r. ⌜ Left (afterLine agent (now (s .entry))) (now (out .entry)) at
+        (lineText agent (now (s .entry))) (r .agent) (now (out .exit)) (r .at) ⌝ }
+{
+    let fault = line.fault;
+    if fault == commands::NO_FAULT {
+        return whole(agent, line, s, out, at);
+    }
+    let e = put_fault_line(out, at, fault, line.place);
+    Turned { agent, at: e }
+}
+
 // Answers one line, given without its newline.
 pub fn answer(agent: Agent, s: &[u8], out: &mut [u8], at: usize) -> Turned
     ensures { λ r. ⌜ Left (afterLine agent (now (s .entry))) (now (out .entry)) at
         (lineText agent (now (s .entry))) (r .agent) (now (out .exit)) (r .at) ⌝ }
 {
-    let line = lines::parse(s);
-    let fault = line.fault;
-    if fault == commands::NO_FAULT {
-        return whole(agent, line, s, out, at);
-    }
-    let p = faults::put_fault(out, at, fault, line.place);
-    let e = output::put(out, p, b"\n");
-    Turned { agent, at: e }
+    reply(agent, lines::parse(s), s, out, at)
 }

@@ -6,13 +6,12 @@ use mathlib.Core.List.{List}
 use mathlib.Core.Logic.{⊎-elim}
 use Prim.Native.Nat.{ℕ, suc, _≤_}
 use native.Mathlib.Omega.{arith}
-use borrow.Author.Tests.{lt-ltb, eqb-true, leb-true, not-false}
+use borrow.Author.Tests.{lt-ltb, eqb-true, leb-true}
 use lib.Dec.{leb, eqb}
 use lib.ListN.{length}
-use Rattle.rules.specs.Limits.{both, within, poolMin, poolMax, idMax, eventTimeMax, countMin, countMax}
-use Rattle.rules.specs.Refusals.{pick, done, outsideLimits, outOfTurn}
+use Rattle.rules.specs.Limits.{both, within, poolMin, poolMax, idMax, eventTimeMax}
+use Rattle.rules.specs.Refusals.{pick, done, outOfTurn}
 use Rattle.rules.proofs.Tests.{decide, both-l, both-r}
-use Rattle.rules.proofs.Refusals.{hitsOf, numbered, cleared}
 use Rattle.notice.specs.declared.Notice.{Notice}
 use Rattle.notice.specs.declared.Reading.the-variants as reading
 use Rattle.notice.specs.declared.Found.{Found}
@@ -21,12 +20,11 @@ use Rattle.notice.specs.Decode.{readAt}
 use Rattle.story.specs.declared.State.{State}
 use Rattle.story.specs.declared.Title.{Title}
 use Rattle.story.specs.declared.Act.{Act}
-use Rattle.story.specs.declared.Act.the-variants.{Opens, Changes, Closes, Doors}
 use Rattle.story.specs.Kept.{titleAt, stateOk}
-use Rattle.story.specs.Calls.{eventOk, testsIn, callAnswer}
-use Rattle.story.specs.Story.{filmLimits, orderOf}
+use Rattle.story.specs.Calls.{callAnswer}
 use Rattle.agent.specs.declared.Agent.{Agent}
 use Rattle.agent.specs.Turns.{actOf, noticeAnswer}
+use Rattle.agent.proofs.HeadEnd.{called-ok}
 use Rattle.agent_rows.specs.Layout.{sequenceEnd, rowLength}
 use Rattle.agent_rows.specs.Packed.{unpacked}
 use Rattle.row_calls.specs.Answers.{rowAfterFresh}
@@ -73,19 +71,10 @@ module _ (log r : List ℕ) (at : ℕ) where
 -- ---- an accepted event is within its limits
 
 module _ (s : State) (i τ : ℕ) where
-  in-limits : (a : Act) → callAnswer s i τ a ≡ 0 → eventOk s i τ ≡ true
-  unfolding callAnswer numbered hitsOf
-  in-limits (Opens f k) h =
-      both-l (eventOk s i τ) (filmLimits f k) (not-false _ (cleared (orderOf (Opens f k) (testsIn s i τ (Opens f k))) refl h outsideLimits))
-  in-limits (Changes k) h =
-      both-l (eventOk s i τ) (within countMin countMax k) (not-false _ (cleared (orderOf (Changes k) (testsIn s i τ (Changes k))) refl h outsideLimits))
-  in-limits Closes h = not-false _ (cleared (orderOf Closes (testsIn s i τ Closes)) refl h outsideLimits)
-  in-limits (Doors b) h = not-false _ (cleared (orderOf (Doors b) (testsIn s i τ (Doors b))) refl h outsideLimits)
-
   in-time : (a : Act) → callAnswer s i τ a ≡ 0 → τ ≤ eventTimeMax
   in-time a h =
       leb-true τ eventTimeMax
-      (both-r (leb i idMax) (leb τ eventTimeMax) (both-r (stateOk s) (both (leb i idMax) (leb τ eventTimeMax)) (in-limits a h)))
+      (both-r (leb i idMax) (leb τ eventTimeMax) (both-r (stateOk s) (both (leb i idMax) (leb τ eventTimeMax)) (called-ok s i τ a h)))
 
 notice-early : (g : Agent) (n : Notice) → noticeAnswer g (reading.Whole n) ≡ 0 → n .time ≤ eventTimeMax
 unfolding noticeAnswer
