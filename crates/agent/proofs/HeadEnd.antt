@@ -34,12 +34,12 @@ use Rattle.story.specs.Calls.{eventOk, testsIn, callAnswer}
 use Rattle.story.specs.Runs.{answered, stateAfter, lanesOf}
 use Rattle.story.proofs.Passed.{in-limits}
 use Rattle.story.proofs.Reached.{accepted-is, accepted-all}
-use Rattle.agent.specs.Turns.{actOf, eventOf}
+use Rattle.agent.specs.Turns.{actOf, eventOf, freshAgent}
 use Rattle.agent.specs.Series.{agentAfter, hearing, heard, eventsHeard, kindFor, noticeFor, noticesFor, sent, logKept}
-use Rattle.agent.specs.Played.{heardOf, eventsPlayed, ReadAs, none-read, one-read}
+use Rattle.agent.specs.Played.{agentTold, agentPlayed, heardOf, eventsPlayed, ReadAs, none-read, one-read}
 use Rattle.agent.proofs.Order.{follows}
 use Rattle.agent.proofs.Alike.{alike}
-use Rattle.agent.proofs.Played.{heard-alike}
+use Rattle.agent.proofs.Played.{told-series, heard-alike}
 
 -- the numbers of an opening within their limits fit the fields of its kind of notice
 opening-typed : (f : Film) (k : ℕ) (t : Bool) → pick t (steadyLimits f k) (paddedLimits f k) ≡ true →
@@ -147,7 +147,7 @@ events-numbered lanes es none = refl
 events-numbered lanes es (more {e = e} {es = es′} acc h) =
     λ i. same-event lanes es′ (suc (length es′)) e h i ∷ events-numbered lanes es′ acc i
 
-length-numbered : (es : List Event) → length (noticesFor es) ≡ length es
+pub length-numbered : (es : List Event) → length (noticesFor es) ≡ length es
 unfolding noticesFor
 length-numbered [] = refl
 length-numbered (e ∷ es) = ap suc (length-numbered es)
@@ -239,3 +239,11 @@ pub kept-events : (pool : ℕ) (es : List Event) → Accepted (lanesOf pool) es 
 kept-events pool es acc few =
     ap (map eventOf) (ap (heardOf (lanesOf pool)) (kept-notices (lanesOf pool) es acc few) ∙ told-all (lanesOf pool) es acc)
     ∙ events-numbered (lanesOf pool) es acc
+
+-- and the agent that it leaves has their number for its sequence, and the state that they leave
+pub kept-played : (pool : ℕ) (es : List Event) → Accepted (lanesOf pool) es → length es < 2 ^ 32 →
+    agentPlayed pool (logKept es) ≡ record { sequence = length es; state = stateAfter pool es }
+kept-played pool es acc few =
+    ap (agentTold (freshAgent pool)) (kept-notices (lanesOf pool) es acc few)
+    ∙ told-series pool (sent es) (noticesFor es) (reads-sent (lanesOf pool) es acc few)
+    ∙ as-sent pool es acc few

@@ -17,6 +17,7 @@ pub mod Undecided
 pub mod Table
 pub mod NoticePlaces
 pub mod ReadThrough
+pub mod Torn
 pub mod Typed
 pub mod Unique
 pub mod Worked

@@ -33,7 +33,7 @@ after-within bs p h = go (readAt bs p) refl
     go found.Malformed is = h
 
 -- a read that finds no notice leaves place and notices as they were
-no-notice : (f : Found) (p : ℕ) (ns : List Notice) → isNotice f ≡ false → (placeAfter f p ≡ p) × (withFound f ns ≡ ns)
+pub no-notice : (f : Found) (p : ℕ) (ns : List Notice) → isNotice f ≡ false → (placeAfter f p ≡ p) × (withFound f ns ≡ ns)
 no-notice (found.At n e) p ns h = false-true (sym h)
 no-notice found.End p ns h = (refl, refl)
 no-notice found.Malformed p ns h = (refl, refl)

@@ -1,10 +1,10 @@
--- That some bytes stand at a place of a list, element by element, and how numbers come back from their bytes.
+-- That some bytes stand at a place of a list, element by element, how numbers come back from their bytes, and that these are bytes.
 -- Rests on the laws of lists and of division. The round trips in both directions go by these.
 use mathlib.Core.Path.{_≡_, sym, ap, _∙_}
 use mathlib.Core.List.{List, _++_}
 use Prim.Native.Nat.{ℕ, zero, suc, _+_, _-_, _≤_, _<_, _^_, _/_, _%_}
 use native.Mathlib.Nat.{add-zero, add-assoc, add-suc, pow-suc, pow-succ', div-one, div-eq-of-lt, div-add-mod'}
-use native.Mathlib.Nat.{div-div-eq-div-mul}
+use native.Mathlib.Nat.{div-div-eq-div-mul, mod-lt}
 use native.Mathlib.Omega.{arith}
 use lib.Arith.{digits-div, digits-mod}
 use lib.ListN.{length, getD, take, drop, length-append, length-take, length-drop, List·getD-append}
@@ -96,3 +96,20 @@ bytes-back bs small a n j lt =
     let whole : numberAt bs a n / 256 ^ (n - suc j) ≡ numberAt bs a (suc j) =
     ap (λ (m : ℕ). numberAt bs a m / 256 ^ (n - suc j)) e ∙ shorter bs small a (suc j) (n - suc j) in
     sym (big-at n (numberAt bs a n) j below ∙ (ap (λ (q : ℕ). q % 256) whole ∙ digits-mod (numberAt bs a j) (small (a + j))))
+
+-- ---- rows of bytes
+
+pub bytes-append : (xs ys : List ℕ) → Bytes xs → Bytes ys → Bytes (xs ++ ys)
+bytes-append xs ys f g j =
+    by-order j (length xs)
+    (λ lt. rw (List·getD-append xs ys 0 j lt) (f j))
+    (λ le.
+    let k = j - length xs in
+    let e : length xs + k ≡ j = omega arith in
+    rw (← e, getD-append-add xs ys k 0) (g k))
+
+pub bytes-big : (n v : ℕ) → Bytes (bigEndian n v)
+unfolding bigEndian
+bytes-big zero v j = omega arith
+bytes-big (suc n) v zero = mod-lt _ (omega arith)
+bytes-big (suc n) v (suc j) = bytes-big n v j

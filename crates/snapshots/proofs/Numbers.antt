@@ -3,14 +3,12 @@
 use mathlib.Core.Path.{_≡_, refl, sym, ap, _∙_}
 use mathlib.Core.List.{List, [], _∷_, _++_, append-nil, append-assoc}
 use Prim.Native.Nat.{ℕ, zero, suc, _+_, _*_, _-_, _≤_, _<_, _^_}
-use native.Mathlib.Nat.{mod-lt}
 use native.Mathlib.Omega.{arith}
-use lib.ListN.{length, getD, take, drop, set, length-append, List·getD-append}
-use lib.Seq.{getD-append-add, take-suc, take-add, take-length, drop-cons, set-at, append-snoc}
+use lib.ListN.{length, getD, take, drop, set, length-append}
+use lib.Seq.{take-suc, take-add, take-length, drop-cons, set-at, append-snoc}
 use Rattle.notice_fields.specs.Numbers.{Bytes, bigEndian}
-use Rattle.notice_fields.proofs.Each.{by-order}
 use Rattle.notice_fields.proofs.Digits.{length-big}
-use Rattle.notice_fields.proofs.Has.{Has, has-left, has-right, has-part, number-back, bytes-back}
+use Rattle.notice_fields.proofs.Has.{Has, has-left, has-right, has-part, number-back, bytes-back, bytes-append, bytes-big}
 use Rattle.snapshots.specs.Bytes.{numberBytes, savedNumber, numbersIn}
 
 -- ---- bytes of numbers
@@ -20,21 +18,6 @@ unfolding numberBytes
 length-numbers [] = refl
 length-numbers (v ∷ vs) =
     omega (arith, length-append (bigEndian 8 v) (numberBytes vs), length-big 8 v, length-numbers vs)
-
-bytes-append : (xs ys : List ℕ) → Bytes xs → Bytes ys → Bytes (xs ++ ys)
-bytes-append xs ys f g j =
-    by-order j (length xs)
-    (λ lt. rw (List·getD-append xs ys 0 j lt) (f j))
-    (λ le.
-    let k = j - length xs in
-    let e : length xs + k ≡ j = omega arith in
-    rw (← e, getD-append-add xs ys k 0) (g k))
-
-bytes-big : (n v : ℕ) → Bytes (bigEndian n v)
-unfolding bigEndian
-bytes-big zero v j = omega arith
-bytes-big (suc n) v zero = mod-lt _ (omega arith)
-bytes-big (suc n) v (suc j) = bytes-big n v j
 
 -- they are bytes
 pub bytes-numbers : (vs : List ℕ) → Bytes (numberBytes vs)

@@ -1,0 +1,26 @@
+-- The sum of a notice in its four bytes, as it is laid into a row of four.
+use Prim.Native.Nat.{ℕ, _+_, _≤_}
+use mathlib.Core.Path.{_≡_, ap, _∙_}
+use mathlib.Core.List.{List, [], _++_, append-nil}
+use native.Mathlib.Omega.{arith}
+use lib.ListN.{length, take, drop, drop-of-length-le}
+use lib.Seq.{sets, sets-eq}
+use Rattle.sums.specs.Crc.{sumOf}
+use Rattle.notice_fields.specs.Numbers.{bigEndian}
+use Rattle.notice_fields.proofs.Digits.{length-big}
+use Rattle.text.specs.Output.{Page, puts}
+use Rattle.headend_desk.specs.Desk.{sumBytes, sumText}
+
+laid : (four : List ℕ) (v : ℕ) → length four ≡ sumBytes → sets four 0 (bigEndian sumBytes v) ≡ bigEndian sumBytes v
+laid four v size =
+    let long = length-big sumBytes v in
+    let far : length four ≤ 0 + length (bigEndian sumBytes v) = omega (arith, size, long) in
+    let none : drop (0 + length (bigEndian sumBytes v)) four ≡ [] = drop-of-length-le four far in
+    sets-eq (bigEndian sumBytes v) four 0 (omega (arith, size, long))
+    ∙ ap (λ (l : List ℕ). bigEndian sumBytes v ++ l) none
+    ∙ append-nil (bigEndian sumBytes v)
+
+pub sums-put : (p q : Page) (four row bs : List ℕ) (v : ℕ) → length four ≡ sumBytes → row ≡ sets four 0 (bigEndian sumBytes v) →
+    v ≡ sumOf bs → q ≡ puts p row → q ≡ puts p (sumText bs)
+sums-put p q four row bs v size is sum e =
+    e ∙ ap (puts p) (is ∙ laid four v size ∙ ap (bigEndian sumBytes) sum)

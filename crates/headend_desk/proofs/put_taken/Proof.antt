@@ -1,0 +1,70 @@
+-- `headend_desk::put_taken` meets its contract: the console's answer, the sequence behind a 0, and a newline.
+use Rattle.text.specs.Output.{page}
+use Rattle.headend_desk.proofs.Taking.{tells-taken, tells-refused}
+use borrow.Author.Needs.{needs}
+use Rattle.headend_desk.proofs.put_taken.Statement.{statement}
+use Rattle.headend_desk.proofs.put_taken.Tie as tie
+
+put-followed-requires : tie.Need-put-followed-requires
+put-followed-requires c κs = search needs
+
+cast-put-entry : tie.Need-cast-put-entry
+cast-put-entry c = search needs
+
+put-entry-requires : tie.Need-put-entry-requires
+put-entry-requires c κs = search needs
+
+slice-aggregate-put : tie.Need-slice-aggregate-put
+slice-aggregate-put c = search needs
+
+put-requires : tie.Need-put-requires
+put-requires c κs = search needs
+
+same-length : tie.Need-same-length
+same-length c = search needs
+
+returns : tie.Need-returns
+returns c =
+    let at-put = c .before .before in
+    let at-put-entry = at-put .before .before .before .before .before in
+    let at-if1 = at-put-entry .before .before .before in
+    let at-put-followed = at-if1 .before .before .before in
+    let at-start = at-put-followed .before .before .before in
+    let x = at-start .args in
+    tells-taken (page (x .out .now) (x .at)) _ (x .answer) (x .after) (x .named) (at-put-followed .put-followed .ensures) (at-if1 .if1 .taken) _ _
+    (at-put-entry .put-entry .ensures) (at-put .put .ensures)
+
+slice-aggregate-put-2 : tie.Need-slice-aggregate-put-2
+slice-aggregate-put-2 c = search needs
+
+put-requires-2 : tie.Need-put-requires-2
+put-requires-2 c κs = search needs
+
+same-length-2 : tie.Need-same-length-2
+same-length-2 c = search needs
+
+returns-2 : tie.Need-returns-2
+returns-2 c =
+    let at-put2 = c .before .before in
+    let at-if1 = at-put2 .before .before .before in
+    let at-put-followed = at-if1 .before .before .before in
+    let at-start = at-put-followed .before .before .before in
+    let x = at-start .args in
+    tells-refused (page (x .out .now) (x .at)) _ (x .answer) (x .after) (x .named) (at-put-followed .put-followed .ensures) (at-if1 .if1 .left) _
+    (at-put2 .put2 .ensures)
+
+pub put-taken-spec : {M : Type 1} → statement M
+put-taken-spec =
+    tie.close
+    (tie.spec
+    put-followed-requires
+    cast-put-entry
+    put-entry-requires
+    slice-aggregate-put
+    put-requires
+    same-length
+    returns
+    slice-aggregate-put-2
+    put-requires-2
+    same-length-2
+    returns-2)
