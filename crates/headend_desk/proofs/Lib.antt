@@ -5,4 +5,5 @@ pub mod Keeping
 pub mod Replying
 pub mod Room
 pub mod Journal
+pub mod Example
 pub mod Unique

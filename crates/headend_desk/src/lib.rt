@@ -191,10 +191,10 @@ fn act(
     let e = event_in(line);
     let taken = take(agent, e);
     let after = taken.agent;
-    let answer = taken.answer;
-    let named = named::by_line(answer, agent, line, s);
-    let at = put_taken(out, desk.at, answer, after, named);
-    if answer == DONE {
+    let told = taken.answer;
+    let named = named::by_line(told, agent, line, s);
+    let at = put_taken(out, desk.at, told, after, named);
+    if told == DONE {
         let n = notice_with(after.sequence, e);
         let kept = keep(n, notices, sums, desk.noticed, desk.summed);
         return Desk {
