@@ -1,0 +1,4 @@
+-- What is shown of the start of a head-end.
+pub mod Endings
+pub mod Deeds
+pub mod Onward
