@@ -2,3 +2,4 @@
 pub mod Endings
 pub mod Deeds
 pub mod Onward
+pub mod WholeFiles

@@ -41,6 +41,7 @@ pub record Ahead (s t : Start) (room : ℕ) : Type 0 where
   pub from : s .place ≤ t .place
   pub to : t .place ≤ s .place + room
   pub heard-on : s .heard ≤ t .heard
+  pub sums-stay : t .sums ≡ s .sums
   pub counted : Counted t
   pub onward : (isGoing (t .verdict) ≡ false) ⊎ (s .place < t .place)
 
@@ -51,6 +52,7 @@ module _ (s : Start) (room : ℕ) (c : Counted s) where
         from = omega arith;
         to = omega arith;
         heard-on = omega arith;
+        sums-stay = refl;
         counted = record { heard-low = c .heard-low; behind-low = c .behind-low };
         onward = inl over;
       }
@@ -61,6 +63,7 @@ module _ (s : Start) (room : ℕ) (c : Counted s) where
         from = omega arith;
         to = omega arith;
         heard-on = omega arith;
+        sums-stay = refl;
         counted = record { heard-low = omega (arith, c .heard-low); behind-low = omega (arith, c .behind-low) };
         onward = inr (omega arith);
       }
@@ -71,6 +74,7 @@ module _ (s : Start) (room : ℕ) (c : Counted s) where
         from = omega arith;
         to = omega arith;
         heard-on = omega arith;
+        sums-stay = refl;
         counted = record { heard-low = omega (arith, c .heard-low); behind-low = omega (arith, c .behind-low) };
         onward = inr (omega arith);
       }
@@ -149,6 +153,7 @@ module _ {A : Type 0} (h : Hearer A) (v : View) (x₀ : Stage A) where
     pub from : v .first ≤ x .start .place
     pub to : x .start .place ≤ v .first + length (v .journal)
     pub known : v .known ≤ x .start .heard
+    pub sums-stay : x .start .sums ≡ x₀ .start .sums
     pub counted : Counted (x .start)
     pub few : steps + left (v .first) (length (v .journal)) (x .start) ≤ suc (length (v .journal))
 
@@ -165,6 +170,7 @@ module _ {A : Type 0} (h : Hearer A) (v : View) (x₀ : Stage A) where
         from = omega (arith, first);
         to = omega (arith, first);
         known = omega (arith, known);
+        sums-stay = refl;
         counted = c;
         few = rw zero-add (picked-low (isGoing (x₀ .start .verdict)) _ _ (omega (arith, first)));
       }
@@ -187,9 +193,21 @@ module _ {A : Type 0} (h : Hearer A) (v : View) (x₀ : Stage A) where
         from = omega (arith, a .from, on .from);
         to = omega (arith, a .from, a .to, on .to);
         known = omega (arith, a .known, on .heard-on);
+        sums-stay = on .sums-stay ∙ a .sums-stay;
         counted = on .counted;
         few = omega (arith, a .few, less);
       }
+
+  -- any number of steps
+  pub steps-along : Along x₀ → (n : ℕ) → Along (stepsIn h v x₀ n)
+  unfolding stepsIn
+  steps-along a zero = a
+  steps-along a (suc n) = go (steps-along a n) (isReady v (stepsIn h v x₀ n .start)) refl
+    where
+      go : Along (stepsIn h v x₀ n) → (b : Bool) → isReady v (stepsIn h v x₀ n .start) ≡ b
+          → Along (pick b (stepIn h v (stepsIn h v x₀ n)) (stepsIn h v x₀ n))
+      go before true ready = one-on (stepsIn h v x₀ n) (stepIn h v (stepsIn h v x₀ n)) before ready refl
+      go before false none = before
 
   -- the same of a step of the code, with the sum that it found
   pub turn-on : (x y : Stage A) (sum : ℕ) → Along x → isReady v (x .start) ≡ true → sum ≡ sumAt (v .sums) (x .start .heard - v .known)

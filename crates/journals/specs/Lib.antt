@@ -2,3 +2,4 @@
 pub mod Torn
 pub mod Start
 pub mod Rows
+pub mod Windows
