@@ -3,3 +3,5 @@ pub mod Endings
 pub mod Deeds
 pub mod Onward
 pub mod WholeFiles
+pub mod Cutting
+pub mod Outcomes

@@ -198,17 +198,6 @@ module _ {A : Type 0} (h : Hearer A) (v : View) (x₀ : Stage A) where
         few = omega (arith, a .few, less);
       }
 
-  -- any number of steps
-  pub steps-along : Along x₀ → (n : ℕ) → Along (stepsIn h v x₀ n)
-  unfolding stepsIn
-  steps-along a zero = a
-  steps-along a (suc n) = go (steps-along a n) (isReady v (stepsIn h v x₀ n .start)) refl
-    where
-      go : Along (stepsIn h v x₀ n) → (b : Bool) → isReady v (stepsIn h v x₀ n .start) ≡ b
-          → Along (pick b (stepIn h v (stepsIn h v x₀ n)) (stepsIn h v x₀ n))
-      go before true ready = one-on (stepsIn h v x₀ n) (stepIn h v (stepsIn h v x₀ n)) before ready refl
-      go before false none = before
-
   -- the same of a step of the code, with the sum that it found
   pub turn-on : (x y : Stage A) (sum : ℕ) → Along x → isReady v (x .start) ≡ true → sum ≡ sumAt (v .sums) (x .start .heard - v .known)
       → y ≡ stepAt h (v .journal) sum x (x .start .place - v .first) → Along y
@@ -222,6 +211,51 @@ module _ {A : Type 0} (h : Hearer A) (v : View) (x₀ : Stage A) where
       falls (v .first) (length (v .journal)) (length (v .journal) - (x .start .place - v .first)) (x .start) (y .start)
       (ready-goes (x .start) ready) (omega (arith, a .from, a .to))
       (rw e (step-ahead h (v .journal) sum x (x .start .place - v .first) (a .counted)))
+
+  -- any number of steps
+  pub steps-along : Along x₀ → (n : ℕ) → Along (stepsIn h v x₀ n)
+  unfolding stepsIn
+  steps-along a zero = a
+  steps-along a (suc n) = go (steps-along a n) (isReady v (stepsIn h v x₀ n .start)) refl
+    where
+      go : Along (stepsIn h v x₀ n) → (b : Bool) → isReady v (stepsIn h v x₀ n .start) ≡ b
+          → Along (pick b (stepIn h v (stepsIn h v x₀ n)) (stepsIn h v x₀ n))
+      go before true ready = one-on (stepsIn h v x₀ n) (stepIn h v (stepsIn h v x₀ n)) before ready refl
+      go before false none = before
+
+  -- after n steps nothing more is decided, or they have used up n of what there was to do
+  none-left : (b : Bool) (n m k : ℕ) → suc m + pick b (suc n) 0 ≤ suc k → m ≡ k → b ≡ false
+  none-left true n m k low e = absurd (omega (arith, low, e))
+  none-left false n m k low e = refl
+
+  used-up : Along x₀ → (n : ℕ) → (isReady v (stepsIn h v x₀ n .start) ≡ false)
+      ⊎ (n + left (v .first) (length (v .journal)) (stepsIn h v x₀ n .start) ≤ suc (length (v .journal)))
+  unfolding stepsIn
+  used-up a zero = inr (omega (arith, a .few))
+  used-up a (suc n) = go (steps-along a n) (used-up a n) (isReady v (stepsIn h v x₀ n .start)) refl
+    where
+      go : Along (stepsIn h v x₀ n)
+          → (isReady v (stepsIn h v x₀ n .start) ≡ false)
+          ⊎ (n + left (v .first) (length (v .journal)) (stepsIn h v x₀ n .start) ≤ suc (length (v .journal)))
+          → (b : Bool) → isReady v (stepsIn h v x₀ n .start) ≡ b
+          → (isReady v (pick b (stepIn h v (stepsIn h v x₀ n)) (stepsIn h v x₀ n) .start) ≡ false)
+          ⊎ (suc n + left (v .first) (length (v .journal)) (pick b (stepIn h v (stepsIn h v x₀ n)) (stepsIn h v x₀ n) .start) ≤ suc (length (v .journal)))
+      go on before false none = inl none
+      go on before true ready =
+          let less = turn-less (stepsIn h v x₀ n) (stepIn h v (stepsIn h v x₀ n)) _ on ready refl in
+          ⊎-elim (λ none. false-true (sym none ∙ ready)) (λ few. inr (omega (arith, few, less))) before
+
+  -- so in the end nothing more is decided
+  pub ends : Along x₀ → isReady v (hearsIn h v x₀ .start) ≡ false
+  ends a =
+      ⊎-elim (λ none. none)
+      (λ few. go (isReady v (hearsIn h v x₀ .start)) refl
+      (none-left (isGoing (hearsIn h v x₀ .start .verdict)) _ (length (v .journal)) (length (v .journal)) few refl))
+      (used-up a (suc (length (v .journal))))
+    where
+      go : (b : Bool) → isReady v (hearsIn h v x₀ .start) ≡ b → isGoing (hearsIn h v x₀ .start .verdict) ≡ false → b ≡ false
+      go true ready over = false-true (sym over ∙ ready-goes (hearsIn h v x₀ .start) ready)
+      go false none over = refl
 
   -- once nothing more is decided more steps change nothing
   still : (n d : ℕ) → isReady v (stepsIn h v x₀ n .start) ≡ false → stepsIn h v x₀ (n + d) ≡ stepsIn h v x₀ n

@@ -3,3 +3,4 @@ pub mod Torn
 pub mod Start
 pub mod Rows
 pub mod Windows
+pub mod Outcome
