@@ -5,3 +5,4 @@ pub mod Onward
 pub mod WholeFiles
 pub mod Cutting
 pub mod Outcomes
+pub mod RowsFollow

@@ -240,7 +240,7 @@ module _ (pool : ℕ) (j : List ℕ) (there : Bool) (s : List ℕ) where
       go found.End is = (still-heeded x Heard w, ended j (x .start .place) is)
       go found.Malformed is = stop-told x w is
 
-  abbrev first : Stage Agent
+  abbrev pub first : Stage Agent
   first = stage (begunWith (length j) there (length s)) (freshAgent pool)
 
   begun-told : Told pool j there s first
@@ -278,7 +278,7 @@ module _ (pool : ℕ) (j : List ℕ) (there : Bool) (s : List ℕ) where
 
   -- ---- the page
 
-  begun-first : (first .start .place ≡ 0) × ((first .start .heard ≡ 0) × ((first .start .sums ≡ length s / sumSize) × Counted (first .start)))
+  pub begun-first : (first .start .place ≡ 0) × ((first .start .heard ≡ 0) × ((first .start .sums ≡ length s / sumSize) × Counted (first .start)))
   begun-first = go (both (ltb 0 (length j)) (not there))
     where
       go : (b : Bool) → let t : Start = pick b (startedWith (length s / sumSize) SumsMissing) (startedWith (length s / sumSize) Hearing) in
