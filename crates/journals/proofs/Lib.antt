@@ -6,3 +6,4 @@ pub mod WholeFiles
 pub mod Cutting
 pub mod Outcomes
 pub mod RowsFollow
+pub mod SumsMade

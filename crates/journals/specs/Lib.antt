@@ -4,3 +4,4 @@ pub mod Start
 pub mod Rows
 pub mod Windows
 pub mod Outcome
+pub mod Summing

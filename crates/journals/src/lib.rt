@@ -13,6 +13,7 @@ ghost use Rattle.journals.specs.Start.{begunWith, isGoing, isReadyAt, su
 ghost use Rattle.journals.specs.Rows.{isCounted, rowHears, rowHeard};
 
 mod steps;
+pub mod summing;
 mod torn;
 
 // The bytes of a sum.
