@@ -7,3 +7,4 @@ pub mod Cutting
 pub mod Outcomes
 pub mod RowsFollow
 pub mod SumsMade
+pub mod Unique
