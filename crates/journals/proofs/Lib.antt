@@ -7,4 +7,5 @@ pub mod Cutting
 pub mod Outcomes
 pub mod RowsFollow
 pub mod SumsMade
+pub mod TornEnds
 pub mod Unique

@@ -1,7 +1,8 @@
 -- The end of a journal that is no whole notice: a torn one, which has fewer bytes than its notice, and one whose kind was changed since it was
 -- summed.
-use Prim.Native.Nat.{ℕ, suc}
-use mathlib.Core.Bool.{Bool}
+use Prim.Native.Nat.{ℕ, suc, _<_}
+use mathlib.Core.Path.{_≡_}
+use mathlib.Core.Bool.{Bool, true}
 use mathlib.Core.List.{List, [], _∷_, _++_}
 use lib.Dec.{eqb, ltb}
 use lib.ListN.{length, getD, drop, set}
@@ -26,6 +27,12 @@ unfoldable pub isTorn : List ℕ → Bool
 isTorn rest =
     both (ltb (length rest) (lengthOf (kindBegun rest)))
     (isAlone (rest ++ drop (length rest) (blankBytes (kindBegun rest))))
+
+-- bytes that begin a notice: with some bytes behind them they would be one
+pub record Begins (rest : List ℕ) : Type 0 where
+  pub more : List ℕ
+  pub some : 0 < length more
+  pub whole : isAlone (rest ++ more) ≡ true
 
 -- as a notice of kind k the bytes would be whole, and have this sum
 unfoldable pub isKind : List ℕ → ℕ → ℕ → Bool
