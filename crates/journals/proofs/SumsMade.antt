@@ -30,7 +30,8 @@ use Rattle.notice.proofs.NoticePlaces.{inside}
 use Rattle.journals.specs.declared.summing.Summed.{Summed}
 use Rattle.journals.specs.Start.{sumSize, partOf}
 use Rattle.journals.specs.Outcome.{noticeBytes}
-use Rattle.journals.specs.Summing.{sumsTo, summedNext, laidNext, SumsLaid}
+use Rattle.journals.specs.Summing.{sumsTo, SumsLaid}
+use Rattle.journals.specs.inner.Turns.{summedNext, laidNext}
 
 -- ---- one turn
 

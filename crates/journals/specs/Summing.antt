@@ -8,30 +8,16 @@ use lib.ListN.{length}
 use lib.Seq.{sets}
 use Rattle.sums.specs.Crc.{sumOf}
 use Rattle.notice_fields.specs.Numbers.{bigEndian}
-use Rattle.notice.specs.declared.Found.{Found}
-use Rattle.notice.specs.declared.Found.the-variants as found
 use Rattle.notice.specs.Decode.{readAt}
 use Rattle.notice.specs.Log.{placeTo, isNotice}
 use Rattle.notice.specs.Window.{isDecided}
-use Rattle.journals.specs.declared.summing.Summed.{Summed}
-use Rattle.journals.specs.Start.{sumSize, partOf}
+use Rattle.journals.specs.Start.{sumSize}
 use Rattle.journals.specs.Outcome.{noticeBytes}
 
 -- the sums of a log's first n notices
 unfoldable pub sumsTo : List ℕ → ℕ → List ℕ
 sumsTo bs zero = []
 sumsTo bs (suc n) = sumsTo bs n ++ bigEndian sumSize (sumOf (noticeBytes bs n))
-
--- one notice more, or none
-unfoldable pub summedNext : Summed → Found → Summed
-summedNext x (found.At n e) = record { place = e; at = x .at + sumSize; more = true }
-summedNext x found.End = record { place = x .place; at = x .at; more = false }
-summedNext x found.Malformed = record { place = x .place; at = x .at; more = false }
-
-unfoldable pub laidNext : List ℕ → Summed → List ℕ → Found → List ℕ
-laidNext bs x room (found.At n e) = sets room (x .at) (bigEndian sumSize (sumOf (partOf bs (x .place) e)))
-laidNext bs x room found.End = room
-laidNext bs x room found.Malformed = room
 
 -- what is laid at the start of a lent row: the sums of the first notices, up to the first place that has none, is not decided, or finds no room
 pub record SumsLaid (bs : List ℕ) (over : Bool) (room : List ℕ) (r : ℕ) (after : List ℕ) : Type 0 where

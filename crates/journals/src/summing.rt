@@ -19,7 +19,8 @@ ghost use Rattle.notice.specs.declared.Found.the-variants as found;
 ghost use Rattle.notice.specs.Decode.{readAt};
 ghost use Rattle.notice.specs.Window.{isDecided};
 ghost use Rattle.journals.specs.Start.{sumSize, partOf};
-ghost use Rattle.journals.specs.Summing.{summedNext, laidNext, SumsLaid};
+ghost use Rattle.journals.specs.Summing.{SumsLaid};
+ghost use Rattle.journals.specs.inner.Turns.{summedNext, laidNext};
 
 // How far the notices were summed, how far the row is written, and whether a notice may follow.
 struct Summed {
