@@ -31,7 +31,7 @@ use Rattle.journals.specs.declared.Start.{Start}
 use Rattle.journals.specs.declared.Verdict.{Verdict}
 use Rattle.journals.specs.declared.Verdict.the-variants.{Hearing, Heard, Torn, NoNotice, SumDiffers, Refused, SumsShort, SumsMissing}
 use Rattle.journals.specs.Torn.{isTorn, hadKind}
-use Rattle.journals.specs.Start.{sumSize, blockEvents, isGoing, startedWith, begunWith, endedWith, heardOne, passedOne, hasSum, afterSummed, afterUnsummed}
+use Rattle.journals.specs.Start.{sumBytes, blockEvents, isGoing, startedWith, begunWith, endedWith, heardOne, passedOne, hasSum, afterSummed, afterUnsummed}
 use Rattle.journals.specs.Start.{atStop, agentHears, Stage, stage, view, sumAt, isReady, partOf, noticeDone, doneAt, stepAt, stepIn, stepsIn, hearsIn, journalStart}
 use Rattle.journals.specs.Outcome.{noticeBytes, Heeded, NoticeHere, Says, Outcome}
 use Rattle.journals.proofs.Onward.{Counted, Along, set-out, ready-goes, steps-along, ends}
@@ -247,7 +247,7 @@ module _ (pool : ℕ) (j : List ℕ) (there : Bool) (s : List ℕ) where
   unfolding placeTo noticesTo agentTold
   begun-told = go (both (ltb 0 (length j)) (not there)) refl
     where
-      none : (v : Verdict) → Heeded pool j s (stage (startedWith (length s / sumSize) v) (freshAgent pool))
+      none : (v : Verdict) → Heeded pool j s (stage (startedWith (length s / sumBytes) v) (freshAgent pool))
       none v =
           record {
             whole = λ i lt. absurd (omega arith);
@@ -262,7 +262,7 @@ module _ (pool : ℕ) (j : List ℕ) (there : Bool) (s : List ℕ) where
 
       go : (b : Bool) → both (ltb 0 (length j)) (not there) ≡ b
           → Told pool j there s
-          (stage (pick b (startedWith (length s / sumSize) SumsMissing) (startedWith (length s / sumSize) Hearing)) (freshAgent pool))
+          (stage (pick b (startedWith (length s / sumBytes) SumsMissing) (startedWith (length s / sumBytes) Hearing)) (freshAgent pool))
       go true missing = (none SumsMissing, (ltb-true _ _ (both-l (ltb 0 (length j)) _ missing), not-true there (both-r (ltb 0 (length j)) _ missing)))
       go false there-is = (none Hearing, tt)
 
@@ -278,11 +278,11 @@ module _ (pool : ℕ) (j : List ℕ) (there : Bool) (s : List ℕ) where
 
   -- ---- the page
 
-  pub begun-first : (first .start .place ≡ 0) × ((first .start .heard ≡ 0) × ((first .start .sums ≡ length s / sumSize) × Counted (first .start)))
+  pub begun-first : (first .start .place ≡ 0) × ((first .start .heard ≡ 0) × ((first .start .sums ≡ length s / sumBytes) × Counted (first .start)))
   begun-first = go (both (ltb 0 (length j)) (not there))
     where
-      go : (b : Bool) → let t : Start = pick b (startedWith (length s / sumSize) SumsMissing) (startedWith (length s / sumSize) Hearing) in
-          (t .place ≡ 0) × ((t .heard ≡ 0) × ((t .sums ≡ length s / sumSize) × Counted t))
+      go : (b : Bool) → let t : Start = pick b (startedWith (length s / sumBytes) SumsMissing) (startedWith (length s / sumBytes) Hearing) in
+          (t .place ≡ 0) × ((t .heard ≡ 0) × ((t .sums ≡ length s / sumBytes) × Counted t))
       go true = (refl, (refl, (refl, record { heard-low = omega arith; behind-low = omega arith })))
       go false = (refl, (refl, (refl, record { heard-low = omega arith; behind-low = omega arith })))
 

@@ -36,7 +36,7 @@ use Rattle.journals.specs.declared.Start.{Start}
 use Rattle.journals.specs.Start.{isGoing, begunWith, endedWith, hasSum, afterSummed, afterUnsummed, Hearer, agentHears, Stage, stage, View, view}
 use Rattle.journals.specs.Start.{isReady, partOf, noticeDone, doneAt, stepAt, stepIn, stepsIn, hearsIn, journalStart}
 use Rattle.journals.specs.Rows.{rowHears, isCounted, rowHeard}
-use Rattle.journals.specs.Windows.{Lent, Run}
+use Rattle.journals.specs.Windows.{Lent, InWindows}
 use Rattle.journals.proofs.Onward.{Counted, Along}
 use Rattle.journals.proofs.WholeFiles.{run-along, run-whole}
 use Rattle.journals.proofs.Outcomes.{begun-first, outcome}
@@ -144,7 +144,7 @@ module _ (pool : ℕ) (j : List ℕ) (there : Bool) (s : List ℕ) (small : Byte
   fresh-same = record { start-is = refl; rowed = record { row-is = refl; whole = fresh-whole pool; fits = omega arith } }
 
   -- windows played until the start has ended leave the verdict of the files, and the row of the agent that played the journal up to the cut
-  pub row-start : (x : Stage (List ℕ)) → Run rowHears j s (rowFirst pool j there s) x → isGoing (x .start .verdict) ≡ false
+  pub row-start : (x : Stage (List ℕ)) → InWindows rowHears j s (rowFirst pool j there s) x → isGoing (x .start .verdict) ≡ false
       → (x .start ≡ journalStart pool j there s .start) × (x .hearer ≡ packed (agentPlayed pool (take (x .start .cut) j)))
   row-start x run over =
       let b = begun-first pool j there s in
@@ -156,7 +156,7 @@ module _ (pool : ℕ) (j : List ℕ) (there : Bool) (s : List ℕ) (small : Byte
       (starts, rows ∙ (ap packed (outcome pool j there s .cut-agent) ∙ ap (λ (t : Start). packed (agentPlayed pool (take (t .cut) j))) (sym starts)))
 
   -- and each window is what the call does, in a journal that 64 bits count
-  pub call-hears : length j < 2 ^ 64 → (x : Stage (List ℕ)) → Run rowHears j s (rowFirst pool j there s) x
+  pub call-hears : length j < 2 ^ 64 → (x : Stage (List ℕ)) → InWindows rowHears j s (rowFirst pool j there s) x
       → (window beside : List ℕ) (over : Bool) → Lent j s (x .start) window beside over
       → rowHeard (x .hearer) (x .start) window beside over ≡ hearsIn rowHears (view window beside (x .start .place) (x .start .heard) over) x
   unfolding rowHeard isCounted

@@ -28,7 +28,7 @@ use Rattle.notice.specs.Window.{isDecided}
 use Rattle.notice.proofs.CaseSplits.{by-order, false-true}
 use Rattle.notice.proofs.NoticePlaces.{inside}
 use Rattle.journals.specs.declared.summing.Summed.{Summed}
-use Rattle.journals.specs.Start.{sumSize, partOf}
+use Rattle.journals.specs.Start.{sumBytes, partOf}
 use Rattle.journals.specs.Outcome.{noticeBytes}
 use Rattle.journals.specs.Summing.{sumsTo, SumsLaid}
 use Rattle.journals.specs.inner.Turns.{summedNext, laidNext}
@@ -44,8 +44,8 @@ Turns bs room x r after =
     (r ≡ summedNext x (readAt bs (x .place))) × (after ≡ laidNext bs x room (readAt bs (x .place)))
 
 module _ (bs room : List ℕ) (x r : Summed) (after : List ℕ) where
-  pub sum-laid : (n : Notice) (e : ℕ) → readAt bs (x .place) ≡ found.At n e → r ≡ record { place = e; at = x .at + sumSize; more = true }
-      → after ≡ sets room (x .at) (bigEndian sumSize (sumOf (partOf bs (x .place) e))) → Turns bs room x r after
+  pub sum-laid : (n : Notice) (e : ℕ) → readAt bs (x .place) ≡ found.At n e → r ≡ record { place = e; at = x .at + sumBytes; more = true }
+      → after ≡ sets room (x .at) (bigEndian sumBytes (sumOf (partOf bs (x .place) e))) → Turns bs room x r after
   unfolding summedNext laidNext
   sum-laid n e is next laid = rw is (next, laid)
 
@@ -59,7 +59,7 @@ module _ (bs room : List ℕ) (x r : Summed) (after : List ℕ) where
 -- ---- many
 
 abbrev pub isNext : List ℕ → Bool → List ℕ → Summed → Bool
-isNext bs over room x = both (both (x .more) (isDecided (length bs) (x .place) over)) (leb (x .at + sumSize) (length room))
+isNext bs over room x = both (both (x .more) (isDecided (length bs) (x .place) over)) (leb (x .at + sumBytes) (length room))
 
 pub length-sums : (bs : List ℕ) (n : ℕ) → length (sumsTo bs n) ≡ n * 4
 unfolding sumsTo

@@ -19,7 +19,7 @@ use Rattle.notice_fields.proofs.Each.{by-order, each, false-true}
 use Rattle.notice_fields.proofs.Table.{sound, by-kind}
 use Rattle.notice_bytes.specs.Standing.{headStands, rowStands, standsTo, kindAt, isWhole, isAlone}
 use Rattle.notice_bytes.specs.Laying.{fieldBytes, rowBytes, bytesTo}
-use Rattle.journals.specs.Torn.{kindBegun, blankBytes, isTorn, Begins}
+use Rattle.journals.specs.Torn.{kindBegun, blankBytes, isTorn, NoticeBegun}
 use Rattle.journals.proofs.Endings.{length-blank}
 
 -- ---- the heads of fields
@@ -148,7 +148,7 @@ module _ (rest t : List ℕ) (low : length rest ≤ length t) where
 
 -- ---- the theorems
 
-pub torn-begins : (rest : List ℕ) → isTorn rest ≡ true → Begins rest
+pub torn-begins : (rest : List ℕ) → isTorn rest ≡ true → NoticeBegun rest
 unfolding isTorn
 torn-begins rest torn =
     let k = kindBegun rest in

@@ -31,9 +31,9 @@ use Rattle.notice.proofs.Windows.{seen-reads}
 use Rattle.journals.specs.declared.Start.{Start}
 use Rattle.journals.specs.declared.Verdict.the-variants.{NoNotice}
 use Rattle.journals.specs.Torn.{kindBegun, isTorn}
-use Rattle.journals.specs.Start.{sumSize, isGoing, endedWith, hasSum, afterSummed, afterUnsummed, atStop}
+use Rattle.journals.specs.Start.{sumBytes, isGoing, endedWith, hasSum, afterSummed, afterUnsummed, atStop}
 use Rattle.journals.specs.Start.{Hearer, Stage, stage, View, view, sumAt, isReadyAt, isReady, partOf, noticeDone, doneAt, stepAt, stepIn, stepsIn, hearsIn}
-use Rattle.journals.specs.Windows.{Part, Lent, Run, no-window, next-window}
+use Rattle.journals.specs.Windows.{Part, Lent, InWindows, no-window, next-window}
 use Rattle.journals.proofs.Endings.{longest}
 use Rattle.journals.proofs.Onward.{Counted, Along, set-out, ready-goes, one-on, steps-along, all-heard}
 
@@ -70,7 +70,7 @@ four n k lt = omega arith
 four-on : (b n m k : ℕ) → k < n / 4 → b + k < (b * 4 + (n + m)) / 4
 four-on b n m k lt = omega arith
 
-pub sum-part : (file bs : List ℕ) (b k : ℕ) → Part file bs (b * sumSize) → k < length bs / sumSize → sumAt file (b + k) ≡ sumAt bs k
+pub sum-part : (file bs : List ℕ) (b k : ℕ) → Part file bs (b * sumBytes) → k < length bs / sumBytes → sumAt file (b + k) ≡ sumAt bs k
 sum-part file bs b k part lt =
     let fits = four (length bs) k lt in
     let long : length file ≡ b * 4 + (length bs + length (part .later)) =
@@ -87,7 +87,7 @@ sum-part file bs b k part lt =
 order-either : (m n : ℕ) → either (leb m n) (ltb n m) ≡ true
 order-either m n = by-order n m (λ lt. rw (lt-ltb n m lt, lt-leb m n lt)) (λ le. rw (le-leb m n le))
 
-pub whole-ready : (j s : List ℕ) (t : Start) → t .sums ≡ length s / sumSize → isGoing (t .verdict) ≡ true → isReady (view j s 0 0 true) t ≡ true
+pub whole-ready : (j s : List ℕ) (t : Start) → t .sums ≡ length s / sumBytes → isGoing (t .verdict) ≡ true → isReady (view j s 0 0 true) t ≡ true
 unfolding isReadyAt isDecided
 whole-ready j s t sums going =
     let at : t .heard - 0 ≡ t .heard = omega arith in
@@ -146,7 +146,7 @@ module _ {A : Type 0} (h : Hearer A) (j s : List ℕ) (t₀ : Start) (w beside :
     same-sum has =
         let test = both-r (both (isGoing (x .start .verdict)) (isDecided (length w) p over)) _ ready in
         let less : x .start .heard < x .start .sums = ltb-true _ _ has in
-        let here : ltb (x .start .heard - t₀ .heard) (length beside / sumSize) ≡ true = rw (lt-leb _ _ less) at test in
+        let here : ltb (x .start .heard - t₀ .heard) (length beside / sumBytes) ≡ true = rw (lt-leb _ _ less) at test in
         let sums = sum-part s beside (t₀ .heard) (x .start .heard - t₀ .heard) (l .summed) (ltb-true _ _ here) in
         let at : t₀ .heard + (x .start .heard - t₀ .heard) ≡ x .start .heard - 0 = omega (arith, known) in
         sym (rw at at sums)
@@ -203,7 +203,7 @@ module _ {A : Type 0} (h : Hearer A) (j s : List ℕ) (t₀ : Start) (w beside :
 abbrev lentTo : {A : Type 0} → Stage A → List ℕ → List ℕ → Bool → View
 lentTo x w beside over = view w beside (x .start .place) (x .start .heard) over
 
-module _ {A : Type 0} (h : Hearer A) (j s : List ℕ) (x₀ : Stage A) (sums : x₀ .start .sums ≡ length s / sumSize) where
+module _ {A : Type 0} (h : Hearer A) (j s : List ℕ) (x₀ : Stage A) (sums : x₀ .start .sums ≡ length s / sumBytes) where
   window-along : (x : Stage A) (w beside : List ℕ) (over : Bool) → Along h (view j s 0 0 true) x₀ x → Lent j s (x .start) w beside over
       → (n : ℕ) → Along h (view j s 0 0 true) x₀ (stepsIn h (lentTo x w beside over) x n)
   unfolding stepsIn
@@ -221,14 +221,14 @@ module _ {A : Type 0} (h : Hearer A) (j s : List ℕ) (x₀ : Stage A) (sums : x
           (same-step h j s (x .start) w beside over l y (on .from) (on .known) ready)
       go y on before false none = before
 
-  pub run-along : x₀ .start .place ≡ 0 → x₀ .start .heard ≡ 0 → Counted (x₀ .start) → (x : Stage A) → Run h j s x₀ x
+  pub run-along : x₀ .start .place ≡ 0 → x₀ .start .heard ≡ 0 → Counted (x₀ .start) → (x : Stage A) → InWindows h j s x₀ x
       → Along h (view j s 0 0 true) x₀ x
   run-along place heard c x no-window = set-out h (view j s 0 0 true) x₀ (sym place) (sym heard) c
   run-along place heard c x (next-window {x = y} {window = w} {beside = beside} {over = over} run l) =
       window-along y w beside over (run-along place heard c y run) l (suc (length w))
 
   -- a start that has ended over windows is the start over the files
-  pub run-whole : x₀ .start .place ≡ 0 → x₀ .start .heard ≡ 0 → Counted (x₀ .start) → (x : Stage A) → Run h j s x₀ x
+  pub run-whole : x₀ .start .place ≡ 0 → x₀ .start .heard ≡ 0 → Counted (x₀ .start) → (x : Stage A) → InWindows h j s x₀ x
       → isGoing (x .start .verdict) ≡ false → x ≡ hearsIn h (view j s 0 0 true) x₀
   run-whole place heard c x run over =
       all-heard h (view j s 0 0 true) x₀ x (run-along place heard c x run) (none-ready (view j s 0 0 true) (x .start) over)

@@ -24,8 +24,8 @@ use Rattle.journals.specs.declared.Verdict.the-variants.{Hearing, Heard,
 use Rattle.journals.specs.Torn.{isTorn, hadKind}
 
 -- the bytes of a sum
-abbrev pub sumSize : ℕ
-sumSize = 4
+abbrev pub sumBytes : ℕ
+sumBytes = 4
 
 -- as many events as one block of input can hold: it has 65,536 bytes, and `hold 0 0` with its newline, the shortest event, has 9
 abbrev pub blockEvents : ℕ
@@ -49,7 +49,7 @@ startedWith sums v = record { place = 0; heard = 0; behind = 0; cut = 0; sums = 
 -- at the journal's start: sums that are missing end it, unless the journal is empty
 abbrev pub begunWith : ℕ → Bool → ℕ → Start
 begunWith journal there sums =
-    pick (both (ltb 0 journal) (not there)) (startedWith (sums / sumSize) SumsMissing) (startedWith (sums / sumSize) Hearing)
+    pick (both (ltb 0 journal) (not there)) (startedWith (sums / sumBytes) SumsMissing) (startedWith (sums / sumBytes) Hearing)
 
 abbrev pub endedWith : Start → Verdict → Start
 endedWith s v =
@@ -71,7 +71,7 @@ hasSum s = ltb (s .heard) (s .sums)
 
 -- where the sums are cut to; no file has more bytes than 64 bits count
 unfoldable pub sumsLength : Start → ℕ
-sumsLength s = pick (leb (s .heard) ((2 ^ 64 - 1) / sumSize)) (s .heard * sumSize) (2 ^ 64 - 1)
+sumsLength s = pick (leb (s .heard) ((2 ^ 64 - 1) / sumBytes)) (s .heard * sumBytes) (2 ^ 64 - 1)
 
 -- ---- one notice
 
@@ -119,7 +119,7 @@ view j s first known over = record { journal = j; sums = s; first = first; known
 
 -- the sum of the next notice, 0 where none is seen
 abbrev pub sumAt : List ℕ → ℕ → ℕ
-sumAt sums k = pick (ltb k (length sums / sumSize)) (numberAt sums (k * sumSize) sumSize) 0
+sumAt sums k = pick (ltb k (length sums / sumBytes)) (numberAt sums (k * sumBytes) sumBytes) 0
 
 -- whether so many bytes decide the next step, which is at place p of them, and so many sums, of which it takes number k
 unfoldable pub isReadyAt : ℕ → ℕ → Bool → ℕ → ℕ → Start → Bool
@@ -128,7 +128,7 @@ isReadyAt size p over sums k s =
 
 abbrev pub isReady : View → Start → Bool
 isReady v s =
-    isReadyAt (length (v .journal)) (s .place - v .first) (v .over) (length (v .sums) / sumSize) (s .heard - v .known) s
+    isReadyAt (length (v .journal)) (s .place - v .first) (v .over) (length (v .sums) / sumBytes) (s .heard - v .known) s
 
 -- a notice of n bytes, which has its sum or not
 unfoldable pub noticeDone : {A : Type 0} → Hearer A → ℕ → Bool → Stage A → Reading → Stage A

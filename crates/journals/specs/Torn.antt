@@ -29,7 +29,7 @@ isTorn rest =
     (isAlone (rest ++ drop (length rest) (blankBytes (kindBegun rest))))
 
 -- bytes that begin a notice: with some bytes behind them they would be one
-pub record Begins (rest : List ℕ) : Type 0 where
+pub record NoticeBegun (rest : List ℕ) : Type 0 where
   pub more : List ℕ
   pub some : 0 < length more
   pub whole : isAlone (rest ++ more) ≡ true

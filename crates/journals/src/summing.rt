@@ -18,7 +18,7 @@ ghost use Rattle.notice_fields.specs.Numbers.{bigEndian};
 ghost use Rattle.notice.specs.declared.Found.the-variants as found;
 ghost use Rattle.notice.specs.Decode.{readAt};
 ghost use Rattle.notice.specs.Window.{isDecided};
-ghost use Rattle.journals.specs.Start.{sumSize, partOf};
+ghost use Rattle.journals.specs.Start.{sumBytes, partOf};
 ghost use Rattle.journals.specs.Summing.{SumsLaid};
 ghost use Rattle.journals.specs.inner.Turns.{summedNext, laidNext};
 
@@ -42,8 +42,8 @@ fn no_more(on: Summed) -> Summed
 
 // The sum of a notice's bytes, from a place of the row on.
 fn lay_sum(window: &[u8], place: usize, end: usize, out: &mut [u8], at: usize)
-    requires { ⌜ (place ≤ end) × ((end ≤ length (now window)) × (at + sumSize ≤ length (now out))) ⌝ }
-    ensures { λ _. ⌜ now (out .exit) ≡ sets (now (out .entry)) at (bigEndian sumSize (sumOf (partOf (now (window .entry)) place end))) ⌝ }
+    requires { ⌜ (place ≤ end) × ((end ≤ length (now window)) × (at + sumBytes ≤ length (now out))) ⌝ }
+    ensures { λ _. ⌜ now (out .exit) ≡ sets (now (out .entry)) at (bigEndian sumBytes (sumOf (partOf (now (window .entry)) place end))) ⌝ }
 {
     let total = sum(&window[place..end]);
     put(out, at, SUM, total as u64);
@@ -51,7 +51,7 @@ fn lay_sum(window: &[u8], place: usize, end: usize, out: &mut [u8], at: usize)
 
 // The sum of the notice at the place, if one is there.
 fn sum_next(window: &[u8], on: Summed, out: &mut [u8]) -> Summed
-    requires { ⌜ on .at + sumSize ≤ length (now out) ⌝ }
+    requires { ⌜ on .at + sumBytes ≤ length (now out) ⌝ }
     ensures { λ r. ⌜ (r ≡ summedNext on (readAt (now (window .entry)) (on .place)))
         × (now (out .exit) ≡ laidNext (now (window .entry)) on (now (out .entry)) (readAt (now (window .entry)) (on .place))) ⌝ }
 {
@@ -75,7 +75,7 @@ fn sum_next(window: &[u8], on: Summed, out: &mut [u8]) -> Summed
 // Whether the next sum can be laid.
 fn is_next(on: Summed, size: usize, over: bool, room: usize) -> bool
     requires { ⌜ on .at ≤ room ⌝ }
-    ensures { λ r. ⌜ r ≡ both (both (on .more) (isDecided size (on .place) over)) (leb (on .at + sumSize) room) ⌝ }
+    ensures { λ r. ⌜ r ≡ both (both (on .more) (isDecided size (on .place) over)) (leb (on .at + sumBytes) room) ⌝ }
 {
     let there = also(on.more, decided(size, on.place, over));
     also(there, SUM <= room - on.at)
