@@ -24,11 +24,10 @@ use Rattle.notice.specs.declared.Found.{Found}
 use Rattle.notice.specs.declared.Found.the-variants as found
 use Rattle.notice.specs.Decode.{readAt, placeAfter}
 use Rattle.notice.specs.Log.{placeTo, isNotice}
-use Rattle.notice.specs.Window.{isDecided}
 use Rattle.notice.proofs.CaseSplits.{by-order, false-true}
 use Rattle.notice.proofs.NoticePlaces.{inside}
 use Rattle.journals.specs.declared.summing.Summed.{Summed}
-use Rattle.journals.specs.Start.{sumBytes, partOf}
+use Rattle.journals.specs.Start.{sumBytes, partOf, isFar}
 use Rattle.journals.specs.Outcome.{noticeBytes}
 use Rattle.journals.specs.Summing.{sumsTo, SumsLaid}
 use Rattle.journals.specs.inner.Turns.{summedNext, laidNext}
@@ -59,7 +58,7 @@ module _ (bs room : List ℕ) (x r : Summed) (after : List ℕ) where
 -- ---- many
 
 abbrev pub isNext : List ℕ → Bool → List ℕ → Summed → Bool
-isNext bs over room x = both (both (x .more) (isDecided (length bs) (x .place) over)) (leb (x .at + sumBytes) (length room))
+isNext bs over room x = both (both (x .more) (isFar (length bs) (x .place) over)) (leb (x .at + sumBytes) (length room))
 
 pub length-sums : (bs : List ℕ) (n : ℕ) → length (sumsTo bs n) ≡ n * 4
 unfolding sumsTo
@@ -73,7 +72,7 @@ pub record Making (bs : List ℕ) (over : Bool) (room : List ℕ) (x : Summed) (
   pub at-is : x .at ≡ count * 4
   pub fits : x .at ≤ length room
   pub whole : (i : ℕ) → i < count → isNotice (readAt bs (placeTo bs i)) ≡ true
-  pub decided : (i : ℕ) → i < count → isDecided (length bs) (placeTo bs i) over ≡ true
+  pub far : (i : ℕ) → i < count → isFar (length bs) (placeTo bs i) over ≡ true
   pub laid : out ≡ sets room 0 (sumsTo bs count)
   pub none : x .more ≡ false → isNotice (readAt bs (placeTo bs count)) ≡ false
 
@@ -91,7 +90,7 @@ module _ (bs : List ℕ) (over : Bool) (room : List ℕ) where
         at-is = refl;
         fits = omega arith;
         whole = λ i lt. absurd (omega arith);
-        decided = λ i lt. absurd (omega arith);
+        far = λ i lt. absurd (omega arith);
         laid = refl;
         none = λ over. false-true (sym over);
       })
@@ -101,7 +100,7 @@ module _ (bs : List ℕ) (over : Bool) (room : List ℕ) where
     same-size = ap length (w .laid) ∙ length-sets room 0 (sumsTo bs (w .count))
 
     pub has-room : isNext bs over out x ≡ true → x .at + 4 ≤ length out
-    has-room next = leb-true _ _ (both-r (both (x .more) (isDecided (length bs) (x .place) over)) _ next)
+    has-room next = leb-true _ _ (both-r (both (x .more) (isFar (length bs) (x .place) over)) _ next)
 
     last-or-before : (P : ℕ → Type 0) → ((i : ℕ) → i < w .count → P i) → P (w .count) → (i : ℕ) → i < suc (w .count) → P i
     last-or-before P before last i lt =
@@ -115,7 +114,7 @@ module _ (bs : List ℕ) (over : Bool) (room : List ℕ) where
           at-is = w .at-is;
           fits = w .fits;
           whole = w .whole;
-          decided = w .decided;
+          far = w .far;
           laid = w .laid;
           none = λ _. ap isNotice (ap (readAt bs) (sym (w .place-is)) ∙ is) ∙ other;
         }
@@ -130,7 +129,7 @@ module _ (bs : List ℕ) (over : Bool) (room : List ℕ) where
             let here : readAt bs (placeTo bs (w .count)) ≡ found.At n e = ap (readAt bs) (sym (w .place-is)) ∙ is in
             let to : placeTo bs (suc (w .count)) ≡ e = ap (λ f. placeAfter f (placeTo bs (w .count))) here in
             let bytes : noticeBytes bs (w .count) ≡ partOf bs (x .place) e = rw (to, ← w .place-is) in
-            let ready : isDecided (length bs) (placeTo bs (w .count)) over ≡ true =
+            let ready : isFar (length bs) (placeTo bs (w .count)) over ≡ true =
             rw (w .place-is) at (both-r (x .more) _ (both-l _ _ next)) in
             let at : 0 + length (sumsTo bs (w .count)) ≡ x .at = omega (arith, length-sums bs (w .count), w .at-is) in
             record {
@@ -139,7 +138,7 @@ module _ (bs : List ℕ) (over : Bool) (room : List ℕ) where
               at-is = omega (arith, w .at-is);
               fits = omega (arith, has-room next, same-size);
               whole = last-or-before (λ i. isNotice (readAt bs (placeTo bs i)) ≡ true) (w .whole) (ap isNotice here);
-              decided = last-or-before (λ i. isDecided (length bs) (placeTo bs i) over ≡ true) (w .decided) ready;
+              far = last-or-before (λ i. isFar (length bs) (placeTo bs i) over ≡ true) (w .far) ready;
               laid = rw (bytes, w .laid, sets-append (sumsTo bs (w .count)) room (bigEndian 4 (sumOf (partOf bs (x .place) e))) 0, at);
               none = λ over. false-true (sym over);
             }
@@ -164,15 +163,15 @@ module _ (bs : List ℕ) (over : Bool) (room : List ℕ) where
           size = w .at-is;
           fits = w .fits;
           whole = w .whole;
-          decided = w .decided;
+          far = w .far;
           laid = w .laid;
-          stops = go (x .more) refl (isDecided (length bs) (x .place) over) refl (leb (x .at + 4) (length out)) refl over-now;
+          stops = go (x .more) refl (isFar (length bs) (x .place) over) refl (leb (x .at + 4) (length out)) refl over-now;
         }
       where
-        go : (m : Bool) → x .more ≡ m → (d : Bool) → isDecided (length bs) (x .place) over ≡ d → (b : Bool) → leb (x .at + 4) (length out) ≡ b
+        go : (m : Bool) → x .more ≡ m → (d : Bool) → isFar (length bs) (x .place) over ≡ d → (b : Bool) → leb (x .at + 4) (length out) ≡ b
             → both (both m d) b ≡ false
             → (isNotice (readAt bs (placeTo bs (w .count))) ≡ false)
-            ⊎ ((isDecided (length bs) (placeTo bs (w .count)) over ≡ false) ⊎ (length room < x .at + 4))
+            ⊎ ((isFar (length bs) (placeTo bs (w .count)) over ≡ false) ⊎ (length room < x .at + 4))
         go false m d ds b bs' e = inl (w .none m)
         go true m false ds b bs' e = inr (inl (rw (w .place-is) at ds))
         go true m true ds false bs' e = inr (inr (omega (arith, leb-false (x .at + 4) (length out) bs', same-size)))

@@ -47,7 +47,7 @@ no-further bs over room r after q left x y =
     (λ more.
     ⊎-elim (λ none. false-true (sym none ∙ y .whole (x .count) more))
     (λ rest.
-    ⊎-elim (λ none. false-true (sym none ∙ y .decided (x .count) more)) (λ full. absurd (omega (arith, full, more, x .size, y .size, y .fits))) rest)
+    ⊎-elim (λ none. false-true (sym none ∙ y .far (x .count) more)) (λ full. absurd (omega (arith, full, more, x .size, y .size, y .fits))) rest)
     (x .stops))
     (λ low. low)
 

@@ -27,12 +27,12 @@ use Rattle.notice.specs.Decode.{readAt, further}
 use Rattle.notice.specs.Window.{isDecided, Seen}
 use Rattle.notice.proofs.CaseSplits.{false-true}
 use Rattle.notice.proofs.NoticePlaces.{inside}
-use Rattle.notice.proofs.Windows.{seen-reads}
+use Rattle.notice.proofs.Windows.{seen-reads, few-left, at-end-decided}
 use Rattle.journals.specs.declared.Start.{Start}
 use Rattle.journals.specs.declared.Verdict.the-variants.{NoNotice}
 use Rattle.journals.specs.Torn.{kindBegun, isTorn}
 use Rattle.journals.specs.Start.{sumBytes, isGoing, endedWith, hasSum, afterSummed, afterUnsummed, atStop}
-use Rattle.journals.specs.Start.{Hearer, Stage, stage, View, view, sumAt, isReadyAt, isReady, partOf, noticeDone, doneAt, stepAt, stepIn, stepsIn, hearsIn}
+use Rattle.journals.specs.Start.{Hearer, Stage, stage, View, view, sumAt, isFar, isReadyAt, isReady, partOf, noticeDone, doneAt, stepAt, stepIn, stepsIn, hearsIn}
 use Rattle.journals.specs.Windows.{Part, Lent, InWindows, no-window, next-window}
 use Rattle.journals.proofs.Endings.{longest}
 use Rattle.journals.proofs.Onward.{Counted, Along, set-out, ready-goes, one-on, steps-along, all-heard}
@@ -88,7 +88,7 @@ order-either : (m n : ℕ) → either (leb m n) (ltb n m) ≡ true
 order-either m n = by-order n m (λ lt. rw (lt-ltb n m lt, lt-leb m n lt)) (λ le. rw (le-leb m n le))
 
 pub whole-ready : (j s : List ℕ) (t : Start) → t .sums ≡ length s / sumBytes → isGoing (t .verdict) ≡ true → isReady (view j s 0 0 true) t ≡ true
-unfolding isReadyAt isDecided
+unfolding isReadyAt isFar
 whole-ready j s t sums going =
     let at : t .heard - 0 ≡ t .heard = omega arith in
     rw (going, at, ← sums) (order-either (t .sums) (t .heard))
@@ -116,9 +116,16 @@ same-notice : {A : Type 0} (h : Hearer A) (x : Stage A) (n total k m : ℕ) (q :
 unfolding noticeDone
 same-notice h x n total k m q same = ⊎-elim (λ has. rw (same has)) (λ none. rw none) (decide (hasSum (x .start)))
 
-decided-far : (over : Bool) (p size : ℕ) → over ≡ false → isDecided size p over ≡ true → p + 45 ≤ size
-unfolding isDecided table startOf spanOf
-decided-far over p size is d = leb-true (p + 45) size (rw is at d)
+far-left : (over : Bool) (p size : ℕ) → over ≡ false → isFar size p over ≡ true → p + 45 ≤ size
+unfolding isFar table startOf spanOf
+far-left over p size is d = leb-true (p + 45) size (rw is at d)
+
+-- what is far from the end is decided: what is not decided is shorter than the longest notice
+far-decided : (over : Bool) (w : List ℕ) (p : ℕ) → isFar (length w) p over ≡ true → isDecided w p over ≡ true
+unfolding table startOf spanOf
+far-decided true w p d = at-end-decided w p
+far-decided false w p d =
+    ⊎-elim (λ yes. yes) (λ no. absurd (omega (arith, few-left false w p no, far-left false p (length w) refl d))) (decide (isDecided w p false))
 
 module _ {A : Type 0} (h : Hearer A) (j s : List ℕ) (t₀ : Start) (w beside : List ℕ) (over : Bool) (l : Lent j s t₀ w beside over) where
   abbrev seen : View
@@ -134,9 +141,9 @@ module _ {A : Type 0} (h : Hearer A) (j s : List ℕ) (t₀ : Start) (w beside :
     abbrev sum-whole : ℕ
     sum-whole = sumAt s (x .start .heard - 0)
 
-    decided : isDecided (length w) p over ≡ true
+    far-off : isFar (length w) p over ≡ true
     unfolding isReadyAt
-    decided = both-r (isGoing (x .start .verdict)) _ (both-l _ _ ready)
+    far-off = both-r (isGoing (x .start .verdict)) _ (both-l _ _ ready)
 
     place-is : x .start .place - 0 ≡ length (l .bytes .before) + p
     place-is = omega (arith, from, l .bytes .there)
@@ -144,7 +151,7 @@ module _ {A : Type 0} (h : Hearer A) (j s : List ℕ) (t₀ : Start) (w beside :
     same-sum : hasSum (x .start) ≡ true → sum-seen ≡ sum-whole
     unfolding isReadyAt
     same-sum has =
-        let test = both-r (both (isGoing (x .start .verdict)) (isDecided (length w) p over)) _ ready in
+        let test = both-r (both (isGoing (x .start .verdict)) (isFar (length w) p over)) _ ready in
         let less : x .start .heard < x .start .sums = ltb-true _ _ has in
         let here : ltb (x .start .heard - t₀ .heard) (length beside / sumBytes) ≡ true = rw (lt-leb _ _ less) at test in
         let sums = sum-part s beside (t₀ .heard) (x .start .heard - t₀ .heard) (l .summed) (ltb-true _ _ here) in
@@ -158,7 +165,7 @@ module _ {A : Type 0} (h : Hearer A) (j s : List ℕ) (t₀ : Start) (w beside :
     -- with more to come the place has a longest notice's bytes behind it
     more-left : over ≡ false → (45 ≤ length (drop p w)) × (45 ≤ length (drop (x .start .place - 0) j))
     more-left is =
-        let far : p + 45 ≤ length w = decided-far over p (length w) is decided in
+        let far : p + 45 ≤ length w = far-left over p (length w) is far-off in
         let size : length j ≡ length (l .bytes .before) + (length w + length (l .bytes .later)) =
         ap length (l .bytes .is)
         ∙ (length-append (l .bytes .before) (w ++ l .bytes .later) ∙ ap (λ (n : ℕ). length (l .bytes .before) + n) (length-append w (l .bytes .later))) in
@@ -184,7 +191,7 @@ module _ {A : Type 0} (h : Hearer A) (j s : List ℕ) (t₀ : Start) (w beside :
               is = l .bytes .is;
               there = place-is;
               ended = l .ended;
-              decided = decided;
+              decided = far-decided over w p far-off;
             }
 
         go : (f : Found) → readAt w p ≡ f

@@ -9,13 +9,13 @@ use lib.ListN.{length, take, drop}
 use Rattle.rules.specs.Limits.{both, either}
 use Rattle.rules.specs.Refusals.{pick, done}
 use Rattle.sums.specs.Crc.{sumOf}
+use Rattle.notice_fields.specs.Fields.{longestNotice}
 use Rattle.notice_fields.specs.Numbers.{numberAt}
 use Rattle.notice.specs.declared.Reading.{Reading}
 use Rattle.notice.specs.declared.Reading.the-variants as reading
 use Rattle.notice.specs.declared.Found.{Found}
 use Rattle.notice.specs.declared.Found.the-variants as found
 use Rattle.notice.specs.Decode.{readAt}
-use Rattle.notice.specs.Window.{isDecided}
 use Rattle.agent.specs.declared.Agent.{Agent}
 use Rattle.agent.specs.Turns.{freshAgent, noticeAnswer, noticed}
 use Rattle.journals.specs.declared.Start.{Start}
@@ -121,10 +121,15 @@ view j s first known over = record { journal = j; sums = s; first = first; known
 abbrev pub sumAt : List ℕ → ℕ → ℕ
 sumAt sums k = pick (ltb k (length sums / sumBytes)) (numberAt sums (k * sumBytes) sumBytes) 0
 
+-- a place of so many bytes is so far from their end that the longest notice would be there, or no byte will follow: what is read there is
+-- settled (`notice_bytes` specs/Window `isDecided`), and only sizes are looked at
+unfoldable pub isFar : ℕ → ℕ → Bool → Bool
+isFar size p over = either over (leb (p + longestNotice) size)
+
 -- whether so many bytes decide the next step, which is at place p of them, and so many sums, of which it takes number k
 unfoldable pub isReadyAt : ℕ → ℕ → Bool → ℕ → ℕ → Start → Bool
 isReadyAt size p over sums k s =
-    both (both (isGoing (s .verdict)) (isDecided size p over)) (either (leb (s .sums) (s .heard)) (ltb k sums))
+    both (both (isGoing (s .verdict)) (isFar size p over)) (either (leb (s .sums) (s .heard)) (ltb k sums))
 
 abbrev pub isReady : View → Start → Bool
 isReady v s =

@@ -10,8 +10,7 @@ use Rattle.sums.specs.Crc.{sumOf}
 use Rattle.notice_fields.specs.Numbers.{bigEndian}
 use Rattle.notice.specs.Decode.{readAt}
 use Rattle.notice.specs.Log.{placeTo, isNotice}
-use Rattle.notice.specs.Window.{isDecided}
-use Rattle.journals.specs.Start.{sumBytes}
+use Rattle.journals.specs.Start.{sumBytes, isFar}
 use Rattle.journals.specs.Outcome.{noticeBytes}
 
 -- the sums of a log's first n notices
@@ -19,13 +18,13 @@ unfoldable pub sumsTo : List ℕ → ℕ → List ℕ
 sumsTo bs zero = []
 sumsTo bs (suc n) = sumsTo bs n ++ bigEndian sumBytes (sumOf (noticeBytes bs n))
 
--- what is laid at the start of a lent row: the sums of the first notices, up to the first place that has none, is not decided, or finds no room
+-- what is laid at the start of a lent row: the sums of the first notices, up to the first place that has none, is too near the end, or finds no room
 pub record SumsLaid (bs : List ℕ) (over : Bool) (room : List ℕ) (r : ℕ) (after : List ℕ) : Type 0 where
   pub count : ℕ
   pub size : r ≡ count * sumBytes
   pub fits : r ≤ length room
   pub whole : (i : ℕ) → i < count → isNotice (readAt bs (placeTo bs i)) ≡ true
-  pub decided : (i : ℕ) → i < count → isDecided (length bs) (placeTo bs i) over ≡ true
+  pub far : (i : ℕ) → i < count → isFar (length bs) (placeTo bs i) over ≡ true
   pub laid : after ≡ sets room 0 (sumsTo bs count)
   pub stops : (isNotice (readAt bs (placeTo bs count)) ≡ false)
-      ⊎ ((isDecided (length bs) (placeTo bs count) over ≡ false) ⊎ (length room < r + sumBytes))
+      ⊎ ((isFar (length bs) (placeTo bs count) over ≡ false) ⊎ (length room < r + sumBytes))

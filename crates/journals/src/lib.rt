@@ -1,7 +1,7 @@
 // The start of a head-end: its journal, which comes in windows, is played into an agent that is lent as a row, in place, and each notice is
 // held against its sum. No public function has a `requires`: any numbers, any row and any bytes have an answer.
 
-use notice::window::decided;
+use far::far;
 use notice_fields::numbers::get;
 use rules::truth::also;
 use rules::truth::either;
@@ -12,6 +12,7 @@ ghost use lib.ListN.{length};
 ghost use Rattle.journals.specs.Start.{begunWith, isGoing, isReadyAt, sumAt, sumsLength, stage, view, hearsIn};
 ghost use Rattle.journals.specs.Rows.{isCounted, rowHears, rowHeard};
 
+mod far;
 mod steps;
 pub mod summing;
 mod torn;
@@ -129,7 +130,7 @@ fn sum_at(sums: &[u8], k: usize) -> u64
 fn ready(start: Start, size: usize, at: usize, over: bool, there: usize, k: usize) -> bool
     ensures { λ r. ⌜ r ≡ isReadyAt size at over there k start ⌝ }
 {
-    let bytes = also(going(start), decided(size, at, over));
+    let bytes = also(going(start), far(size, at, over));
     also(bytes, either(start.sums <= start.heard, k < there))
 }
 

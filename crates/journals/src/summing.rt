@@ -1,9 +1,9 @@
 // The sums of a journal's notices, made anew.
 
 use super::SUM;
+use super::far::far;
 use notice::Found;
 use notice::next_in;
-use notice::window::decided;
 use notice_fields::numbers::put;
 use rules::truth::also;
 use sums::sum;
@@ -17,8 +17,7 @@ ghost use Rattle.sums.specs.Crc.{sumOf};
 ghost use Rattle.notice_fields.specs.Numbers.{bigEndian};
 ghost use Rattle.notice.specs.declared.Found.the-variants as found;
 ghost use Rattle.notice.specs.Decode.{readAt};
-ghost use Rattle.notice.specs.Window.{isDecided};
-ghost use Rattle.journals.specs.Start.{sumBytes, partOf};
+ghost use Rattle.journals.specs.Start.{sumBytes, partOf, isFar};
 ghost use Rattle.journals.specs.Summing.{SumsLaid};
 ghost use Rattle.journals.specs.inner.Turns.{summedNext, laidNext};
 
@@ -75,9 +74,9 @@ fn sum_next(window: &[u8], on: Summed, out: &mut [u8]) -> Summed
 // Whether the next sum can be laid.
 fn is_next(on: Summed, size: usize, over: bool, room: usize) -> bool
     requires { ⌜ on .at ≤ room ⌝ }
-    ensures { λ r. ⌜ r ≡ both (both (on .more) (isDecided size (on .place) over)) (leb (on .at + sumBytes) room) ⌝ }
+    ensures { λ r. ⌜ r ≡ both (both (on .more) (isFar size (on .place) over)) (leb (on .at + sumBytes) room) ⌝ }
 {
-    let there = also(on.more, decided(size, on.place, over));
+    let there = also(on.more, far(size, on.place, over));
     also(there, SUM <= room - on.at)
 }
 

@@ -7,8 +7,8 @@ use Rattle.journals.proofs.ready.Tie as tie
 going-requires : tie.Need-going-requires
 going-requires c κs = search needs
 
-decided-requires : tie.Need-decided-requires
-decided-requires c κs = search needs
+far-requires : tie.Need-far-requires
+far-requires c κs = search needs
 
 also-requires : tie.Need-also-requires
 also-requires c κs = search needs
@@ -28,7 +28,7 @@ ready-spec =
     tie.close
     (tie.spec
     going-requires
-    decided-requires
+    far-requires
     also-requires
     either-requires
     also-requires-2

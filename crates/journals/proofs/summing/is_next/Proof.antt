@@ -4,8 +4,8 @@ use borrow.Author.Needs.{needs}
 use Rattle.journals.proofs.summing.is_next.Statement.{statement}
 use Rattle.journals.proofs.summing.is_next.Tie as tie
 
-decided-requires : tie.Need-decided-requires
-decided-requires c κs = search needs
+far-requires : tie.Need-far-requires
+far-requires c κs = search needs
 
 also-requires : tie.Need-also-requires
 also-requires c κs = search needs
@@ -23,4 +23,4 @@ returns c =
     cc
 
 pub is-next-spec : {M : Type 1} → statement M
-is-next-spec = tie.close (tie.spec decided-requires also-requires sub-also also-requires-2 returns)
+is-next-spec = tie.close (tie.spec far-requires also-requires sub-also also-requires-2 returns)
