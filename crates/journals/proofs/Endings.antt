@@ -4,11 +4,12 @@
 use mathlib.Core.Path.{_≡_, refl, sym, ap, _∙_}
 use mathlib.Core.Bool.{Bool, true, false}
 use mathlib.Core.List.{List, _++_, append-assoc}
-use Prim.Native.Nat.{ℕ, _+_, _-_, _≤_, _<_}
+use Prim.Native.Nat.{ℕ, suc, _+_, _-_, _≤_, _<_}
+use native.Mathlib.Numerals.{add-one}
 use native.Mathlib.Omega.{arith}
 use lib.Dec.{eqb}
-use lib.ListN.{length, take, drop, set, length-append, length-drop}
-use lib.Seq.{sets, take-length, take-at, drop-append-le, take-set-lt, take-set-le, set-out}
+use lib.ListN.{length, getD, take, drop, set, length-append, length-drop}
+use lib.Seq.{sets, take-suc, drop-cons, set-at, append-snoc, length-take-le, take-length, take-at, drop-append-le, take-set-lt, take-set-le, set-out}
 use borrow.Author.Tests.{lt-ltb, le-ltb, eq-eqb, ne-eqb}
 use Rattle.sums.specs.Crc.{sumOf}
 use Rattle.notice_fields.specs.Fields.{table, spanOf, startOf, headSize, lengthOf, rows}
@@ -21,6 +22,18 @@ use Rattle.journals.specs.Torn.{kindBegun, blankBytes, isTorn, isKind}
 pub longest : (k : ℕ) → lengthOf k ≤ 45
 unfolding table startOf spanOf
 longest k = longest-kind k
+
+-- bytes laid over a room, one by one
+module _ (xs l : List ℕ) (fits : length xs ≤ length l) where
+  pub length-over : (i : ℕ) → i ≤ length xs → length (take i xs ++ drop i l) ≡ length l
+  length-over i h =
+      omega (arith, length-append (take i xs) (drop i l), length-take-le i xs h, length-drop i l)
+
+  pub one-over : (i : ℕ) → i < length xs → set (take i xs ++ drop i l) i (getD xs i 0) ≡ take (i + 1) xs ++ drop (i + 1) l
+  one-over i h =
+      rw (add-one, take-suc xs i 0 h, drop-cons l i 0 (omega arith))
+      (set-at (take i xs) (getD l i 0) (drop (suc i) l) (getD xs i 0) i (length-take-le i xs (omega arith))
+      ∙ sym (append-snoc (take i xs) (getD xs i 0) (drop (suc i) l)))
 
 -- ---- torn
 

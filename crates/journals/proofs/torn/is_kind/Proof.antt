@@ -12,11 +12,11 @@ use Rattle.journals.proofs.torn.is_kind.Tie as tie
 start-requires : tie.Need-start-requires
 start-requires c κs = search needs
 
-slice-aggregate-copy : tie.Need-slice-aggregate-copy
-slice-aggregate-copy c = search needs
+slice-aggregate-lay-over : tie.Need-slice-aggregate-lay-over
+slice-aggregate-lay-over c = search needs
 
-copy-requires : tie.Need-copy-requires
-copy-requires c κs =
+lay-over-requires : tie.Need-lay-over-requires
+lay-over-requires c κs =
     let test = c .before in
     omega (arith, test .if1 .taken, test .before .start .ensures, longest (test .before .before .before .args .kind))
 
@@ -27,13 +27,13 @@ array-share-prefix-room : tie.Need-array-share-prefix-room
 array-share-prefix-room c =
     let test = c .before .before .before in
     let fits : test .before .start .result ≤ 45 = omega (arith, test .before .start .ensures, longest (test .before .before .before .args .kind)) in
-    rw length-set (kind-room (test .before .before .before .args .rest .now) (replicate 45 0) _ _ (test .if1 .taken) fits (c .before .copy .ensures .1))
+    rw length-set (kind-room (test .before .before .before .args .rest .now) (replicate 45 0) _ _ (test .if1 .taken) fits (c .before .lay-over .ensures))
 
 slice-aggregate-sum : tie.Need-slice-aggregate-sum
 slice-aggregate-sum c =
     let test = c .before .before .before .before in
     let fits : test .before .start .result ≤ 45 = omega (arith, test .before .start .ensures, longest (test .before .before .before .args .kind)) in
-    sym (length-take-le _ _ (rw length-set (kind-room (test .before .before .before .args .rest .now) (replicate 45 0) _ _ (test .if1 .taken) fits (c .before .before .copy .ensures .1))))
+    sym (length-take-le _ _ (rw length-set (kind-room (test .before .before .before .args .rest .now) (replicate 45 0) _ _ (test .if1 .taken) fits (c .before .before .lay-over .ensures))))
 
 sum-requires : tie.Need-sum-requires
 sum-requires c κs = search needs
@@ -45,7 +45,7 @@ returns : tie.Need-returns
 returns c =
     let laid = c .before .before .before in
     let test = laid .before .before in
-    kind-sum _ _ _ _ (test .before .start .ensures) _ _ _ (test .if1 .taken) (laid .copy .ensures .1) (c .sum .ensures)
+    kind-sum _ _ _ _ (test .before .start .ensures) _ _ _ (test .if1 .taken) (laid .lay-over .ensures) (c .sum .ensures)
 
 returns-2 : tie.Need-returns-2
 returns-2 c = other-length _ _ _ _ (c .before .start .ensures) (c .if1 .left)
@@ -55,8 +55,8 @@ is-kind-spec =
     tie.close
     (tie.spec
     start-requires
-    slice-aggregate-copy
-    copy-requires
+    slice-aggregate-lay-over
+    lay-over-requires
     array-write-room
     array-share-prefix-room
     slice-aggregate-sum

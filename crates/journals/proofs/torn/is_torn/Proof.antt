@@ -24,11 +24,11 @@ cast-t10 c = search needs
 put-rows-requires : tie.Need-put-rows-requires
 put-rows-requires c κs = longest _
 
-slice-aggregate-copy : tie.Need-slice-aggregate-copy
-slice-aggregate-copy c = search needs
+slice-aggregate-lay-over : tie.Need-slice-aggregate-lay-over
+slice-aggregate-lay-over c = search needs
 
-copy-requires : tie.Need-copy-requires
-copy-requires c κs =
+lay-over-requires : tie.Need-lay-over-requires
+lay-over-requires c κs =
     let put = c .before .before in
     let test = put .before .before in
     let size : length (put .put-rows .last .0) ≡ 45 = ap length (put .put-rows .ensures) ∙ simp length-sets in
@@ -41,7 +41,7 @@ array-share-prefix-room c =
     let size : length (put .put-rows .last .0) ≡ 45 = ap length (put .put-rows .ensures) ∙ simp length-sets in
     let fits : test .before .start .result ≤ length (put .put-rows .last .0) =
     omega (arith, size, test .before .start .ensures, longest (test .before .before .kind-begun .result)) in
-    room-holds (test .before .before .before .before .args .rest .now) (put .put-rows .last .0) _ _ (test .if1 .taken) fits (c .before .copy .ensures .1)
+    room-holds (test .before .before .before .before .args .rest .now) (put .put-rows .last .0) _ _ (test .if1 .taken) fits (c .before .lay-over .ensures)
 
 slice-aggregate-alone : tie.Need-slice-aggregate-alone
 slice-aggregate-alone c =
@@ -50,7 +50,7 @@ slice-aggregate-alone c =
     let size : length (put .put-rows .last .0) ≡ 45 = ap length (put .put-rows .ensures) ∙ simp length-sets in
     let fits : test .before .start .result ≤ length (put .put-rows .last .0) =
     omega (arith, size, test .before .start .ensures, longest (test .before .before .kind-begun .result)) in
-    sym (length-take-le _ _ (room-holds (test .before .before .before .before .args .rest .now) (put .put-rows .last .0) _ _ (test .if1 .taken) fits (c .before .before .copy .ensures .1)))
+    sym (length-take-le _ _ (room-holds (test .before .before .before .before .args .rest .now) (put .put-rows .last .0) _ _ (test .if1 .taken) fits (c .before .before .lay-over .ensures)))
 
 alone-requires : tie.Need-alone-requires
 alone-requires c κs = search needs
@@ -61,7 +61,7 @@ returns c =
     let put = laid .before .before .before in
     let test = put .before .before in
     torn-is _ _ _ (test .before .before .kind-begun .ensures) (test .before .start .ensures) _ _ _ _ (test .if1 .taken) (longest _)
-    (put .put-rows .ensures) (laid .copy .ensures .1) (c .alone .ensures)
+    (put .put-rows .ensures) (laid .lay-over .ensures) (c .alone .ensures)
 
 returns-2 : tie.Need-returns-2
 returns-2 c =
@@ -76,8 +76,8 @@ is-torn-spec =
     slice-aggregate-put-rows
     cast-t10
     put-rows-requires
-    slice-aggregate-copy
-    copy-requires
+    slice-aggregate-lay-over
+    lay-over-requires
     array-share-prefix-room
     slice-aggregate-alone
     alone-requires
