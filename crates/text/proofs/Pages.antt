@@ -1,15 +1,15 @@
 -- Laws of a page: what is written in turn is written as one, the row keeps its length, and where there is room the
 -- bytes stand in the row one behind the other.
-use Prim.Native.Nat.{ℕ, suc, _+_, _<_, _≤_}
+use Prim.Native.Nat.{ℕ, suc, _+_, _-_, _<_, _≤_, min}
 use mathlib.Core.Path.{_≡_, refl, sym, _∙_, ap}
 use mathlib.Core.Bool.{Bool, true, false}
 use mathlib.Core.List.{List, [], _∷_, _++_}
 use native.Mathlib.Omega.{arith}
 use native.Mathlib.Numerals.{add-one}
-use borrow.Author.Tests.{lt-ltb, le-ltb, ltb-true}
+use borrow.Author.Tests.{lt-ltb, le-ltb, ltb-true, leb-true, leb-false}
 use lib.ListN.{length, getD, take, drop, set, length-set, length-append, drop-of-length-le}
 use lib.Seq.{drop-cons, sets, sets-eq, take-append-seam}
-use lib.Dec.{ltb}
+use lib.Dec.{ltb, leb}
 use Rattle.rules.specs.Refusals.{pick}
 use Rattle.text.specs.Output.{Page, page, put, puts}
 
@@ -60,6 +60,20 @@ puts-on p s i h = rw (add-one, drop-cons s i 0 h)
 pub puts-end : (p : Page) (s : List ℕ) (i : ℕ) → length s ≤ i → p ≡ puts p (drop i s)
 unfolding puts
 puts-end p s i h = rw (drop-of-length-le s h)
+
+-- where there is no room left, nothing more is written
+puts-full : (s row : List ℕ) (at : ℕ) → length row ≤ at → page row at ≡ puts (page row at) s
+unfolding puts
+puts-full [] row at h = refl
+puts-full (b ∷ s) row at h = puts-full s row at h ∙ ap (λ (p : Page). puts p s) (put-out row at b h)
+
+-- so it is behind as many bytes as have room
+pub puts-left : (s row : List ℕ) (at n : ℕ) → n ≡ min (length row - at) (length s) → page row (at + n) ≡ puts (page row (at + n)) (drop n s)
+puts-left s row at n e = go (leb (length s) n) refl
+  where
+    go : (t : Bool) → leb (length s) n ≡ t → page row (at + n) ≡ puts (page row (at + n)) (drop n s)
+    go true all = puts-end (page row (at + n)) s n (leb-true (length s) n all)
+    go false some = puts-full (drop n s) row (at + n) (omega (arith, e, leb-false (length s) n some))
 
 -- where there is room
 puts-sets : (s : List ℕ) (row : List ℕ) (at : ℕ) → at + length s ≤ length row
