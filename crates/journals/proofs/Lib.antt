@@ -8,4 +8,5 @@ pub mod Outcomes
 pub mod RowsFollow
 pub mod SumsMade
 pub mod TornEnds
+pub mod Restarts
 pub mod Unique

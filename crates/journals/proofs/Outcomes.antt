@@ -60,6 +60,7 @@ module _ (pool : ℕ) (j : List ℕ) (there : Bool) (s : List ℕ) where
         in-turn = w .in-turn;
         unsummed = w .unsummed;
         few = w .few;
+        sums-are = w .sums-are;
       }
 
   -- ---- a start that goes on
@@ -113,6 +114,7 @@ module _ (pool : ℕ) (j : List ℕ) (there : Bool) (s : List ℕ) where
             in-turn = w .in-turn;
             unsummed = λ _. none;
             few = omega (arith, low);
+            sums-are = w .sums-are;
           },
           goes-on (x .start .verdict) going _,
         )
@@ -169,6 +171,7 @@ module _ (pool : ℕ) (j : List ℕ) (there : Bool) (s : List ℕ) where
               in-turn = rw (eq-eqb (noticeAnswer g (reading.Whole n)) 0 taken) (taken-turn taken ∙ (ap suc (w .in-turn) ∙ sym (add-one (x .start .heard))));
               unsummed = λ some. absurd (omega (arith, some, none-behind));
               few = w .few;
+              sums-are = w .sums-are;
             },
             goes-on (x .start .verdict) going _,
           )
@@ -177,7 +180,7 @@ module _ (pool : ℕ) (j : List ℕ) (there : Bool) (s : List ℕ) where
           → Told pool j there s (stage (endedWith (x .start) (Refused (noticeAnswer g (reading.Whole n)))) (noticed g (reading.Whole n)))
       refused same no-zero =
           rw (ne-eqb (noticeAnswer g (reading.Whole n)) 0 no-zero)
-          (still-heeded x (Refused (noticeAnswer g (reading.Whole n))) w, record { notice = n; end = e; is = is; holds = (same, (refl, no-zero)) })
+          (still-heeded x (Refused (noticeAnswer g (reading.Whole n))) w, (has, record { notice = n; end = e; is = is; holds = (same, (refl, no-zero)) }))
 
       differs : (sumOf (partOf j p e) ≡ sumAt s (x .start .heard) → ⊥) → Told pool j there s (stage (endedWith (x .start) SumDiffers) g)
       differs other =
@@ -258,6 +261,7 @@ module _ (pool : ℕ) (j : List ℕ) (there : Bool) (s : List ℕ) where
             in-turn = refl;
             unsummed = λ some. absurd (omega arith);
             few = omega arith;
+            sums-are = refl;
           }
 
       go : (b : Bool) → both (ltb 0 (length j)) (not there) ≡ b

@@ -63,7 +63,7 @@ take-small (suc n) [] small i = small i
 take-small (suc n) (b ∷ bs) small zero = small zero
 take-small (suc n) (b ∷ bs) small (suc i) = take-small n bs (λ k. small (suc k)) i
 
-part-small : (bs : List ℕ) (p e : ℕ) → Bytes bs → Bytes (partOf bs p e)
+pub part-small : (bs : List ℕ) (p e : ℕ) → Bytes bs → Bytes (partOf bs p e)
 part-small bs p e small = take-small (e - p) (drop p bs) (λ i. rw (getD-drop p bs i 0) (small (p + i)))
 
 -- and left as the agent

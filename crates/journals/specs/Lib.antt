@@ -16,4 +16,5 @@ pub mod Rows
 pub mod Windows
 pub mod Outcome
 pub mod Summing
+pub mod Restart
 pub mod inner

@@ -1,6 +1,6 @@
 -- What a start's verdict says of the files. At every verdict the notices up to the cut are whole, each has its sum, and the agent has heard
 -- just them.
-use Prim.Native.Nat.{ℕ, suc, _+_, _≤_, _<_}
+use Prim.Native.Nat.{ℕ, suc, _+_, _/_, _≤_, _<_}
 use mathlib.Core.Path.{_≡_}
 use mathlib.Core.Bool.{Bool, true, false}
 use mathlib.Core.Logic.{_⊎_}
@@ -19,7 +19,7 @@ use Rattle.journals.specs.declared.Start.{Start}
 use Rattle.journals.specs.declared.Verdict.{Verdict}
 use Rattle.journals.specs.declared.Verdict.the-variants.{Hearing, Heard, Torn, NoNotice, SumDiffers, Refused, SumsShort, SumsMissing}
 use Rattle.journals.specs.Torn.{isTorn, hadKind}
-use Rattle.journals.specs.Start.{blockEvents, isGoing, Stage, sumAt, partOf, journalStart}
+use Rattle.journals.specs.Start.{sumBytes, blockEvents, isGoing, Stage, sumAt, partOf, journalStart}
 
 -- the bytes of a log's notice, which is number i from 0 on
 abbrev pub noticeBytes : List ℕ → ℕ → List ℕ
@@ -38,6 +38,7 @@ pub record Heeded (pool : ℕ) (j s : List ℕ) (x : Stage Agent) : Type 0 where
   -- behind the last sum are no more than a block of input can hold
   pub unsummed : 0 < x .start .behind → x .start .sums ≤ x .start .heard
   pub few : x .start .behind ≤ blockEvents
+  pub sums-are : x .start .sums ≡ length s / sumBytes
 
 -- a notice at the place, of which this holds with the place behind it
 pub record NoticeHere (j : List ℕ) (p : ℕ) (P : Notice → ℕ → Type 0) : Type 0 where
@@ -57,7 +58,8 @@ Says j there s x SumDiffers =
     × (NoticeHere j (x .start .place) (λ n e. sumOf (partOf j (x .start .place) e) ≡ sumAt s (x .start .heard) → ⊥)
     ⊎ (hadKind (drop (x .start .place) j) (sumAt s (x .start .heard)) ≡ true))
 Says j there s x (Refused a) =
-    NoticeHere j (x .start .place)
+    (x .start .heard < x .start .sums)
+    × NoticeHere j (x .start .place)
     (λ n e. (sumOf (partOf j (x .start .place) e) ≡ sumAt s (x .start .heard)) × ((a ≡ noticeAnswer (x .hearer) (reading.Whole n)) × (a ≡ 0 → ⊥)))
 Says j there s x SumsShort =
     (x .start .sums ≤ x .start .heard) × ((x .start .behind ≡ blockEvents) × (isNotice (readAt j (x .start .place)) ≡ true))
