@@ -9,4 +9,5 @@ pub mod RowsFollow
 pub mod SumsMade
 pub mod TornEnds
 pub mod Restarts
+pub mod HeadEndKeeps
 pub mod Unique
