@@ -156,7 +156,7 @@ module _ (lanes : ℕ) where
 -- ---- how many notices a log has
 
 module _ (j : List ℕ) where
-  grows : (k d : ℕ) → length (noticesTo j k) ≤ length (noticesTo j (k + d))
+  pub grows : (k d : ℕ) → length (noticesTo j k) ≤ length (noticesTo j (k + d))
   unfolding noticesTo
   grows k zero = rw (add-zero k) (omega arith)
   grows k (suc d) = rw (add-suc k d) (go (readAt j (placeTo j (k + d))) (grows k d))
@@ -191,7 +191,7 @@ module _ (j : List ℕ) where
       go found.End good all = false-true good
       go found.Malformed good all = false-true good
 
-  before-end : (i : ℕ) → isNotice (readAt j (placeTo j i)) ≡ true → i < length j
+  pub before-end : (i : ℕ) → isNotice (readAt j (placeTo j i)) ≡ true → i < length j
   before-end i good =
       by-order i (length j) (λ lt. lt)
       (λ le.
@@ -207,7 +207,7 @@ module _ (j : List ℕ) where
 
 -- ---- the log of accepted events
 
-numbered-for : (es : List Event) → length (noticesFor es) ≡ length es
+pub numbered-for : (es : List Event) → length (noticesFor es) ≡ length es
 unfolding noticesFor
 numbered-for [] = refl
 numbered-for (e ∷ es) = ap suc (numbered-for es)

@@ -10,4 +10,5 @@ pub mod SumsMade
 pub mod TornEnds
 pub mod Restarts
 pub mod HeadEndKeeps
+pub mod AfterKill
 pub mod Unique

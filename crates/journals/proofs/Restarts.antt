@@ -61,7 +61,7 @@ alone-part bs p n e is = go (isAlone (partOf bs p e)) _ (by-itself bs p n e is)
     go false m r = absurd (let z : _≡_ {A = ℕ} 0 1 = cc in omega arith)
 
 module _ (j : List ℕ) (c : ℕ) (low : c ≤ length j) where
-  abbrev cut : List ℕ
+  abbrev pub cut : List ℕ
   cut = take c j
 
   size : length cut ≡ c
@@ -75,7 +75,7 @@ module _ (j : List ℕ) (c : ℕ) (low : c ≤ length j) where
   stays p n e is = rw parts at (whole-stays cut (drop c j) p n e is)
 
   -- and so are the notices before a place, and the place
-  same-reads : (k : ℕ) → ((i : ℕ) → i < k → isNotice (readAt cut (placeTo cut i)) ≡ true)
+  pub same-reads : (k : ℕ) → ((i : ℕ) → i < k → isNotice (readAt cut (placeTo cut i)) ≡ true)
       → (placeTo cut k ≡ placeTo j k) × (noticesTo cut k ≡ noticesTo j k)
   unfolding placeTo noticesTo
   same-reads zero whole = (refl, refl)

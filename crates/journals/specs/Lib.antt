@@ -8,6 +8,9 @@
 -- - The call `hear` plays on an agent's row in place, window by window, by specs/Rows `rowHeard`. Windows played until the start has ended
 --   leave the verdict of the whole files, and the row of the agent that played the journal up to the cut: proofs/WholeFiles `run-whole`,
 --   proofs/RowsFollow `row-start`; each window is what the call does: `call-hears`.
+-- - After a kill at any moment (specs/Restart): the log of a head-end's accepted events and its sums, both cut at any byte, with no more notices
+--   behind the last sum than one block of input can hold, let the next start go on, with the agent that the head-end was after its first
+--   events: proofs/HeadEndKeeps `kept-with`, proofs/Restarts `goes-on`, proofs/AfterKill `after-kill`, `as-it-was`.
 -- - The sums made anew of a journal, window by window: specs/Summing `SumsLaid`.
 -- - Two outcomes that a call's contract admits are equal, the row that it leaves included: proofs/Unique.
 pub mod Torn
