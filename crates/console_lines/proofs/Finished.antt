@@ -39,7 +39,7 @@ use Rattle.console_lines.specs.Lines.{
 unfoldable room : Line → ℕ
 room l = (Commands.wordsMost - l .count) + pick (eqb (l .command) Commands.doWrite) 1 0
 
-pick-case : {A : Type 0} (P : A → Type 0) (t : Bool) (a b : A) → (t ≡ true → P a) → (t ≡ false → P b) → P (pick t a b)
+pub pick-case : {A : Type 0} (P : A → Type 0) (t : Bool) (a b : A) → (t ≡ true → P a) → (t ≡ false → P b) → P (pick t a b)
 pick-case P true a b f g = f refl
 pick-case P false a b f g = g refl
 
@@ -115,7 +115,7 @@ hex-one c e = by-read (eqb c Commands.doRead) refl where
   by-read true q = rw (eqb-true c Commands.doRead q)
   by-read false q = rw (eqb-true c Commands.doNotice (rw q at e))
 
-kind-write : (c n : ℕ) → Commands.takesKind c n ≡ true → c ≡ Commands.doWrite
+pub kind-write : (c n : ℕ) → Commands.takesKind c n ≡ true → c ≡ Commands.doWrite
 unfolding Commands.takesKind
 kind-write c n k = eqb-true c Commands.doWrite (both-l (eqb c Commands.doWrite) (eqb n 1) k)
 

@@ -2,15 +2,14 @@
 -- such a one. Rests on the reading of a line, word by word.
 use Prim.Native.Nat.{ℕ, zero, suc, _+_, _-_, _%_}
 use mathlib.Core.Path.{_≡_, refl, _∙_}
-use mathlib.Core.Bool.{Bool, true, false}
+use mathlib.Core.Bool.{false}
 use mathlib.Core.List.{List}
 use native.Mathlib.Omega.{arith}
-use borrow.Author.Tests.{eqb-true, ne-eqb}
+use borrow.Author.Tests.{ne-eqb}
 use lib.ListN.{length, drop}
 use lib.Dec.{eqb, leb, ltb}
 use Rattle.rules.specs.Limits.{within}
-use Rattle.rules.specs.Refusals.{pick}
-use Rattle.rules.proofs.Tests.{both-l, either-false}
+use Rattle.rules.proofs.Tests.{either-false}
 use Rattle.text.specs.declared.bytes.Sort.the-variants.{Separator, Word, Digit, Hex}
 use Rattle.text.specs.Bytes.{runEnd}
 use Rattle.text.specs.Numbers.{amount, tooLarge}
@@ -31,11 +30,8 @@ use Rattle.console_lines.specs.Lines.{
   numbersMost,
   meaning,
 }
+use Rattle.console_lines.proofs.Finished.{pick-case, kind-write}
 use Rattle.headend_desk.specs.Desk.{isApart, startsApart}
-
-pick-case : {A : Type 0} (P : A → Type 0) (t : Bool) (a b : A) → (t ≡ true → P a) → (t ≡ false → P b) → P (pick t a b)
-pick-case P true a b f g = f refl
-pick-case P false a b f g = g refl
 
 -- the command of a line is as known as that of l
 abbrev Alike : Line → Line → Type 0
@@ -65,10 +61,6 @@ unfolding withKind withFault
 kind-alike w l a e h =
     pick-case (Alike l) (within Commands.doOpen Commands.doSkip (Commands.verbOf w)) _ _
     (λ t. rw h (written-known (Commands.verbOf w))) (λ t. refl)
-
-kind-write : (c n : ℕ) → Commands.takesKind c n ≡ true → c ≡ Commands.doWrite
-unfolding Commands.takesKind
-kind-write c n k = eqb-true c Commands.doWrite (both-l (eqb c Commands.doWrite) (eqb n 1) k)
 
 word-alike : (s : List ℕ) (l : Line) (a : ℕ) → Alike l (withWord s l a)
 unfolding withWord withFault

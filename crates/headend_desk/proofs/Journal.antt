@@ -2,7 +2,7 @@
 -- accepted events, on logs read through, and on torn ends.
 use Prim.Native.Nat.{ℕ, suc, _+_, _*_, _-_, _<_, _≤_, _^_}
 use mathlib.Core.Path.{_≡_, refl, sym, ap, _∙_}
-use mathlib.Core.Bool.{Bool, true, false}
+use mathlib.Core.Bool.{Bool, true, false, false≢true}
 use mathlib.Core.Logic.{⊎-elim}
 use mathlib.Core.List.{List, [], _∷_, _++_, reverse, reverse-cons, append-nil, append-assoc}
 use native.Mathlib.Omega.{arith}
@@ -71,7 +71,7 @@ module _ (g : Agent) (s : List ℕ) (did : isTaken g s ≡ true) where
 
 -- any other line
 neither : {A : Type 0} (t u : Bool) (x y : A) → both t u ≡ false → pick t (pick u x y) y ≡ y
-neither true true x y e = absurd (let o : _≡_ {A = ℕ} 0 1 = ap (λ b. pick b 0 1) e in omega arith)
+neither true true x y e = absurd (false≢true (sym e))
 neither true false x y e = refl
 neither false u x y e = refl
 

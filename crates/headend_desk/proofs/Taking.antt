@@ -7,7 +7,7 @@ use mathlib.Core.Logic.{⊎-elim}
 use mathlib.Core.List.{List, [], _++_, append-nil}
 use native.Mathlib.Numerals.{add-one}
 use native.Mathlib.Omega.{arith}
-use borrow.Author.Tests.{eq-eqb, ne-eqb, eqb-true, lt-ltb, le-ltb, ltb-true}
+use borrow.Author.Tests.{eq-eqb, ne-eqb, eqb-true, eqb-false, lt-ltb, le-ltb, ltb-true}
 use lib.Dec.{eqb, ltb}
 use Rattle.rules.specs.Refusals.{pick, done, outOfTurn}
 use Rattle.rules.proofs.Tests.{decide}
@@ -82,18 +82,12 @@ module _ (g : Agent) (e : Event) where
       (λ x.
       let seq : pick (ltb (g .sequence) fourBytesMost) done outOfTurn ≡ done = rw x at h in
       (eqb-true (answered (g .state) e) done x, late (ltb (g .sequence) fourBytesMost) refl seq))
-      (λ x. let own : answered (g .state) e ≡ done = rw x at h in absurd (differs x own))
+      (λ x. let own : answered (g .state) e ≡ done = rw x at h in absurd (eqb-false (answered (g .state) e) done x own))
       (decide (eqb (answered (g .state) e) done))
     where
       late : (t : Bool) → ltb (g .sequence) fourBytesMost ≡ t → pick t done outOfTurn ≡ done → g .sequence < fourBytesMost
       late true is z = ltb-true (g .sequence) fourBytesMost is
       late false is z = absurd (omega arith)
-
-      differs : eqb (answered (g .state) e) done ≡ false → answered (g .state) e ≡ done → ⊥
-      differs x own = let z : _≡_ {A = Bool} true false = sym (eq-eqb (answered (g .state) e) done own) ∙ x in not-both z
-        where
-          not-both : _≡_ {A = Bool} true false → ⊥
-          not-both z = let o : _≡_ {A = ℕ} 0 1 = ap (λ b. pick b 0 1) z in omega arith
 
   -- the agent after it
   pub moves-on : headAnswer g e ≡ done → headNext g e ≡ record { sequence = suc (g .sequence); state = called (g .state) e }

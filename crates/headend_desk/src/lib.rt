@@ -63,9 +63,9 @@ pub struct Desk {
 }
 
 // The places behind a notice and its sum.
-pub struct Kept {
-    pub noticed: usize,
-    pub summed: usize,
+struct Kept {
+    noticed: usize,
+    summed: usize,
 }
 
 // Whether the head-end does not know a command's word.
