@@ -115,7 +115,7 @@ picked-zero : (b : Bool) (x : ℕ) → pick b x outOfTurn ≡ 0 → x ≡ 0
 picked-zero true x none = none
 picked-zero false x none = absurd (omega arith)
 
-whole-noticed : (g : Agent) (q : Reading) → WholeAgent g → WholeAgent (noticed g q)
+pub whole-noticed : (g : Agent) (q : Reading) → WholeAgent g → WholeAgent (noticed g q)
 unfolding noticeAnswer
 whole-noticed g (reading.Whole n) w =
     ⊎-elim
