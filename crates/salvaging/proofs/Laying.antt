@@ -386,6 +386,23 @@ whole-log : (log : List ℕ) → Stands log 0 log true
 whole-log log =
     record { before = []; later = []; is = sym (append-nil log); there = refl; last = λ _. refl }
 
+-- a scan that came to the end of its log is the log's
+at-log-end : (log : List ℕ) (k : ℕ) (q : Progress) → q ≡ progressOf (scanTo log k) → length log ≤ q .place
+    → scanTo log k ≡ scanOf log
+at-log-end log k q is h =
+    let place : q .place ≡ scanTo log k .place = ap (λ (q : Progress). q .place) is in
+    through.all-scanned log k (omega arith)
+
+-- what was counted meanwhile is what is counted of it
+pub all-measured : (log area row : List ℕ) (p : Progress) (r : Poured) (area-now row-now : List ℕ)
+    → p ≡ freshProgress → Pours log true p r area row area-now row-now
+    → r .progress ≡ progressOf (scanOf log)
+unfolding scanTo
+all-measured log area row p r area-now row-now new f =
+    let begins = fresh-place p new in
+    let g = f .follows log 0 (rw begins (whole-log log)) new in
+    g .is ∙ ap progressOf (at-log-end log (g .steps) (r .progress) (g .is) (omega (arith, f .all refl)))
+
 -- both hold the scan's, with the stretch that ends at the log's end
 pub all-laid : (log area row : List ℕ) (p : Progress) (r : Poured) (area-now row-now row-next : List ℕ) (behind : ℕ)
     → p ≡ freshProgress → Pours log true p r area row area-now row-now
@@ -396,8 +413,7 @@ all-laid log area row p r area-now row-now row-next behind new f last =
     let begins = fresh-place p new in
     let g = f .follows log 0 (rw begins (whole-log log)) new in
     let s = scanTo log (g .steps) in
-    let place : r .progress .place ≡ s .place = ap (λ (q : Progress). q .place) (g .is) in
-    let all : s ≡ scanOf log = through.all-scanned log (g .steps) (omega (arith, f .all refl)) in
+    let all : s ≡ scanOf log = at-log-end log (g .steps) (r .progress) (g .is) (omega (arith, f .all refl)) in
     let cells = puts-then (page row 0) (g .cells) (endingStretch (r .progress)) (g .row-is) last in
     let ends : g .cells ++ endingStretch (r .progress) ≡ flat (s .skipped) =
     ap (λ x. x ++ endingStretch (r .progress)) (sym (g .ended-is)) ∙ rw (g .is) (with-open s) in

@@ -2,10 +2,10 @@
 // No public function of this file has a `requires`: any log and any rooms have an answer.
 
 use rows::fill;
+use rows::measure;
 use rules::DONE;
 use rules::WRONG_ROWS;
 use scanning::steps::Progress;
-use scanning::steps::measure;
 ghost use mathlib.Core.Path.{_≡_};
 ghost use Rattle.salvaging.specs.Rows.{noRoom, Salvages};
 ghost use Rattle.salvaging.specs.Pours.{salvagedTo as counts};

@@ -12,7 +12,7 @@ ghost use Prim.Native.Nat.{_+_, _<_, _^_};
 ghost use lib.ListN.{length};
 ghost use Rattle.text.specs.Output.{page, puts};
 ghost use Rattle.scanning.specs.Scan.{scanOf};
-ghost use Rattle.scanning.specs.inner.Steps.{Counts, Between, endingStretch};
+ghost use Rattle.scanning.specs.inner.Steps.{progressOf, Counts, Between, endingStretch};
 ghost use Rattle.salvaging.specs.Pours.{takenIn, Lays, Pours, Fills};
 
 // The places behind what was written into the area and into the row.
@@ -102,6 +102,17 @@ fn pour(window: &[u8], over: bool, p: Progress, area: &mut [u8], row: &mut [u64]
         progress: progress,
         to: to,
     }
+}
+
+// How far the scan of all of a log comes. It pours into a place of its own of each, so that one loop serves both passes of the call.
+pub fn measure(log: &[u8]) -> Progress
+    ensures { λ r. ⌜ r ≡ progressOf (scanOf (now (log .entry))) ⌝ }
+{
+    let mut area: [u8; 1] = [0];
+    let mut row: [u64; 1] = [0];
+    let poured = pour(log, true, begun(), &mut area, &mut row);
+    let progress = poured.progress;
+    progress
 }
 
 // All of a log.
