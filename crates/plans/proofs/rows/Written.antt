@@ -12,7 +12,8 @@ use Rattle.plans.specs.inner.Rows.{writtenFrom}
 
 module _ (f : ℕ → ℕ) (row : List ℕ) (from : ℕ) where
   -- one place more
-  pub from-next : (r : List ℕ) (n v : ℕ) → r ≡ writtenFrom f row from n → v ≡ f (from + n) → set r (from + n) v ≡ writtenFrom f row from (n + 1)
+  pub from-next : (r : List ℕ) (n v : ℕ) → r ≡ writtenFrom f row from n → v ≡ f (from + n) →
+      set r (from + n) v ≡ writtenFrom f row from (n + 1)
   unfolding writtenFrom
   from-next r n v p q = rw (add-one n, p, q) refl
 
@@ -26,7 +27,8 @@ module _ (f : ℕ → ℕ) (row : List ℕ) (from : ℕ) where
   from-length (suc n) = length-set (writtenFrom f row from n) (from + n) (f (from + n)) ∙ from-length n
 
   -- only what is written matters
-  pub from-same : (g : ℕ → ℕ) (n : ℕ) → ((i : ℕ) → i < n → f (from + i) ≡ g (from + i)) → writtenFrom f row from n ≡ writtenFrom g row from n
+  pub from-same : (g : ℕ → ℕ) (n : ℕ) → ((i : ℕ) → i < n → f (from + i) ≡ g (from + i)) →
+      writtenFrom f row from n ≡ writtenFrom g row from n
   unfolding writtenFrom
   from-same g zero h = refl
   from-same g (suc n) h = rw (from-same g n (λ i l. h i (omega arith)), h n (omega arith)) refl

@@ -86,8 +86,8 @@ returns-2 c =
     let bs = p .before .before .before .args .bytes .now in
     let m = length bs / 4 in
     let f =
-    four-parts bs m (p .parts .result) (k .far .result) (p .parts .ensures) (k .far .ensures) (one .behind .result) (two .behind2 .result) (three .behind3 .result)
-    (one .behind .ensures) (two .behind2 .ensures) (three .behind3 .ensures) in
+    four-parts bs m (p .parts .result) (k .far .result) (p .parts .ensures) (k .far .ensures) (one .behind .result)
+    (two .behind2 .result) (three .behind3 .result) (one .behind .ensures) (two .behind2 .ensures) (three .behind3 .ensures) in
     ap (λ x. bitXor x ones) (all-in bs (4 * m) (three .behind3 .result) (c .rest2 .result) (omega arith) f (c .rest2 .ensures))
 
 pub sum-spec : {M : Type 1} → statement M

@@ -29,7 +29,8 @@ within K k w e =
     omega (arith, width K k w e)
 
 -- the plan, by the numbers that the code computes
-filled : (A K k a : ℕ) → Counted A K k → starts (padded A K) k a ≡ true → (w p q r : ℕ) → w ≡ slot K k → p ≡ 2 ^ K → q ≡ 2 ^ (K - A) → r ≡ 2 ^ K →
+filled : (A K k a : ℕ) → Counted A K k → starts (padded A K) k a ≡ true → (w p q r : ℕ) →
+    w ≡ slot K k → p ≡ 2 ^ K → q ≡ 2 ^ (K - A) → r ≡ 2 ^ K →
     (row x y : List ℕ) → x ≡ writtenFrom (runsAt w (a + w + (p - q))) row (2 ^ (K - k) - w) (2 ^ K - 2 ^ (K - k)) →
     y ≡ writtenFrom (λ _. never) x (r - w) w → y ≡ written (planAt A K k a) row (2 ^ K)
 filled A K k a count start w p q r e f g h row x y i j =
@@ -99,7 +100,8 @@ returns c =
     let w = two .before .before in
     let s = w .before .before in
     let a = s .args in
-    filled (a .floor) (a .cap) (a .count) (a .arrival) (s .pre .0) (s .pre .1 .0) (w .slot .result) (two .before .pow2 .result) (two .pow22 .result) (three .pow23 .result)
+    filled (a .floor) (a .cap) (a .count) (a .arrival) (s .pre .0) (s .pre .1 .0) (w .slot .result) (two .before .pow2 .result)
+    (two .pow22 .result) (three .pow23 .result)
     (w .slot .ensures .is) (two .before .pow2 .ensures .is) (two .pow22 .ensures .is) (three .pow23 .ensures .is) (a .row .now) _ _
     (t .runs .ensures) (l .level .ensures)
 

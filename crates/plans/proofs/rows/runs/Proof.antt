@@ -80,8 +80,8 @@ loop-again c =
       omega (arith, l .inv .0),
       omega (arith, i .loop-test .taken),
       rw e
-          (next-run (a .base) (a .phase) (l .power) (omega (arith, l .inv .1, s .pre .0 .1)) (a .row .now) (l .row) _ (a .low) (p .pow2 .result) (a .phase % p .pow2 .result) (l .inv .0)
-          (s .pre .1 .0) (p .pow2 .ensures .is) refl (l .inv .2) (t .run .ensures)),
+          (next-run (a .base) (a .phase) (l .power) (omega (arith, l .inv .1, s .pre .0 .1)) (a .row .now) (l .row) _ (a .low)
+          (p .pow2 .result) (a .phase % p .pow2 .result) (l .inv .0) (s .pre .1 .0) (p .pow2 .ensures .is) refl (l .inv .2) (t .run .ensures)),
       ap length (t .run .ensures) ∙ from-length _ _ _ _ ∙ l .inv .3,
     )
 
