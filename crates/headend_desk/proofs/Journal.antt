@@ -19,7 +19,7 @@ use Rattle.story.specs.Story.{answer, Accepted, none, more}
 use Rattle.story.specs.Runs.{answered, called, stateAfter, lanesOf}
 use Rattle.story.proofs.Runs.{lanes-limit, told-answer}
 use Rattle.story.proofs.Reached.{reached, run-told}
-use Rattle.sums.specs.Crc.{sumOf}
+use Rattle.sums.specs.Crc.{sumOf, sumSize}
 use Rattle.sums.proofs.Small.{sum-small}
 use Rattle.notice_fields.specs.Numbers.{numberAt}
 use Rattle.notice_fields.proofs.Each.{by-order}
@@ -40,7 +40,7 @@ use Rattle.agent.proofs.HeadEnd.{fits, length-numbered, kept-whole, kept-notice
 use Rattle.text.specs.Numbers.{fourBytesMost}
 use Rattle.console_lines.specs.Lines.{meaning}
 use Rattle.console_acts.specs.Events.{eventIn}
-use Rattle.headend_desk.specs.Desk.{isEventLine, headAnswer, headNext, nextBytes, sumBytes, sumText, eventNotice, eventSum}
+use Rattle.headend_desk.specs.Desk.{isEventLine, headAnswer, headNext, nextBytes, sumText, eventNotice, eventSum}
 use Rattle.headend_desk.specs.Desk.{headAfter, headNotice, headSum}
 use Rattle.headend_desk.specs.Journal.{headOf, journalOf, journalSums, isTaken, eventsTaken, sumsOf, UpToNotice, CutAt, TornEnd}
 use Rattle.headend_desk.specs.Journal.{JournalKept}
@@ -341,23 +341,23 @@ cut pool (s ∷ ss) k =
 
 -- ---- its sums
 
-sums-length : (ns : List Notice) → length (sumsOf ns) ≡ sumBytes * length ns
+sums-length : (ns : List Notice) → length (sumsOf ns) ≡ sumSize * length ns
 unfolding sumsOf
 sums-length [] = refl
 sums-length (n ∷ ns) =
-    omega (arith, length-append (sumText (bytesOf n)) (sumsOf ns), length-big sumBytes (sumOf (bytesOf n)), sums-length ns)
+    omega (arith, length-append (sumText (bytesOf n)) (sumsOf ns), length-big sumSize (sumOf (bytesOf n)), sums-length ns)
 
-one-sum : (ms ns : List Notice) (n : Notice) → numberAt (sumsOf (ms ++ n ∷ ns)) (sumBytes * length ms) sumBytes ≡ sumOf (bytesOf n)
+one-sum : (ms ns : List Notice) (n : Notice) → numberAt (sumsOf (ms ++ n ∷ ns)) (sumSize * length ms) sumSize ≡ sumOf (bytesOf n)
 unfolding sumsOf
 one-sum ms ns n =
     let parts : sumsOf (ms ++ n ∷ ns) ≡ sumsOf ms ++ (sumText (bytesOf n) ++ sumsOf ns) = sums-append ms (n ∷ ns) in
-    let small : sumOf (bytesOf n) < 256 ^ sumBytes = omega (arith, sum-small (bytesOf n) (bytes-small n)) in
+    let small : sumOf (bytesOf n) < 256 ^ sumSize = omega (arith, sum-small (bytesOf n) (bytes-small n)) in
     let there : Has (sumsOf ms ++ (sumText (bytesOf n) ++ sumsOf ns)) (length (sumsOf ms)) (sumText (bytesOf n)) =
     has-middle (sumsOf ms) (sumText (bytesOf n)) (sumsOf ns) in
-    let read : numberAt (sumsOf ms ++ (sumText (bytesOf n) ++ sumsOf ns)) (length (sumsOf ms)) sumBytes ≡ sumOf (bytesOf n) =
-    number-back (sumsOf ms ++ (sumText (bytesOf n) ++ sumsOf ns)) (length (sumsOf ms)) sumBytes (sumOf (bytesOf n)) small there in
-    ap (λ (bs : List ℕ). numberAt bs (sumBytes * length ms) sumBytes) parts
-    ∙ ap (λ (a : ℕ). numberAt (sumsOf ms ++ (sumText (bytesOf n) ++ sumsOf ns)) a sumBytes) (sym (sums-length ms)) ∙ read
+    let read : numberAt (sumsOf ms ++ (sumText (bytesOf n) ++ sumsOf ns)) (length (sumsOf ms)) sumSize ≡ sumOf (bytesOf n) =
+    number-back (sumsOf ms ++ (sumText (bytesOf n) ++ sumsOf ns)) (length (sumsOf ms)) sumSize (sumOf (bytesOf n)) small there in
+    ap (λ (bs : List ℕ). numberAt bs (sumSize * length ms) sumSize) parts
+    ∙ ap (λ (a : ℕ). numberAt (sumsOf ms ++ (sumText (bytesOf n) ++ sumsOf ns)) a sumSize) (sym (sums-length ms)) ∙ read
 
 -- ---- the page
 
@@ -378,5 +378,5 @@ journal-kept pool ss =
           record { notices = left .0; stop = left .1 };
       sums = sums;
       each-sum = λ ms ns n is.
-          ap (λ (bs : List ℕ). numberAt bs (sumBytes * length ms) sumBytes) (sums ∙ ap sumsOf is) ∙ one-sum ms ns n;
+          ap (λ (bs : List ℕ). numberAt bs (sumSize * length ms) sumSize) (sums ∙ ap sumsOf is) ∙ one-sum ms ns n;
     }

@@ -13,14 +13,14 @@ use Rattle.rules.proofs.Tests.{both-l, both-r, both-none, same}
 use Rattle.notice_fields.specs.Fields.{longestNotice}
 use Rattle.notice_fields.proofs.Digits.{length-big}
 use Rattle.notice.proofs.Worked.{open-length, none-longer}
-use Rattle.sums.specs.Crc.{sumOf}
+use Rattle.sums.specs.Crc.{sumOf, sumSize}
 use Rattle.agent.specs.declared.Agent.{Agent}
 use Rattle.text.specs.Output.{Page, page, puts, Written}
 use Rattle.text.proofs.Pages.{puts-fits, puts-length}
 use Rattle.console_lines.specs.Lines.{meaning}
 use Rattle.console_acts.specs.Events.{eventIn}
 use Rattle.headend_desk.specs.declared.Desk.{Desk}
-use Rattle.headend_desk.specs.Desk.{sumBytes, roomLeft, isEventLine, headAnswer, nextBytes, eventNotice, eventSum, headNotice}
+use Rattle.headend_desk.specs.Desk.{roomLeft, isEventLine, headAnswer, nextBytes, eventNotice, eventSum, headNotice}
 use Rattle.headend_desk.specs.Desk.{headSum, Replies}
 
 -- ---- the ways out of `has_room`
@@ -29,15 +29,15 @@ module _ (noticed notices summed sums : ℕ) where
   pub no-notices : notices < noticed + 45 → false ≡ roomLeft noticed notices summed sums
   no-notices h = rw (open-length, lt-leb (noticed + 45) notices h) refl
 
-  pub no-sums : sums < summed + sumBytes → false ≡ roomLeft noticed notices summed sums
-  no-sums h = rw (lt-leb (summed + sumBytes) sums h) (sym (both-none (leb (noticed + longestNotice) notices)))
+  pub no-sums : sums < summed + sumSize → false ≡ roomLeft noticed notices summed sums
+  no-sums h = rw (lt-leb (summed + sumSize) sums h) (sym (both-none (leb (noticed + longestNotice) notices)))
 
-  pub by-sums : noticed + 45 ≤ notices → summed ≤ sums → leb sumBytes (sums - summed) ≡ roomLeft noticed notices summed sums
+  pub by-sums : noticed + 45 ≤ notices → summed ≤ sums → leb sumSize (sums - summed) ≡ roomLeft noticed notices summed sums
   by-sums h low =
       rw (open-length, le-leb (noticed + 45) notices h)
-      (same (leb sumBytes (sums - summed)) (leb (summed + sumBytes) sums)
-      (λ x. le-leb (summed + sumBytes) sums (omega (arith, leb-true sumBytes (sums - summed) x)))
-      (λ x. le-leb sumBytes (sums - summed) (omega (arith, leb-true (summed + sumBytes) sums x))))
+      (same (leb sumSize (sums - summed)) (leb (summed + sumSize) sums)
+      (λ x. le-leb (summed + sumSize) sums (omega (arith, leb-true sumSize (sums - summed) x)))
+      (λ x. le-leb sumSize (sums - summed) (omega (arith, leb-true (summed + sumSize) sums x))))
 
 -- ---- what fits is written
 
@@ -73,20 +73,20 @@ unfolding headNotice eventNotice
 notice-short g s =
     short (isEventLine s) (eqb (headAnswer g (eventIn (meaning s))) done) (nextBytes g (eventIn (meaning s))) longestNotice (none-longer _)
 
-sum-short : (g : Agent) (s : List ℕ) → length (headSum g s) ≤ sumBytes
+sum-short : (g : Agent) (s : List ℕ) → length (headSum g s) ≤ sumSize
 unfolding headSum eventSum
 sum-short g s =
-    short (isEventLine s) (eqb (headAnswer g (eventIn (meaning s))) done) _ sumBytes
-    (omega (arith, length-big sumBytes (sumOf (nextBytes g (eventIn (meaning s))))))
+    short (isEventLine s) (eqb (headAnswer g (eventIn (meaning s))) done) _ sumSize
+    (omega (arith, length-big sumSize (sumOf (nextBytes g (eventIn (meaning s))))))
 
 module _ (d : Desk) (s out notices sums : List ℕ) (after : Desk) (out′ notices′ sums′ : List ℕ)
     (room : roomLeft (d .noticed) (length notices) (d .summed) (length sums) ≡ true)
     (left : Replies d s out notices sums after out′ notices′ sums′) where
   for-notice : d .noticed + longestNotice ≤ length notices
-  for-notice = leb-true _ _ (both-l (leb (d .noticed + longestNotice) (length notices)) (leb (d .summed + sumBytes) (length sums)) room)
+  for-notice = leb-true _ _ (both-l (leb (d .noticed + longestNotice) (length notices)) (leb (d .summed + sumSize) (length sums)) room)
 
-  for-sum : d .summed + sumBytes ≤ length sums
-  for-sum = leb-true _ _ (both-r (leb (d .noticed + longestNotice) (length notices)) (leb (d .summed + sumBytes) (length sums)) room)
+  for-sum : d .summed + sumSize ≤ length sums
+  for-sum = leb-true _ _ (both-r (leb (d .noticed + longestNotice) (length notices)) (leb (d .summed + sumSize) (length sums)) room)
 
   pub rows-hold : Behind notices (d .noticed) (headNotice (d .agent) s) notices′ (after .noticed)
       × Behind sums (d .summed) (headSum (d .agent) s) sums′ (after .summed)

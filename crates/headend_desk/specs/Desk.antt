@@ -10,7 +10,7 @@ use Rattle.rules.specs.Limits.{both, either, within}
 use Rattle.rules.specs.Refusals.{pick, done, outOfTurn}
 use Rattle.story.specs.declared.Event.{Event}
 use Rattle.story.specs.Runs.{answered, called}
-use Rattle.sums.specs.Crc.{sumOf}
+use Rattle.sums.specs.Crc.{sumOf, sumSize}
 use Rattle.notice_fields.specs.Fields.{longestNotice}
 use Rattle.notice_fields.specs.Numbers.{bigEndian}
 use Rattle.notice.specs.Encode.{bytesOf}
@@ -70,11 +70,8 @@ eventText g l s =
 abbrev pub nextBytes : Agent → Event → List ℕ
 nextBytes g e = bytesOf (noticeFor (suc (g .sequence)) e)
 
-abbrev pub sumBytes : ℕ
-sumBytes = 4
-
 abbrev pub sumText : List ℕ → List ℕ
-sumText bs = bigEndian sumBytes (sumOf bs)
+sumText bs = bigEndian sumSize (sumOf bs)
 
 -- what it writes to the notices, and to the sums: nothing where it is refused
 unfoldable pub eventNotice : Agent → Event → List ℕ
@@ -117,4 +114,4 @@ Replies d s =
 -- whether the longest notice and its sum fit behind the places of two rows of so many bytes
 abbrev pub roomLeft : ℕ → ℕ → ℕ → ℕ → Bool
 roomLeft noticed notices summed sums =
-    both (leb (noticed + longestNotice) notices) (leb (summed + sumBytes) sums)
+    both (leb (noticed + longestNotice) notices) (leb (summed + sumSize) sums)

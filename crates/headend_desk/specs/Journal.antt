@@ -10,7 +10,7 @@ use lib.ListN.{length, take}
 use Rattle.rules.specs.Limits.{both}
 use Rattle.rules.specs.Refusals.{pick, done}
 use Rattle.story.specs.declared.Event.{Event}
-use Rattle.sums.specs.Crc.{sumOf}
+use Rattle.sums.specs.Crc.{sumOf, sumSize}
 use Rattle.notice_fields.specs.Numbers.{numberAt}
 use Rattle.notice.specs.declared.Notice.{Notice}
 use Rattle.notice.specs.Encode.{bytesOf}
@@ -21,7 +21,7 @@ use Rattle.agent.specs.Series.{logKept}
 use Rattle.agent.specs.Played.{agentPlayed, eventsPlayed}
 use Rattle.console_lines.specs.Lines.{meaning}
 use Rattle.console_acts.specs.Events.{eventIn}
-use Rattle.headend_desk.specs.Desk.{isEventLine, headAnswer, headAfter, headNotice, headSum, sumBytes, sumText}
+use Rattle.headend_desk.specs.Desk.{isEventLine, headAnswer, headAfter, headNotice, headSum, sumText}
 
 -- ---- what lines leave
 
@@ -100,4 +100,4 @@ pub record JournalKept (pool : ℕ) (ss : List (List ℕ)) : Type 0 where
   pub sums : journalSums pool ss ≡ sumsOf (reverse (noticesOf (journalOf pool ss)))
   -- and the four bytes of each spell the checksum of its notice's bytes.
   pub each-sum : (ms ns : List Notice) (n : Notice) → reverse (noticesOf (journalOf pool ss)) ≡ ms ++ n ∷ ns →
-      numberAt (journalSums pool ss) (sumBytes * length ms) sumBytes ≡ sumOf (bytesOf n)
+      numberAt (journalSums pool ss) (sumSize * length ms) sumSize ≡ sumOf (bytesOf n)

@@ -49,7 +49,7 @@ ghost use Rattle.headend_desk.specs.Desk.{
 };
 
 // The bytes of a sum.
-pub const SUM_BYTES: usize = 4;
+pub const SUM_BYTES: usize = sums::SIZE;
 
 // No notice has a larger sequence.
 const LAST_SEQUENCE: u32 = 4_294_967_295;

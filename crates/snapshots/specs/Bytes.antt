@@ -8,6 +8,7 @@ use lib.ListN.{length, getD, take}
 use Rattle.rules.specs.Limits.{both}
 use Rattle.notice_fields.specs.Numbers.{bigEndian, numberAt}
 use Rattle.sums.specs.Crc.{sumOf}
+pub use Rattle.sums.specs.Crc.{sumSize}
 
 -- how many numbers an agent's row has: four, and 47 for each of 16 titles
 abbrev pub savedPlaces : ℕ
@@ -20,9 +21,6 @@ savedVersion = 1
 -- the bytes of a number, of the checksum, and of all that it sums
 abbrev pub numberSize : ℕ
 numberSize = 8
-
-abbrev pub sumSize : ℕ
-sumSize = 4
 
 abbrev pub summedSize : ℕ
 summedSize = numberSize * savedPlaces

@@ -25,7 +25,7 @@ pub const VERSION: u64 = 1;
 // The bytes of a number, of the checksum, and of all that it sums.
 const NUMBER: usize = 8;
 
-const SUM: usize = 4;
+const SUM: usize = sums::SIZE;
 
 const SUMMED: usize = NUMBERS * NUMBER;
 

@@ -34,3 +34,7 @@ register bs (suc n) = withByte (register bs n) (getD bs n 0)
 
 unfoldable pub sumOf : List ℕ → ℕ
 sumOf bs = bitXor (register bs (length bs)) ones
+
+-- a sum fits four bytes, which is how it is stored
+abbrev pub sumSize : ℕ
+sumSize = 4

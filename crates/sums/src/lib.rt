@@ -19,6 +19,9 @@ const POLYNOMIAL: u32 = 0x82F6_3B78;
 
 const ONES: u32 = 0xFFFF_FFFF;
 
+// The bytes of a sum, as it is stored.
+pub const SIZE: usize = 4;
+
 // The bits of a byte.
 const BITS: u32 = 8;
 
