@@ -61,14 +61,12 @@ fn written(session: Session, out: &[u8]) -> Session {
     over(session)
 }
 
-// The session with room for an answer: the output row is written out and begun anew where the longest might not fit.
-fn with_room(session: Session, out: &[u8], longest: usize) -> Session {
+// Whether the output row has room for one more answer, where `longest` is the longest.
+fn has_room(session: Session, out: &[u8], longest: usize) -> bool {
     if longest <= out.len() {
-        if session.at <= out.len() - longest {
-            return session;
-        }
+        return session.at <= out.len() - longest;
     }
-    written(session, out)
+    false
 }
 
 // The session with a line at hand, and the place behind it.
@@ -83,7 +81,7 @@ fn with_line(session: Session, from: usize, end: usize, next: usize) -> Session 
 
 // The next line of the bytes that were read: up to its newline, or to the end of the input. Of one that is too long what
 // is there is the line, and the rest is passed over.
-fn sought(session: Session, input: &[u8], longest: usize) -> Session {
+pub fn sought(session: Session, input: &[u8], longest: usize) -> Session {
     let mut s = session;
     s.found = false;
     let from = session.next;
@@ -141,14 +139,12 @@ fn read_block(session: Session, input: &mut [u8]) -> Session {
     }
 }
 
-// Goes on to the next line, where `line` is the longest that is none too long, with room for an answer; where no line is
-// there yet, writes out what was answered and reads on.
-pub fn turn(session: Session, input: &mut [u8], out: &[u8], line: usize, answer: usize) -> Session {
-    let s = sought(session, input, line);
-    if s.found {
-        return with_room(s, out, answer);
+// The session with its answers written out, and one more block read where no line is at hand.
+fn written_on(session: Session, input: &mut [u8], out: &[u8]) -> Session {
+    let w = written(session, out);
+    if w.found {
+        return w;
     }
-    let w = written(s, out);
     if w.last {
         return over(w);
     }
@@ -156,4 +152,30 @@ pub fn turn(session: Session, input: &mut [u8], out: &[u8], line: usize, answer:
         return read_block(w, input);
     }
     w
+}
+
+// Whether `turned` writes out what was answered: no line is at hand, or the longest answer might not fit. Who has to do
+// something before an answer is seen does it then.
+pub fn writes(session: Session, out: &[u8], answer: usize) -> bool {
+    if session.found {
+        if has_room(session, out, answer) {
+            return false;
+        }
+    }
+    true
+}
+
+// The session that sought a line, with room for an answer to it: the output row is written out and begun anew where the
+// longest might not fit. Where no line is there yet, what was answered is written out, and more is read.
+pub fn turned(session: Session, input: &mut [u8], out: &[u8], answer: usize) -> Session {
+    if writes(session, out, answer) {
+        return written_on(session, input, out);
+    }
+    session
+}
+
+// Goes on to the next line, where `line` is the longest that is none too long, with room for an answer.
+pub fn turn(session: Session, input: &mut [u8], out: &[u8], line: usize, answer: usize) -> Session {
+    let s = sought(session, input, line);
+    turned(s, input, out, answer)
 }

@@ -1,6 +1,7 @@
-// Standard input and standard output, with what went wrong told apart from the end. A read or a write that fails is
-// said in a line on standard error, in the system's words, before the call answers: the caller has nothing left to do
-// but to stop. No public function has a `requires`, and no contract can say which bytes are read or written.
+// Standard input and standard output, and open files by a name to complain of, with what went wrong told apart from the
+// end. A read or a write that fails is said in a line on standard error, in the system's words, before the call answers:
+// the caller has nothing left to do but to stop. No public function has a `requires`, and no contract can say which
+// bytes are read or written.
 
 use libc::STDIN_FILENO;
 use libc::STDOUT_FILENO;
@@ -28,12 +29,12 @@ pub enum Filled {
 }
 
 // Reads once, whatever is there, into the start of a room.
-fn read_some(room: &mut [u8]) -> Got
+fn read_some(file: i32, name: &[u8], room: &mut [u8]) -> Got
     ensures { λ r. ⌜ Fits (length (now (room .entry))) r ⌝ }
 {
-    let answer = libc::read(STDIN_FILENO, room);
+    let answer = libc::read(file, room);
     if answer < 0 {
-        os::fail(b"standard input");
+        os::fail(name);
         return Got::Failed;
     }
     let n = io::count(answer, room);
@@ -43,14 +44,14 @@ fn read_some(room: &mut [u8]) -> Got
     Got::Bytes(n)
 }
 
-// Reads once behind the first bytes of a buffer, which are kept; none are where it has not so many.
-pub fn refill(buffer: &mut [u8], kept: usize) -> Filled
+// Reads once, from an open file, behind the first bytes of a buffer, which are kept; none are where it has not so many.
+pub fn refill_from(file: i32, name: &[u8], buffer: &mut [u8], kept: usize) -> Filled
     ensures { λ r. ⌜ Holds (length (now (buffer .entry))) r ⌝ }
 {
     if buffer.len() < kept {
         return Filled::Last(0);
     }
-    let got = read_some(&mut buffer[kept..]);
+    let got = read_some(file, name, &mut buffer[kept..]);
     match got {
         Got::Bytes(n) => Filled::More(kept + n),
         Got::End => Filled::Last(kept),
@@ -58,12 +59,24 @@ pub fn refill(buffer: &mut [u8], kept: usize) -> Filled
     }
 }
 
-// Writes all the bytes and answers true, or false where that failed and standard error says why; some may be written
-// then.
-pub fn write_all(bytes: &[u8]) -> bool {
-    if io::write_all(STDOUT_FILENO, bytes) {
+// The same from standard input.
+pub fn refill(buffer: &mut [u8], kept: usize) -> Filled
+    ensures { λ r. ⌜ Holds (length (now (buffer .entry))) r ⌝ }
+{
+    refill_from(STDIN_FILENO, b"standard input", buffer, kept)
+}
+
+// Writes all the bytes to an open file and answers true, or false where that failed and standard error says why; some
+// may be written then.
+pub fn write_to(file: i32, name: &[u8], bytes: &[u8]) -> bool {
+    if io::write_all(file, bytes) {
         return true;
     }
-    os::fail(b"standard output");
+    os::fail(name);
     false
+}
+
+// The same to standard output.
+pub fn write_all(bytes: &[u8]) -> bool {
+    write_to(STDOUT_FILENO, b"standard output", bytes)
 }

@@ -7,7 +7,7 @@ use Rattle.air.proofs.run.complain_of_fault.Statement.{statement}
 use Rattle.air.proofs.run.complain_of_fault.Tie as tie
 
 slice-aggregate-complain-2 : tie.Need-slice-aggregate-complain-2
-slice-aggregate-complain-2 c = sym (length-take-le _ _ (omega (arith, c .before .before .within-row .ensures)))
+slice-aggregate-complain-2 c = sym (length-take-le _ _ (omega (arith, c .before .before .within-row .ensures .1)))
 
 pub complain-of-fault-spec : {M : Type 1} → statement M
 complain-of-fault-spec =
