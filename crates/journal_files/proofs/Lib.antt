@@ -1,0 +1,2 @@
+-- What holds of the numbers that the system gives.
+pub mod Given

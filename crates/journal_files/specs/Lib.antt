@@ -1,0 +1,2 @@
+-- What a head-end writes beside its journal.
+pub mod Records
