@@ -1,5 +1,5 @@
-// The arguments that programs over a log have in common: POOL TITLE LOG, and a file of the program's own; or POOL alone, where a
-// usual one stands for it.
+// The arguments of programs: numbers, words, the pool and how many there are, and what programs over a log have in common, POOL TITLE
+// LOG and a file of the program's own.
 
 use crate::complaints::complain;
 use rules::POOL_MAX;
@@ -13,7 +13,7 @@ use text::numbers::spelt;
 const ARGUMENT_ROOM: usize = 131_072;
 
 // What an argument is.
-enum Given {
+pub enum Given {
     Number(u64),
     NoNumber,
 }
@@ -31,7 +31,7 @@ pub enum Pool {
 }
 
 // The number that an argument spells, the largest where it is larger.
-fn number_given(i: usize) -> Given {
+pub fn number_given(i: usize) -> Given {
     let mut room = [0u8; ARGUMENT_ROOM];
     let n = os::arg(i, &mut room);
     if os::errno() != 0 {
@@ -48,17 +48,54 @@ fn number_given(i: usize) -> Given {
     Given::Number(number.value)
 }
 
+// Whether two texts are the same.
+pub fn same(a: &[u8], b: &[u8]) -> bool {
+    if a.len() != b.len() {
+        return false;
+    }
+    let mut i = 0;
+    while i < a.len() && i < b.len() {
+        if a[i] != b[i] {
+            return false;
+        }
+        i += 1;
+    }
+    true
+}
+
+// Whether an argument is a word.
+pub fn is_word(i: usize, word: &[u8]) -> bool {
+    let mut room = io::buffer();
+    let n = os::arg(i, &mut room);
+    if os::errno() != 0 {
+        return false;
+    }
+    same(&room[..n], word)
+}
+
+// Whether there are so many arguments, the program's own name among them; standard error says which there are to be.
+pub fn count_is(many: usize, names: &[u8]) -> bool {
+    let given = os::arg_count();
+    if given < many {
+        complain(b"too few arguments: ", names);
+        return false;
+    }
+    if many < given {
+        complain(b"too many arguments: ", names);
+        return false;
+    }
+    true
+}
+
 // How many arguments there are is tested first, then the numbers in their order.
 pub fn pool_and_title(names: &[u8]) -> Asked {
-    let given = os::arg_count();
-    if given < 5 {
-        complain(b"too few arguments: ", names);
-        return Asked::Nothing;
+    if count_is(5, names) {
+        return numbers_given();
     }
-    if given > 5 {
-        complain(b"too many arguments: ", names);
-        return Asked::Nothing;
-    }
+    Asked::Nothing
+}
+
+fn numbers_given() -> Asked {
     let Given::Number(pool) = number_given(1) else {
         complain(b"POOL", b" is no number");
         return Asked::Nothing;

@@ -7,6 +7,7 @@ pub mod cutting;
 pub mod folders;
 pub mod holding;
 pub mod opening;
+pub mod pairs;
 pub mod processes;
 pub mod records;
 pub mod windows;

@@ -24,6 +24,8 @@ pub enum Way {
     Append,
     // to write, where no file has that name
     New,
+    // to write from its start, whatever it was
+    Anew,
 }
 
 // The journal's name with an ending behind it, at the start of a room; what has no room is left out, and then no file is found.
@@ -42,6 +44,7 @@ fn opened(path: &[u8], way: Way) -> i32 {
         Way::Update => os::open_update(path),
         Way::Append => os::open_append(path),
         Way::New => os::create(path),
+        Way::Anew => os::open_overwrite(path),
     }
 }
 
@@ -89,4 +92,24 @@ pub fn open_or_make(name: &[u8], ending: &[u8], way: Way, what: &[u8]) -> i32 {
     }
     os::fail(what);
     -1
+}
+
+// The file with one ending takes the name with another; standard error says why it does not.
+pub fn rename(name: &[u8], from: &[u8], to: &[u8], what: &[u8]) -> bool {
+    let mut old = io::buffer();
+    let n = beside(name, from, &mut old);
+    let mut new = io::buffer();
+    let m = beside(name, to, &mut new);
+    if os::rename(&old[..n], &new[..m]) < 0 {
+        os::fail(what);
+        return false;
+    }
+    true
+}
+
+// Removes the file with an ending, where there is one.
+pub fn remove(name: &[u8], ending: &[u8]) {
+    let mut room = io::buffer();
+    let n = beside(name, ending, &mut room);
+    os::unlink(&room[..n]);
 }

@@ -1,8 +1,8 @@
 // Processes, and the files that they have open, as the folder /proc tells.
 
 use crate::records::Record;
-use crate::records::same;
 use crate::windows::least;
+use files::arguments::same;
 use files::pages::within_row;
 use libc::EACCES;
 use libc::PATH_MAX;

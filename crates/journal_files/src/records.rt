@@ -1,6 +1,7 @@
 // A record of JOURNAL.lock: a line `PROCESS DESCRIPTOR BOOT` says which process opened the journal, under which descriptor, and in
 // which run of the machine. A line that is none is passed over, so that damage costs only itself.
 
+use files::arguments::same;
 use files::lines::put_line;
 use text::bytes::Sort;
 use text::bytes::run_end;
@@ -19,21 +20,6 @@ pub struct Record {
 pub enum Line {
     Held(Record),
     Passed,
-}
-
-// Whether two texts are the same.
-pub fn same(a: &[u8], b: &[u8]) -> bool {
-    if a.len() != b.len() {
-        return false;
-    }
-    let mut i = 0;
-    while i < a.len() && i < b.len() {
-        if a[i] != b[i] {
-            return false;
-        }
-        i += 1;
-    }
-    true
 }
 
 // Whether a text goes on from a place with a blank and these words, and nothing behind them.

@@ -1,9 +1,9 @@
--- `journal_files::records::same` is safe and ends.
+-- `files::arguments::same` is safe and ends.
 use Prim.Native.Nat.{_≤_, _-_}
 use lib.ListN.{length}
 use borrow.Author.Needs.{needs}
-use Rattle.journal_files.proofs.records.same.Statement.{statement}
-use Rattle.journal_files.proofs.records.same.Tie as tie
+use Rattle.files.proofs.arguments.same.Statement.{statement}
+use Rattle.files.proofs.arguments.same.Tie as tie
 
 abbrev Inv-loop : tie.InvT-loop
 Inv-loop a b i₀ i = i ≤ length a
