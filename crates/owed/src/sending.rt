@@ -109,7 +109,7 @@ fn nth_owed(t: Title, lane: u64, from: u64, nth: u64) -> u64
 }
 
 // The tick whose cell a sending lane shows at a tick.
-fn sending_tick(t: Title, lane: u64, tick: u64) -> u64
+pub fn sending_tick(t: Title, lane: u64, tick: u64) -> u64
     requires { ⌜ Sending t ⌝ }
     requires { ⌜ lane < t .film .cap ⌝ }
     ensures { λ r. ⌜ Exactly (sendingTick t lane tick) 0 tickMax r ⌝ }

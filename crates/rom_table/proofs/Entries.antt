@@ -1,6 +1,7 @@
--- A test over a whole table holds at each of its entries; and a lane's entry for a tick is its cell at every tick that
--- lies whole periods away. Rests on the period of a lawful scheme's lanes.
-use mathlib.Core.Path.{_≡_, sym, ap₂, _∙_}
+-- A test over a whole table holds at each of its entries; a row that passes is the table, and so is one that was filled; and the
+-- table's number for a lane and a tick is the lane's cell, also at ticks that lie whole periods away. Rests on the period of a
+-- lawful scheme's lanes.
+use mathlib.Core.Path.{_≡_, refl, sym, ap, ap₂, _∙_}
 use mathlib.Core.Bool.{Bool, true}
 use mathlib.Core.List.{List, [], _∷_}
 use Prim.Native.Nat.{ℕ, zero, suc, _+_, _*_, _/_, _%_, _^_, _<_}
@@ -8,15 +9,14 @@ use native.Mathlib.Nat.{le-of-suc-le-suc, not-suc-le-zero, add-suc, suc-add, add
 use native.Mathlib.Omega.{arith}
 use lib.Arith.{digits-div, digits-mod}
 use lib.ListN.{length, getD}
-use borrow.Author.Tests.{eqb-true}
+use borrow.Author.Tests.{eqb-true, eq-eqb}
 use Rattle.rules.proofs.Tests.{both-l, both-r}
-use Rattle.grid.specs.Bounds.{IsCell}
 use Rattle.grid.specs.Lanes.{laneCell}
-use Rattle.grid.proofs.Channels.{cell-within}
-use Rattle.grid.proofs.Lanes.{cell-of-lane}
 use Rattle.scheme.proofs.Padded.{padded-lawful}
 use Rattle.scheme.proofs.Lawful.{lane-looked-up}
-use Rattle.rom_table.specs.Table.{romFloor, romCap, romPeriod, romEntries, romEntry, passes, isEntry}
+use Rattle.rules.specs.Refusals.{done}
+use Rattle.plans.proofs.Row.{filled-length, filled-first}
+use Rattle.rom_table.specs.Table.{romFloor, romCap, romPeriod, romEntries, romEntry, IsTable, fillAnswer, Filled, tableCell, passes, isEntry}
 
 -- ---- a test over a table
 
@@ -35,23 +35,31 @@ passes-at f xs e k h = rw (zero-add k) at (passes-from f xs 0 e k h)
 
 -- ---- the table of the grid
 
--- a lane carries one of the 2^K cells
-pub lane-within : (l t : ℕ) → l < romCap → laneCell romFloor romCap l t < 2 ^ romCap
-lane-within l t b =
-    let m = cell-of-lane romFloor romCap romCap l t (omega arith) (omega arith) b in
-    rw (m .2) at (cell-within romFloor romCap romCap (m .0) t (omega arith) (m .1))
+-- numbers that all pass are the table
+pub table-of : (xs : List ℕ) → length xs ≡ romEntries → passes isEntry 0 xs ≡ true → IsTable xs
+unfolding isEntry
+table-of xs l e =
+    record { long = l; each = λ i b. eqb-true (getD xs i 0) (romEntry i) (passes-at isEntry xs e i (omega (arith, l, b))) }
 
-pub entry-at : (xs : List ℕ) → passes isEntry 0 xs ≡ true → (i : ℕ) → i < romEntries → i < length xs
-    → IsCell romCap (romEntry i) (getD xs i 0)
-unfolding isEntry romEntry
-entry-at xs e i b h =
-    let q : getD xs i 0 ≡ romEntry i = eqb-true (getD xs i 0) (romEntry i) (passes-at isEntry xs e i h) in
-    record { is = q; within = rw q (lane-within (i / romPeriod) (i % romPeriod) (omega arith)) }
+-- a row that was filled is the table
+pub filled-table : (row : List ℕ) (r : ℕ) (after : List ℕ) → Filled row r after → length row ≡ romEntries → IsTable after
+unfolding fillAnswer
+filled-table row r after f l =
+    let e : fillAnswer row ≡ done = rw (eq-eqb (length row) romEntries l) refl in
+    record {
+      long = ap length (f .left) ∙ filled-length (fillAnswer row) romEntry romEntries row ∙ l;
+      each = λ i b. ap (λ xs. getD xs i 0) (f .left) ∙ filled-first (fillAnswer row) romEntry romEntries row e i (omega (arith, l)) b;
+    }
 
 -- the entry at the lane's place for a tick is its cell then, at any tick
-pub looked-up : (l t : ℕ) → l < romCap → romEntry (l * romPeriod + t % romPeriod) ≡ laneCell romFloor romCap l t
+looked-up : (l t : ℕ) → l < romCap → romEntry (l * romPeriod + t % romPeriod) ≡ laneCell romFloor romCap l t
 unfolding romEntry
 looked-up l t b =
     let r : t % romPeriod < romPeriod = mod-lt t (omega arith) in
     ap₂ (laneCell romFloor romCap) (digits-div l r) (digits-mod l r)
     ∙ sym (lane-looked-up (padded-lawful 0 romFloor romCap (omega arith) (omega arith)) l t b)
+
+pub table-cell : (T : List ℕ) → IsTable T → (l t : ℕ) → l < romCap → tableCell T l t ≡ laneCell romFloor romCap l t
+table-cell T h l t b =
+    let r : t % romPeriod < romPeriod = mod-lt t (omega arith) in
+    h .each (l * romPeriod + t % romPeriod) (omega (arith, r, b)) ∙ looked-up l t b

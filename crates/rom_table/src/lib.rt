@@ -1,11 +1,14 @@
 // The grid for floor 3 and cap 10, a number for each lane and each tick of the period (02, request 6): the table of the small
-// box, which `rom` looks up. `table.py` in this crate prints the numbers; the proof is of those that stand here.
+// box, which a caller's row is filled with once, and in which `rom` looks up. `table.py` in this crate prints the numbers; the
+// proof is of those that stand here.
 
+use rules::DONE;
+use rules::WRONG_ROWS;
 ghost use Prim.Native.Nat.{_<_};
 ghost use mathlib.Core.Path.{_≡_};
-ghost use Rattle.grid.specs.Bounds.{IsCell};
-ghost use Rattle.grid.specs.Lanes.{laneCell};
-ghost use Rattle.rom_table.specs.Table.{romFloor, romCap, romEntries, romEntry, isOther};
+ghost use lib.ListN.{length};
+ghost use Rattle.plans.specs.Row.{written};
+ghost use Rattle.rom_table.specs.Table.{romCap, romEntries, romEntry, isOther, IsTable, Filled, tableCell};
 
 pub const ROM_FLOOR: u64 = 3;
 
@@ -13,6 +16,9 @@ pub const ROM_CAP: u64 = 10;
 
 // After so many ticks every lane begins anew.
 pub const PERIOD: u64 = 512;
+
+// How many numbers the table has.
+pub const ENTRIES: usize = 5120;
 
 // Whether floor and cap are not the box's.
 pub fn is_other(floor: u64, cap: u64) -> bool
@@ -26,20 +32,44 @@ pub fn is_other(floor: u64, cap: u64) -> bool
     true
 }
 
-// The cell at a place of the table, in which the ticks of a lane stand together.
-fn entry(at: usize) -> u16
-    requires { ⌜ at < romEntries ⌝ }
-    ensures { λ r. ⌜ IsCell romCap (romEntry at) r ⌝ }
+// The table by value: the language has no constant that is read in place.
+fn cells() -> [u16; ENTRIES]
+    ensures { λ r. ⌜ IsTable r ⌝ }
 {
-    CELLS[at]
+    CELLS
 }
 
-// The cell that a lane carries at a tick.
-pub fn cell_at(lane: u64, tick: u64) -> u64
-    requires { ⌜ lane < romCap ⌝ }
-    ensures { λ r. ⌜ IsCell romCap (laneCell romFloor romCap lane tick) r ⌝ }
+// The table's numbers, one after another into a row of as many places.
+fn write(row: &mut [u16])
+    requires { ⌜ length (now row) ≡ romEntries ⌝ }
+    ensures { λ _. ⌜ now (row .exit) ≡ written romEntry (now (row .entry)) romEntries ⌝ }
 {
-    entry((lane * PERIOD + tick % PERIOD) as usize) as u64
+    let numbers = cells();
+    let mut i = 0;
+    while i < ENTRIES {
+        row[i] = numbers[i];
+        i += 1;
+    }
+}
+
+// Fills a lent row with the table. One of another length, shorter or longer, gets 10 and stays as it is.
+pub fn fill(row: &mut [u16]) -> u8
+    ensures { λ r. ⌜ Filled (now (row .entry)) r (now (row .exit)) ⌝ }
+{
+    if row.len() == ENTRIES {
+        write(row);
+        return DONE;
+    }
+    WRONG_ROWS
+}
+
+// The number that a lent table has for a lane and a tick, whatever stands there.
+pub fn cell_at(table: &[u16], lane: u64, tick: u64) -> u16
+    requires { ⌜ length (now table) ≡ romEntries ⌝ }
+    requires { ⌜ lane < romCap ⌝ }
+    ensures { λ r. ⌜ r ≡ tableCell (now (table .entry)) lane tick ⌝ }
+{
+    table[(lane * PERIOD + tick % PERIOD) as usize]
 }
 
 // Lane 0's 512 ticks, then lane 1's, and so on.

@@ -1,0 +1,79 @@
+-- `write` meets its contract. The invariant: the places passed have their entries.
+use mathlib.Core.Path.{_≡_, refl, ap, _∙_}
+use Prim.Native.Nat.{_-_, _≤_}
+use native.Mathlib.Omega.{arith}
+use native.Mathlib.Nat.{le-antisymm}
+use lib.ListN.{length, length-set}
+use borrow.Author.Needs.{needs}
+use Rattle.plans.specs.Row.{written}
+use Rattle.plans.proofs.Row.{written-next}
+use Rattle.rom_table.specs.Table.{romEntries, romEntry}
+use Rattle.rom_table.proofs.write.Statement.{statement}
+use Rattle.rom_table.proofs.write.Tie as tie
+
+abbrev Inv-loop : tie.InvT-loop
+Inv-loop row₀ numbers i₀ row i = (i ≤ romEntries) × (row ≡ written romEntry row₀ i) × (length row ≡ length row₀)
+
+abbrev μ-loop : tie.MeasureT-loop
+μ-loop row₀ numbers i₀ row i = romEntries - i
+
+cells-requires : tie.Need-cells-requires Inv-loop μ-loop
+cells-requires c κs = search needs
+
+loop-holds : tie.Need-loop-holds Inv-loop μ-loop
+unfolding written
+loop-holds c = (omega arith, refl, refl)
+
+mul-row : tie.Need-mul-row Inv-loop μ-loop
+mul-row c = search needs
+
+array-read-row : tie.Need-array-read-row Inv-loop μ-loop
+array-read-row c = search needs
+
+mul-row-2 : tie.Need-mul-row-2 Inv-loop μ-loop
+mul-row-2 c = search needs
+
+slice-write-row : tie.Need-slice-write-row Inv-loop μ-loop
+slice-write-row c = omega (arith, c .before .loop .inv .2, c .before .before .before .before .pre, c .loop-test .taken)
+
+add-i : tie.Need-add-i Inv-loop μ-loop
+add-i c = search needs
+
+loop-less : tie.Need-loop-less Inv-loop μ-loop
+loop-less c = omega arith
+
+loop-again : tie.Need-loop-again Inv-loop μ-loop
+loop-again c =
+    let l = c .before .loop in
+    let s = c .before .before .before .before in
+    let number = c .before .before .cells .ensures .each (l .i) (c .loop-test .taken) in (
+      omega (arith, c .loop-test .taken),
+      written-next romEntry (s .args .row .now) (l .row) (l .i) _ (l .inv .1) number,
+      length-set (l .row) (l .i) _ ∙ l .inv .2,
+    )
+
+same-length : tie.Need-same-length Inv-loop μ-loop
+same-length c = c .before .loop .inv .2
+
+returns : tie.Need-returns Inv-loop μ-loop
+returns c =
+    let l = c .before .loop in
+    l .inv .1 ∙ ap (written romEntry (c .before .before .before .before .args .row .now)) (le-antisymm (l .inv .0) (c .loop-test .left))
+
+pub write-spec : {M : Type 1} → statement M
+write-spec =
+    tie.close
+    (tie.spec
+    Inv-loop
+    μ-loop
+    cells-requires
+    loop-holds
+    mul-row
+    array-read-row
+    mul-row-2
+    slice-write-row
+    add-i
+    loop-less
+    loop-again
+    same-length
+    returns)
