@@ -22,6 +22,7 @@ ghost use Rattle.scheme.specs.Scheme.{steadyKind};
 ghost use Rattle.story.specs.Life.{reach as reachOf};
 ghost use Rattle.story.specs.Kept.{keptNth, sendingTick, shows as showsOf};
 ghost use Rattle.measures.specs.Readable.{Owing, Sending};
+ghost use Rattle.owed.specs.Shown.{shownTick};
 
 // How far from its drop the last tick lies that a lane may owe.
 pub fn reach(t: Title) -> u64
@@ -118,20 +119,29 @@ pub fn sending_tick(t: Title, lane: u64, tick: u64) -> u64
     from + nth_owed(t, lane, from, since(from, tick))
 }
 
+// The tick whose cell a held lane shows at a tick: on an active lane that tick.
+pub fn shown_tick(t: Title, lane: u64, tick: u64) -> u64
+    requires { ⌜ Sending t ⌝ }
+    requires { ⌜ (lane < t .film .cap) × (tick ≤ tickMax) ⌝ }
+    ensures { λ r. ⌜ Exactly (shownTick t lane tick) 0 tickMax r ⌝ }
+{
+    if lane < ruling(t) {
+        return tick;
+    }
+    sending_tick(t, lane, tick)
+}
+
 // The cell that a held lane shows at a tick.
 pub fn shows(t: Title, lane: u64, tick: u64) -> u64
     requires { ⌜ Sending t ⌝ }
     requires { ⌜ (lane < t .film .cap) × (tick ≤ tickMax) ⌝ }
     ensures { λ r. ⌜ r ≡ showsOf t lane tick ⌝ }
 {
-    if lane < ruling(t) {
-        return lane_cell(t.film.kind, t.film.floor, t.film.cap, lane, tick);
-    }
     lane_cell(
         t.film.kind,
         t.film.floor,
         t.film.cap,
         lane,
-        sending_tick(t, lane, tick),
+        shown_tick(t, lane, tick),
     )
 }
