@@ -1,30 +1,32 @@
 -- The lane question: where a title's scheme, floor and cap are the box's, answer and cell are the computing call's; an
--- answered question has such a title; and what is looked up is that title's. Rests on the laws of refusals and of lane
--- questions.
+-- answered question has such a title; and what is looked up in a table that was filled is that title's. Rests on the laws of
+-- refusals, of lane questions and of the table.
 use mathlib.Core.Path.{_≡_, refl, sym, ap, _∙_}
 use mathlib.Core.Bool.{Bool, true, false, not}
+use mathlib.Core.List.{List}
 use mathlib.Core.Logic.{⊎-elim}
 use Prim.Native.Nat.{ℕ, _≤_, _<_}
 use native.Mathlib.Omega.{arith}
-use lib.Dec.{leb, ltb, eqb}
-use borrow.Author.Tests.{ne-eqb, eqb-false, le-leb, lt-leb, lt-ltb, le-ltb}
+use lib.Dec.{leb, eqb}
+use lib.ListN.{length}
+use borrow.Author.Tests.{eq-eqb, ne-eqb, eqb-true, eqb-false, le-leb, lt-leb}
 use Rattle.rules.specs.Limits.{both, either, idMax}
-use Rattle.rules.specs.Refusals.{pick, firstHit, outsideLimits}
+use Rattle.rules.specs.Refusals.{pick, firstHit, outsideLimits, wrongRows}
 use Rattle.rules.proofs.Tests.{decide, either-false-l, either-false-r}
 use Rattle.grid.specs.Lanes.{laneCell}
-use Rattle.grid.specs.Bounds.{IsCell}
-use Rattle.scheme.specs.Scheme.{steadyKind, tickFor, filmIn}
+use Rattle.scheme.specs.Scheme.{steadyKind}
 use Rattle.scheme.proofs.ByKind.{padded-scheme}
 use Rattle.story.specs.declared.Title.{Title}
 use Rattle.story.specs.declared.State.{State}
-use Rattle.story.specs.Life.{reach}
-use Rattle.story.specs.Kept.{absentMode, titleAt, isSteadyTitle, schemeIn, titleTick, tickAt, ruling, keptAwaited, keptOwed, sendingTick, shows}
+use Rattle.story.specs.Kept.{absentMode, titleAt, isSteadyTitle, schemeIn, tickAt, shows}
 use Rattle.story.specs.Calls.{laneAnswer, laneShows}
-use Rattle.owed.proofs.Shown.{shows-active, shows-sending}
-use Rattle.questions.proofs.Lane.{lane-id, lane-slot}
-use Rattle.rom_table.specs.Table.{romFloor, romCap, romPeriod, isOther}
+use Rattle.owed.specs.Shown.{shownTick}
+use Rattle.owed.proofs.Shown.{shown-cell}
+use Rattle.questions.proofs.Lane.{lane-id, lane-slot, lane-capped}
+use Rattle.rom_table.specs.Table.{romFloor, romCap, romEntries, isOther, IsTable, tableCell}
 use Rattle.rom_table.proofs.OwnNumbers.{own, own-numbers}
-use Rattle.rom.specs.Lanes.{isForeign, romLaneAnswer, romLaneShows, Own}
+use Rattle.rom_table.proofs.Entries.{table-cell}
+use Rattle.rom.specs.Lanes.{isForeign, romLaneAnswer, romLaneShows, tableLaneAnswer, tableLaneShows, Own}
 
 -- ---- which titles the box has
 
@@ -110,39 +112,60 @@ module _ (s : State) (i l τ : ℕ) where
 
 -- ---- what is looked up
 
-module _ (t : Title) (o : Own t) (l u x : ℕ) where
-  pub own-lane : IsCell romCap (laneCell romFloor romCap l u) x → IsCell (t .film .cap) (schemeIn t .onLane l u) x
-  own-lane h = rw (padded-scheme (t .film .kind) (t .film .floor) (t .film .cap) (o .kind), o .floor, o .cap) h
-
-  own-film : (b : Bool) → filmIn (t .film .length) (tickFor (t .film .kind) (t .film .length) romFloor romCap) x ≡ b → filmIn (t .film .length) (titleTick t) x ≡ b
-  own-film b h = rw (o .floor, o .cap) h
-
-  module _ (cell : IsCell romCap (laneCell romFloor romCap l u) x) where
-    pub own-owed : (r : Bool) → filmIn (t .film .length) (tickFor (t .film .kind) (t .film .length) romFloor romCap) x ≡ true → r ≡ keptAwaited t l x u
-        → r ≡ keptOwed t l u
-    unfolding keptOwed
-    own-owed r h w = rw (← own-lane cell .is, own-film true h) w
-
-    pub own-padding : filmIn (t .film .length) (tickFor (t .film .kind) (t .film .length) romFloor romCap) x ≡ false → false ≡ keptOwed t l u
-    unfolding keptOwed
-    own-padding h = rw (← own-lane cell .is, own-film false h) refl
-
 pub own-capped : (t : Title) → Own t → (l : ℕ) → l < t .film .cap → l < romCap
 own-capped t o l h = omega (arith, o .cap)
 
-pub own-reach : (t : Title) → Own t → reach (t .film .cap) ≡ romPeriod
-unfolding reach
-own-reach t o = rw (o .cap) refl
+-- the box's grid is the title's
+own-lane : (t : Title) → Own t → (l u : ℕ) → laneCell romFloor romCap l u ≡ schemeIn t .onLane l u
+own-lane t o l u = rw (padded-scheme (t .film .kind) (t .film .floor) (t .film .cap) (o .kind), o .floor, o .cap) refl
 
--- the cell of a held lane: the usual one below the ruling count, else the one of the tick whose cell is sent
-module _ (t : Title) (o : Own t) (l n k x : ℕ) where
-  pub shows-usual : k ≡ ruling t → l < k → IsCell romCap (laneCell romFloor romCap l n) x → x ≡ shows t l n
-  shows-usual e b h =
-      let low : ltb l (ruling t) ≡ true = lt-ltb l (ruling t) (omega arith) in
-      own-lane t o l n x h .is ∙ sym (shows-active t l n low)
+module _ (T : List ℕ) (s : State) (i l τ : ℕ) where
+  -- a table of another length
+  pub table-refused : (length T ≡ romEntries → ⊥) → wrongRows ≡ tableLaneAnswer T s i l τ
+  unfolding tableLaneAnswer
+  table-refused n = rw (ne-eqb (length T) romEntries n) refl
 
-  pub shows-sent : (u : ℕ) → k ≡ ruling t → k ≤ l → u ≡ sendingTick t l n
-      → IsCell romCap (laneCell romFloor romCap l u) x → x ≡ shows t l n
-  shows-sent u e b f h =
-      let high : ltb l (ruling t) ≡ false = le-ltb l (ruling t) (omega arith) in
-      own-lane t o l u x h .is ∙ ap (schemeIn t .onLane l) f ∙ sym (shows-sending t l n high)
+  pub table-asked : length T ≡ romEntries → romLaneAnswer s i l τ ≡ tableLaneAnswer T s i l τ
+  unfolding tableLaneAnswer
+  table-asked e = rw (eq-eqb (length T) romEntries e) refl
+
+  -- a question that is answered has a table of the right length
+  module _ (none : tableLaneAnswer T s i l τ ≡ 0) where
+    pub table-long : length T ≡ romEntries
+    table-long =
+        ⊎-elim (λ h. eqb-true (length T) romEntries h)
+        (λ h. absurd (omega (arith, table-refused (eqb-false (length T) romEntries h), none)))
+        (decide (eqb (length T) romEntries))
+
+    pub table-answered : romLaneAnswer s i l τ ≡ 0
+    table-answered = table-asked table-long ∙ none
+
+    pub table-shown : tableCell T l (shownTick (titleAt s i) l (tickAt (titleAt s i) τ)) ≡ tableLaneShows T s i l τ
+    unfolding tableLaneShows
+    table-shown = rw none refl
+
+  pub table-unshown : (tableLaneAnswer T s i l τ ≡ 0 → ⊥) → 0 ≡ tableLaneShows T s i l τ
+  unfolding tableLaneShows
+  table-unshown n = rw (ne-eqb (tableLaneAnswer T s i l τ) 0 n) refl
+
+  -- by the table itself, answer and cell are the small box's
+  pub table-lane : IsTable T → (tableLaneAnswer T s i l τ ≡ romLaneAnswer s i l τ) × (tableLaneShows T s i l τ ≡ romLaneShows s i l τ)
+  table-lane h = (same, ⊎-elim (λ e. shown (eqb-true _ 0 e)) (λ e. unshown (eqb-false _ 0 e)) (decide (eqb (romLaneAnswer s i l τ) 0)))
+    where
+      same : tableLaneAnswer T s i l τ ≡ romLaneAnswer s i l τ
+      same = sym (table-asked (h .long))
+
+      shown : romLaneAnswer s i l τ ≡ 0 → tableLaneShows T s i l τ ≡ romLaneShows s i l τ
+      shown none =
+          let t = titleAt s i in
+          let u = shownTick t l (tickAt t τ) in
+          let own = rom-own s i l τ none in
+          let low = own-capped t own l (lane-capped s i l τ (rom-answered s i l τ none)) in
+          sym (table-shown (same ∙ none))
+          ∙ table-cell T h l u low
+          ∙ own-lane t own l u
+          ∙ sym (shown-cell t l (tickAt t τ))
+          ∙ sym (rom-shown s i l τ none)
+
+      unshown : (romLaneAnswer s i l τ ≡ 0 → ⊥) → tableLaneShows T s i l τ ≡ romLaneShows s i l τ
+      unshown n = sym (table-unshown (λ e. n (sym same ∙ e))) ∙ sym (rom-refused s i l τ n)

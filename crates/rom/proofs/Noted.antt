@@ -1,56 +1,50 @@
--- Noting ticks in a row: lengths stay, and over a row that holds f in its first n places, noting one cell, one tick's
--- lanes or all ticks leaves a row that holds another function there; after a period of ticks that function is the
--- plan. Rests on the laws of stores into a list, and on the plan as a first showing.
+-- Noting ticks in a row from a lent table: lengths stay, and over a row that holds g in its first places, noting one tick's lanes or all
+-- ticks, the last first, leaves a row that holds another function there; after a period of ticks that function is the first showing.
+-- Rests on the laws of stores into a list, and of the first of a search.
 use mathlib.Core.Path.{_≡_, refl, sym, ap, ap₂, _∙_}
 use mathlib.Core.Bool.{Bool, true, false}
 use mathlib.Core.List.{List}
 use mathlib.Core.Logic.{⊎-elim}
-use Prim.Native.Nat.{ℕ, zero, suc, _+_, _^_, _≤_, _<_}
+use Prim.Native.Nat.{ℕ, zero, suc, _+_, _-_, _^_, _≤_, _<_}
 use native.Mathlib.Omega.{arith}
 use native.Mathlib.Numerals.{add-one}
 use lib.Dec.{ltb, eqb}
-use lib.ListN.{length, getD, set, length-set}
+use lib.ListN.{length, set, length-set}
 use lib.Seq.{set-set, set-comm}
-use borrow.Author.Tests.{eq-eqb, ne-eqb, eqb-true, eqb-false, ltb-true, lt-ltb, le-ltb}
+use borrow.Author.Tests.{eq-eqb, ne-eqb, eqb-true, eqb-false, ltb-true, ltb-false}
 use Rattle.rules.specs.Refusals.{pick}
-use Rattle.rules.specs.Search.{some, first, keepFirst}
+use Rattle.rules.specs.Search.{some, first}
 use Rattle.rules.proofs.Tests.{decide}
-use Rattle.rules.proofs.Search.{below-suc}
-use Rattle.grid.specs.Lanes.{laneCell}
-use Rattle.grid.specs.Bounds.{Counted}
-use Rattle.scheme.specs.Scheme.{padded, starts}
-use Rattle.plans.specs.Padded.{planAt, never}
+use Rattle.rules.proofs.Search.{below-suc, first-hit, first-before}
+use Rattle.plans.specs.Padded.{never}
 use Rattle.plans.specs.Row.{written}
-use Rattle.plans.proofs.Row.{written-first}
-use Rattle.rom_table.specs.Table.{romFloor, romCap, romPeriod}
-use Rattle.rom_table.proofs.Entries.{lane-within}
+use Rattle.rom_table.specs.Table.{romCap, romPeriod, tableCell}
 use Rattle.rom.specs.Plan.{notedOnce, notedLanes, notedTicks}
 use Rattle.rom.specs.Showing.{isOnLanes, shownAfter, seenWithin}
-use Rattle.rom.proofs.Showing.{seen-plan}
 
 -- ---- lengths, and one step more
 
 pub noted-length : (row : List ℕ) (c o : ℕ) → length (notedOnce row c o) ≡ length row
 unfolding notedOnce
 noted-length row c o =
-    elim (eqb (getD row c 0) never) as (λ b. length (pick b (set row c o) row) ≡ length row)
+    elim (ltb c (2 ^ romCap)) as (λ b. length (pick b (set row c o) row) ≡ length row)
     [ true ↦ length-set row c o | false ↦ refl ]
 
-pub lanes-length : (row : List ℕ) (t o l : ℕ) → length (notedLanes row t o l) ≡ length row
+pub lanes-length : (T row : List ℕ) (t o l : ℕ) → length (notedLanes T row t o l) ≡ length row
 unfolding notedLanes
-lanes-length row t o zero = refl
-lanes-length row t o (suc l) =
-    noted-length (notedLanes row t o l) (laneCell romFloor romCap l t) o ∙ lanes-length row t o l
+lanes-length T row t o zero = refl
+lanes-length T row t o (suc l) =
+    noted-length (notedLanes T row t o l) (tableCell T l t) o ∙ lanes-length T row t o l
 
-pub lanes-more : (row r q : List ℕ) (t o l x : ℕ) → r ≡ notedLanes row t o l → x ≡ laneCell romFloor romCap l t
-    → q ≡ notedOnce r x o → q ≡ notedLanes row t o (l + 1)
+pub lanes-more : (T row r q : List ℕ) (t o l x : ℕ) → r ≡ notedLanes T row t o l → x ≡ tableCell T l t
+    → q ≡ notedOnce r x o → q ≡ notedLanes T row t o (l + 1)
 unfolding notedLanes
-lanes-more row r q t o l x e f g = g ∙ rw (add-one l, e, f) refl
+lanes-more T row r q t o l x e f g = g ∙ rw (add-one l, e, f) refl
 
-pub ticks-more : (row r q : List ℕ) (k a n : ℕ) → r ≡ notedTicks row k a n → q ≡ notedLanes r (a + n) n k
-    → q ≡ notedTicks row k a (n + 1)
+pub ticks-more : (T row r q : List ℕ) (k a n : ℕ) → r ≡ notedTicks T row k a n
+    → q ≡ notedLanes T r (a + (romPeriod - (n + 1))) (romPeriod - (n + 1)) k → q ≡ notedTicks T row k a (n + 1)
 unfolding notedTicks
-ticks-more row r q k a n e g = g ∙ rw (add-one n, e) refl
+ticks-more T row r q k a n e g = g ∙ rw (add-one n, e) refl
 
 -- ---- stores
 
@@ -87,130 +81,116 @@ written-set f row (suc n) c v l =
         (written-ext f (but f n v) row n (λ i b. sym (but-there f n v i (λ q. omega arith))))
         (sym (but-here f n v)))
 
--- ---- what is noted over such a row
+-- ---- one tick's lanes
 
--- cell c gets o where it has no tick yet
-abbrev pub noting : (ℕ → ℕ) → ℕ → ℕ → ℕ → ℕ
-noting f c o i = pick (eqb i c) (pick (eqb (f i) never) o (f i)) (f i)
+module _ (T row : List ℕ) (t o : ℕ) where
+  -- the number of a cell's place once lanes 0 to l - 1 were noted
+  shown-over : (ℕ → ℕ) → ℕ → ℕ → ℕ
+  shown-over g l c = pick (isOnLanes (tableCell T) l t c) o (g c)
 
-noting-at : (f : ℕ → ℕ) (c o i : ℕ) → i ≡ c → noting f c o i ≡ pick (eqb (f i) never) o (f i)
-noting-at f c o i e = rw (eq-eqb i c e) refl
+  over-none : (g : ℕ → ℕ) (c : ℕ) → g c ≡ shown-over g 0 c
+  unfolding shown-over isOnLanes some
+  over-none g c = refl
 
-noting-there : (f : ℕ → ℕ) (c o i : ℕ) → (i ≡ c → ⊥) → noting f c o i ≡ f i
-noting-there f c o i n = rw (ne-eqb i c n) refl
+  over-here : (g : ℕ → ℕ) (l c : ℕ) → tableCell T l t ≡ c → shown-over g (suc l) c ≡ o
+  unfolding shown-over isOnLanes some
+  over-here g l c e = rw (eq-eqb (tableCell T l t) c e) refl
 
-pub noted-written : (f : ℕ → ℕ) (row : List ℕ) (n c o : ℕ) → n ≤ length row → c < n
-    → notedOnce (written f row n) c o ≡ written (noting f c o) row n
-unfolding notedOnce
-noted-written f row n c o room l =
-    rw (written-first f row n c room l)
-    (⊎-elim
-    (λ h. rw h (written-set f row n c o l ∙ written-ext (but f c o) (noting f c o) row n (λ i b. same i h)))
-    (λ h. rw h (written-ext f (noting f c o) row n (λ i b. kept i h)))
-    (decide (eqb (f c) never)))
-  where
-    same : (i : ℕ) → eqb (f c) never ≡ true → but f c o i ≡ noting f c o i
-    same i h =
-        ⊎-elim (λ e. let q : i ≡ c = eqb-true i c e in rw (e, q, h) refl) (λ e. rw e refl) (decide (eqb i c))
+  over-there : (g : ℕ → ℕ) (l c : ℕ) → (tableCell T l t ≡ c → ⊥) → shown-over g (suc l) c ≡ shown-over g l c
+  unfolding shown-over isOnLanes some
+  over-there g l c e = rw (ne-eqb (tableCell T l t) c e) refl
 
-    kept : (i : ℕ) → eqb (f c) never ≡ false → f i ≡ noting f c o i
-    kept i h =
-        ⊎-elim (λ e. let q : i ≡ c = eqb-true i c e in rw (e, q, h) refl) (λ e. rw e refl) (decide (eqb i c))
+  over-more : (g : ℕ → ℕ) (l c : ℕ) → but (shown-over g l) (tableCell T l t) o c ≡ shown-over g (suc l) c
+  over-more g l c =
+      let x : ℕ = tableCell T l t in
+      ⊎-elim
+      (λ e. let q : c ≡ x = eqb-true c x e in rw e (sym (over-here g l c (sym q))))
+      (λ e. let q = eqb-false c x e in rw e (sym (over-there g l c (λ d. q (sym d)))))
+      (decide (eqb c x))
+
+  lanes-written : (g : ℕ → ℕ) (l : ℕ) → notedLanes T (written g row (2 ^ romCap)) t o l ≡ written (shown-over g l) row (2 ^ romCap)
+  unfolding notedLanes notedOnce
+  lanes-written g zero = written-ext g (shown-over g 0) row (2 ^ romCap) (λ c _. over-none g c)
+  lanes-written g (suc l) =
+      let x : ℕ = tableCell T l t in
+      ap (λ r. pick (ltb x (2 ^ romCap)) (set r x o) r) (lanes-written g l)
+      ∙ ⊎-elim
+      (λ h. rw h
+      (written-set (shown-over g l) row (2 ^ romCap) x o (ltb-true x (2 ^ romCap) h)
+      ∙ written-ext (but (shown-over g l) x o) (shown-over g (suc l)) row (2 ^ romCap) (λ c _. over-more g l c)))
+      (λ h. rw h
+      (written-ext (shown-over g l) (shown-over g (suc l)) row (2 ^ romCap)
+      (λ c b. sym (over-there g l c (λ e. let far = ltb-false x (2 ^ romCap) h in omega (arith, e, b, far))))))
+      (decide (ltb x (2 ^ romCap)))
 
 -- ---- all ticks of a period
 
-module _ (k a : ℕ) where
-  abbrev after : ℕ → ℕ → ℕ
-  after n c = shownAfter romFloor romCap k a n c
+-- the first of the last j numbers below n at which a test holds, met from behind
+back : (ℕ → Bool) → ℕ → ℕ → ℕ
+back p n zero = never
+back p n (suc j) = pick (p (n - suc j)) (n - suc j) (back p n j)
 
-  -- the number of a cell's place after n ticks and the first l lanes of the next
-  partly : ℕ → ℕ → ℕ → ℕ
-  partly n l c = pick (ltb (after n c) n) (after n c) (pick (isOnLanes romFloor romCap l (a + n) c) n never)
-
-  -- no tick yet
-  seen-none : (c : ℕ) → never ≡ seenWithin romFloor romCap k a 0 c
-  unfolding seenWithin shownAfter first
-  seen-none c = refl
-
-  -- no lane yet
-  partly-none : (n c : ℕ) → seenWithin romFloor romCap k a n c ≡ partly n 0 c
-  unfolding seenWithin partly isOnLanes some
-  partly-none n c = refl
-
-  -- one lane more
-  partly-shown : (n l c : ℕ) → laneCell romFloor romCap l (a + n) ≡ c
-      → partly n (suc l) c ≡ pick (ltb (after n c) n) (after n c) n
-  unfolding partly isOnLanes some
-  partly-shown n l c e = rw (eq-eqb (laneCell romFloor romCap l (a + n)) c e) refl
-
-  partly-same : (n l c : ℕ) → (laneCell romFloor romCap l (a + n) ≡ c → ⊥) → partly n (suc l) c ≡ partly n l c
-  unfolding partly isOnLanes some
-  partly-same n l c e = rw (ne-eqb (laneCell romFloor romCap l (a + n)) c e) refl
-
-  partly-more : (n l c : ℕ) → n < never →
-      noting (partly n l) (laneCell romFloor romCap l (a + n)) n c ≡ partly n (suc l) c
-  unfolding partly
-  partly-more n l c low =
-      let x : ℕ = laneCell romFloor romCap l (a + n) in
+module _ (p : ℕ → Bool) (n : ℕ) where
+  back-hit : (j i : ℕ) → j ≤ n → n - j ≤ i → i < n → p i ≡ true → ((m : ℕ) → m < i → p m ≡ false) → back p n j ≡ i
+  unfolding back
+  back-hit zero i room low high hit before = absurd (omega arith)
+  back-hit (suc j) i room low high hit before =
       ⊎-elim
-      (λ e. let q : c ≡ x = eqb-true c x e in
-      noting-at (partly n l) x n c q
-      ∙ here (after n c) n (isOnLanes romFloor romCap l (a + n) c) low
-      ∙ sym (partly-shown n l c (sym q)))
-      (λ e. let q = eqb-false c x e in
-      noting-there (partly n l) x n c q ∙ sym (partly-same n l c (λ d. q (sym d))))
-      (decide (eqb c x))
+      (λ e. let q : i ≡ n - suc j = eqb-true i (n - suc j) e in rw (← q, hit) refl)
+      (λ e. let q = eqb-false i (n - suc j) e in
+      let past : n - suc j < i = later i (n - suc j) low q in
+      rw (before (n - suc j) past) (back-hit j i (omega arith) (omega arith) high hit before))
+      (decide (eqb i (n - suc j)))
     where
-      here : (f n : ℕ) (s : Bool) → n < never →
-          pick (eqb (pick (ltb f n) f (pick s n never)) never) n (pick (ltb f n) f (pick s n never))
-          ≡ pick (ltb f n) f n
-      here f n s low =
-          ⊎-elim (λ t. let b : f < n = ltb-true f n t in rw (t, ne-eqb f never (λ q. omega arith)) refl)
-          (λ t. rw t (elim s as (λ s. pick (eqb (pick s n never) never) n (pick s n never) ≡ n)
-          [ true ↦ rw (ne-eqb n never (λ q. omega arith)) refl | false ↦ refl ]))
-          (decide (ltb f n))
+      later : (x y : ℕ) → y ≤ x → (x ≡ y → ⊥) → y < x
+      later x y l ne = ⊎-elim (λ t. ltb-true y x t) (λ t. absurd (ne (native.Mathlib.Nat.le-antisymm (ltb-false y x t) l))) (decide (ltb y x))
 
-  -- all lanes
-  partly-all : (n c : ℕ) → partly n k c ≡ seenWithin romFloor romCap k a (suc n) c
-  unfolding partly seenWithin shownAfter first
-  partly-all n c = go (after n c) n (isOnLanes romFloor romCap k (a + n) c)
-    where
-      go : (f n : ℕ) (s : Bool) →
-          pick (ltb f n) f (pick s n never) ≡ pick (ltb (keepFirst f n s) (suc n)) (keepFirst f n s) never
-      go f n s =
-          ⊎-elim (λ t. let b : f < n = ltb-true f n t in rw (t, lt-ltb f (suc n) (omega arith)) refl)
-          (λ t. rw t (elim s as (λ s. pick s n never ≡ pick (ltb (pick s n (suc n)) (suc n)) (pick s n (suc n)) never)
-          [ true ↦ rw (lt-ltb n (suc n) (omega arith)) refl | false ↦ rw (le-ltb (suc n) (suc n) (omega arith)) refl ]))
-          (decide (ltb f n))
+  back-none : (j : ℕ) → j ≤ n → ((m : ℕ) → m < n → p m ≡ false) → back p n j ≡ never
+  unfolding back
+  back-none zero room none = refl
+  back-none (suc j) room none = rw (none (n - suc j) (omega arith)) (back-none j (omega arith) none)
 
-  module _ (row : List ℕ) (room : 2 ^ romCap ≤ length row) (count : k ≤ romCap) where
-    lanes-written : (n l : ℕ) → n < never → l ≤ k →
-        notedLanes (written (seenWithin romFloor romCap k a n) row (2 ^ romCap)) (a + n) n l
-        ≡ written (partly n l) row (2 ^ romCap)
-    unfolding notedLanes
-    lanes-written n zero low b =
-        written-ext (seenWithin romFloor romCap k a n) (partly n 0) row (2 ^ romCap) (λ c _. partly-none n c)
-    lanes-written n (suc l) low b =
-        let x : ℕ = laneCell romFloor romCap l (a + n) in
-        ap (λ r. notedOnce r x n) (lanes-written n l low (omega arith))
-        ∙ noted-written (partly n l) row (2 ^ romCap) x n room (lane-within l (a + n) (omega arith))
-        ∙ written-ext (noting (partly n l) x n) (partly n (suc l)) row (2 ^ romCap) (λ c _. partly-more n l c low)
+  -- met from behind, the last one to be met is the first
+  back-first : back p n n ≡ pick (ltb (first p n) n) (first p n) never
+  back-first =
+      ⊎-elim
+      (λ h. let low : first p n < n = ltb-true (first p n) n h in
+      rw h (back-hit n (first p n) (omega arith) (omega arith) low (first-hit p n low) (λ m b. first-before p n m b)))
+      (λ h. let far : n ≤ first p n = ltb-false (first p n) n h in
+      rw h (back-none n (omega arith) (λ m b. first-before p n m (omega arith))))
+      (decide (ltb (first p n) n))
 
-    pub ticks-written : (n : ℕ) → n ≤ never →
-        notedTicks (written (λ c. never) row (2 ^ romCap)) k a n ≡ written (seenWithin romFloor romCap k a n) row (2 ^ romCap)
-    unfolding notedTicks
-    ticks-written zero low =
-        written-ext (λ c. never) (seenWithin romFloor romCap k a 0) row (2 ^ romCap) (λ c _. seen-none c)
-    ticks-written (suc n) low =
-        ap (λ r. notedLanes r (a + n) n k) (ticks-written n (omega arith))
-        ∙ lanes-written n k (omega arith) (omega arith)
-        ∙ written-ext (partly n k) (seenWithin romFloor romCap k a (suc n)) row (2 ^ romCap) (λ c _. partly-all n c)
+module _ (T : List ℕ) (k a : ℕ) (row : List ℕ) where
+  -- a cell is shown so many ticks after a
+  shown-at : ℕ → ℕ → Bool
+  shown-at c o = isOnLanes (tableCell T) k (a + o) c
 
-    -- one period leaves the plan
-    pub ticks-plan : Counted romFloor romCap k → starts (padded romFloor romCap) k a ≡ true →
-        notedTicks (written (λ c. never) row (2 ^ romCap)) k a romPeriod
-        ≡ written (planAt romFloor romCap k a) row (2 ^ romCap)
-    ticks-plan h start =
-        ticks-written romPeriod (omega arith)
-        ∙ written-ext (seenWithin romFloor romCap k a romPeriod) (planAt romFloor romCap k a) row (2 ^ romCap)
-        (λ c _. seen-plan romFloor romCap k (h .floor) (h .fit) a c (omega arith) start)
+  over-back : (n c : ℕ) →
+      shown-over T row (a + (romPeriod - suc n)) (romPeriod - suc n) (λ c. back (shown-at c) romPeriod n) k c
+      ≡ back (shown-at c) romPeriod (suc n)
+  unfolding shown-over back shown-at
+  over-back n c = refl
+
+  none-back : (c : ℕ) → never ≡ back (shown-at c) romPeriod 0
+  unfolding back
+  none-back c = refl
+
+  ticks-written : (n : ℕ) →
+      notedTicks T (written (λ c. never) row (2 ^ romCap)) k a n ≡ written (λ c. back (shown-at c) romPeriod n) row (2 ^ romCap)
+  unfolding notedTicks
+  ticks-written zero = written-ext (λ c. never) (λ c. back (shown-at c) romPeriod 0) row (2 ^ romCap) (λ c _. none-back c)
+  ticks-written (suc n) =
+      ap (λ r. notedLanes T r (a + (romPeriod - suc n)) (romPeriod - suc n) k) (ticks-written n)
+      ∙ lanes-written T row (a + (romPeriod - suc n)) (romPeriod - suc n) (λ c. back (shown-at c) romPeriod n) k
+      ∙ written-ext _ (λ c. back (shown-at c) romPeriod (suc n)) row (2 ^ romCap) (λ c _. over-back n c)
+
+  seen-back : (c : ℕ) → back (shown-at c) romPeriod romPeriod ≡ seenWithin (tableCell T) k a romPeriod c
+  unfolding seenWithin shownAfter shown-at
+  seen-back c = back-first (λ o. isOnLanes (tableCell T) k (a + o) c) romPeriod
+
+  -- one period leaves the first showings
+  pub ticks-seen : notedTicks T (written (λ c. never) row (2 ^ romCap)) k a romPeriod
+      ≡ written (seenWithin (tableCell T) k a romPeriod) row (2 ^ romCap)
+  ticks-seen =
+      ticks-written romPeriod
+      ∙ written-ext _ (seenWithin (tableCell T) k a romPeriod) row (2 ^ romCap) (λ c _. seen-back c)

@@ -1,15 +1,15 @@
 -- A cell's plan tick is its first showing, from the start on, on lanes 0 to k - 1; a cell that no box takes is never
--- shown. Once over floor, cap and count. Rests on the grid's laws of lanes, and on when a box takes each cell.
-use mathlib.Core.Path.{_≡_, sym, _∙_}
+-- shown. Once over floor, cap and count. And lanes that show the same are seen the same. Rests on the grid's laws of lanes, and on when a box takes each cell.
+use mathlib.Core.Path.{_≡_, refl, sym, ap, _∙_}
 use mathlib.Core.Bool.{Bool, true}
 use mathlib.Core.Logic.{⊎-elim}
 use Prim.Native.Nat.{ℕ, _+_, _-_, _^_, _≤_, _<_}
 use native.Mathlib.Omega.{arith}
 use lib.Dec.{ltb, eqb}
 use borrow.Author.Tests.{ltb-true, ltb-false, lt-ltb, eqb-true, eq-eqb}
-use Rattle.rules.specs.Search.{first}
+use Rattle.rules.specs.Search.{some, first}
 use Rattle.rules.proofs.Tests.{decide, fails}
-use Rattle.rules.proofs.Search.{some-in, some-out, first-hit, first-least}
+use Rattle.rules.proofs.Search.{some-in, some-out, first-hit, first-least, some-ext, first-ext}
 use Rattle.grid.specs.Ticks.{slot}
 use Rattle.grid.specs.Channels.{InG}
 use Rattle.grid.specs.Lanes.{laneCell}
@@ -24,14 +24,22 @@ use Rattle.scheme.proofs.Waits.{once}
 use Rattle.plans.proofs.padded.Places.{plan-in, plan-never}
 use Rattle.rom.specs.Showing.{isOnLanes, shownAfter, seenWithin}
 
+-- of lanes that agree below k
+pub seen-ext : (f g : ℕ → ℕ → ℕ) (k a n c : ℕ) → ((l t : ℕ) → l < k → f l t ≡ g l t) → seenWithin f k a n c ≡ seenWithin g k a n c
+unfolding seenWithin shownAfter isOnLanes
+seen-ext f g k a n c e =
+    let same : first (λ o. some (λ i. eqb (f i (a + o)) c) k) n ≡ first (λ o. some (λ i. eqb (g i (a + o)) c) k) n =
+    first-ext _ _ n (λ o _. some-ext _ _ k (λ i b. ap (λ x. eqb x c) (e i (a + o) b))) in
+    rw same refl
+
 module _ (A K k : ℕ) (low : A ≤ k) (high : k ≤ K) where
-  shown-in : (t c : ℕ) → InG A K k t c → isOnLanes A K k t c ≡ true
+  shown-in : (t c : ℕ) → InG A K k t c → isOnLanes (laneCell A K) k t c ≡ true
   unfolding isOnLanes
   shown-in t c m =
       let r = lane-of-cell A K k t c low high m in
       some-in (λ i. eqb (laneCell A K i t) c) k (r .0) (r .1) (eq-eqb (laneCell A K (r .0) t) c (r .2))
 
-  shown-out : (t c : ℕ) → isOnLanes A K k t c ≡ true → InG A K k t c
+  shown-out : (t c : ℕ) → isOnLanes (laneCell A K) k t c ≡ true → InG A K k t c
   unfolding isOnLanes
   shown-out t c h =
       let r = some-out (λ i. eqb (laneCell A K i t) c) k h in
@@ -48,7 +56,7 @@ module _ (A K k : ℕ) (low : A ≤ k) (high : k ≤ K) where
 
   module _ (a c : ℕ) (floor : 0 < A) (start : starts (padded A K) k a ≡ true) where
     abbrev shownAt : ℕ → Bool
-    shownAt o = isOnLanes A K k (a + o) c
+    shownAt o = isOnLanes (laneCell A K) k (a + o) c
 
     -- before a cell is taken, no lane shows it
     taken-first : (o f d : ℕ) → Taken (padded A K) k a c (a + o) d → f ≤ o → shownAt f ≡ true → f ≡ o
@@ -60,7 +68,7 @@ module _ (A K k : ℕ) (low : A ≤ k) (high : k ≤ K) where
         record { channel = chan; from = omega arith; before = omega (arith, h .before); carries = rw same at (m .2) } in
         omega (arith, once A K k a c (a + f) d (a + o) d start early h .0)
 
-    taken-seen : c < 2 ^ K - slot K k → seenWithin A K k a (2 ^ (K - 1)) c ≡ planAt A K k a c
+    taken-seen : c < 2 ^ K - slot K k → seenWithin (laneCell A K) k a (2 ^ (K - 1)) c ≡ planAt A K k a c
     unfolding seenWithin shownAfter
     taken-seen l =
         let n : ℕ = 2 ^ (K - 1) in
@@ -73,7 +81,7 @@ module _ (A K k : ℕ) (low : A ≤ k) (high : k ≤ K) where
         let i : first shownAt n < n = omega arith in
         rw (lt-ltb (first shownAt n) n i) (taken-first o (first shownAt n) (r .0) (r .1) f (first-hit shownAt n i))
 
-    never-seen : 2 ^ K - slot K k ≤ c → seenWithin A K k a (2 ^ (K - 1)) c ≡ planAt A K k a c
+    never-seen : 2 ^ K - slot K k ≤ c → seenWithin (laneCell A K) k a (2 ^ (K - 1)) c ≡ planAt A K k a c
     unfolding seenWithin shownAfter
     never-seen l =
         let n : ℕ = 2 ^ (K - 1) in
@@ -83,7 +91,7 @@ module _ (A K k : ℕ) (low : A ≤ k) (high : k ≤ K) where
         (sym (plan-never A K k a c high start l))
 
     -- half as many ticks as there are cells show all that a box takes
-    pub seen-plan : seenWithin A K k a (2 ^ (K - 1)) c ≡ planAt A K k a c
+    pub seen-plan : seenWithin (laneCell A K) k a (2 ^ (K - 1)) c ≡ planAt A K k a c
     seen-plan =
         ⊎-elim (λ t. taken-seen (ltb-true c (2 ^ K - slot K k) t)) (λ t. never-seen (ltb-false c (2 ^ K - slot K k) t))
         (decide (ltb c (2 ^ K - slot K k)))

@@ -1,9 +1,9 @@
--- `fill` meets its contract: what the ticks of a period show is the plan. Rests on the laws of noting.
-use mathlib.Core.Path.{ap, _∙_}
+-- `fill` meets its contract: what the ticks of a period leave is each cell's first showing. Rests on the laws of noting.
+use mathlib.Core.Path.{_≡_, ap, _∙_}
 use borrow.Author.Needs.{needs}
 use Rattle.rom_table.specs.Table.{romPeriod}
 use Rattle.rom.specs.Plan.{notedTicks}
-use Rattle.rom.proofs.Noted.{ticks-plan}
+use Rattle.rom.proofs.Noted.{ticks-seen}
 use Rattle.rom.proofs.plan.fill.Statement.{statement}
 use Rattle.rom.proofs.plan.fill.Tie as tie
 
@@ -19,12 +19,11 @@ same-length c = search needs
 returns : tie.Need-returns
 returns c =
     let n = c .before .before .note-ticks in
-    let w = c .before .before .before .before .before .before in
-    let s = w .before .before .before in
-    let a = s .args in
+    let cleared = c .before .before .before .before .before .before .clear in
+    let a = c .before .before .before .before .before .before .before .before .before .before .args in
     n .ensures
-    ∙ ap (λ r. notedTicks r (a .count) (a .arrival) romPeriod) (w .clear .ensures)
-    ∙ ticks-plan (a .count) (a .arrival) (a .row .now) (s .pre .1 .1 .1) (s .pre .0 .fit) (s .pre .0) (s .pre .1 .0)
+    ∙ ap (λ r. notedTicks (a .table .now) r (a .count) (a .arrival) romPeriod) (cleared .ensures)
+    ∙ ticks-seen (a .table .now) (a .count) (a .arrival) (a .row .now)
 
 pub fill-spec : {M : Type 1} → statement M
 fill-spec = tie.close (tie.spec clear-requires note-ticks-requires same-length returns)

@@ -1,5 +1,5 @@
 -- `note_lanes` meets its contract. The invariant: the row has what the lanes passed show.
-use mathlib.Core.Path.{_≡_, ap, _∙_}
+use mathlib.Core.Path.{_≡_, refl, ap, _∙_}
 use Prim.Native.Nat.{_-_, _≤_}
 use native.Mathlib.Omega.{arith}
 use native.Mathlib.Nat.{le-antisymm}
@@ -11,15 +11,15 @@ use Rattle.rom.proofs.plan.note_lanes.Statement.{statement}
 use Rattle.rom.proofs.plan.note_lanes.Tie as tie
 
 abbrev Inv-loop : tie.InvT-loop
-Inv-loop row₀ count tick after lane₀ row lane =
-    (lane ≤ count) × (row ≡ notedLanes row₀ tick after lane) × (length row ≡ length row₀)
+Inv-loop table row₀ count tick after lane₀ row lane =
+    (lane ≤ count) × (row ≡ notedLanes table row₀ tick after lane) × (length row ≡ length row₀)
 
 abbrev μ-loop : tie.MeasureT-loop
-μ-loop row₀ count tick after lane₀ row lane = count - lane
+μ-loop table row₀ count tick after lane₀ row lane = count - lane
 
 loop-holds : tie.Need-loop-holds Inv-loop μ-loop
 unfolding notedLanes
-loop-holds c = search needs
+loop-holds c = (omega arith, refl, refl)
 
 cell-at-requires : tie.Need-cell-at-requires Inv-loop μ-loop
 cell-at-requires c κs = search needs
@@ -38,10 +38,9 @@ loop-again c =
     let n = c .before .before .note in
     let x = c .before .before .before .cell-at in
     let l = c .before .before .before .before .before .before .loop in
-    let s = c .before .before .before .before .before .before .before in
-    let a = s .before .args in (
-      omega arith,
-      lanes-more (a .row .now) (l .row) _ (a .tick) (a .after) (l .lane) _ (l .inv .1) (x .ensures .is) (n .ensures),
+    let a = c .before .before .before .before .before .before .before .before .before .args in (
+      omega (arith, c .before .before .before .before .before .loop-test .taken),
+      lanes-more (a .table .now) (a .row .now) (l .row) _ (a .tick) (a .after) (l .lane) _ (l .inv .1) (x .ensures) (n .ensures),
       ap length (n .ensures) ∙ noted-length (l .row) _ _ ∙ l .inv .2,
     )
 
@@ -50,9 +49,8 @@ same-length c = c .before .loop .inv .2
 
 returns : tie.Need-returns Inv-loop μ-loop
 returns c =
-    let a = c .before .before .before .args in
     let l = c .before .loop in
-    l .inv .1 ∙ ap (notedLanes (a .row .now) (a .tick) (a .after)) (le-antisymm (l .inv .0) (c .loop-test .left))
+    l .inv .1 ∙ ap (notedLanes _ _ _ _) (le-antisymm (l .inv .0) (c .loop-test .left))
 
 pub note-lanes-spec : {M : Type 1} → statement M
 note-lanes-spec =

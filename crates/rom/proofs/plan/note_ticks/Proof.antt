@@ -1,5 +1,5 @@
 -- `note_ticks` meets its contract. The invariant: the row has what the ticks passed show.
-use mathlib.Core.Path.{_≡_, ap, _∙_}
+use mathlib.Core.Path.{_≡_, refl, ap, _∙_}
 use Prim.Native.Nat.{_-_, _≤_}
 use native.Mathlib.Omega.{arith}
 use native.Mathlib.Nat.{le-antisymm}
@@ -12,15 +12,21 @@ use Rattle.rom.proofs.plan.note_ticks.Statement.{statement}
 use Rattle.rom.proofs.plan.note_ticks.Tie as tie
 
 abbrev Inv-loop : tie.InvT-loop
-Inv-loop row₀ count arrival after₀ row after =
-    (after ≤ romPeriod) × (row ≡ notedTicks row₀ count arrival after) × (length row ≡ length row₀)
+Inv-loop table row₀ count arrival passed₀ row passed =
+    (passed ≤ romPeriod) × (row ≡ notedTicks table row₀ count arrival passed) × (length row ≡ length row₀)
 
 abbrev μ-loop : tie.MeasureT-loop
-μ-loop row₀ count arrival after₀ row after = romPeriod - after
+μ-loop table row₀ count arrival passed₀ row passed = romPeriod - passed
 
 loop-holds : tie.Need-loop-holds Inv-loop μ-loop
 unfolding notedTicks
-loop-holds c = search needs
+loop-holds c = (omega arith, refl, refl)
+
+add-passed : tie.Need-add-passed Inv-loop μ-loop
+add-passed c = search needs
+
+sub-after : tie.Need-sub-after Inv-loop μ-loop
+sub-after c = search needs
 
 add-note-lanes : tie.Need-add-note-lanes Inv-loop μ-loop
 add-note-lanes c = search needs
@@ -28,21 +34,17 @@ add-note-lanes c = search needs
 note-lanes-requires : tie.Need-note-lanes-requires Inv-loop μ-loop
 note-lanes-requires c κs = search needs
 
-add-after : tie.Need-add-after Inv-loop μ-loop
-add-after c = search needs
-
 loop-less : tie.Need-loop-less Inv-loop μ-loop
 loop-less c = search needs
 
 loop-again : tie.Need-loop-again Inv-loop μ-loop
 loop-again c =
     let n = c .before .before .note-lanes in
-    let s = c .before .before .before .before .before in
-    let l = s .loop in
-    let a = s .before .before .args in (
-      omega arith,
-      ticks-more (a .row .now) (l .row) _ (a .count) (a .arrival) (l .after) (l .inv .1) (n .ensures),
-      ap length (n .ensures) ∙ lanes-length (l .row) _ _ _ ∙ l .inv .2,
+    let l = c .before .before .before .before .before .loop in
+    let a = c .before .before .before .before .before .before .before .before .args in (
+      omega (arith, c .before .before .before .before .loop-test .taken),
+      ticks-more (a .table .now) (a .row .now) (l .row) _ (a .count) (a .arrival) (l .passed) (l .inv .1) (n .ensures),
+      ap length (n .ensures) ∙ lanes-length (a .table .now) (l .row) _ _ _ ∙ l .inv .2,
     )
 
 same-length : tie.Need-same-length Inv-loop μ-loop
@@ -50,9 +52,8 @@ same-length c = c .before .loop .inv .2
 
 returns : tie.Need-returns Inv-loop μ-loop
 returns c =
-    let a = c .before .before .before .args in
     let l = c .before .loop in
-    l .inv .1 ∙ ap (notedTicks (a .row .now) (a .count) (a .arrival)) (le-antisymm (l .inv .0) (c .loop-test .left))
+    l .inv .1 ∙ ap (notedTicks _ _ _ _) (le-antisymm (l .inv .0) (c .loop-test .left))
 
 pub note-ticks-spec : {M : Type 1} → statement M
 note-ticks-spec =
@@ -61,9 +62,10 @@ note-ticks-spec =
     Inv-loop
     μ-loop
     loop-holds
+    add-passed
+    sub-after
     add-note-lanes
     note-lanes-requires
-    add-after
     loop-less
     loop-again
     same-length
