@@ -9,9 +9,12 @@ use Rattle.rules.specs.Limits.{both}
 use Rattle.rules.specs.Refusals.{pick, done, outsideLimits, wrongRows, malformed, outOfTurn}
 use Rattle.notice.specs.declared.Reading.{Reading}
 use Rattle.notice.specs.declared.Reading.the-variants as reading
+use Rattle.story.specs.declared.State.{State}
 use Rattle.story.specs.declared.Event.{Event}
+use Rattle.story.specs.Kept.{titleAt, tickAt}
 use Rattle.story.specs.Calls.{freshAnswer, laneAnswer, laneShows, statusAnswer}
 use Rattle.story.specs.Runs.{answered, called}
+use Rattle.owed.specs.Shown.{shownTick}
 use Rattle.scheduler.specs.Outcomes.{heldAnswer, heldShown}
 use Rattle.agent.specs.Turns.{eventOf, freshAgent, noticed}
 use Rattle.agent_rows.specs.Layout.{rowLength}
@@ -57,6 +60,13 @@ rowLane r i l τ = onRow r (onSound r (laneAnswer (unpacked r .state) i l τ))
 
 unfoldable pub rowShows : List ℕ → ℕ → ℕ → ℕ → ℕ
 rowShows r i l τ = pick (eqb (rowLane r i l τ) done) (laneShows (unpacked r .state) i l τ) 0
+
+-- the tick whose cell that is, of a state, and of a row; 0 beside a refusal
+abbrev pub askedTick : State → ℕ → ℕ → ℕ → ℕ
+askedTick s i l τ = pick (eqb (laneAnswer s i l τ) done) (shownTick (titleAt s i) l (tickAt (titleAt s i) τ)) 0
+
+unfoldable pub rowTick : List ℕ → ℕ → ℕ → ℕ → ℕ
+rowTick r i l τ = pick (eqb (rowLane r i l τ) done) (askedTick (unpacked r .state) i l τ) 0
 
 -- lanes held at a time, and how many; 0 beside a refusal
 unfoldable pub rowHeld : List ℕ → ℕ → ℕ

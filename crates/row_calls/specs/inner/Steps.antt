@@ -12,10 +12,11 @@ use Rattle.notice.specs.declared.Notice.{Notice}
 use Rattle.notice.specs.declared.Reading.the-variants as reading
 use Rattle.story.specs.declared.Title.{Title}
 use Rattle.story.specs.declared.Act.{Act}
-use Rattle.story.specs.Kept.{stateOk, titleOk, tickAt, ruling, shows}
+use Rattle.story.specs.Kept.{stateOk, titleOk, tickAt, ruling}
 use Rattle.story.specs.Story.{actLimits}
 use Rattle.story.specs.Calls.{eventOk, laneHeld}
 use Rattle.measures.specs.Readable.{Sending}
+use Rattle.owed.specs.Shown.{shownTick}
 use Rattle.agent.specs.Turns.{noticeAnswer, noticed}
 use Rattle.agent_rows.specs.Layout.{rowLength}
 use Rattle.agent_rows.specs.Packed.{unpacked, rowSound}
@@ -50,9 +51,14 @@ pub record Above (t : Title) (l n : ℕ) : Type 0 where
   pub capped : l < t .film .cap
   pub early : n ≤ tickMax
 
--- what a title alone answers to a lane question, behind the limits, and the cell; 0 beside a refusal
+-- a tick that may be asked about
+pub record Early (is-tick n : ℕ) : Type 0 where
+  pub is : n ≡ is-tick
+  pub high : n ≤ tickMax
+
+-- what a title alone answers to a lane question, behind the limits, and the tick whose cell goes out; 0 beside a refusal
 unfoldable pub laneTold : Title → ℕ → ℕ → ℕ
 laneTold t l τ = pick (ltb τ (t .last)) tooEarly (pick (not (laneHeld t l τ)) notThere done)
 
-unfoldable pub cellTold : Title → ℕ → ℕ → ℕ
-cellTold t l τ = pick (eqb (laneTold t l τ) done) (shows t l (tickAt t τ)) 0
+unfoldable pub tickTold : Title → ℕ → ℕ → ℕ
+tickTold t l τ = pick (eqb (laneTold t l τ) done) (shownTick t l (tickAt t τ)) 0

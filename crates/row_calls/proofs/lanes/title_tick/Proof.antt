@@ -1,17 +1,17 @@
--- `title_shows` meets its contract: each way out decides the tests up to it.
-use mathlib.Core.Path.{refl, sym, _∙_}
+-- `title_tick` meets its contract: each way out decides the tests up to it.
+use mathlib.Core.Path.{refl, sym}
 use Prim.Native.Nat.{_≤_, _<_}
 use native.Mathlib.Omega.{arith}
 use borrow.Author.Tests.{lt-ltb}
 use Rattle.grid.specs.Bounds.{tickMax}
 use Rattle.story.specs.Kept.{ruling}
 use Rattle.measures.proofs.Within.{readable, sending}
-use Rattle.owed.proofs.Shown.{shows-active}
+use Rattle.owed.proofs.Shown.{tick-active}
 use Rattle.agent_rows.specs.Packed.{titleFrom}
-use Rattle.row_calls.proofs.Cells.{told, asked-early, asked-absent, asked-above, asked-held, active-is-held}
+use Rattle.row_calls.proofs.Cells.{told-tick, asked-early, asked-absent, asked-above, asked-held, active-is-held}
 use borrow.Author.Needs.{needs}
-use Rattle.row_calls.proofs.lanes.title_shows.Statement.{statement}
-use Rattle.row_calls.proofs.lanes.title_shows.Tie as tie
+use Rattle.row_calls.proofs.lanes.title_tick.Statement.{statement}
+use Rattle.row_calls.proofs.lanes.title_tick.Tie as tie
 
 -- the function's start, seen from behind its refusals
 abbrev start : tie.Else3 → tie.Start
@@ -36,7 +36,7 @@ refused-requires c κs = search needs
 returns : tie.Need-returns
 returns c =
     let s = c .before .before .before .before in
-    told (c .refused .ensures .0) (c .refused .ensures .1) (asked-early (titleFrom (s .args .row .now) (s .args .at)) (s .args .lane) (s .args .time) (c .before .if1 .taken))
+    told-tick (c .refused .ensures .0) (c .refused .ensures .1) (asked-early (titleFrom (s .args .row .now) (s .args .at)) (s .args .lane) (s .args .time) (c .before .if1 .taken))
 
 add-mode : tie.Need-add-mode
 add-mode c = search needs
@@ -54,7 +54,7 @@ returns-2 : tie.Need-returns-2
 returns-2 c =
     let late = c .before .before .before in
     let s = late .before .before .before in
-    told (c .refused2 .ensures .0) (c .refused2 .ensures .1) (asked-absent (titleFrom (s .args .row .now) (s .args .at)) (s .args .lane) (s .args .time) (late .if1 .left) (c .before .if2 .taken))
+    told-tick (c .refused2 .ensures .0) (c .refused2 .ensures .1) (asked-absent (titleFrom (s .args .row .now) (s .args .at)) (s .args .lane) (s .args .time) (late .if1 .left) (c .before .if2 .taken))
 
 add-cap : tie.Need-add-cap
 add-cap c = search needs
@@ -73,7 +73,7 @@ returns-3 c =
     let there = c .before .before .before in
     let late = there .before .before in
     let s = late .before .before .before in
-    told (c .refused3 .ensures .0) (c .refused3 .ensures .1) (asked-above (titleFrom (s .args .row .now) (s .args .at)) (s .args .lane) (s .args .time) (late .if1 .left) (there .if2 .left) (c .before .if3 .taken))
+    told-tick (c .refused3 .ensures .0) (c .refused3 .ensures .1) (asked-above (titleFrom (s .args .row .now) (s .args .at)) (s .args .lane) (s .args .time) (late .if1 .left) (there .if2 .left) (c .before .if3 .taken))
 
 tick-at-requires : tie.Need-tick-at-requires
 tick-at-requires c κs =
@@ -84,45 +84,20 @@ tick-at-requires c κs =
 ruling-requires : tie.Need-ruling-requires
 ruling-requires c κs = search needs
 
-add-lane-cell : tie.Need-add-lane-cell
-add-lane-cell c = search needs
-
-mul-lane-cell : tie.Need-mul-lane-cell
-mul-lane-cell c = search needs
-
-shared-slice-read-lane-cell : tie.Need-shared-slice-read-lane-cell
-shared-slice-read-lane-cell c = search needs
-
-add-lane-cell-2 : tie.Need-add-lane-cell-2
-add-lane-cell-2 c = search needs
-
-mul-lane-cell-2 : tie.Need-mul-lane-cell-2
-mul-lane-cell-2 c = search needs
-
-shared-slice-read-lane-cell-2 : tie.Need-shared-slice-read-lane-cell-2
-shared-slice-read-lane-cell-2 c = search needs
-
-lane-cell-requires : tie.Need-lane-cell-requires
-lane-cell-requires c κs =
-    let capped = c .before .before .before .before .before in
-    let s = start capped in
-    let high = capped-tick (c .before .before .before .before) in
-    (readable (titleFrom (s .args .row .now) (s .args .at)) (s .pre .1 .0) (capped .before .before .if2 .left) .cut, (capped .if3 .left, high))
-
 returns-4 : tie.Need-returns-4
 returns-4 c =
-    let ruled = c .before .before .before .before in
+    let ruled = c .before in
     let capped = ruled .before .before in
     let there = capped .before .before in
     let s = start capped in
     let t = titleFrom (s .args .row .now) (s .args .at) in
     let tick = ruled .before .tick-at .result in
-    let active : s .args .lane < ruling t = rw (ruled .ruling .ensures) at (c .before .before .before .if4 .taken) in
-    told refl (c .lane-cell .ensures .is ∙ sym (shows-active t (s .args .lane) tick (lt-ltb _ _ active)))
+    let active : s .args .lane < ruling t = rw (ruled .ruling .ensures) at (c .if4 .taken) in
+    told-tick refl (record { is = sym (tick-active t (s .args .lane) tick (lt-ltb _ _ active)); high = capped-tick (ruled .before) })
     (rw (active-is-held t (s .args .lane) tick active) at (asked-held t (s .args .lane) (s .args .time) (there .before .before .if1 .left) (there .if2 .left) (capped .if3 .left) tick (ruled .before .tick-at .ensures .is)))
 
-owed-cell-requires : tie.Need-owed-cell-requires
-owed-cell-requires c κs =
+owed-tick-requires : tie.Need-owed-tick-requires
+owed-tick-requires c κs =
     let ruled = c .before in
     let capped = ruled .before .before in
     let there = capped .before .before in
@@ -144,11 +119,11 @@ returns-5 c =
     let capped = ruled .before .before in
     let there = capped .before .before in
     let s = start capped in
-    told (c .owed-cell .ensures .0) (c .owed-cell .ensures .1)
+    told-tick (c .owed-tick .ensures .0) (c .owed-tick .ensures .1)
     (asked-held (titleFrom (s .args .row .now) (s .args .at)) (s .args .lane) (s .args .time) (there .before .before .if1 .left) (there .if2 .left) (capped .if3 .left) (ruled .before .tick-at .result) (ruled .before .tick-at .ensures .is))
 
-pub title-shows-spec : {M : Type 1} → statement M
-title-shows-spec =
+pub title-tick-spec : {M : Type 1} → statement M
+title-tick-spec =
     tie.close
     (tie.spec
     add-last
@@ -168,13 +143,6 @@ title-shows-spec =
     returns-3
     tick-at-requires
     ruling-requires
-    add-lane-cell
-    mul-lane-cell
-    shared-slice-read-lane-cell
-    add-lane-cell-2
-    mul-lane-cell-2
-    shared-slice-read-lane-cell-2
-    lane-cell-requires
     returns-4
-    owed-cell-requires
+    owed-tick-requires
     returns-5)

@@ -1,4 +1,4 @@
--- `shown` meets its contract: the question's numbers, and then what the id's title answers.
+-- `asked_tick` meets its contract: the question's numbers, and then what the id's title answers.
 use mathlib.Core.Path.{_≡_, sym, ap, _∙_}
 use mathlib.Core.Bool.{true}
 use Prim.Native.Nat.{ℕ, _<_}
@@ -11,11 +11,11 @@ use Rattle.story.specs.declared.Title.{Title}
 use Rattle.measures.proofs.Within.{title-ok}
 use Rattle.agent_rows.specs.Packed.{titleFrom, unpacked}
 use Rattle.agent_rows.proofs.Inverse.{title-at}
-use Rattle.row_calls.specs.inner.Steps.{laneTold, cellTold}
-use Rattle.row_calls.proofs.Cells.{told, lane-in, lane-out}
+use Rattle.row_calls.specs.inner.Steps.{laneTold, tickTold}
+use Rattle.row_calls.proofs.Cells.{told-tick, lane-in, lane-out}
 use borrow.Author.Needs.{needs}
-use Rattle.row_calls.proofs.lanes.shown.Statement.{statement}
-use Rattle.row_calls.proofs.lanes.shown.Tie as tie
+use Rattle.row_calls.proofs.lanes.asked_tick.Statement.{statement}
+use Rattle.row_calls.proofs.lanes.asked_tick.Tie as tie
 
 -- the function's start, seen from where its numbers were tested
 abbrev start : tie.After-also2 → tie.Start
@@ -44,8 +44,8 @@ also-requires-2 c κs = search needs
 title-place-requires : tie.Need-title-place-requires
 title-place-requires c κs = let f = fits c in search (both-l, both-r, leb-true)
 
-title-shows-requires : tie.Need-title-shows-requires
-title-shows-requires c κs =
+title-tick-requires : tie.Need-title-tick-requires
+title-tick-requires c κs =
     let s = start (c .before .before) in
     let r = s .args .row .now in
     let f = fits (c .before) in
@@ -60,13 +60,17 @@ returns c =
     let r = s .args .row .now in
     let same = title-at r (s .args .id) (below at-if) in
     let place = c .before .title-place .ensures in
-    told
-    (c .title-shows .ensures .0
+    told-tick
+    (c .title-tick .ensures .0
     ∙ ap (λ (n : ℕ). laneTold (titleFrom r n) (s .args .lane) (s .args .time)) place
     ∙ ap (λ (t : Title). laneTold t (s .args .lane) (s .args .time)) (sym same))
-    (c .title-shows .ensures .1
-    ∙ ap (λ (n : ℕ). cellTold (titleFrom r n) (s .args .lane) (s .args .time)) place
-    ∙ ap (λ (t : Title). cellTold t (s .args .lane) (s .args .time)) (sym same))
+    (record {
+      is =
+          c .title-tick .ensures .1 .is
+          ∙ ap (λ (n : ℕ). tickTold (titleFrom r n) (s .args .lane) (s .args .time)) place
+          ∙ ap (λ (t : Title). tickTold t (s .args .lane) (s .args .time)) (sym same);
+      high = c .title-tick .ensures .1 .high;
+    })
     (lane-in (unpacked r .state) (s .args .id) (s .args .lane) (s .args .time) (s .pre .ok) (fits at-if))
 
 refused-requires : tie.Need-refused-requires
@@ -75,17 +79,17 @@ refused-requires c κs = search needs
 returns-2 : tie.Need-returns-2
 returns-2 c =
     let s = start (c .before .before) in
-    told (c .refused .ensures .0) (c .refused .ensures .1)
+    told-tick (c .refused .ensures .0) (c .refused .ensures .1)
     (lane-out (unpacked (s .args .row .now) .state) (s .args .id) (s .args .lane) (s .args .time) (s .pre .ok) (sym (joined (c .before .before)) ∙ c .before .if1 .left))
 
-pub shown-spec : {M : Type 1} → statement M
-shown-spec =
+pub asked-tick-spec : {M : Type 1} → statement M
+asked-tick-spec =
     tie.close
     (tie.spec
     also-requires
     also-requires-2
     title-place-requires
-    title-shows-requires
+    title-tick-requires
     returns
     refused-requires
     returns-2)
