@@ -1,8 +1,10 @@
 -- `lane` meets its contract: a question that is answered shows the table's number at the tick whose cell goes out.
 -- Rests on the laws of answered questions.
 use mathlib.Core.Path.{_≡_, refl, sym, ap, _∙_}
+use Prim.Native.Nat.{_≤_}
 use native.Mathlib.Omega.{arith}
 use borrow.Author.Needs.{needs}
+use Rattle.grid.specs.Bounds.{tickMax}
 use Rattle.questions.proofs.Lane.{lane-id, lane-time, lane-film, lane-sending, lane-capped}
 use Rattle.rom_table.specs.Table.{tableCell}
 use Rattle.rom.specs.Lanes.{tableLaneAnswer}
@@ -34,7 +36,7 @@ shown-tick-requires : tie.Need-shown-tick-requires
 shown-tick-requires c κs =
     let a = c .before .before .before .before .before .args in
     let same = rom-answered (a .s) (a .id) (a .lane) (a .time) (table-answered _ _ _ _ _ (none (c .before .before))) in
-    let early = omega (arith, c .tick-at .ensures .high, lane-time (a .s) (a .id) (a .lane) (a .time) same) in
+    let early : c .tick-at .result ≤ tickMax = omega (arith, c .tick-at .ensures .high, lane-time (a .s) (a .id) (a .lane) (a .time) same) in
     rw (c .before .title-of .ensures)
     (lane-sending (a .s) (a .id) (a .lane) (a .time) same, (lane-capped (a .s) (a .id) (a .lane) (a .time) same, early))
 
