@@ -10,12 +10,12 @@ use Rattle.rules.specs.OneOutcome.{OneEnd, OneOutcome}
 use Rattle.rules.proofs.Tests.{decide}
 use Rattle.agent_rows.specs.Layout.{rowLength}
 use Rattle.row_questions.specs.Questions.{RowListed}
-use Rattle.row_questions.proofs.rom_lane.Kinds as rom-lane-kinds
-use Rattle.row_questions.proofs.rom_lane.Reads as rom-lane-call
+use Rattle.row_questions.proofs.small.rom_lane.Kinds as rom-lane-kinds
+use Rattle.row_questions.proofs.small.rom_lane.Reads as rom-lane-call
 use Rattle.row_questions.proofs.planner.Kinds as planner-kinds
 use Rattle.row_questions.proofs.planner.Reads as planner-call
 
-pub rom-lane-one-outcome : OneOutcome 1 rom-lane-kinds.ps rom-lane-kinds.r rom-lane-call.Learnt
+pub rom-lane-one-outcome : OneOutcome 2 rom-lane-kinds.ps rom-lane-kinds.r rom-lane-call.Learnt
 rom-lane-one-outcome κs a x y e f p q =
     ap₂ (λ (n m : ℕ). record { answer = n; cell = m }) (p .0 ∙ sym (q .0)) (p .1 ∙ sym (q .1))
 

@@ -1,28 +1,14 @@
 // The planner's list and the small box's lane question, asked of an agent that a caller lends as a row of numbers. No public call has a
 // `requires`; a refusal writes nothing.
 
+pub mod small;
 mod standing;
 
 use agent_rows::ROW_LENGTH;
 use planner::Listed;
 use rules::WRONG_ROWS;
-use scheduler::Shown;
 use standing::state_in;
-ghost use mathlib.Core.Path.{_≡_};
-ghost use Rattle.row_questions.specs.Questions.{rowRomLane, rowRomShows, RowListed};
-
-// Which cell goes out on a lane of a title in the tick that holds a time, looked up in the small box's table.
-pub fn rom_lane(row: &[u64], id: u64, lane: u64, time: u64) -> Shown
-    ensures { λ r. ⌜ (r .answer ≡ rowRomLane (now (row .entry)) id lane time) × (r .cell ≡ rowRomShows (now (row .entry)) id lane time) ⌝ }
-{
-    if row.len() == ROW_LENGTH {
-        return rom::lanes::lane(state_in(row), id, lane, time);
-    }
-    Shown {
-        answer: WRONG_ROWS,
-        cell: 0,
-    }
-}
+ghost use Rattle.row_questions.specs.Questions.{RowListed};
 
 // Lists the changes that bring the counts to the sharing of the pool.
 pub fn planner(
