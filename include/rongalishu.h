@@ -14,7 +14,8 @@
  * allocates, blocks or keeps anything, so calls over different rows may run side by side.
  *
  * What the library exports are the calls whose names end in _row. Each takes the length of every row, and refuses an
- * agent that has not 756 numbers, or a row for results that is shorter than is said here, with 10 before all else. The
+ * agent that has not 756 numbers, a small box's table that has not 5,120, or a row for results that is shorter than is
+ * said here, with 10 before all else; a plan by a table has that 10 at its place in the order. The
  * inline call of the same name without _row passes the lengths. checks/header holds this file against the source.
  */
 #ifndef RONGALISHU_H
@@ -82,6 +83,7 @@ enum rl_kind { RL_OPENS = 1, RL_CHANGES = 2, RL_CLOSES = 3, RL_HOLDS = 4, RL_LIF
 #define RL_TICKS_MAX 4096   /* of a record, RL_LANE_PLACES numbers each */
 #define RL_NOTICE_FIELDS 8
 #define RL_NOTICE_BYTES 45  /* the longest notice */
+#define RL_ROM_NUMBERS 5120 /* the small box's table */
 #define RL_AGENT_NUMBERS 756
 #define RL_SNAPSHOT_BYTES 6052
 
@@ -99,6 +101,12 @@ enum rl_kind { RL_OPENS = 1, RL_CHANGES = 2, RL_CLOSES = 3, RL_HOLDS = 4, RL_LIF
 
 struct rl_agent {
   uint64_t numbers[RL_AGENT_NUMBERS];
+};
+
+/* The small box's table, for floor 3 and cap 10: filled once by rl_rom_fill, and then lent. Any numbers may be lent as
+ * one: what is shown is then the number that stands there for a lane and a tick. */
+struct rl_rom_table {
+  uint16_t numbers[RL_ROM_NUMBERS];
 };
 
 /* What an opening on the padded grid brings. */
@@ -243,15 +251,16 @@ static inline enum rl_answer rl_lane(const struct rl_agent *agent, uint64_t id, 
   return (enum rl_answer)rl_lane_row(agent->numbers, RL_AGENT_NUMBERS, id, lane, time, cell, 1);
 }
 
-/* The same from the small box's table: 1 also for a title whose floor and cap are not 3 and 10, or that is
+/* The same looked up in the small box's table: 1 also for a title whose floor and cap are not 3 and 10, or that is
  * skip-forward; cell has one place.
  * Refusals: 1 2 3 */
-uint8_t rl_rom_lane_row(const uint64_t *agent, size_t agent_len, uint64_t id, uint64_t lane, uint64_t time,
-                        uint64_t *cell, size_t cell_len);
+uint8_t rl_rom_lane_row(const uint64_t *agent, size_t agent_len, const uint16_t *table, size_t table_len, uint64_t id,
+                        uint64_t lane, uint64_t time, uint64_t *cell, size_t cell_len);
 
-static inline enum rl_answer rl_rom_lane(const struct rl_agent *agent, uint64_t id, uint64_t lane, uint64_t time,
-                                         uint64_t *cell) {
-  return (enum rl_answer)rl_rom_lane_row(agent->numbers, RL_AGENT_NUMBERS, id, lane, time, cell, 1);
+static inline enum rl_answer rl_rom_lane(const struct rl_agent *agent, const struct rl_rom_table *table, uint64_t id,
+                                         uint64_t lane, uint64_t time, uint64_t *cell) {
+  return (enum rl_answer)rl_rom_lane_row(agent->numbers, RL_AGENT_NUMBERS, table->numbers, RL_ROM_NUMBERS, id, lane,
+                                         time, cell, 1);
 }
 
 /* Lanes held over all titles at a time: active, or still sending; lanes has one place.
@@ -302,13 +311,22 @@ static inline enum rl_answer rl_plan(uint64_t floor, uint64_t cap, uint64_t coun
   return (enum rl_answer)rl_plan_row(floor, cap, count, arrival, row, row_len);
 }
 
-/* The same from the small box's table: 1 for another floor or cap than 3 and 10.
- * Refusals: 1 15 13 14 8 10 */
-uint8_t rl_rom_plan_row(uint64_t floor, uint64_t cap, uint64_t count, uint64_t arrival, uint16_t *row, size_t row_len);
+/* The small box's table: which cell each of its ten lanes carries at each of 512 ticks, whatever the row held.
+ * Refusals: 10 */
+uint8_t rl_rom_fill_row(uint16_t *table, size_t table_len);
 
-static inline enum rl_answer rl_rom_plan(uint64_t floor, uint64_t cap, uint64_t count, uint64_t arrival, uint16_t *row,
-                                         size_t row_len) {
-  return (enum rl_answer)rl_rom_plan_row(floor, cap, count, arrival, row, row_len);
+static inline enum rl_answer rl_rom_fill(struct rl_rom_table *table) {
+  return (enum rl_answer)rl_rom_fill_row(table->numbers, RL_ROM_NUMBERS);
+}
+
+/* The plan looked up in that table: 1 for another floor or cap than 3 and 10.
+ * Refusals: 1 15 13 14 8 10 */
+uint8_t rl_rom_plan_row(const uint16_t *table, size_t table_len, uint64_t floor, uint64_t cap, uint64_t count,
+                        uint64_t arrival, uint16_t *row, size_t row_len);
+
+static inline enum rl_answer rl_rom_plan(const struct rl_rom_table *table, uint64_t floor, uint64_t cap,
+                                         uint64_t count, uint64_t arrival, uint16_t *row, size_t row_len) {
+  return (enum rl_answer)rl_rom_plan_row(table->numbers, RL_ROM_NUMBERS, floor, cap, count, arrival, row, row_len);
 }
 
 /* The plan of a skip-forward title's box: for each of the 2^(count - 1) blocks after how many ticks it is taken. Later

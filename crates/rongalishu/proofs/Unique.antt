@@ -60,6 +60,8 @@ use Rattle.rongalishu.proofs.saving.rl_load_row.Kinds as load-kinds
 use Rattle.rongalishu.proofs.saving.rl_load_row.Reads as load-call
 use Rattle.rongalishu.proofs.boxes.rl_plan_row.Kinds as plan-kinds
 use Rattle.rongalishu.proofs.boxes.rl_plan_row.Reads as plan-call
+use Rattle.rongalishu.proofs.boxes.rl_rom_fill_row.Kinds as rom-fill-kinds
+use Rattle.rongalishu.proofs.boxes.rl_rom_fill_row.Reads as rom-fill-call
 use Rattle.rongalishu.proofs.boxes.rl_rom_plan_row.Kinds as rom-plan-kinds
 use Rattle.rongalishu.proofs.boxes.rl_rom_plan_row.Reads as rom-plan-call
 use Rattle.rongalishu.proofs.boxes.rl_skip_plan_row.Kinds as skip-plan-kinds
@@ -114,7 +116,7 @@ pub lane-one-outcome : OneEnd 2 lane-kinds.ps lane-kinds.r (λ κs e f. now (e .
 lane-one-outcome κs a x y e f p q = one-alike _ _ _ x y _ _ p q
 
 pub rom-lane-one-outcome :
-    OneEnd 2 rom-lane-kinds.ps rom-lane-kinds.r (λ κs e f. now (e .1 .1 .1 .1 .0) ≡ now (f .1 .1 .1 .1 .0)) rom-lane-call.Learnt
+    OneEnd 3 rom-lane-kinds.ps rom-lane-kinds.r (λ κs e f. now (e .1 .1 .1 .1 .1 .0) ≡ now (f .1 .1 .1 .1 .1 .0)) rom-lane-call.Learnt
 rom-lane-one-outcome κs a x y e f p q = one-alike _ _ _ x y _ _ p q
 
 -- and parameter 2
@@ -127,8 +129,11 @@ pub plan-one-outcome : OneEnd 1 plan-kinds.ps plan-kinds.r (λ κs e f. now (e .
 plan-one-outcome κs a x y e f p q = (p .answer ∙ sym (q .answer), p .left ∙ sym (q .left))
 
 pub rom-plan-one-outcome :
-    OneEnd 1 rom-plan-kinds.ps rom-plan-kinds.r (λ κs e f. now (e .1 .1 .1 .1 .0) ≡ now (f .1 .1 .1 .1 .0)) rom-plan-call.Learnt
+    OneEnd 2 rom-plan-kinds.ps rom-plan-kinds.r (λ κs e f. now (e .1 .1 .1 .1 .1 .0) ≡ now (f .1 .1 .1 .1 .1 .0)) rom-plan-call.Learnt
 rom-plan-one-outcome κs a x y e f p q = (p .answer ∙ sym (q .answer), p .left ∙ sym (q .left))
+
+pub rom-fill-one-outcome : OneEnd 1 rom-fill-kinds.ps rom-fill-kinds.r (λ κs e f. now (e .0) ≡ now (f .0)) rom-fill-call.Learnt
+rom-fill-one-outcome κs a x y e f p q = (p .answer ∙ sym (q .answer), p .left ∙ sym (q .left))
 
 pub skip-plan-one-outcome :
     OneEnd 1 skip-plan-kinds.ps skip-plan-kinds.r (λ κs e f. now (e .1 .1 .0) ≡ now (f .1 .1 .0)) skip-plan-call.Learnt

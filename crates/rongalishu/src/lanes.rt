@@ -25,22 +25,23 @@ pub extern "C" fn rl_lane_row(agent: &[u64], id: u64, lane: u64, time: u64, cell
     answer
 }
 
-// The same looked up in the small box's table.
+// The same looked up in a lent table of the small box.
 #[no_mangle]
 pub extern "C" fn rl_rom_lane_row(
     agent: &[u64],
+    table: &[u16],
     id: u64,
     lane: u64,
     time: u64,
     cell: &mut [u64],
 ) -> u8
-    ensures { λ r. ⌜ OneGiven (now (cell .entry)) (rowRomLane (now (agent .entry)) id lane time)
-        (rowRomShows (now (agent .entry)) id lane time) r (now (cell .exit)) ⌝ }
+    ensures { λ r. ⌜ OneGiven (now (cell .entry)) (rowRomLane (now (agent .entry)) (now (table .entry)) id lane time)
+        (rowRomShows (now (agent .entry)) (now (table .entry)) id lane time) r (now (cell .exit)) ⌝ }
 {
     if cell.len() < 1 {
         return WRONG_ROWS;
     }
-    let told = row_questions::rom_lane(agent, id, lane, time);
+    let told = row_questions::small::rom_lane(agent, table, id, lane, time);
     let answer = told.answer;
     if answer == DONE {
         let numbers = [told.cell];
