@@ -1,5 +1,6 @@
 // What a lane shows, of the computing box and of the small one.
 
+use crate::small::table;
 use console_answers::outcomes;
 use story::State;
 ghost use Rattle.text.specs.Output.{Written};
@@ -15,6 +16,7 @@ pub fn put_lane(out: &mut [u8], at: usize, s: State, id: u64, lane: u64, time: u
 pub fn put_rom_lane(out: &mut [u8], at: usize, s: State, id: u64, lane: u64, time: u64) -> usize
     ensures { λ r. ⌜ Written (now (out .entry)) at (romLaneText s id lane time) (now (out .exit)) r ⌝ }
 {
-    let shown = rom::lanes::lane(s, id, lane, time);
+    let table = table();
+    let shown = rom::lanes::lane(&table, s, id, lane, time);
     outcomes::put_value(out, at, shown.answer, shown.cell, 0)
 }

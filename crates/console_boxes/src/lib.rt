@@ -5,3 +5,4 @@ mod calls;
 mod cells;
 pub mod lanes;
 pub mod plan;
+mod small;

@@ -1,15 +1,28 @@
--- `console_boxes::lanes::put_rom_lane` meets its contract: the small box's answer and cell.
+-- `console_boxes::lanes::put_rom_lane` meets its contract: the small box's answer and cell, by a table that was filled.
+use mathlib.Core.Path.{_∙_}
 use Rattle.text.specs.Output.{page}
+use Rattle.rom.proofs.Answered.{table-lane}
 use Rattle.console_boxes.proofs.Answered.{rom-lane-told}
 use borrow.Author.Needs.{needs}
 use Rattle.console_boxes.proofs.lanes.put_rom_lane.Statement.{statement}
 use Rattle.console_boxes.proofs.lanes.put_rom_lane.Tie as tie
 
 returns : tie.Need-returns
-returns c = let x = c .before .before .before .before .before .before .args in
+returns c =
+    let x = c .before .before .before .before .before .before .before .before .args in
     let p = page (x .out .now) (x .at) in
-    rom-lane-told p _ (x .s) (x .id) (x .lane) (x .time) _ _ (c .before .before .before .before .lane .ensures .0)
-    (c .before .before .before .before .lane .ensures .1) (c .before .before .put-value .ensures)
+    let told = c .before .before .before .before .lane .ensures in
+    let t = c .before .before .before .before .before .before .table in
+    let by = table-lane (t .result) (x .s) (x .id) (x .lane) (x .time) (t .ensures) in
+    rom-lane-told p _ (x .s) (x .id) (x .lane) (x .time) _ _ (told .0 ∙ by .0) (told .1 ∙ by .1) (c .before .before .put-value .ensures)
 
 pub put-rom-lane-spec : {M : Type 1} → statement M
-put-rom-lane-spec = tie.close (tie.spec (λ c κs. search needs) (λ c κs. search needs) (λ c. search needs) returns)
+put-rom-lane-spec =
+    tie.close
+    (tie.spec
+    (λ c κs. search needs)
+    (λ c. search needs)
+    (λ c κs. search needs)
+    (λ c κs. search needs)
+    (λ c. search needs)
+    returns)
