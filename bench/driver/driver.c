@@ -131,13 +131,14 @@ static uint8_t answered_event(void) {
 
 static uint8_t answered_question(void) {
   CALL(rl_lane_row, ROW(uint64_t, 0), N(0), N(1), N(2), ROW(uint64_t, 1));
-  CALL(rl_rom_lane_row, ROW(uint64_t, 0), N(0), N(1), N(2), ROW(uint64_t, 1));
+  CALL(rl_rom_lane_row, ROW(uint64_t, 0), ROW(uint16_t, 1), N(0), N(1), N(2), ROW(uint64_t, 2));
   CALL(rl_held_row, ROW(uint64_t, 0), N(0), ROW(uint64_t, 1));
   CALL(rl_status_row, ROW(uint64_t, 0), N(0), ROW(uint64_t, 1), ROW(uint64_t, 2), ROW(uint64_t, 3), ROW(uint64_t, 4));
   CALL(rl_planner_row, ROW(uint64_t, 0), N(0), ROW(uint32_t, 1), ROW(uint64_t, 2), ROW(uint64_t, 3), ROW(uint64_t, 4),
        ROW(uint64_t, 5));
   CALL(rl_plan_row, N(0), N(1), N(2), N(3), ROW(uint16_t, 0));
-  CALL(rl_rom_plan_row, N(0), N(1), N(2), N(3), ROW(uint16_t, 0));
+  CALL(rl_rom_fill_row, ROW(uint16_t, 0));
+  CALL(rl_rom_plan_row, ROW(uint16_t, 0), N(0), N(1), N(2), N(3), ROW(uint16_t, 1));
   CALL(rl_skip_plan_row, N(0), N(1), ROW(uint16_t, 0));
   CALL(rl_share_row, N(0), ROW(uint32_t, 0), ROW(uint32_t, 1), ROW(uint32_t, 2), ROW(uint32_t, 3), ROW(uint32_t, 4));
   return answered_event();

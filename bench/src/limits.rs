@@ -29,5 +29,7 @@ pub const NOTHING: u16 = 65_535;
 /// The small box's floor and cap (02, request 6).
 pub const ROM_FLOOR: u64 = 3;
 pub const ROM_CAP: u64 = 10;
+/// The numbers of its table: ten lanes by 512 ticks.
+pub const ROM_NUMBERS: usize = 5_120;
 /// The largest sequence of a notice.
 pub const SEQUENCE_MAX: u64 = u32::MAX as u64;

@@ -35,6 +35,8 @@ pub trait Subject {
 
     fn plan(&mut self, start: Start, row: &mut [u16]) -> u8;
     fn rom_plan(&mut self, start: Start, row: &mut [u16]) -> u8;
+    /// The small box's table, into a row of its length.
+    fn rom_fill(&mut self, table: &mut [u16]) -> u8;
     fn skip_plan(&mut self, count: u64, arrival: u64, row: &mut [u16]) -> u8;
     fn share(&mut self, pool: u64, titles: Sharers, counts: &mut [u32]) -> u8;
 

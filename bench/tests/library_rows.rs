@@ -5,8 +5,11 @@
 
 use bench::agent_row::{fresh, ROW, SNAPSHOT};
 use bench::library::raw::*;
+use bench::library::Library;
+use bench::limits::{NOTHING, ROM_CAP, ROM_FLOOR, ROM_NUMBERS};
 use bench::model::bytes_of_row;
-use bench::refusals::WRONG_ROWS;
+use bench::refusals::{DONE, NOT_AT_SLOT, WRONG_ROWS};
+use bench::subject::{Film, Subject};
 
 /// A number that is out of every limit: the refusal of the row comes before its own.
 const WILD: u64 = u64::MAX;
@@ -20,6 +23,7 @@ struct Lent {
     numbers: Vec<u64>,
     more: Vec<u64>,
     places: Vec<u16>,
+    table: Vec<u16>,
     bytes: Vec<u8>,
 }
 
@@ -32,6 +36,7 @@ impl Lent {
             numbers: vec![7; SPARE],
             more: vec![8; SPARE],
             places: vec![9; SPARE],
+            table: vec![6; ROM_NUMBERS + SPARE],
             bytes: vec![5; SNAPSHOT],
         }
     }
@@ -78,7 +83,8 @@ fn questions_refuse(n: usize, places: usize) {
         rl_lane_row(l.agent.as_ptr(), n, WILD, WILD, WILD, l.numbers.as_mut_ptr(), places)
     });
     is_refused("rom_lane", |l| unsafe {
-        rl_rom_lane_row(l.agent.as_ptr(), n, WILD, WILD, WILD, l.numbers.as_mut_ptr(), places)
+        let (table, cell) = (l.table.as_ptr(), l.numbers.as_mut_ptr());
+        rl_rom_lane_row(l.agent.as_ptr(), n, table, ROM_NUMBERS, WILD, WILD, WILD, cell, places)
     });
     is_refused("held", |l| unsafe {
         rl_held_row(l.agent.as_ptr(), n, WILD, l.numbers.as_mut_ptr(), places)
@@ -112,6 +118,100 @@ fn questions_want_an_agent_of_its_length_and_a_place() {
         questions_refuse(n, 1);
     }
     questions_refuse(ROW, 0);
+}
+
+#[test]
+fn the_small_box_wants_a_table_of_its_length() {
+    for n in [0, ROM_NUMBERS - 1, ROM_NUMBERS + 1, ROM_NUMBERS + SPARE] {
+        is_refused("rom_fill", |l| unsafe { rl_rom_fill_row(l.table.as_mut_ptr(), n) });
+        is_refused("rom_lane", |l| unsafe {
+            let (table, cell) = (l.table.as_ptr(), l.numbers.as_mut_ptr());
+            rl_rom_lane_row(l.agent.as_ptr(), ROW, table, n, WILD, WILD, WILD, cell, 1)
+        });
+        // the plan has its 10 behind the others
+        let mut row = vec![9; 1 << ROM_CAP];
+        let mut plan = |arrival| unsafe {
+            let table = Lent::new().table;
+            let (floor, cap, count) = (ROM_FLOOR, ROM_CAP, ROM_FLOOR);
+            rl_rom_plan_row(
+                table.as_ptr(),
+                n,
+                floor,
+                cap,
+                count,
+                arrival,
+                row.as_mut_ptr(),
+                row.len(),
+            )
+        };
+        assert_eq!([plan(1), plan(0)], [NOT_AT_SLOT, WRONG_ROWS]);
+        assert!(row.iter().all(|place| *place == 9), "a refused plan has written");
+    }
+}
+
+/// Any numbers may be lent as a table: a lane shows the one that stands at its place, and a plan has the first tick at which
+/// a cell's number stands on a lane, whatever else stands there.
+#[test]
+fn the_small_box_reads_the_table_that_it_is_lent() {
+    let mut library = Library::new();
+    let (length, floor, cap, count) = (1 << 20, ROM_FLOOR, ROM_CAP, ROM_CAP);
+    assert_eq!(library.fresh(64), DONE);
+    assert_eq!(
+        library.open(
+            0,
+            0,
+            Film {
+                length,
+                floor,
+                cap,
+                count
+            }
+        ),
+        DONE
+    );
+    let agent = library.agent();
+    let table: Vec<u16> = (0..ROM_NUMBERS as u16).map(|place| place * 13).collect();
+    for (lane, tick) in [(0, 0), (3, 511), (9, 512), (9, 700)] {
+        let mut cell = [0];
+        // a tick of this film is 1,050 ms
+        let time = tick * 1_050;
+        let answer = unsafe {
+            rl_rom_lane_row(
+                agent.as_ptr(),
+                ROW,
+                table.as_ptr(),
+                ROM_NUMBERS,
+                0,
+                lane,
+                time,
+                cell.as_mut_ptr(),
+                1,
+            )
+        };
+        assert_eq!(
+            (answer, cell[0]),
+            (DONE, u64::from(table[(lane * 512 + tick % 512) as usize]))
+        );
+    }
+    let mut row = vec![9; (1 << ROM_CAP) + 1];
+    let answer = unsafe {
+        rl_rom_plan_row(
+            table.as_ptr(),
+            ROM_NUMBERS,
+            floor,
+            cap,
+            count,
+            0,
+            row.as_mut_ptr(),
+            row.len(),
+        )
+    };
+    assert_eq!(answer, DONE);
+    for cell in 0..1 << ROM_CAP {
+        let first = (0..512).find(|tick| (0..10).any(|lane| table[lane * 512 + tick] == cell as u16));
+        assert_eq!(row[cell], first.map_or(NOTHING, |tick| tick as u16), "cell {cell}");
+    }
+    assert_eq!(row[1 << ROM_CAP], 9);
 }
 
 #[test]

@@ -102,6 +102,9 @@ pub enum Call {
         start: Start,
         places: usize,
     },
+    RomFill {
+        places: usize,
+    },
     SkipPlan {
         count: u64,
         arrival: u64,
@@ -192,6 +195,7 @@ impl Call {
             Call::Planner { .. } => "planner",
             Call::Plan { .. } => "plan",
             Call::RomPlan { .. } => "rom_plan",
+            Call::RomFill { .. } => "rom_fill",
             Call::SkipPlan { .. } => "skip_plan",
             Call::Share { .. } => "share",
             Call::Write { .. } => "write",
@@ -280,6 +284,10 @@ impl Call {
             Call::RomPlan { start, places } => {
                 outcome.places = row(places);
                 outcome.answer = subject.rom_plan(*start, &mut outcome.places);
+            }
+            Call::RomFill { places } => {
+                outcome.places = row(places);
+                outcome.answer = subject.rom_fill(&mut outcome.places);
             }
             Call::SkipPlan { count, arrival, places } => {
                 outcome.places = row(places);

@@ -166,6 +166,15 @@ impl Maker {
         Call::RomPlan { start, places }
     }
 
+    pub fn rom_fill(&mut self) -> Call {
+        let places = if self.random.percent(70) {
+            ROM_NUMBERS
+        } else {
+            ROM_NUMBERS - 3 + self.random.place(7)
+        };
+        Call::RomFill { places }
+    }
+
     pub fn skip_plan(&mut self) -> Call {
         let count = self.number(COUNT_MIN, STEADY_MAX);
         let latest = if self.random.percent(70) { 2_000 } else { ASKED_MAX };

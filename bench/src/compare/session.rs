@@ -110,7 +110,8 @@ impl<'a, A: Subject, B: Subject> Session<'a, A, B> {
     fn other_call(&mut self, logged: &Logged) -> Call {
         match self.maker.random.below(100) {
             0..=13 => self.maker.plan(),
-            14..=18 => self.maker.rom_plan(),
+            14..=17 => self.maker.rom_plan(),
+            18 => self.maker.rom_fill(),
             19..=26 => self.maker.skip_plan(),
             27..=42 => self.maker.share(),
             43..=55 => self.maker.write(),

@@ -5,7 +5,7 @@ use crate::refusals::*;
 use std::collections::BTreeMap;
 
 /// Every answer of every call (docs/REFUSALS.md).
-const ANSWERS: [(&str, &[u8]); 26] = [
+const ANSWERS: [(&str, &[u8]); 27] = [
     ("fresh", &[DONE, OUTSIDE_LIMITS]),
     ("open", &[DONE, 1, 2, 4, 15, 13, 14, 9]),
     ("skip", &[DONE, 1, 2, 4, 9]),
@@ -24,6 +24,7 @@ const ANSWERS: [(&str, &[u8]); 26] = [
     ("planner", &[DONE, 1, 2, 9, 10, 18]),
     ("plan", &[DONE, 1, 15, 13, 14, 8, 10]),
     ("rom_plan", &[DONE, 1, 13, 14, 8, 10]),
+    ("rom_fill", &[DONE, 10]),
     ("skip_plan", &[DONE, 1, 10]),
     ("share", &[DONE, 10, 1, 15, 9]),
     ("write", &[DONE, 10, 1]),

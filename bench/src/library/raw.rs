@@ -57,6 +57,8 @@ exported! {
     pub fn rl_rom_lane_row(
         agent: *const u64,
         agent_len: usize,
+        table: *const u16,
+        table_len: usize,
         id: u64,
         lane: u64,
         time: u64,
@@ -94,7 +96,17 @@ exported! {
     ) -> u8;
 
     pub fn rl_plan_row(floor: u64, cap: u64, count: u64, arrival: u64, row: *mut u16, row_len: usize) -> u8;
-    pub fn rl_rom_plan_row(floor: u64, cap: u64, count: u64, arrival: u64, row: *mut u16, row_len: usize) -> u8;
+    pub fn rl_rom_fill_row(table: *mut u16, table_len: usize) -> u8;
+    pub fn rl_rom_plan_row(
+        table: *const u16,
+        table_len: usize,
+        floor: u64,
+        cap: u64,
+        count: u64,
+        arrival: u64,
+        row: *mut u16,
+        row_len: usize,
+    ) -> u8;
     pub fn rl_skip_plan_row(count: u64, arrival: u64, row: *mut u16, row_len: usize) -> u8;
     pub fn rl_share_row(
         pool: u64,

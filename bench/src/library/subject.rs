@@ -3,6 +3,7 @@
 use super::raw::*;
 use super::rows::{given, lent};
 use crate::agent_row::{self, AgentRow, ROW};
+use crate::limits::ROM_NUMBERS;
 use crate::subject::{Fields, Film, PlannerRows, PlayedLog, Sharers, Start, StatusRows, Subject};
 
 /// A call that is handed rows as pointers and lengths, each of which lives and is not shared while it runs.
@@ -15,6 +16,8 @@ macro_rules! call {
 
 pub struct Library {
     agent: Box<AgentRow>,
+    /// The small box's table, filled once.
+    table: Vec<u16>,
 }
 
 impl Default for Library {
@@ -26,9 +29,14 @@ impl Default for Library {
 impl Library {
     /// A pool of 0 lanes without titles.
     pub fn new() -> Library {
-        Library {
+        let mut library = Library {
             agent: Box::new(agent_row::fresh(0)),
-        }
+            table: Vec::new(),
+        };
+        let mut table = vec![0; ROM_NUMBERS];
+        library.rom_fill(&mut table);
+        library.table = table;
+        library
     }
 
     fn row_mut(&mut self) -> *mut u64 {
@@ -99,7 +107,19 @@ impl Subject for Library {
 
     fn rom_lane(&mut self, id: u64, lane: u64, time: u64) -> (u8, u64) {
         let mut cell = lent::<1>();
-        let answer = call!(rl_rom_lane_row, self.row(), ROW, id, lane, time, cell.as_mut_ptr(), 1);
+        let table = &self.table;
+        let answer = call!(
+            rl_rom_lane_row,
+            self.row(),
+            ROW,
+            table.as_ptr(),
+            table.len(),
+            id,
+            lane,
+            time,
+            cell.as_mut_ptr(),
+            1
+        );
         (answer, given(answer, cell)[0])
     }
 
@@ -166,7 +186,22 @@ impl Subject for Library {
             count,
             arrival,
         } = start;
-        call!(rl_rom_plan_row, floor, cap, count, arrival, row.as_mut_ptr(), row.len())
+        let table = &self.table;
+        call!(
+            rl_rom_plan_row,
+            table.as_ptr(),
+            table.len(),
+            floor,
+            cap,
+            count,
+            arrival,
+            row.as_mut_ptr(),
+            row.len()
+        )
+    }
+
+    fn rom_fill(&mut self, table: &mut [u16]) -> u8 {
+        call!(rl_rom_fill_row, table.as_mut_ptr(), table.len())
     }
 
     fn skip_plan(&mut self, count: u64, arrival: u64, row: &mut [u16]) -> u8 {

@@ -94,3 +94,16 @@ pub fn skip_plan(count: u64, arrival: u64, row: &mut [u16]) -> u8 {
     }
     DONE
 }
+
+/// The small box's table: the cells of each lane at the ticks of a period, lane by lane.
+pub fn rom_fill(table: &mut [u16]) -> u8 {
+    if table.len() != ROM_NUMBERS {
+        return WRONG_ROWS;
+    }
+    let lanes = Lanes::of(ROM_FLOOR, ROM_CAP);
+    let ticks = period(ROM_CAP);
+    for (place, number) in table.iter_mut().enumerate() {
+        *number = lanes.cell(place as u64 / ticks, place as u64 % ticks) as u16;
+    }
+    DONE
+}

@@ -188,6 +188,10 @@ impl Subject for Model {
         plans::rom_plan(start, row)
     }
 
+    fn rom_fill(&mut self, table: &mut [u16]) -> u8 {
+        plans::rom_fill(table)
+    }
+
     fn skip_plan(&mut self, count: u64, arrival: u64, row: &mut [u16]) -> u8 {
         plans::skip_plan(count, arrival, row)
     }

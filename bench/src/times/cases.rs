@@ -102,7 +102,7 @@ fn lanes<S: Subject>() -> Vec<Case<S>> {
     cases
 }
 
-/// The small box's two calls.
+/// The small box's two calls, and the filling of its table.
 fn small_box<S: Subject>() -> Vec<Case<S>> {
     let mut agent = crate::tuned::Tuned::new();
     let small = |count| crate::subject::Film {
@@ -130,10 +130,13 @@ fn small_box<S: Subject>() -> Vec<Case<S>> {
         };
         black_box(subject.rom_plan(start, &mut places))
     };
+    let mut table = vec![0; ROM_NUMBERS];
+    let fill = move |subject: &mut S| black_box(subject.rom_fill(black_box(&mut table)));
     vec![
         asks("small box, lane, active", None, row, active),
         asks("small box, lane, sending its last cell", None, dropped, sending),
         calls("small box, plan", None, plan),
+        calls("small box, its table filled", None, fill),
     ]
 }
 

@@ -2,7 +2,7 @@
 
 use super::grid::lane_cell;
 use super::plans;
-use crate::limits::{NOTHING, ROM_CAP, ROM_FLOOR};
+use crate::limits::{NOTHING, ROM_CAP, ROM_FLOOR, ROM_NUMBERS};
 use crate::refusals::*;
 use crate::subject::Start;
 
@@ -47,5 +47,14 @@ pub fn plan(start: Start, row: &mut [u16]) -> u8 {
             row[usize::from(TABLE[lane * PERIOD + tick]) % CELLS] = after as u16;
         }
     }
+    DONE
+}
+
+/// The table, copied.
+pub fn fill(table: &mut [u16]) -> u8 {
+    if table.len() != ROM_NUMBERS {
+        return WRONG_ROWS;
+    }
+    table.copy_from_slice(&TABLE);
     DONE
 }

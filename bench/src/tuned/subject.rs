@@ -110,6 +110,10 @@ impl Subject for Tuned {
         rom::plan(start, row)
     }
 
+    fn rom_fill(&mut self, table: &mut [u16]) -> u8 {
+        rom::fill(table)
+    }
+
     fn skip_plan(&mut self, count: u64, arrival: u64, row: &mut [u16]) -> u8 {
         plans::skip_plan(count, arrival, row)
     }
