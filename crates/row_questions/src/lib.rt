@@ -2,7 +2,7 @@
 // `requires`; a refusal writes nothing.
 
 pub mod small;
-mod standing;
+pub mod standing;
 
 use agent_rows::ROW_LENGTH;
 use planner::Listed;

@@ -1,7 +1,10 @@
 // The state of a row by value, for the calls that read a state as a whole.
 
+use agent::Agent;
+use agent::fresh_agent;
 use agent_rows::LAST_AT;
 use agent_rows::POOL_AT;
+use agent_rows::ROW_LENGTH;
 use agent_rows::ROW_VERSION;
 use agent_rows::SEQUENCE_AT;
 use agent_rows::SEQUENCE_END;
@@ -68,4 +71,17 @@ pub fn state_in(row: &[u64]) -> State
         last: row[LAST_AT],
         titles: titles,
     }
+}
+
+// The agent that a row stands for; one of no lanes where the row has another length.
+pub fn agent_in(row: &[u64]) -> Agent {
+    if row.len() == ROW_LENGTH {
+        let state = state_in(row);
+        return Agent {
+            sequence: (row[SEQUENCE_AT] % SEQUENCE_END) as u32,
+            state: state,
+        };
+    }
+    let none = fresh_agent(0);
+    none.agent
 }

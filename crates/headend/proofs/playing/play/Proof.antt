@@ -1,0 +1,42 @@
+-- `headend::playing::play` is safe and ends: the rows keep their lengths, and the windows are counted down.
+use mathlib.Core.Path.{_≡_}
+use lib.ListN.{length}
+use borrow.Author.Needs.{needs}
+use Rattle.headend.proofs.playing.play.Statement.{statement}
+use Rattle.headend.proofs.playing.play.Tie as tie
+
+abbrev Inv-loop : tie.InvT-loop
+Inv-loop pair row₀ room₀ sums₀ start₀ windows₀ row room sums start windows =
+    (length row ≡ length row₀) × ((length room ≡ 65536) × (length sums ≡ 10080))
+
+abbrev μ-loop : tie.MeasureT-loop
+μ-loop pair row₀ room₀ sums₀ start₀ windows₀ row room sums start windows =
+    windows
+
+pub play-spec : {M : Type 1} → statement M
+play-spec =
+    tie.close
+    (tie.spec
+    Inv-loop
+    μ-loop
+    (λ c κs. search needs)
+    (λ c κs. search needs)
+    (λ c. search needs)
+    (λ c κs. search needs)
+    (λ c. search needs)
+    (λ c. search needs)
+    (λ c κs. search needs)
+    (λ c κs. search needs)
+    (λ c. search needs)
+    (λ c. search needs)
+    (λ c κs. search needs)
+    (λ c. search needs)
+    (λ c. search needs)
+    (λ c κs. search needs)
+    (λ c. search needs)
+    (λ c. search needs)
+    (λ c. search needs)
+    (λ c. search needs)
+    (λ c. search needs)
+    (λ c. search needs)
+    (λ c. search needs))
