@@ -13,7 +13,7 @@ use text::numbers::spelt;
 const ARGUMENT_ROOM: usize = 131_072;
 
 // What an argument is.
-pub enum Given {
+enum Given {
     Number(u64),
     NoNumber,
 }
@@ -31,7 +31,7 @@ pub enum Pool {
 }
 
 // The number that an argument spells, the largest where it is larger.
-pub fn number_given(i: usize) -> Given {
+fn number_given(i: usize) -> Given {
     let mut room = [0u8; ARGUMENT_ROOM];
     let n = os::arg(i, &mut room);
     if os::errno() != 0 {

@@ -1,15 +1,12 @@
 // What the arguments ask for: what to do, with which pool, and the journal's name.
 
-use files::arguments::Given;
+use files::arguments::Pool;
 use files::arguments::count_is;
 use files::arguments::is_word;
-use files::arguments::number_given;
+use files::arguments::pool_given;
 use files::complaints::complain;
 use files::pages::within_row;
 use journal_files::opening::NAME_MOST;
-use rules::POOL_MAX;
-use rules::POOL_MIN;
-use rules::within;
 ghost use mathlib.Core.Path.{_≡_};
 ghost use Prim.Native.Nat.{_≤_};
 ghost use Rattle.io.specs.Counts.{Counts};
@@ -61,15 +58,10 @@ fn pool_place(task: Task) -> usize
 
 // The pool that an argument gives, 0 where it gives none.
 fn pool_asked(place: usize) -> u64 {
-    let Given::Number(pool) = number_given(place) else {
-        complain(b"POOL", b" is no number");
+    let Pool::Lanes(pool) = pool_given(place) else {
         return 0;
     };
-    if within(POOL_MIN, POOL_MAX, pool) {
-        return pool;
-    }
-    complain(b"POOL", b" is no number from 1 to 64");
-    0
+    pool
 }
 
 // The journal's name, at the start of a room: so many bytes, 0 where there is none that can be used.
