@@ -11,6 +11,8 @@ use Rattle.rules.specs.Limits.{poolMax}
 use Rattle.rules.specs.Refusals.{pick, done, wrongRows}
 use Rattle.story.specs.declared.State.{State}
 use Rattle.story.specs.Kept.{titleAt, tickAt}
+use Rattle.agent.specs.declared.Agent.{Agent}
+use Rattle.agent.specs.Turns.{freshAgent}
 use Rattle.owed.specs.Shown.{shownTick}
 use Rattle.rom_table.specs.Table.{romEntries, tableCell}
 use Rattle.rom.specs.Lanes.{romLaneAnswer}
@@ -26,6 +28,10 @@ poolIn r = pick (rowSound r) (unpacked r .state .pool) (suc poolMax)
 -- the state that a row stands for
 abbrev pub stateIn : List ℕ → State
 stateIn r = record { pool = poolIn r; last = unpacked r .state .last; titles = unpacked r .state .titles }
+
+-- the agent that a row stands for; one of no lanes where the row has another length or is not sound
+unfoldable pub agentIn : List ℕ → Agent
+agentIn r = pick (eqb (length r) rowLength) (pick (rowSound r) (unpacked r) (freshAgent 0)) (freshAgent 0)
 
 -- an answer beside a lent table of the right length
 abbrev pub onTable : List ℕ → ℕ → ℕ

@@ -18,10 +18,13 @@ use rules::truth::also;
 use story::State;
 use story::Title;
 ghost use mathlib.Core.Path.{_≡_};
+ghost use mathlib.Core.Bool.{true};
 ghost use lib.ListN.{length};
+ghost use Rattle.rules.specs.Refusals.{pick};
+ghost use Rattle.agent.specs.Turns.{freshAgent};
 ghost use Rattle.agent_rows.specs.Layout.{rowLength};
 ghost use Rattle.agent_rows.specs.Packed.{unpacked, rowSound};
-ghost use Rattle.row_questions.specs.Questions.{poolIn, stateIn};
+ghost use Rattle.row_questions.specs.Questions.{poolIn, stateIn, agentIn};
 
 // Whether a row is of this layout.
 fn is_sound(row: &[u64]) -> bool
@@ -73,14 +76,52 @@ pub fn state_in(row: &[u64]) -> State
     }
 }
 
-// The agent that a row stands for; one of no lanes where the row has another length.
-pub fn agent_in(row: &[u64]) -> Agent {
+// The sequence of a sound row, which fits 32 bits.
+fn sequence_in(row: &[u64]) -> u32
+    requires { ⌜ length (now row) ≡ rowLength ⌝ }
+    requires { ⌜ rowSound (now row) ≡ true ⌝ }
+    ensures { λ r. ⌜ r ≡ unpacked (now (row .entry)) .sequence ⌝ }
+{
+    row[SEQUENCE_AT] as u32
+}
+
+// The agent of a row that is sound.
+fn sound_agent(row: &[u64]) -> Agent
+    requires { ⌜ length (now row) ≡ rowLength ⌝ }
+    requires { ⌜ rowSound (now row) ≡ true ⌝ }
+    ensures { λ r. ⌜ r ≡ unpacked (now (row .entry)) ⌝ }
+{
+    let titles = titles_in(row);
+    let sequence = sequence_in(row);
+    let state = State {
+        pool: row[POOL_AT],
+        last: row[LAST_AT],
+        titles: titles,
+    };
+    Agent {
+        sequence: sequence,
+        state: state,
+    }
+}
+
+// The agent of a row of that length; one of no lanes where it is not sound.
+fn long_agent(row: &[u64]) -> Agent
+    requires { ⌜ length (now row) ≡ rowLength ⌝ }
+    ensures { λ r. ⌜ r ≡ pick (rowSound (now (row .entry))) (unpacked (now (row .entry))) (freshAgent 0) ⌝ }
+{
+    if is_sound(row) {
+        return sound_agent(row);
+    }
+    let none = fresh_agent(0);
+    none.agent
+}
+
+// The agent that a row stands for; one of no lanes where the row has another length or is not sound.
+pub fn agent_in(row: &[u64]) -> Agent
+    ensures { λ r. ⌜ r ≡ agentIn (now (row .entry)) ⌝ }
+{
     if row.len() == ROW_LENGTH {
-        let state = state_in(row);
-        return Agent {
-            sequence: (row[SEQUENCE_AT] % SEQUENCE_END) as u32,
-            state: state,
-        };
+        return long_agent(row);
     }
     let none = fresh_agent(0);
     none.agent
