@@ -154,7 +154,7 @@ fn the_small_box_wants_a_table_of_its_length() {
 #[test]
 fn the_small_box_reads_the_table_that_it_is_lent() {
     let mut library = Library::new();
-    let (length, floor, cap, count) = (1 << 20, ROM_FLOOR, ROM_CAP, ROM_CAP);
+    let (length, floor, cap, count) = (896_000, ROM_FLOOR, ROM_CAP, ROM_CAP);
     assert_eq!(library.fresh(64), DONE);
     assert_eq!(
         library.open(
@@ -170,11 +170,11 @@ fn the_small_box_reads_the_table_that_it_is_lent() {
         DONE
     );
     let agent = library.agent();
-    let table: Vec<u16> = (0..ROM_NUMBERS as u16).map(|place| place * 13).collect();
+    let table: Vec<u16> = (0..ROM_NUMBERS as u16).map(|place| place * 11).collect();
     for (lane, tick) in [(0, 0), (3, 511), (9, 512), (9, 700)] {
         let mut cell = [0];
-        // a tick of this film is 1,050 ms
-        let time = tick * 1_050;
+        // a tick of this film is 1,000 ms
+        let time = tick * 1_000;
         let answer = unsafe {
             rl_rom_lane_row(
                 agent.as_ptr(),
