@@ -8,7 +8,7 @@ use lib.Dec.{eqb, leb, ltb}
 use lib.ListN.{length, take, drop}
 use Rattle.rules.specs.Limits.{both, either}
 use Rattle.rules.specs.Refusals.{pick, done}
-use Rattle.sums.specs.Crc.{sumOf}
+use Rattle.sums.specs.Crc.{sumOf, sumSize}
 use Rattle.notice_fields.specs.Fields.{longestNotice}
 use Rattle.notice_fields.specs.Numbers.{numberAt}
 use Rattle.notice.specs.declared.Reading.{Reading}
@@ -25,7 +25,7 @@ use Rattle.journals.specs.Torn.{isTorn, hadKind}
 
 -- the bytes of a sum
 abbrev pub sumBytes : ℕ
-sumBytes = 4
+sumBytes = sumSize
 
 -- as many events as one block of input can hold: it has 65,536 bytes, and `hold 0 0` with its newline, the shortest event, has 9
 abbrev pub blockEvents : ℕ

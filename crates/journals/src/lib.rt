@@ -18,7 +18,7 @@ pub mod summing;
 mod torn;
 
 // The bytes of a sum.
-pub const SUM: usize = 4;
+pub const SUM: usize = sums::SIZE;
 
 // As many events as one block of input can hold: 65,536 bytes, and `hold 0 0` with its newline, the shortest event, has 9.
 pub const BLOCK_EVENTS: usize = 65_536 / 9;

@@ -2,5 +2,4 @@
 pub mod Moves
 pub mod ScanThrough
 pub mod Stepping
-pub mod Reaching
 pub mod Unique

@@ -6,8 +6,7 @@ use super::scan::look;
 ghost use mathlib.Core.Path.{_≡_};
 ghost use Prim.Native.Nat.{_+_, _<_, _^_};
 ghost use lib.ListN.{length};
-ghost use Rattle.scanning.specs.Scan.{scanOf};
-ghost use Rattle.scanning.specs.inner.Steps.{isOpen, takingNotice, skipping, Counts, Within, Advances, progressOf, freshProgress};
+ghost use Rattle.scanning.specs.inner.Steps.{isOpen, takingNotice, skipping, Counts, Within, Advances, freshProgress};
 
 // How far a scan has come: its place in the input, the last taken notice, how many notices and bytes were taken, how many
 // stretches skipped, and where the latest of these starts and how long it is.
@@ -103,15 +102,4 @@ pub fn advance(window: &[u8], base: usize, p: Progress) -> Progress
         Move::Skip => skip(p),
         Move::Stop => p,
     }
-}
-
-// All of a log.
-pub fn measure(log: &[u8]) -> Progress
-    ensures { λ r. ⌜ r ≡ progressOf (scanOf (now (log .entry))) ⌝ }
-{
-    let mut p = begun();
-    while p.place < log.len() {
-        p = advance(log, 0, p);
-    }
-    p
 }
