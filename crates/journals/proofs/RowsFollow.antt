@@ -29,7 +29,7 @@ use Rattle.agent_rows.proofs.Inverse.{unpacked-packed}
 use Rattle.row_calls.specs.Answers.{rowNotice, rowAfterNotice}
 use Rattle.row_calls.proofs.Follows.{noticed-as-agent}
 use Rattle.row_snapshots.proofs.Small.{row-length}
-use Rattle.row_snapshots.proofs.Whole.{fresh-whole, noticed-whole}
+use Rattle.row_calls.proofs.Whole.{whole-fresh, whole-noticed}
 use Rattle.row_snapshots.proofs.Sequence.{noticed-fits}
 use Rattle.row_snapshots.proofs.InPlace.{taken-in-place}
 use Rattle.journals.specs.declared.Start.{Start}
@@ -72,7 +72,7 @@ row-after : (r : List ℕ) (g : Agent) → Rowed r g → (bs : List ℕ) → Byt
 row-after r g w bs small p n e is =
     record {
       row-is = rw (w .row-is) (taken-in-place g (w .whole) (w .fits) (reading.Whole n));
-      whole = noticed-whole g (reading.Whole n) (w .whole);
+      whole = whole-noticed g (reading.Whole n) (w .whole);
       fits = rw (by-itself bs p n e is) at (noticed-fits g (partOf bs p e) (part-small bs p e small) (w .fits));
     }
 
@@ -141,7 +141,7 @@ rowFirst pool j there s = stage (begunWith (length j) there (length s)) (packed 
 
 module _ (pool : ℕ) (j : List ℕ) (there : Bool) (s : List ℕ) (small : Bytes j) where
   fresh-same : Same (rowFirst pool j there s) (stage (begunWith (length j) there (length s)) (freshAgent pool))
-  fresh-same = record { start-is = refl; rowed = record { row-is = refl; whole = fresh-whole pool; fits = omega arith } }
+  fresh-same = record { start-is = refl; rowed = record { row-is = refl; whole = whole-fresh pool; fits = omega arith } }
 
   -- windows played until the start has ended leave the verdict of the files, and the row of the agent that played the journal up to the cut
   pub row-start : (x : Stage (List ℕ)) → InWindows rowHears j s (rowFirst pool j there s) x → isGoing (x .start .verdict) ≡ false
