@@ -26,7 +26,7 @@ use journals::Start;
 use journals::Verdict;
 use journals::going;
 use journals::hear;
-use journals::sums_in;
+use journals::summing::sums_in;
 use libc::STDERR_FILENO;
 use libc::STDOUT_FILENO;
 use row_calls::starting::fresh;
