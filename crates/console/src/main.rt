@@ -1,19 +1,13 @@
 // The operator's console: commands as lines on standard input, an answer for each on standard output. `help` lists them.
 
 use agent::Agent;
-use console_commands::commands::PLACES_MOST;
+use console_desk::ANSWER_MAX;
 use console_desk::Turned;
 use console_lines::lines::LONGEST_LINE;
 use sessions::Session;
 
 // The pool that a session starts with.
 const POOL: u64 = 8;
-
-// A number of a plan has 16 bits: a blank, and five digits at most.
-const NUMBER_BYTES: usize = 6;
-
-// No answer is longer: the longest is a plan's, with its 0 and its newline.
-const ANSWER_MAX: usize = 2 + NUMBER_BYTES * PLACES_MOST;
 
 // Answers the line at hand, where there is one.
 fn answered(agent: Agent, session: Session, input: &[u8], out: &mut [u8]) -> Turned {

@@ -42,6 +42,12 @@ ghost use Rattle.console_desk.specs.Desk.{
   lineText,
 };
 
+// A number of a plan has 16 bits: a blank, and five digits at most.
+const NUMBER_BYTES: usize = 6;
+
+// No answer is longer: the longest is a plan's, with its 0 and its newline.
+pub const ANSWER_MAX: usize = 2 + NUMBER_BYTES * commands::PLACES_MOST;
+
 // What a line leaves: the agent, and the place behind what was answered.
 pub struct Turned {
     pub agent: Agent,

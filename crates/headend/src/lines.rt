@@ -2,13 +2,14 @@
 // is written: that is done when the session is about to write, so that the lines of one block of input share one force.
 
 use agent::Agent;
-use console_commands::commands::PLACES_MOST;
+use console_desk::ANSWER_MAX;
 use console_lines::lines::LONGEST_LINE;
 use files::pages::within_row;
 use headend_desk::Desk;
 use headend_desk::has_room;
 use journal_files::appending::append;
 use journal_files::pairs::Pair;
+use journals::BLOCK;
 use journals::BLOCK_EVENTS;
 use journals::SUM;
 use notice::LONGEST_NOTICE;
@@ -16,15 +17,6 @@ use sessions::Session;
 use sessions::sought;
 use sessions::turned;
 use sessions::writes;
-
-// A number of a plan has 16 bits: a blank, and five digits at most.
-const NUMBER_BYTES: usize = 6;
-
-// No answer is longer: the longest is a plan's, with its 0 and its newline.
-const ANSWER_MAX: usize = 2 + NUMBER_BYTES * PLACES_MOST;
-
-// The bytes of a block of input, and of the answers that wait to be written.
-const BLOCK: usize = 65_536;
 
 // Room for the notices and the sums of a whole block of input.
 const NOTICES_ROOM: usize = BLOCK_EVENTS * LONGEST_NOTICE;

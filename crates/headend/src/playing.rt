@@ -6,6 +6,8 @@ use files::pages::within_row;
 use journal_files::pairs::Pair;
 use journal_files::windows::Window;
 use journal_files::windows::read_from;
+use journals::BLOCK;
+use journals::SUM;
 use journals::Start;
 use journals::going;
 use journals::hear;
@@ -14,7 +16,7 @@ use libc::STDERR_FILENO;
 use rules::truth::either;
 
 // Room for the sums of a window's notices, of which the shortest has 26 bytes.
-pub const SUMS_ROOM: usize = 65_536 / 26 * 4;
+pub const SUMS_ROOM: usize = BLOCK / 26 * SUM;
 
 pub fn less(a: usize, b: usize) -> usize {
     if a < b {

@@ -20,8 +20,11 @@ mod torn;
 // The bytes of a sum.
 pub const SUM: usize = sums::SIZE;
 
-// As many events as one block of input can hold: 65,536 bytes, and `hold 0 0` with its newline, the shortest event, has 9.
-pub const BLOCK_EVENTS: usize = 65_536 / 9;
+// The bytes of a block of input.
+pub const BLOCK: usize = 65_536;
+
+// As many events as one block can hold: `hold 0 0` with its newline, the shortest, has 9 bytes.
+pub const BLOCK_EVENTS: usize = BLOCK / 9;
 
 // What a start has found.
 pub enum Verdict {
