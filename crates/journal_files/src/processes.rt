@@ -5,6 +5,7 @@ use crate::windows::least;
 use files::arguments::same;
 use files::pages::within_row;
 use libc::EACCES;
+use libc::F_OK;
 use libc::PATH_MAX;
 use text::bytes::Sort;
 use text::bytes::run_end;
@@ -62,6 +63,24 @@ fn path_of(record: Record) -> [u8; PATH_MAX]
     path
 }
 
+// The path under which /proc shows a thread of this process, with zeros behind it.
+fn path_of_own(thread: u64) -> [u8; PATH_MAX]
+    ensures { λ r. ⌜ Ended r ⌝ }
+{
+    let mut path = io::buffer();
+    let a = put(&mut path, 0, b"/proc/self/task/");
+    put_number(&mut path, a, thread);
+    path[PATH_MAX - 1] = 0;
+    path
+}
+
+// Whether a number is this process's, or that of a thread of it: /proc shows a thread's files like a process's, and an emulator has
+// threads that the program knows nothing of.
+fn is_own(process: u64) -> bool {
+    let path = path_of_own(process);
+    libc::access(&path, F_OK) == 0
+}
+
 // The file that a process has open under a descriptor, by its name.
 pub fn name_of(record: Record, room: &mut [u8]) -> Told
     ensures { λ r. ⌜ Counts (r .size) (now (room .exit)) ⌝ }
@@ -77,7 +96,7 @@ pub fn name_of(record: Record, room: &mut [u8]) -> Told
 // Whether another process has the file of this name open, as a record says. One that may not be looked at, as it is another
 // user's, counts as one that has.
 pub fn holds(record: Record, name: &[u8]) -> bool {
-    if record.process == own() {
+    if is_own(record.process) {
         return false;
     }
     let mut room = io::buffer();
