@@ -17,8 +17,9 @@ use Rattle.story.specs.Kept.{titleAt, settledAt}
 use Rattle.story.specs.Calls.{atSlotStart}
 use Rattle.measures.specs.Readable.{Filmed}
 use Rattle.moments.specs.Moments.{isPermitted, hasLanes, isDue, FirstDue}
-use Rattle.moments.specs.inner.Steps.{slotMs, Found, permits}
-use Rattle.moments.proofs.Permitted.{start-here, start-next, permitted-first, permitted-second}
+use Rattle.moments.specs.Searched.{Found, turns, permits}
+use Rattle.moments.specs.Searched.{slotMs}
+use Rattle.moments.proofs.Permitted.{start-here, start-next, turn-first, turn-second, permitted-settled}
 use Rattle.moments.proofs.Due.{lanes-stay, permitted-by}
 
 module _ (t : Title) (c : ℕ) (film : Filmed (t .film)) where
@@ -31,20 +32,17 @@ module _ (t : Title) (c : ℕ) (film : Filmed (t .film)) where
       (r, start-next t c film x m refl (ne-zero-pos m (eqb-false m 0 z)) r (omega arith)))
       (decide (eqb m 0))
 
-  -- from any time on there is a first that the title's rules permit
-  pub permitted-comes : (τ : ℕ) → (r : ℕ) × Found (permits t c) τ r r
-  permitted-comes τ =
-      let x : ℕ = max τ (settledAt t) in
+  turn-comes : (x : ℕ) → (r : ℕ) × Found (turns t c) x r r
+  turn-comes x =
       let a = start-comes x in
       let b = start-comes (a .0 + 1) in
-      let from : τ ≤ x = omega arith in
-      let settled : settledAt t ≤ x = omega arith in
-      ⊎-elim
-      (λ z.
-      (b .0, permitted-second t c τ x from settled (λ υ lo hi. omega arith) (omega arith) (a .1) (eqb-true (a .0) (t .last) z) (b .1)))
-      (λ z.
-      (a .0, permitted-first t c τ x from settled (λ υ lo hi. omega arith) (omega arith) (a .1) (eqb-false (a .0) (t .last) z)))
+      ⊎-elim (λ z. (b .0, turn-second t c (omega arith) (a .1) (eqb-true (a .0) (t .last) z) (b .1)))
+      (λ z. (a .0, turn-first t c (omega arith) (a .1) (eqb-false (a .0) (t .last) z)))
       (decide (eqb (a .0) (t .last)))
+
+  -- from any time on there is a first that the title's rules permit
+  pub permitted-comes : (τ : ℕ) → (r : ℕ) × Found (permits t c) τ r r
+  permitted-comes τ = let a = turn-comes (max τ (settledAt t)) in (a .0, permitted-settled t c (a .1))
 
 -- from any time on a change is due at a first time, once it finds its lanes at some time
 pub due-comes : (s : State) (i k : ℕ) → Filmed (titleAt s i .film) → (τ σ : ℕ) → hasLanes s i k σ ≡ true →

@@ -20,7 +20,8 @@ use Rattle.measures.proofs.Within.{numbers, readable, changeable, dropped-ok, t
 use Rattle.measures.specs.Readable.{Changeable}
 use Rattle.owed.proofs.Fixed.{stored}
 use Rattle.moments.specs.Moments.{isPermitted, hasLanes, isDue, earliest}
-use Rattle.moments.specs.inner.Steps.{Found, permits, Timed, AllTimed, Frees, FindsLanes}
+use Rattle.moments.specs.Searched.{Found, permits, Timed, AllTimed, Frees}
+use Rattle.moments.specs.inner.Steps.{FindsLanes}
 use Rattle.moments.proofs.Earliest.{Hits, found}
 use Rattle.moments.proofs.Falling.{raised, raise-held, lanes-fall}
 

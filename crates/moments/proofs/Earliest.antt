@@ -1,17 +1,18 @@
 -- What the earliest time that passes a test is, and that what is so is it. Rests on the laws of searches.
-use mathlib.Core.Path.{_≡_, sym, _∙_}
+use mathlib.Core.Path.{_≡_, sym, ap, _∙_}
 use mathlib.Core.Bool.{Bool, true, false, not, false≢true}
 use mathlib.Core.Logic.{⊎-elim}
-use Prim.Native.Nat.{ℕ, suc, _+_, _-_, _≤_, _<_}
+use Prim.Native.Nat.{ℕ, suc, _+_, _-_, _≤_, _<_, min}
 use native.Mathlib.Omega.{arith}
 use native.Mathlib.Nat.{le-antisymm}
 use lib.Dec.{ltb}
-use borrow.Author.Tests.{ltb-true, ltb-false, not-true}
+use borrow.Author.Tests.{ltb-true, ltb-false, lt-ltb, le-ltb, not-true}
 use Rattle.rules.specs.Limits.{eventTimeMax}
 use Rattle.rules.specs.Search.{first, every}
 use Rattle.rules.proofs.Tests.{decide}
 use Rattle.rules.proofs.Search
 use Rattle.moments.specs.Moments.{earliest}
+use Rattle.moments.specs.Searched.{Found, Lessens}
 
 -- r is the first time from τ on that passes a test, among those up to the clock's last, or is the one after them
 pub record Hits (p : ℕ → Bool) (τ r : ℕ) : Type 0 where
@@ -64,3 +65,46 @@ found-after p τ n early none hit =
           let e : τ + (υ - τ) ≡ υ = omega arith in
           rw e at (not-true (p (τ + (υ - τ))) (Search.every-out (λ o. not (p (τ + o))) n (υ - τ) none (omega arith)));
     })
+
+-- ---- by what a search has found
+
+-- the first time that passes a test, wherever it lies, and another test that says the same
+pub found-first : (p q : ℕ → Bool) → ((υ : ℕ) → q υ ≡ p υ) → {τ hi r : ℕ} → τ ≤ suc eventTimeMax → Found p τ hi r →
+    min r (suc eventTimeMax) ≡ earliest q τ
+found-first p q same {τ} {hi} {r} within f =
+    found q τ (min r (suc eventTimeMax))
+    (record {
+      after = omega (arith, f .after);
+      high = omega arith;
+      hit = λ early. let e : min r (suc eventTimeMax) ≡ r = omega arith in rw e (same r ∙ f .hit);
+      none = λ υ lo until early. same υ ∙ f .none υ lo (omega arith);
+    })
+
+-- the first time at which no more than m lanes are held
+pub lessens-first : (held : ℕ → ℕ) (m : ℕ) (q : ℕ → Bool) → ((υ : ℕ) → q υ ≡ not (ltb m (held υ))) → {τ r : ℕ} →
+    Lessens held m τ r → r ≡ earliest q τ
+lessens-first held m q same {τ} {r} f =
+    found q τ r
+    (record {
+      after = f .after;
+      high = f .high;
+      hit = λ early. same r ∙ ap not (le-ltb m (held r) (f .free early));
+      none = λ υ lo until early. same υ ∙ ap not (lt-ltb m (held υ) (f .full υ lo until));
+    })
+
+-- a test that passes at once, and one that never does
+pub first-now : (q : ℕ → Bool) (τ : ℕ) → τ ≤ suc eventTimeMax → q τ ≡ true → τ ≡ earliest q τ
+first-now q τ within hit =
+    found q τ τ (record { after = omega arith; high = within; hit = λ _. hit; none = λ υ lo until _. absurd (omega arith) })
+
+pub first-never : (q : ℕ → Bool) (τ : ℕ) → τ ≤ suc eventTimeMax → ((υ : ℕ) → q υ ≡ false) → suc eventTimeMax ≡ earliest q τ
+first-never q τ within none =
+    found q τ (suc eventTimeMax)
+    (record { after = within; high = omega arith; hit = λ early. absurd (omega arith); none = λ υ lo until _. none υ })
+
+-- from a time past the clock on nothing is looked for
+pub earliest-past : (q : ℕ → Bool) (τ : ℕ) → eventTimeMax < τ → earliest q τ ≡ τ
+unfolding earliest first
+earliest-past q τ late =
+    let e : suc eventTimeMax - τ ≡ 0 = omega arith in
+    rw e (omega arith)

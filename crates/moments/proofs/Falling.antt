@@ -1,25 +1,29 @@
 -- While no event comes lanes are only released, so fewer are held the later it is; and a raise, which drops no lane, would hold the same
--- lanes at a time whenever it came, so that lanes once free for it stay free.
+-- lanes at a time whenever it came, so that lanes once free for it stay free. So would an opening.
 -- Rests on the laws of searches, and on `drop-none`: a turn to as many lanes drops none.
-use mathlib.Core.Path.{_≡_, refl}
-use mathlib.Core.Bool.{Bool, true, false}
+use mathlib.Core.Path.{_≡_, refl, sym, _∙_}
+use mathlib.Core.Bool.{Bool, true, false, false≢true}
 use mathlib.Core.List.{List, [], _∷_}
 use mathlib.Core.Logic.{⊎-elim}
 use Prim.Native.Nat.{ℕ, zero, suc, _+_, _-_, _/_, _≤_}
 use native.Mathlib.Omega.{arith}
 use native.Mathlib.Nat.{div-zero}
 use lib.Dec.{ltb, eqb}
-use lib.ListN.{getD, set}
-use borrow.Author.Tests.{ltb-true, lt-ltb}
-use Rattle.rules.specs.Limits.{titlesMax}
+use lib.ListN.{getD, set, replicate}
+use borrow.Author.Tests.{ltb-true, lt-ltb, le-ltb}
+use Rattle.rules.specs.Limits.{either, titlesMax, lanePlaces}
 use Rattle.rules.specs.Refusals.{pick}
 use Rattle.rules.specs.Search.{howMany}
 use Rattle.rules.proofs.Tests.{either-l, either-r, either-out}
 use Rattle.rules.proofs.Search
+use Rattle.story.specs.declared.Film.{Film}
 use Rattle.story.specs.declared.Title.{Title}
 use Rattle.story.specs.declared.State.{State}
 use Rattle.story.specs.Kept.{absentMode, openMode, noTitle, titleTick, titleAt, tickAt, ruling, keptHeld, titleHeld, lanesHeld}
-use Rattle.story.specs.Next.{ended, turned, changedTitle, changeNext}
+use Rattle.story.specs.declared.Act.{Act}
+use Rattle.story.specs.declared.Act.the-variants.{Opens, Changes, Closes, Doors}
+use Rattle.story.specs.Story.{takesLanes}
+use Rattle.story.specs.Next.{openedTitle, ended, turned, changedTitle, callNext, changeNext}
 use Rattle.story.proofs.Clock.{tick-mono}
 use Rattle.story.proofs.Rows.{drop-none}
 
@@ -96,3 +100,42 @@ module _ (s : State) (i k : ℕ) (raise : titleAt s i .count ≤ k) where
   -- the later a raise comes, the fewer lanes are held with it then
   pub lanes-fall : (τ υ : ℕ) → τ ≤ υ → lanesHeld (changeNext s i υ k) υ ≤ lanesHeld (changeNext s i τ k) τ
   lanes-fall τ υ le = omega (arith, raise-held υ τ υ, held-falls (changeNext s i τ k) τ υ le)
+
+-- ---- an opening: its title has no list
+
+zeros : (n j : ℕ) → _≡_ {A = ℕ} (getD (replicate n 0) j 0) 0
+zeros zero j = refl
+zeros (suc n) zero = refl
+zeros (suc n) (suc j) = zeros n j
+
+holds-active : (f : Film) (τ k l n : ℕ) → keptHeld (openedTitle f τ k) l n ≡ ltb l k
+unfolding keptHeld ruling
+holds-active f τ k l n =
+    let none : ltb n (0 + 0) ≡ false = le-ltb n (0 + 0) (omega arith) in
+    rw (zeros lanePlaces l, none) (go (ltb l k))
+  where
+    go : (b : Bool) → either b false ≡ b
+    go true = refl
+    go false = refl
+
+-- so it would hold as many lanes whenever it came
+pub opened-held : (f : Film) (σ τ k υ : ℕ) → titleHeld (openedTitle f σ k) υ ≡ titleHeld (openedTitle f τ k) υ
+unfolding titleHeld
+opened-held f σ τ k υ =
+    let at : ℕ → Title = λ x. openedTitle f x k in
+    Search.howMany-ext (λ l. keptHeld (at σ) l (tickAt (at σ) υ)) (λ l. keptHeld (at τ) l (tickAt (at τ) υ)) (f .cap)
+    (λ l b. holds-active f σ k l (tickAt (at σ) υ) ∙ sym (holds-active f τ k l (tickAt (at τ) υ)))
+
+-- an event that takes lanes holds the same at a time, whenever it comes
+pub taken-held : (s : State) (i : ℕ) (a : Act) → takesLanes a (titleAt s i .count) ≡ true → (σ τ υ : ℕ) →
+    lanesHeld (callNext s i σ a) υ ≡ lanesHeld (callNext s i τ a) υ
+unfolding lanesHeld
+taken-held s i (Opens f k) takes σ τ υ =
+    let held : ℕ → ℕ → ℕ = λ x j. titleHeld (titleAt (callNext s i x (Opens f k)) j) υ in
+    Search.total-ext (held σ) (held τ) titlesMax
+    (λ j b.
+    stored-alike (λ t. titleHeld t υ) (s .titles) i j (openedTitle f σ k) (openedTitle f τ k) noTitle (opened-held f σ τ k υ))
+taken-held s i (Changes k) takes σ τ υ =
+    raise-held s i k (let up = ltb-true (titleAt s i .count) k takes in omega arith) σ τ υ
+taken-held s i Closes takes σ τ υ = absurd (false≢true takes)
+taken-held s i (Doors b) takes σ τ υ = absurd (false≢true takes)

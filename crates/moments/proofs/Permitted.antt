@@ -2,9 +2,9 @@
 -- title's rules permit is the first settled slot start that is not its last event's moment.
 -- Rests on the laws of remainders, of the clock and of tests.
 use mathlib.Core.Path.{_≡_, refl, ap, _∙_}
-use mathlib.Core.Bool.{Bool, true, false, not}
+use mathlib.Core.Bool.{true, false, not}
 use mathlib.Core.Logic.{⊎-elim}
-use Prim.Native.Nat.{ℕ, suc, _+_, _-_, _*_, _/_, _%_, _^_, _≤_, _<_}
+use Prim.Native.Nat.{ℕ, suc, _+_, _-_, _*_, _/_, _%_, _^_, _≤_, _<_, max}
 use native.Mathlib.Omega.{arith}
 use native.Mathlib.Nat.{mod-lt, mod-le, div-add-mod, mul-le-mul, le-antisymm}
 use lib.Arith.{mod-mul}
@@ -12,7 +12,7 @@ use lib.Dec.{ltb, eqb}
 use lib.Pow.{pow-pos, pow-mono}
 use borrow.Author.Tests.{eqb-true, eq-eqb, ne-eqb, ltb-true, ltb-false, lt-ltb, le-ltb}
 use Rattle.rules.specs.Limits.{both, askedMax, countMax}
-use Rattle.rules.proofs.Tests.{decide, same, both-l, both-r, both-in}
+use Rattle.rules.proofs.Tests.{decide, same, both-l, both-r, both-in, both-none}
 use Rattle.grid.specs.Ticks.{slot}
 use Rattle.grid.proofs.Numbers.{mod-unique, ne-zero-pos}
 use Rattle.grid.proofs.Ticks.{slot-ms}
@@ -23,7 +23,8 @@ use Rattle.story.specs.declared.Title.{Title}
 use Rattle.story.specs.Kept.{schemeIn, titleTick, tickAt, atTickStart, settledAt}
 use Rattle.story.specs.Calls.{atSlotStart}
 use Rattle.measures.specs.Readable.{Filmed}
-use Rattle.moments.specs.inner.Steps.{slotMs, slotMost, Found, permits}
+use Rattle.moments.specs.Searched.{Found, turns, permits}
+use Rattle.moments.specs.Searched.{slotMs, slotMost}
 
 -- a whole number of ticks, itself a whole number of slots of w ticks: a whole number of slots of w * p ms
 whole : (p w x : ℕ) → 0 < p → 0 < w → both (eqb (x % p) 0) (eqb (x / p % w) 0) ≡ eqb (x % (w * p)) 0
@@ -108,69 +109,70 @@ module _ (t : Title) (c : ℕ) (film : Filmed (t .film)) where
         start-next x (d % w) m (ne-zero-pos (d % w) some) (x + slotMost) (omega arith) in
         rw (← is) at f
 
--- ---- permitted
+-- ---- not at the moment of the last event
 
 module _ (t : Title) (c : ℕ) where
-  permits-in : (τ : ℕ) → (τ ≡ t .last → ⊥) → settledAt t ≤ τ → atSlotStart t c τ ≡ true → permits t c τ ≡ true
-  unfolding permits
-  permits-in τ other settled on = rw (ne-eqb τ (t .last) other, le-ltb τ (settledAt t) settled, on) refl
+  turns-in : (τ : ℕ) → (τ ≡ t .last → ⊥) → atSlotStart t c τ ≡ true → turns t c τ ≡ true
+  unfolding turns
+  turns-in τ other on = rw (ne-eqb τ (t .last) other, on) refl
 
-  refused-last : (τ : ℕ) → τ ≡ t .last → permits t c τ ≡ false
-  unfolding permits
+  refused-last : (τ : ℕ) → τ ≡ t .last → turns t c τ ≡ false
+  unfolding turns
   refused-last τ e = rw (eq-eqb τ (t .last) e) refl
 
-  -- what is not settled, or no slot start, is refused
+  refused-off : (τ : ℕ) → atSlotStart t c τ ≡ false → turns t c τ ≡ false
+  unfolding turns
+  refused-off τ off = rw off (both-none (not (eqb τ (t .last))))
+
+  pub turn-first : {τ hi hi′ r : ℕ} → r ≤ hi′ → Found (atSlotStart t c) τ hi r → (r ≡ t .last → ⊥) → Found (turns t c) τ hi′ r
+  turn-first {τ} {hi} {hi′} {r} le f other =
+      record {
+        after = f .after;
+        high = le;
+        hit = turns-in r other (f .hit);
+        none = λ υ lo until. refused-off υ (f .none υ lo until);
+      }
+
+  pub turn-second : {τ hi hi′ hi″ r q : ℕ} → q ≤ hi″ → Found (atSlotStart t c) τ hi r → r ≡ t .last →
+      Found (atSlotStart t c) (r + 1) hi′ q → Found (turns t c) τ hi″ q
+  turn-second {τ} {hi} {hi′} {hi″} {r} {q} le f e g =
+      record {
+        after = omega (arith, f .after, g .after);
+        high = le;
+        hit = turns-in q (λ z. omega (arith, g .after)) (g .hit);
+        none = λ υ lo until.
+            ⊎-elim (λ b. refused-off υ (f .none υ lo (ltb-true υ r b)))
+            (λ b.
+            ⊎-elim (λ z. refused-off υ (g .none υ (omega (arith, ltb-true r υ z)) until))
+            (λ z. refused-last υ (le-antisymm (ltb-false r υ z) (ltb-false υ r b) ∙ e))
+            (decide (ltb r υ)))
+            (decide (ltb υ r));
+      }
+
+  -- ---- and settled
+
+  settled-turns : (τ : ℕ) → settledAt t ≤ τ → permits t c τ ≡ turns t c τ
+  unfolding permits turns
+  settled-turns τ le = rw (le-ltb τ (settledAt t) le) refl
+
   refused-early : (τ : ℕ) → τ < settledAt t → permits t c τ ≡ false
   unfolding permits
-  refused-early τ l = rw (lt-ltb τ (settledAt t) l) (go (not (eqb τ (t .last))))
-    where
-      go : (b : Bool) → both b false ≡ false
-      go true = refl
-      go false = refl
+  refused-early τ l = rw (lt-ltb τ (settledAt t) l) (both-none (not (eqb τ (t .last))))
 
-  refused-off : (τ : ℕ) → atSlotStart t c τ ≡ false → permits t c τ ≡ false
-  unfolding permits
-  refused-off τ off = rw off (go (not (eqb τ (t .last))) (not (ltb τ (settledAt t))))
-    where
-      go : (a b : Bool) → both a (both b false) ≡ false
-      go true true = refl
-      go true false = refl
-      go false b = refl
-
-  -- from a time x on that is the later of τ and the settled moment
-  module _ (τ x : ℕ) (from : τ ≤ x) (settled : settledAt t ≤ x) (least : (υ : ℕ) → τ ≤ υ → settledAt t ≤ υ → x ≤ υ) where
-    before : (r : ℕ) → ((υ : ℕ) → x ≤ υ → υ < r → atSlotStart t c υ ≡ false) →
-        (υ : ℕ) → τ ≤ υ → υ < r → permits t c υ ≡ false
-    before r none υ lo hi =
-        ⊎-elim (λ b. refused-early υ (ltb-true υ (settledAt t) b))
-        (λ b. refused-off υ (none υ (least υ lo (ltb-false υ (settledAt t) b)) hi))
-        (decide (ltb υ (settledAt t)))
-
-    pub permitted-first : {hi hi′ r : ℕ} → r ≤ hi′ → Found (atSlotStart t c) x hi r → (r ≡ t .last → ⊥) →
-        Found (permits t c) τ hi′ r
-    permitted-first {hi} {hi′} {r} le f other =
-        record {
-          after = omega (arith, f .after);
-          high = le;
-          hit = permits-in r other (omega (arith, f .after)) (f .hit);
-          none = before r (f .none);
-        }
-
-    pub permitted-second : {hi hi′ hi″ r q : ℕ} → q ≤ hi″ → Found (atSlotStart t c) x hi r → r ≡ t .last →
-        Found (atSlotStart t c) (r + 1) hi′ q → Found (permits t c) τ hi″ q
-    permitted-second {hi} {hi′} {hi″} {r} {q} le f e g =
-        record {
-          after = omega (arith, f .after, g .after);
-          high = le;
-          hit = permits-in q (λ z. omega (arith, g .after)) (omega (arith, f .after, g .after)) (g .hit);
-          none = λ υ lo until.
-              ⊎-elim (λ b. before r (f .none) υ lo (ltb-true υ r b))
-              (λ b.
-              ⊎-elim (λ z. refused-off υ (g .none υ (omega (arith, ltb-true r υ z)) until))
-              (λ z. refused-last υ (le-antisymm (ltb-false r υ z) (ltb-false υ r b) ∙ e))
-              (decide (ltb r υ)))
-              (decide (ltb υ r));
-        }
+  -- from the later of τ and the settled moment on
+  pub permitted-settled : {τ hi r : ℕ} → Found (turns t c) (max τ (settledAt t)) hi r → Found (permits t c) τ hi r
+  permitted-settled {τ} {hi} {r} f =
+      record {
+        after = omega (arith, f .after);
+        high = f .high;
+        hit = settled-turns r (omega (arith, f .after)) ∙ f .hit;
+        none = λ υ lo until.
+            ⊎-elim (λ b. refused-early υ (ltb-true υ (settledAt t) b))
+            (λ b.
+            let late : settledAt t ≤ υ = ltb-false υ (settledAt t) b in
+            settled-turns υ late ∙ f .none υ (omega arith) until)
+            (decide (ltb υ (settledAt t)));
+      }
 
 -- no slot of a count has more ticks than a film has cells
 slot-high : (kind A K c : ℕ) → K ≤ countMax → schemeOf kind A K .slotOf c ≤ 2 ^ countMax

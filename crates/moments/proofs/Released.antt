@@ -1,6 +1,6 @@
 -- The next release after a time: no lane is released before it, so that as many lanes are held until then.
 -- Rests on the laws of searches and of the clock.
-use mathlib.Core.Path.{_≡_}
+use mathlib.Core.Path.{_≡_, refl}
 use mathlib.Core.Bool.{Bool, true, false}
 use mathlib.Core.Logic.{⊎-elim}
 use Prim.Native.Nat.{ℕ, zero, suc, _+_, _-_, _*_, _/_, _≤_, _<_, min}
@@ -8,18 +8,18 @@ use native.Mathlib.Omega.{arith}
 use native.Mathlib.Nat.{div-le-self, div-lt-iff-lt-mul}
 use lib.Dec.{leb, ltb, eqb}
 use lib.ListN.{getD}
-use borrow.Author.Tests.{ltb-true, ltb-false, lt-ltb, leb-true, leb-false, le-leb, ne-eqb, eqb-false}
+use borrow.Author.Tests.{ltb-true, ltb-false, lt-ltb, leb-true, leb-false, le-leb, ne-eqb, eqb-true, eqb-false}
 use Rattle.rules.specs.Limits.{both, eventTimeMax, titlesMax}
 use Rattle.rules.specs.Refusals.{pick}
+use Rattle.rules.specs.Search.{howMany}
 use Rattle.rules.proofs.Tests.{decide, both-l, both-r, either-l, either-r, either-out}
 use Rattle.rules.proofs.Search
 use Rattle.scheme.proofs.Clock.{tick-pos}
 use Rattle.story.specs.declared.Title.{Title}
 use Rattle.story.specs.declared.State.{State}
 use Rattle.story.specs.Kept.{absentMode, titleTick, titleAt, tickAt, ruling, keptHeld, titleHeld, lanesHeld}
-use Rattle.story.specs.Calls.{tooMany}
-use Rattle.moments.specs.inner.Steps.{Timed, AllTimed, releaseMoment, soonerOf, lanesRelease, titleRelease, releaseIn}
-use Rattle.moments.specs.inner.Steps.{Frees}
+use Rattle.moments.specs.Searched.{Timed, AllTimed, releaseMoment, Lessens}
+use Rattle.moments.specs.inner.Steps.{soonerOf, lanesRelease, titleRelease, releaseIn}
 
 -- r is no later than a, comes after τ where a does, and where b does it is no later than b
 record Sooner (τ a b r : ℕ) : Type 0 where
@@ -36,14 +36,14 @@ sooner-of τ a b =
     (decide (leb b τ))
 
 module _ (t : Title) (τ a : ℕ) where
-  lanes-first : (n : ℕ) → lanesRelease t τ a n ≤ a
+  pub lanes-first : (n : ℕ) → lanesRelease t τ a n ≤ a
   unfolding lanesRelease
   lanes-first zero = omega arith
   lanes-first (suc n) =
       let s = sooner-of τ (lanesRelease t τ a n) (releaseMoment t n) in
       omega (arith, s .first, lanes-first n)
 
-  lanes-low : (n : ℕ) → τ < a → τ < lanesRelease t τ a n
+  pub lanes-low : (n : ℕ) → τ < a → τ < lanesRelease t τ a n
   unfolding lanesRelease
   lanes-low zero l = l
   lanes-low (suc n) l = sooner-of τ (lanesRelease t τ a n) (releaseMoment t n) .low (lanes-low n l)
@@ -130,60 +130,76 @@ module _ (t : Title) (timed : Timed t) (τ υ : ℕ) (early : τ ≤ eventTimeMa
       (still-sends (t .opened) p τ υ n pos early (ltb-true ((τ - t .opened) / p) n b) until)))
       (either-out (ltb l (ruling t)) (ltb ((τ - t .opened) / p) n) h)
 
+  -- so a title holds as many lanes where none of its releases comes between
+  held-steady : ((l : ℕ) → l < t .film .cap → τ < releaseMoment t l → υ < releaseMoment t l) → titleHeld t τ ≤ titleHeld t υ
+  unfolding titleHeld
+  held-steady until = go (eqb (t .mode) absentMode)
+    where
+      held : ℕ → ℕ
+      held x = howMany (λ l. keptHeld t l (tickAt t x)) (t .film .cap)
+
+      go : (b : Bool) → pick b 0 (held τ) ≤ pick b 0 (held υ)
+      go true = omega arith
+      go false =
+          Search.howMany-wider (λ l. keptHeld t l (tickAt t τ)) (λ l. keptHeld t l (tickAt t υ)) (t .film .cap)
+          (λ l c h. lane-steady l (until l c) h)
+
+  -- as until the next release of its lanes
+  pub title-steady : υ < lanesRelease t τ (suc eventTimeMax) (t .film .cap) → titleHeld t τ ≤ titleHeld t υ
+  title-steady until =
+      held-steady (λ l c after. omega (arith, lanes-each t τ (suc eventTimeMax) (t .film .cap) l c after))
+
+empty-held : (t : Title) (τ : ℕ) → t .mode ≡ absentMode → titleHeld t τ ≡ 0
+unfolding titleHeld
+empty-held t τ none = rw none refl
+
 -- until the next release as many lanes are held
 pub lanes-steady : (s : State) → AllTimed s → (τ υ : ℕ) → τ ≤ eventTimeMax → υ < releaseIn s τ titlesMax →
     lanesHeld s τ ≤ lanesHeld s υ
-unfolding lanesHeld titleHeld
+unfolding lanesHeld
 lanes-steady s timed τ υ early until =
     Search.total-le (λ i. titleHeld (titleAt s i) τ) (λ i. titleHeld (titleAt s i) υ) titlesMax
-    (λ i b. ⊎-elim (λ none. rw none (omega arith)) (λ some. there i b some) (decide (eqb (titleAt s i .mode) absentMode)))
-  where
-    there : (i : ℕ) → i < titlesMax → eqb (titleAt s i .mode) absentMode ≡ false →
-        titleHeld (titleAt s i) τ ≤ titleHeld (titleAt s i) υ
-    there i b some =
-        let t : Title = titleAt s i in
-        let is : t .mode ≡ absentMode → ⊥ = eqb-false (t .mode) absentMode some in
-        rw some
-        (Search.howMany-wider (λ l. keptHeld t l (tickAt t τ)) (λ l. keptHeld t l (tickAt t υ)) (t .film .cap)
-        (λ l c h.
-        lane-steady t (timed i b is) τ υ early l
-        (λ after. omega (arith, release-each s τ titlesMax i b is l c after)) h))
+    (λ i b.
+    ⊎-elim (λ none. omega (arith, empty-held (titleAt s i) τ (eqb-true (titleAt s i .mode) absentMode none)))
+    (λ some.
+    let is : titleAt s i .mode ≡ absentMode → ⊥ = eqb-false (titleAt s i .mode) absentMode some in
+    held-steady (titleAt s i) (timed i b is) τ υ early
+    (λ l c after. omega (arith, release-each s τ titlesMax i b is l c after)))
+    (decide (eqb (titleAt s i .mode) absentMode)))
 
 -- ---- from release to release
 
--- from τ on up to x more than the pool is held
-pub record Waits (s : State) (τ x : ℕ) : Type 0 where
+-- from τ on up to x more than m lanes are held
+pub record Waits (held : ℕ → ℕ) (m τ x : ℕ) : Type 0 where
   pub after : τ ≤ x
   pub high : x ≤ suc eventTimeMax
-  pub full : (υ : ℕ) → τ ≤ υ → υ < x → s .pool < lanesHeld s υ
+  pub full : (υ : ℕ) → τ ≤ υ → υ < x → m < held υ
 
-pub waits-none : (s : State) (τ : ℕ) → τ ≤ suc eventTimeMax → Waits s τ τ
-waits-none s τ le = record { after = omega arith; high = le; full = λ υ lo hi. absurd (omega arith) }
+module _ (held : ℕ → ℕ) (m τ : ℕ) where
+  pub waits-none : τ ≤ suc eventTimeMax → Waits held m τ τ
+  waits-none le = record { after = omega arith; high = le; full = λ υ lo hi. absurd (omega arith) }
 
-pub full-early : (s : State) (x : ℕ) → both (leb x eventTimeMax) (tooMany s x) ≡ true → x ≤ eventTimeMax
-full-early s x h = leb-true x eventTimeMax (both-l (leb x eventTimeMax) (tooMany s x) h)
+  module _ (x : ℕ) where
+    pub full-early : both (leb x eventTimeMax) (ltb m (held x)) ≡ true → x ≤ eventTimeMax
+    full-early h = leb-true x eventTimeMax (both-l (leb x eventTimeMax) (ltb m (held x)) h)
 
-module _ (s : State) (τ x : ℕ) (waits : Waits s τ x) where
-  pub waits-on : AllTimed s → both (leb x eventTimeMax) (tooMany s x) ≡ true → Waits s τ (releaseIn s x titlesMax)
-  waits-on timed h =
-      let early : x ≤ eventTimeMax = full-early s x h in
-      let full : s .pool < lanesHeld s x =
-      ltb-true (s .pool) (lanesHeld s x) (both-r (leb x eventTimeMax) (tooMany s x) h) in
-      record {
-        after = omega (arith, waits .after, release-low s x titlesMax early);
-        high = release-high s x titlesMax;
-        full = λ υ lo hi.
-            ⊎-elim (λ b. waits .full υ lo (ltb-true υ x b))
-            (λ b. omega (arith, lanes-steady s timed x υ early hi))
-            (decide (ltb υ x));
-      }
+    -- up to a time before which no fewer are held
+    pub waits-on : Waits held m τ x → (y : ℕ) → x < y → y ≤ suc eventTimeMax → ((υ : ℕ) → υ < y → held x ≤ held υ) →
+        both (leb x eventTimeMax) (ltb m (held x)) ≡ true → Waits held m τ y
+    waits-on waits y later high steady h =
+        let full : m < held x = ltb-true m (held x) (both-r (leb x eventTimeMax) (ltb m (held x)) h) in
+        record {
+          after = omega (arith, waits .after);
+          high = high;
+          full = λ υ lo hi.
+              ⊎-elim (λ b. waits .full υ lo (ltb-true υ x b)) (λ b. omega (arith, steady υ hi)) (decide (ltb υ x));
+        }
 
-  pub waits-over : both (leb x eventTimeMax) (tooMany s x) ≡ false → Frees s τ x
-  waits-over h =
-      record {
-        after = waits .after;
-        high = waits .high;
-        free = λ early.
-            ltb-false (s .pool) (lanesHeld s x) (rw (le-leb x eventTimeMax early) at h);
-        full = waits .full;
-      }
+    pub waits-over : Waits held m τ x → both (leb x eventTimeMax) (ltb m (held x)) ≡ false → Lessens held m τ x
+    waits-over waits h =
+        record {
+          after = waits .after;
+          high = waits .high;
+          free = λ early. ltb-false m (held x) (rw (le-leb x eventTimeMax early) at h);
+          full = waits .full;
+        }

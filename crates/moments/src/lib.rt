@@ -1,8 +1,8 @@
 // The earliest moment at which a title can change to a count (02, 11): the first that its rules permit once the lanes are
 // free. Times are reached by jumps, from slot start to slot start and from release to release, and never counted up.
 
-mod releases;
-mod starts;
+pub mod releases;
+pub mod starts;
 
 use crate::releases::free_from;
 use crate::starts::permitted_from;

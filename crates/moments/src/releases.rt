@@ -3,6 +3,7 @@
 
 use crate::PAST;
 use measures::lanes::lanes_held;
+use measures::lanes::title_held;
 use rules::EVENT_TIME_MAX;
 use rules::TITLES_MAX;
 use rules::truth::smaller;
@@ -11,12 +12,12 @@ use story::State;
 use story::Title;
 ghost use Prim.Native.Nat.{suc, _≤_, _<_};
 ghost use mathlib.Core.Path.{_≡_};
-ghost use lib.Dec.{leb};
+ghost use lib.Dec.{leb, ltb};
 ghost use Rattle.rules.specs.Limits.{both, countMax, lengthMax, eventTimeMax, titlesMax};
-ghost use Rattle.story.specs.Kept.{absentMode, titleTick};
+ghost use Rattle.story.specs.Kept.{absentMode, titleTick, titleHeld};
 ghost use Rattle.story.specs.Calls.{tooMany};
-ghost use Rattle.moments.specs.inner.Steps.{Timed, AllTimed, releaseMoment, soonerOf, lanesRelease, titleRelease};
-ghost use Rattle.moments.specs.inner.Steps.{releaseIn, Frees};
+ghost use Rattle.moments.specs.Searched.{Timed, AllTimed, releaseMoment, Frees, Goes};
+ghost use Rattle.moments.specs.inner.Steps.{soonerOf, lanesRelease, titleRelease, releaseIn};
 
 // The sooner of two moments, where the second lies after a time.
 fn sooner(time: u64, a: u64, b: u64) -> u64
@@ -29,7 +30,7 @@ fn sooner(time: u64, a: u64, b: u64) -> u64
 }
 
 // The moment from which on a lane's list has gone, for a title with a tick of so many ms.
-fn release_of(t: Title, tick: u64, lane: u64) -> u64
+pub fn release_of(t: Title, tick: u64, lane: u64) -> u64
     requires { ⌜ Timed t ⌝ }
     requires { ⌜ (lane < countMax) × ((tick ≡ titleTick t) × (tick ≤ lengthMax)) ⌝ }
     ensures { λ r. ⌜ r ≡ releaseMoment t lane ⌝ }
@@ -103,6 +104,30 @@ pub fn free_from(s: State, from: u64) -> u64
     let mut time = from;
     while is_full(s, time) {
         time = next_release(s, time);
+    }
+    time
+}
+
+// A title holds a lane at a time that the clock has.
+fn is_holding(t: Title, time: u64) -> bool
+    requires { ⌜ Timed t ⌝ }
+    ensures { λ r. ⌜ r ≡ both (leb time eventTimeMax) (ltb 0 (titleHeld t time)) ⌝ }
+{
+    if time <= EVENT_TIME_MAX {
+        return 0 < title_held(t, time);
+    }
+    false
+}
+
+// The first time from another on at which a title holds no lane, PAST where the clock has none.
+pub fn gone_from(t: Title, from: u64) -> u64
+    requires { ⌜ Timed t ⌝ }
+    requires { ⌜ from ≤ suc eventTimeMax ⌝ }
+    ensures { λ r. ⌜ Goes t from r ⌝ }
+{
+    let mut time = from;
+    while is_holding(t, time) {
+        time = lanes_release(t, time, PAST);
     }
     time
 }

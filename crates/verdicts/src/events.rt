@@ -29,7 +29,7 @@ ghost use Rattle.story.specs.Calls.{eventOk};
 ghost use Rattle.verdicts.specs.Before.{firstAnswer};
 
 // The numbers that every event has.
-fn event_ok(s: State, id: u64, time: u64) -> bool
+pub fn event_ok(s: State, id: u64, time: u64) -> bool
     ensures { λ r. ⌜ r ≡ eventOk s id time ⌝ }
 {
     also(state_ok(s), also(id <= ID_MAX, time <= EVENT_TIME_MAX))

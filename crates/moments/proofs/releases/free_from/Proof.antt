@@ -3,18 +3,19 @@ use Prim.Native.Nat.{suc, _-_}
 use mathlib.Core.Path.{sym, _∙_}
 use native.Mathlib.Omega.{arith}
 use Rattle.rules.specs.Limits.{eventTimeMax, titlesMax}
-use Rattle.moments.proofs.Released.{release-low, Waits, waits-none, full-early, waits-on, waits-over}
+use Rattle.story.specs.Kept.{lanesHeld}
+use Rattle.moments.proofs.Released.{release-high, release-low, lanes-steady, Waits, waits-none, full-early, waits-on, waits-over}
 use Rattle.moments.proofs.releases.free_from.Statement.{statement}
 use Rattle.moments.proofs.releases.free_from.Tie as tie
 
 abbrev Inv-loop : tie.InvT-loop
-Inv-loop s from time₀ time = Waits s from time
+Inv-loop s from time₀ time = Waits (lanesHeld s) (s .pool) from time
 
 abbrev μ-loop : tie.MeasureT-loop
 μ-loop s from time₀ time = suc eventTimeMax - time
 
 loop-holds : tie.Need-loop-holds Inv-loop μ-loop
-loop-holds c = waits-none _ _ (c .pre .1)
+loop-holds c = waits-none _ _ _ (c .pre .1)
 
 is-full-requires : tie.Need-is-full-requires Inv-loop μ-loop
 is-full-requires c κs = c .before .pre .0
@@ -25,10 +26,10 @@ next-release-requires c κs = c .before .before .before .pre .0
 loop-less : tie.Need-loop-less Inv-loop μ-loop
 loop-less c =
     let s = c .before .before .before .before .args .s in
-    let time = c .before .before .before .loop .time in
+    let l = c .before .before .before .loop in
     let full = sym (c .before .before .is-full .ensures) ∙ c .before .if1 .taken in
-    let early = full-early s time full in
-    omega (arith, early, c .next-release .ensures, release-low s time titlesMax early)
+    let early = full-early (lanesHeld s) (s .pool) 0 (l .time) full in
+    omega (arith, early, c .next-release .ensures, release-low s (l .time) titlesMax early)
 
 loop-again : tie.Need-loop-again Inv-loop μ-loop
 loop-again c =
@@ -36,13 +37,17 @@ loop-again c =
     let a = start .args in
     let l = c .before .before .before .loop in
     let full = sym (c .before .before .is-full .ensures) ∙ c .before .if1 .taken in
-    rw (c .next-release .ensures) (waits-on (a .s) (a .from) (l .time) (l .inv) (start .pre .0) full)
+    let early = full-early (lanesHeld (a .s)) (a .s .pool) 0 (l .time) full in
+    rw (c .next-release .ensures)
+    (waits-on (lanesHeld (a .s)) (a .s .pool) (a .from) (l .time) (l .inv) _
+    (release-low (a .s) (l .time) titlesMax early) (release-high (a .s) (l .time) titlesMax)
+    (λ υ hi. lanes-steady (a .s) (start .pre .0) (l .time) υ early hi) full)
 
 returns : tie.Need-returns Inv-loop μ-loop
 returns c =
-    let start = c .before .before .before in
+    let a = c .before .before .before .args in
     let l = c .before .before .loop in
-    waits-over (start .args .s) (start .args .from) (l .time) (l .inv) (sym (c .before .is-full .ensures) ∙ c .if1 .left)
+    waits-over (lanesHeld (a .s)) (a .s .pool) (a .from) (l .time) (l .inv) (sym (c .before .is-full .ensures) ∙ c .if1 .left)
 
 pub free-from-spec : {M : Type 1} → statement M
 free-from-spec =

@@ -4,7 +4,7 @@ use native.Mathlib.Omega.{arith}
 use native.Mathlib.Nat.{mul-le-mul}
 use Rattle.rules.specs.Limits.{eventTimeMax, lengthMax, lanePlaces}
 use Rattle.measures.proofs.Within.{in-row}
-use Rattle.moments.specs.inner.Steps.{releaseMoment}
+use Rattle.moments.specs.Searched.{releaseMoment}
 use borrow.Author.Needs.{needs}
 use Rattle.moments.proofs.releases.release_of.Statement.{statement}
 use Rattle.moments.proofs.releases.release_of.Tie as tie
