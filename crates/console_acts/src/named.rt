@@ -36,7 +36,7 @@ fn by_title(answer: u8, s: State, id: u64) -> u64
 }
 
 // Of an event: an opening has its own floor and cap, any other those of its title.
-fn by_event(answer: u8, s: State, e: Event) -> u64
+pub fn by_event(answer: u8, s: State, e: Event) -> u64
     ensures { λ r. ⌜ r ≡ missedBy answer s e ⌝ }
 {
     let id = e.title;

@@ -1,7 +1,8 @@
--- What a call gave, put behind a place, is what the definitions say: its row behind a 0, or the refusal alone.
+-- What a call gave, put behind a place, is what the definitions say: its row behind a 0, or the refusal alone, and the reason that a
+-- refusal has behind it.
 use Prim.Native.Nat.{ℕ}
 use mathlib.Core.Path.{_≡_}
-use mathlib.Core.List.{List, append-nil}
+use mathlib.Core.List.{List, [], _++_, append-nil}
 use borrow.Author.Tests.{eq-eqb, ne-eqb}
 use Rattle.rules.specs.Refusals.{done}
 use Rattle.text.specs.Output.{Page, puts}
@@ -19,3 +20,12 @@ pub refused : (p q : Page) (a x : ℕ) (more : List ℕ) → q ≡ puts p (doneT
     → q ≡ puts p (withText a x more)
 unfolding withText
 refused p q a x more e z = rw (ne-eqb _ _ z, append-nil) e
+
+-- a reason stands behind a refusal, and none behind what is told
+pub told-plain : (p q r : Page) (a x : ℕ) (more why : List ℕ) → q ≡ puts p (doneText a x) → a ≡ done → r ≡ puts q more → why ≡ []
+    → r ≡ puts p (withText a x more ++ why)
+told-plain p q r a x more why e z f none = rw (none, append-nil) (told p q r a x more e z f)
+
+pub refused-for : (p q r : Page) (a x : ℕ) (more why : List ℕ) → q ≡ puts p (doneText a x) → (a ≡ done → ⊥) → r ≡ puts q why
+    → r ≡ puts p (withText a x more ++ why)
+refused-for p q r a x more why e z f = puts-then p (withText a x more) why (refused p q a x more e z) f

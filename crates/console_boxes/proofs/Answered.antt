@@ -1,5 +1,5 @@
 -- What the calls of a box gave, put behind a place, is what the definitions say: a cell or a plan behind a 0, or the
--- refusal alone.
+-- refusal and why.
 use Prim.Native.Nat.{ℕ, _^_, _≤_}
 use mathlib.Core.Path.{_≡_, refl, ap, _∙_}
 use mathlib.Core.Bool.{Bool, true, false}
@@ -18,18 +18,19 @@ use Rattle.rom.specs.Plan.{RomPlanned}
 use Rattle.text.specs.Output.{Page, puts}
 use Rattle.words.specs.Words.{missed}
 use Rattle.console_answers.specs.Entries.{each}
+use Rattle.console_reasons.specs.Lanes.{laneReason}
 use Rattle.console_answers.specs.Outcomes.{doneText, withText, valueText}
-use Rattle.console_boxes.specs.Lanes.{laneText, romLaneText}
+use Rattle.console_boxes.specs.Lanes.{laneText, romLaneReason, romLaneText}
 use Rattle.console_boxes.specs.Plan.{cellsText, plannedText, planText, romPlanText, skipPlanText}
 
 module _ (p r : Page) where
   pub lane-told : (s : State) (i l τ a v : ℕ) → a ≡ laneAnswer s i l τ → v ≡ laneShows s i l τ
-      → r ≡ puts p (valueText a v 0) → r ≡ puts p (laneText s i l τ)
+      → r ≡ puts p (valueText a v 0 ++ laneReason a s i l τ) → r ≡ puts p (laneText s i l τ)
   unfolding laneText
   lane-told s i l τ a v e f g = rw (← e, ← f) g
 
   pub rom-lane-told : (s : State) (i l τ a v : ℕ) → a ≡ romLaneAnswer s i l τ → v ≡ romLaneShows s i l τ
-      → r ≡ puts p (valueText a v 0) → r ≡ puts p (romLaneText s i l τ)
+      → r ≡ puts p (valueText a v 0 ++ romLaneReason a s i l τ) → r ≡ puts p (romLaneText s i l τ)
   unfolding romLaneText
   rom-lane-told s i l τ a v e f g = rw (← e, ← f) g
 

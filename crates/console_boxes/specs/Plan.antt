@@ -1,16 +1,19 @@
 -- The plan of a box (docs/CONSOLE.md, "Commands": plan, romplan and skipplan).
 use Prim.Native.Nat.{ℕ, _≤_, min}
 use mathlib.Core.Path.{_≡_}
-use mathlib.Core.List.{List, _++_}
+use mathlib.Core.Bool.{Bool}
+use mathlib.Core.List.{List, [], _∷_, _++_}
 use lib.Dec.{eqb, ltb}
 use lib.ListN.{length, getD, take, replicate}
-use Rattle.rules.specs.Refusals.{pick}
+use Rattle.rules.specs.Limits.{both}
+use Rattle.rules.specs.Refusals.{pick, outsideLimits}
 use Rattle.grid.specs.Ticks.{cells}
 use Rattle.plans.specs.Padded.{planAnswer, never}
 use Rattle.plans.specs.Row as plan
 use Rattle.plans.specs.Forward.{blocks, skipAnswer}
 use Rattle.plans.specs.Row.{skipRow}
 use Rattle.rom.specs.Plan.{romPlanAnswer, romPlanRow}
+use Rattle.rom_table.specs.Table.{isOther}
 use Rattle.text.specs.Texts.{text}
 use Rattle.console_commands.specs.Commands.{placesMost, doSkipPlan, doRomPlan}
 use Rattle.console_lines.specs.declared.lines.Line.{Line}
@@ -18,6 +21,8 @@ use Rattle.console_lines.specs.Lines.{numberIn}
 use Rattle.words.specs.Words.{missed}
 use Rattle.console_answers.specs.Entries.{entry, each}
 use Rattle.console_answers.specs.Outcomes.{doneText, withText}
+use Rattle.console_reasons.specs.Asked.{limitReason}
+use Rattle.console_boxes.specs.Small.{smallText}
 use Rattle.console_boxes.specs.declared.calls.Told.{Told}
 
 -- a cell of a plan, `-` where it is never taken
@@ -44,7 +49,8 @@ unfoldable pub skipPlanText : ℕ → ℕ → List ℕ → List ℕ
 skipPlanText k a row = withText (skipAnswer k a (length row)) 0 (cellsText (skipRow k a row) (blocks k))
 
 -- what a plan's call leaves: its answer, and behind it the first cells of the row, as many as it has
-pub record Filled (text : List ℕ) (t : Told) (row : List ℕ) : Type 0 where
+pub record Filled (text : List ℕ) (answer : ℕ) (t : Told) (row : List ℕ) : Type 0 where
+  pub answered : t .answer ≡ answer
   pub told : doneText (t .answer) (t .named) ++ cellsText row (t .cells) ≡ text
   pub room : t .cells ≤ length row
 
@@ -54,6 +60,29 @@ planOver l row =
     pick (eqb (l .command) doSkipPlan) (skipPlanText (numberIn l 0) (numberIn l 1) row)
     (pick (eqb (l .command) doRomPlan) (romPlanText (numberIn l 0) (numberIn l 1) (numberIn l 2) (numberIn l 3) row)
     (planText (numberIn l 0) (numberIn l 1) (numberIn l 2) (numberIn l 3) row))
+
+-- what it is answered, with room for n cells
+unfoldable pub answerOver : Line → ℕ → ℕ
+answerOver l n =
+    pick (eqb (l .command) doSkipPlan) (skipAnswer (numberIn l 0) (numberIn l 1) n)
+    (pick (eqb (l .command) doRomPlan) (romPlanAnswer (numberIn l 0) (numberIn l 1) (numberIn l 2) (numberIn l 3) n)
+    (planAnswer (numberIn l 0) (numberIn l 1) (numberIn l 2) (numberIn l 3) n))
+
+-- the numbers of the title and of the box in a line
+unfoldable pub planNumbers : Line → List ℕ
+planNumbers l =
+    pick (eqb (l .command) doSkipPlan) (numberIn l 0 ∷ numberIn l 1 ∷ [])
+    (numberIn l 0 ∷ numberIn l 1 ∷ numberIn l 2 ∷ numberIn l 3 ∷ [])
+
+-- a refusal says why: the small box asks for its own floor and cap first
+abbrev pub isOtherPlan : ℕ → Line → Bool
+isOtherPlan a l = both (eqb a outsideLimits) (both (eqb (l .command) doRomPlan) (isOther (numberIn l 0) (numberIn l 1)))
+
+unfoldable pub planReason : ℕ → Line → List ℕ
+planReason a l = pick (isOtherPlan a l) smallText (limitReason a (l .command) (planNumbers l))
+
+unfoldable pub planSaid : Line → List ℕ → List ℕ
+planSaid l row = planOver l row ++ planReason (answerOver l (length row)) l
 
 -- where the places stand in a line that asks for a plan: behind the four numbers of a title and a box, or behind count and
 -- arrival
@@ -69,4 +98,4 @@ zeros n = replicate n 0
 
 -- what a line that asks for a plan is answered, over the row that it lends
 unfoldable pub planIn : Line → List ℕ
-planIn l = planOver l (take (placesIn l) (zeros placesMost))
+planIn l = planSaid l (take (placesIn l) (zeros placesMost))

@@ -7,9 +7,13 @@ use rules::DONE;
 ghost use mathlib.Core.Path.{_≡_};
 ghost use Prim.Native.Nat.{_-_, _^_, _≤_};
 ghost use lib.Dec.{eqb};
+ghost use lib.ListN.{length};
 ghost use Rattle.rules.specs.Limits.{countMax};
 ghost use Rattle.rules.specs.Refusals.{pick, done};
-ghost use Rattle.console_boxes.specs.Plan.{Filled, planText, romPlanText, skipPlanText, planOver};
+ghost use Rattle.plans.specs.Padded.{planAnswer};
+ghost use Rattle.plans.specs.Forward.{skipAnswer};
+ghost use Rattle.rom.specs.Plan.{romPlanAnswer};
+ghost use Rattle.console_boxes.specs.Plan.{Filled, planText, romPlanText, skipPlanText, planOver, answerOver};
 
 // The answer, the number that the words of a refusal name, and how many cells were written into the row.
 pub struct Told {
@@ -30,7 +34,8 @@ fn cells_of(answer: u8, cap: u64) -> usize
 }
 
 fn padded(floor: u64, cap: u64, count: u64, arrival: u64, row: &mut [u16]) -> Told
-    ensures { λ r. ⌜ Filled (planText floor cap count arrival (now (row .entry))) r (now (row .exit)) ⌝ }
+    ensures { λ r. ⌜ Filled (planText floor cap count arrival (now (row .entry)))
+        (planAnswer floor cap count arrival (length (now (row .entry)))) r (now (row .exit)) ⌝ }
 {
     let answer = plans::plan(floor, cap, count, arrival, row);
     let named = words::missed(answer, floor, cap);
@@ -43,7 +48,8 @@ fn padded(floor: u64, cap: u64, count: u64, arrival: u64, row: &mut [u16]) -> To
 }
 
 fn small(floor: u64, cap: u64, count: u64, arrival: u64, row: &mut [u16]) -> Told
-    ensures { λ r. ⌜ Filled (romPlanText floor cap count arrival (now (row .entry))) r (now (row .exit)) ⌝ }
+    ensures { λ r. ⌜ Filled (romPlanText floor cap count arrival (now (row .entry)))
+        (romPlanAnswer floor cap count arrival (length (now (row .entry)))) r (now (row .exit)) ⌝ }
 {
     let table = table();
     let answer = rom::plan::plan(&table, floor, cap, count, arrival, row);
@@ -67,7 +73,8 @@ fn one_less(count: u64) -> u64
 
 // A skip-forward title of a count has 2^(count-1) blocks.
 fn forward(count: u64, arrival: u64, row: &mut [u16]) -> Told
-    ensures { λ r. ⌜ Filled (skipPlanText count arrival (now (row .entry))) r (now (row .exit)) ⌝ }
+    ensures { λ r. ⌜ Filled (skipPlanText count arrival (now (row .entry)))
+        (skipAnswer count arrival (length (now (row .entry)))) r (now (row .exit)) ⌝ }
 {
     let answer = plans::skip_plan(count, arrival, row);
     let cells = cells_of(answer, one_less(count));
@@ -80,7 +87,8 @@ fn forward(count: u64, arrival: u64, row: &mut [u16]) -> Told
 
 // By the line's command, into a row that is lent.
 pub fn fill(line: Line, row: &mut [u16]) -> Told
-    ensures { λ r. ⌜ Filled (planOver line (now (row .entry))) r (now (row .exit)) ⌝ }
+    ensures { λ r. ⌜ Filled (planOver line (now (row .entry))) (answerOver line (length (now (row .entry)))) r
+        (now (row .exit)) ⌝ }
 {
     let command = line.command;
     let n = line.numbers;

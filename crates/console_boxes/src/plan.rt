@@ -2,17 +2,31 @@
 
 use crate::calls;
 use crate::cells::put_cells;
+use crate::small::put_small;
 use console_answers::outcomes;
 use console_commands::commands;
 use console_commands::commands::PLACES_MOST;
 use console_lines::lines::Line;
+use console_reasons::asked::put_limits;
+use rom_table::is_other;
+use rules::OUTSIDE_LIMITS;
 ghost use mathlib.Core.Path.{_≡_};
 ghost use Prim.Native.Nat.{_<_, _≤_};
 ghost use lib.ListN.{length};
 ghost use Rattle.text.specs.Output.{Written};
 ghost use Rattle.console_commands.specs.Commands.{placesMost};
+ghost use Rattle.console_reasons.specs.Asked.{limitReason};
 ghost use Rattle.console_lines.specs.Lines.{numbersMost};
-ghost use Rattle.console_boxes.specs.Plan.{planOver, planIn, placeOf, placesIn, zeros};
+ghost use Rattle.console_boxes.specs.Plan.{
+  isOtherPlan,
+  planReason,
+  planSaid,
+  planNumbers,
+  planIn,
+  placeOf,
+  placesIn,
+  zeros,
+};
 
 // Where the places stand in a line that asks for a plan: behind the four numbers of a title and a box, or behind count and
 // arrival.
@@ -52,13 +66,55 @@ fn blank_row() -> [u16; PLACES_MOST]
     [0; PLACES_MOST]
 }
 
-// Over a row that is lent: the answer, and behind it the cells.
+// Whether the small box was asked for another floor or cap.
+fn is_other_plan(answer: u8, line: Line) -> bool
+    ensures { λ r. ⌜ r ≡ isOtherPlan answer line ⌝ }
+{
+    let command = line.command;
+    let n = line.numbers;
+    if answer == OUTSIDE_LIMITS {
+        if command == commands::ROM_PLAN {
+            return is_other(n[0], n[1]);
+        }
+        return false;
+    }
+    false
+}
+
+// Which number of the title or of the box is out of its limits.
+fn put_plan_limits(out: &mut [u8], at: usize, answer: u8, line: Line) -> usize
+    ensures { λ r. ⌜ Written (now (out .entry)) at (limitReason answer (line .command) (planNumbers line))
+        (now (out .exit)) r ⌝ }
+{
+    let command = line.command;
+    let n = line.numbers;
+    if command == commands::SKIP_PLAN {
+        let numbers = [n[0], n[1]];
+        return put_limits(out, at, answer, command, &numbers);
+    }
+    let numbers = [n[0], n[1], n[2], n[3]];
+    put_limits(out, at, answer, command, &numbers)
+}
+
+// What stands behind a refusal.
+fn put_plan_reason(out: &mut [u8], at: usize, answer: u8, line: Line) -> usize
+    ensures { λ r. ⌜ Written (now (out .entry)) at (planReason answer line) (now (out .exit)) r ⌝ }
+{
+    if is_other_plan(answer, line) {
+        return put_small(out, at);
+    }
+    put_plan_limits(out, at, answer, line)
+}
+
+// Over a row that is lent: the answer, and behind it the cells, or why it is refused.
 fn put_row(out: &mut [u8], at: usize, line: Line, row: &mut [u16]) -> usize
-    ensures { λ r. ⌜ Written (now (out .entry)) at (planOver line (now (row .entry))) (now (out .exit)) r ⌝ }
+    ensures { λ r. ⌜ Written (now (out .entry)) at (planSaid line (now (row .entry))) (now (out .exit)) r ⌝ }
 {
     let told = calls::fill(line, row);
-    let a = outcomes::put_done(out, at, told.answer, told.named);
-    put_cells(out, a, row, told.cells)
+    let answer = told.answer;
+    let a = outcomes::put_done(out, at, answer, told.named);
+    let b = put_cells(out, a, row, told.cells);
+    put_plan_reason(out, b, answer, line)
 }
 
 pub fn put_plan(out: &mut [u8], at: usize, line: Line) -> usize

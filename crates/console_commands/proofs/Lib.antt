@@ -1,2 +1,3 @@
--- Laws of the table of commands.
+-- Laws of the table of commands, and of words in either case.
 pub mod Rows
+pub mod Cases

@@ -17,6 +17,7 @@ use Rattle.text.specs.Texts.{text, same}
 use Rattle.text.specs.Bytes.{run, runEnd}
 use Rattle.text.proofs.Runs.{run-end-high}
 use Rattle.console_commands.specs.declared.commands.Command.{Command}
+use Rattle.console_commands.specs.Letters.{lowered}
 use Rattle.console_commands.specs.Commands.{commandCount, noCommand, commandTable, commandOf, nameOf, seek, verbOf, wordsMost}
 
 -- a test holds of every row
@@ -100,7 +101,7 @@ sought-back w (suc i) found r h m e f =
     let one : suc i - 1 ≡ i = omega arith in
     rw one (sought-on w i found r (omega arith) e (rw one at f))
 
-pub sought-all : (w : List ℕ) (left found : ℕ) → left ≤ 0 → found ≡ seek w left (drop left commandTable) → found ≡ verbOf w
+pub sought-all : (w : List ℕ) (left found : ℕ) → left ≤ 0 → found ≡ seek (lowered w) left (drop left commandTable) → found ≡ verbOf w
 unfolding verbOf
 sought-all w zero found h e = e
 sought-all w (suc i) found h e = absurd (omega arith)

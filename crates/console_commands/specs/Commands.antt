@@ -1,8 +1,8 @@
--- The console's commands, the words that name them, and how many numbers each takes, of which size (docs/CONSOLE.md,
--- "Commands").
-use Prim.Native.Nat.{ℕ, suc, _+_, _*_, _%_}
+-- The console's commands, the words that name them, and how many numbers each takes, of which size and which are times
+-- (docs/CONSOLE.md, "Commands").
+use Prim.Native.Nat.{ℕ, suc, _+_, _-_, _*_, _%_}
 use Prim.Native.String.{String}
-use mathlib.Core.Bool.{Bool}
+use mathlib.Core.Bool.{Bool, false}
 use mathlib.Core.List.{List, [], _∷_}
 use lib.ListN.{getD, take}
 use lib.Dec.{eqb, leb, ltb}
@@ -13,6 +13,7 @@ use Rattle.text.specs.declared.bytes.Sort.the-variants.{Word}
 use Rattle.text.specs.Bytes.{run}
 use Rattle.text.specs.Numbers.{byteMost, fourBytesMost, top}
 use Rattle.console_commands.specs.declared.commands.Command.{Command}
+use Rattle.console_commands.specs.Letters.{lowered}
 
 -- a line that asks nothing
 abbrev pub none : ℕ
@@ -97,9 +98,35 @@ writeLift = 24
 abbrev pub writeSkip : ℕ
 writeSkip = 25
 
+-- asks when a change to a count is accepted; its last word may be another event instead, which makes it one of the last three
+abbrev pub doWhen : ℕ
+doWhen = 26
+
+-- the planner with rates by id
+abbrev pub doBalance : ℕ
+doBalance = 27
+
+abbrev pub doTitles : ℕ
+doTitles = 28
+
+abbrev pub doLanes : ℕ
+doLanes = 29
+
+abbrev pub doQuit : ℕ
+doQuit = 30
+
+abbrev pub whenClose : ℕ
+whenClose = 31
+
+abbrev pub whenHold : ℕ
+whenHold = 32
+
+abbrev pub whenLift : ℕ
+whenLift = 33
+
 -- how many commands there are
 abbrev pub commandCount : ℕ
-commandCount = 26
+commandCount = 34
 
 -- what a line may name at most: ids of a status, titles of a share and rates of a planner, places of a plan, as many as the
 -- longest has, and places for a planner's list, one for each title. One title or rate more than the product takes, so that
@@ -120,6 +147,18 @@ roomMost = titlesMax
 abbrev pub titleNumbers : ℕ
 titleNumbers = 4
 
+-- which of a share's numbers is its first title's length, from 0
+abbrev pub shareLength : ℕ
+shareLength = 2
+
+-- the numbers of a title in a balance: id, rate
+abbrev pub ratedNumbers : ℕ
+ratedNumbers = 2
+
+-- a balance: a time, and its titles
+abbrev pub balanceMost : ℕ
+balanceMost = 1 + ratedNumbers * titlesMax
+
 -- no command has more words after its own than a share: a pool, and its titles
 abbrev pub wordsMost : ℕ
 wordsMost = 1 + titleNumbers * titlesMost
@@ -136,45 +175,56 @@ abbrev pub free : List ℕ
 free = any ∷ any ∷ any ∷ any ∷ any ∷ any ∷ any ∷ []
 
 -- a row: the word, with spaces behind it, and blank where no word alone names the command; the fewest words after it and the
--- most; and by place the largest value of a number, where a larger one is an error of the line. Of a notice's fields (01,
--- "Notices"), and of the places lent for a plan and for a planner's list
-abbrev pub commandRow : String → ℕ → ℕ → List ℕ → Command
-commandRow w least most limits = record { word = text w; least = least; most = most; limits = limits }
+-- most; at which place, from 0, the numbers that are times or lengths begin, and how many they are; and by place the largest
+-- value of a number, where a larger one is an error of the line. Of a notice's fields (01, "Notices"), and of the places lent
+-- for a plan and for a planner's list
+abbrev pub commandRow : String → ℕ → ℕ → ℕ → ℕ → List ℕ → Command
+commandRow w least most time times limits =
+    record { word = text w; least = least; most = most; time = time; times = times; limits = limits }
 
--- a row for each command, by its number; the last are the kinds of a write
+-- a row for each command, by its number: fresh and the events, what asks and tells, the kinds of a write, and what shows a pool
+-- to people, with quit
 unfoldable pub commandTable : List Command
 commandTable =
-    commandRow "        " 0 0 free
-    ∷ commandRow "fresh   " 1 1 free
-    ∷ commandRow "open    " 6 6 free
-    ∷ commandRow "change  " 3 3 free
-    ∷ commandRow "close   " 2 2 free
-    ∷ commandRow "hold    " 2 2 free
-    ∷ commandRow "lift    " 2 2 free
-    ∷ commandRow "skip    " 4 4 free
-    ∷ commandRow "lane    " 3 3 free
-    ∷ commandRow "status  " 1 (1 + idsMost) free
-    ∷ commandRow "plan    " 4 5 (any ∷ any ∷ any ∷ any ∷ placesMost ∷ any ∷ any ∷ [])
-    ∷ commandRow "share   " 1 wordsMost free
-    ∷ commandRow "read    " 1 1 free
-    ∷ commandRow "notice  " 1 1 free
-    ∷ commandRow "romlane " 3 3 free
-    ∷ commandRow "romplan " 4 5 (any ∷ any ∷ any ∷ any ∷ placesMost ∷ any ∷ any ∷ [])
-    ∷ commandRow "planner " 2 (2 + titlesMost) (any ∷ roomMost ∷ any ∷ any ∷ any ∷ any ∷ any ∷ [])
-    ∷ commandRow "skipplan" 2 3 (any ∷ any ∷ placesMost ∷ any ∷ any ∷ any ∷ any ∷ [])
-    ∷ commandRow "write   " 2 2 (fourBytesMost ∷ any ∷ any ∷ any ∷ any ∷ any ∷ any ∷ [])
-    ∷ commandRow "help    " 0 0 free
-    ∷ commandRow "        " 7 7 (fourBytesMost ∷ byteMost ∷ top ∷ fourBytesMost ∷ byteMost ∷ byteMost ∷ byteMost ∷ [])
-    ∷ commandRow "        " 4 4 (fourBytesMost ∷ byteMost ∷ top ∷ byteMost ∷ any ∷ any ∷ any ∷ [])
-    ∷ commandRow "        " 3 3 (fourBytesMost ∷ byteMost ∷ top ∷ any ∷ any ∷ any ∷ any ∷ [])
-    ∷ commandRow "        " 3 3 (fourBytesMost ∷ byteMost ∷ top ∷ any ∷ any ∷ any ∷ any ∷ [])
-    ∷ commandRow "        " 3 3 (fourBytesMost ∷ byteMost ∷ top ∷ any ∷ any ∷ any ∷ any ∷ [])
-    ∷ commandRow "        " 5 5 (fourBytesMost ∷ byteMost ∷ top ∷ fourBytesMost ∷ byteMost ∷ any ∷ any ∷ [])
+    commandRow "        " 0 0 0 0 free
+    ∷ commandRow "fresh   " 1 1 0 0 free
+    ∷ commandRow "open    " 6 6 1 2 free
+    ∷ commandRow "change  " 3 3 1 1 free
+    ∷ commandRow "close   " 2 2 1 1 free
+    ∷ commandRow "hold    " 2 2 1 1 free
+    ∷ commandRow "lift    " 2 2 1 1 free
+    ∷ commandRow "skip    " 4 4 1 2 free
+    ∷ commandRow "lane    " 3 3 2 1 free
+    ∷ commandRow "status  " 1 (1 + idsMost) 0 1 free
+    ∷ commandRow "plan    " 4 5 0 0 (any ∷ any ∷ any ∷ any ∷ placesMost ∷ any ∷ any ∷ [])
+    ∷ commandRow "share   " 1 wordsMost 0 0 free
+    ∷ commandRow "read    " 1 1 0 0 free
+    ∷ commandRow "notice  " 1 1 0 0 free
+    ∷ commandRow "romlane " 3 3 2 1 free
+    ∷ commandRow "romplan " 4 5 0 0 (any ∷ any ∷ any ∷ any ∷ placesMost ∷ any ∷ any ∷ [])
+    ∷ commandRow "planner " 2 (2 + titlesMost) 0 1 (any ∷ roomMost ∷ any ∷ any ∷ any ∷ any ∷ any ∷ [])
+    ∷ commandRow "skipplan" 2 3 0 0 (any ∷ any ∷ placesMost ∷ any ∷ any ∷ any ∷ any ∷ [])
+    ∷ commandRow "write   " 2 2 0 0 (fourBytesMost ∷ any ∷ any ∷ any ∷ any ∷ any ∷ any ∷ [])
+    ∷ commandRow "help    " 0 0 0 0 free
+    ∷ commandRow "        " 7 7 2 2 (fourBytesMost ∷ byteMost ∷ top ∷ fourBytesMost ∷ byteMost ∷ byteMost ∷ byteMost ∷ [])
+    ∷ commandRow "        " 4 4 2 1 (fourBytesMost ∷ byteMost ∷ top ∷ byteMost ∷ any ∷ any ∷ any ∷ [])
+    ∷ commandRow "        " 3 3 2 1 (fourBytesMost ∷ byteMost ∷ top ∷ any ∷ any ∷ any ∷ any ∷ [])
+    ∷ commandRow "        " 3 3 2 1 (fourBytesMost ∷ byteMost ∷ top ∷ any ∷ any ∷ any ∷ any ∷ [])
+    ∷ commandRow "        " 3 3 2 1 (fourBytesMost ∷ byteMost ∷ top ∷ any ∷ any ∷ any ∷ any ∷ [])
+    ∷ commandRow "        " 5 5 2 2 (fourBytesMost ∷ byteMost ∷ top ∷ fourBytesMost ∷ byteMost ∷ any ∷ any ∷ [])
+    ∷ commandRow "when    " 3 3 1 1 free
+    ∷ commandRow "balance " 1 balanceMost 0 1 free
+    ∷ commandRow "titles  " 1 1 0 1 free
+    ∷ commandRow "lanes   " 3 3 1 1 free
+    ∷ commandRow "quit    " 0 0 0 0 free
+    ∷ commandRow "        " 2 2 1 1 free
+    ∷ commandRow "        " 2 2 1 1 free
+    ∷ commandRow "        " 2 2 1 1 free
     ∷ []
 
 -- the row of a command; past the last, that of a line that asks nothing
 abbrev pub noCommand : Command
-noCommand = commandRow "        " 0 0 free
+noCommand = commandRow "        " 0 0 0 0 free
 
 unfoldable pub commandOf : ℕ → Command
 commandOf c = getD commandTable c noCommand
@@ -188,9 +238,9 @@ unfoldable pub seek : List ℕ → ℕ → List Command → ℕ
 seek w i [] = none
 seek w i (r ∷ rows) = pick (same w (nameOf r)) i (seek w (suc i) rows)
 
--- the command that a word names
+-- the command that a word names, in either case
 unfoldable pub verbOf : List ℕ → ℕ
-verbOf w = seek w 0 commandTable
+verbOf w = seek (lowered w) 0 commandTable
 
 unfoldable pub leastOf : ℕ → ℕ
 leastOf c = commandOf c .least
@@ -198,9 +248,11 @@ leastOf c = commandOf c .least
 unfoldable pub mostOf : ℕ → ℕ
 mostOf c = commandOf c .most
 
--- the command may end after n words: sharing after its pool and whole titles, any other from its least on
+-- the command may end after n words: sharing after its pool and whole titles, a balance after its time and whole titles, any
+-- other from its least on
 unfoldable pub enough : ℕ → ℕ → Bool
-enough c n = pick (eqb c doShare) (eqb (n % titleNumbers) 1) (leb (leastOf c) n)
+enough c n =
+    pick (eqb c doShare) (eqb (n % titleNumbers) 1) (pick (eqb c doBalance) (eqb (n % ratedNumbers) 1) (leb (leastOf c) n))
 
 -- the command's word is HEX
 unfoldable pub takesHex : ℕ → Bool
@@ -209,6 +261,16 @@ takesHex c = either (eqb c doRead) (eqb c doNotice)
 -- the word after a write's sequence is the notice's kind
 unfoldable pub takesKind : ℕ → ℕ → Bool
 takesKind c n = both (eqb c doWrite) (eqb n 1)
+
+-- the word after id and time may be an event whose time is asked for
+unfoldable pub takesAct : ℕ → ℕ → Bool
+takesAct c n = both (eqb c doWhen) (eqb n 2)
+
+-- the n-th number, from 0, is a time or a length
+unfoldable pub isTimed : ℕ → ℕ → Bool
+isTimed c n =
+    pick (eqb c doShare) (eqb (n % titleNumbers) shareLength)
+    (pick (ltb n (commandOf c .time)) false (ltb (n - commandOf c .time) (commandOf c .times)))
 
 -- the command asks for a plan, whose places may stand last
 unfoldable pub asksPlan : ℕ → Bool
@@ -255,9 +317,12 @@ tooManyTitles = 10
 abbrev pub tooManyPlaces : ℕ
 tooManyPlaces = 11
 
+abbrev pub notTime : ℕ
+notTime = 12
+
 -- not read to its end yet
 abbrev pub unread : ℕ
-unread = 12
+unread = 13
 
 -- the fault of a word too many, by command
 unfoldable pub crowded : ℕ → ℕ

@@ -1,5 +1,7 @@
-// The console's commands by number, the words that name them, and how many numbers each takes, of which size.
+// The console's commands by number, the words that name them, and how many numbers each takes, of which size and which are
+// times.
 
+use crate::letters;
 use rules::PLAN_PLACES;
 use rules::TITLES_MAX;
 use text::bytes;
@@ -22,12 +24,16 @@ ghost use Rattle.console_commands.specs.Commands.{
   oversized,
   takesHex,
   takesKind,
+  takesAct,
+  isTimed,
   asksPlan,
   wordsMost,
   doLane,
   writeOpen,
+  doWhen,
   commandCount,
 };
+ghost use Rattle.console_commands.specs.Letters.{lowered};
 
 // A line that asks nothing.
 pub const NONE: u8 = 0;
@@ -86,6 +92,24 @@ pub const WRITE_LIFT: u8 = 24;
 
 pub const WRITE_SKIP: u8 = 25;
 
+// Asks when a change to a count is accepted; the last word may be another event instead, which makes it one of the last three.
+pub const WHEN: u8 = 26;
+
+// The planner with rates by id.
+pub const BALANCE: u8 = 27;
+
+pub const TITLES: u8 = 28;
+
+pub const LANES: u8 = 29;
+
+pub const QUIT: u8 = 30;
+
+pub const WHEN_CLOSE: u8 = 31;
+
+pub const WHEN_HOLD: u8 = 32;
+
+pub const WHEN_LIFT: u8 = 33;
+
 // What can be wrong with a line.
 pub const NO_FAULT: u8 = 0;
 
@@ -111,11 +135,13 @@ pub const TOO_MANY_TITLES: u8 = 10;
 
 pub const TOO_MANY_PLACES: u8 = 11;
 
+pub const NOT_TIME: u8 = 12;
+
 // Not read to its end yet.
-pub const UNREAD: u8 = 12;
+pub const UNREAD: u8 = 13;
 
 // How many there are.
-const COMMANDS: usize = 26;
+const COMMANDS: usize = 34;
 
 // What a line may name at most: ids of a status, titles of a share and rates of a planner, places of a plan, as many as the
 // longest has, and places for a planner's list, one for each title. One title or rate more than the product takes, so that
@@ -131,23 +157,35 @@ pub const ROOM_MOST: usize = TITLES_MAX;
 // The numbers of a title in a share: rate, length, floor and cap.
 pub const TITLE_NUMBERS: usize = 4;
 
-// A status has a time and its ids, a share a pool and the numbers of its titles, a planner a time, a room and its rates.
+// Which of a share's numbers is its first title's length, from 0.
+const SHARE_LENGTH: usize = 2;
+
+// The numbers of a title in a balance: id and rate.
+pub const RATED_NUMBERS: usize = 2;
+
+// A status has a time and its ids, a share a pool and the numbers of its titles, a planner a time, a room and its rates, a
+// balance a time and the numbers of its titles.
 const STATUS_MOST: usize = 1 + IDS_MOST;
 
 const PLANNER_MOST: usize = 2 + TITLES_MOST;
 
 const SHARE_MOST: usize = 1 + TITLE_NUMBERS * TITLES_MOST;
 
+const BALANCE_MOST: usize = 1 + RATED_NUMBERS * TITLES_MAX;
+
 // No command limits more of its numbers than these.
 const LIMITED: usize = 7;
 
 // A row: the word, with spaces behind it, and blank where no word alone names the command; the fewest words after it and
-// the most, where read and notice have no number, but HEX, which is a word; and by place the largest value of a number, where
-// a larger one is an error of the line.
+// the most, where read and notice have no number, but HEX, which is a word; at which place, from 0, the numbers that are times
+// or lengths begin, and how many they are; and by place the largest value of a number, where a larger one is an error of the
+// line.
 pub struct Command {
     pub word: [u8; WORD_ROOM],
     pub least: usize,
     pub most: usize,
+    pub time: usize,
+    pub times: usize,
     pub limits: [u64; LIMITED],
 }
 
@@ -178,53 +216,69 @@ const NOTHING: Command = Command {
     word: *b"        ",
     least: 0,
     most: 0,
+    time: 0,
+    times: 0,
     limits: FREE,
 };
 
 // The rows of the commands by their number, in parts, since a table is built wherever it is named: fresh and the events, what
-// asks and tells, and the kinds of a write, which two words name.
+// asks and tells, the kinds of a write, which two words name, and what shows a pool to people, with quit.
 const ACTS: [Command; ASKS_FROM] = [
     NOTHING,
     Command {
         word: *b"fresh   ",
         least: 1,
         most: 1,
+        time: 0,
+        times: 0,
         limits: FREE,
     },
     Command {
         word: *b"open    ",
         least: 6,
         most: 6,
+        time: 1,
+        times: 2,
         limits: FREE,
     },
     Command {
         word: *b"change  ",
         least: 3,
         most: 3,
+        time: 1,
+        times: 1,
         limits: FREE,
     },
     Command {
         word: *b"close   ",
         least: 2,
         most: 2,
+        time: 1,
+        times: 1,
         limits: FREE,
     },
     Command {
         word: *b"hold    ",
         least: 2,
         most: 2,
+        time: 1,
+        times: 1,
         limits: FREE,
     },
     Command {
         word: *b"lift    ",
         least: 2,
         most: 2,
+        time: 1,
+        times: 1,
         limits: FREE,
     },
     Command {
         word: *b"skip    ",
         least: 4,
         most: 4,
+        time: 1,
+        times: 2,
         limits: FREE,
     },
 ];
@@ -234,118 +288,223 @@ const ASKS: [Command; WRITES_FROM - ASKS_FROM] = [
         word: *b"lane    ",
         least: 3,
         most: 3,
+        time: 2,
+        times: 1,
         limits: FREE,
     },
     Command {
         word: *b"status  ",
         least: 1,
         most: STATUS_MOST,
+        time: 0,
+        times: 1,
         limits: FREE,
     },
     Command {
         word: *b"plan    ",
         least: 4,
         most: 5,
+        time: 0,
+        times: 0,
         limits: [ANY, ANY, ANY, ANY, PLACES, ANY, ANY],
     },
     Command {
         word: *b"share   ",
         least: 1,
         most: SHARE_MOST,
+        time: 0,
+        times: 0,
         limits: FREE,
     },
     Command {
         word: *b"read    ",
         least: 1,
         most: 1,
+        time: 0,
+        times: 0,
         limits: FREE,
     },
     Command {
         word: *b"notice  ",
         least: 1,
         most: 1,
+        time: 0,
+        times: 0,
         limits: FREE,
     },
     Command {
         word: *b"romlane ",
         least: 3,
         most: 3,
+        time: 2,
+        times: 1,
         limits: FREE,
     },
     Command {
         word: *b"romplan ",
         least: 4,
         most: 5,
+        time: 0,
+        times: 0,
         limits: [ANY, ANY, ANY, ANY, PLACES, ANY, ANY],
     },
     Command {
         word: *b"planner ",
         least: 2,
         most: PLANNER_MOST,
+        time: 0,
+        times: 1,
         limits: [ANY, ROOM, ANY, ANY, ANY, ANY, ANY],
     },
     Command {
         word: *b"skipplan",
         least: 2,
         most: 3,
+        time: 0,
+        times: 0,
         limits: [ANY, ANY, PLACES, ANY, ANY, ANY, ANY],
     },
     Command {
         word: *b"write   ",
         least: 2,
         most: 2,
+        time: 0,
+        times: 0,
         limits: [SEQUENCE, ANY, ANY, ANY, ANY, ANY, ANY],
     },
     Command {
         word: *b"help    ",
         least: 0,
         most: 0,
+        time: 0,
+        times: 0,
         limits: FREE,
     },
 ];
 
-const WRITES: [Command; COMMANDS - WRITES_FROM] = [
+const WRITES: [Command; VIEWS_FROM - WRITES_FROM] = [
     Command {
         word: *b"        ",
         least: 7,
         most: 7,
+        time: 2,
+        times: 2,
         limits: [SEQUENCE, ID, TIME, LENGTH, COUNT, COUNT, COUNT],
     },
     Command {
         word: *b"        ",
         least: 4,
         most: 4,
+        time: 2,
+        times: 1,
         limits: [SEQUENCE, ID, TIME, COUNT, ANY, ANY, ANY],
     },
     Command {
         word: *b"        ",
         least: 3,
         most: 3,
+        time: 2,
+        times: 1,
         limits: [SEQUENCE, ID, TIME, ANY, ANY, ANY, ANY],
     },
     Command {
         word: *b"        ",
         least: 3,
         most: 3,
+        time: 2,
+        times: 1,
         limits: [SEQUENCE, ID, TIME, ANY, ANY, ANY, ANY],
     },
     Command {
         word: *b"        ",
         least: 3,
         most: 3,
+        time: 2,
+        times: 1,
         limits: [SEQUENCE, ID, TIME, ANY, ANY, ANY, ANY],
     },
     Command {
         word: *b"        ",
         least: 5,
         most: 5,
+        time: 2,
+        times: 2,
         limits: [SEQUENCE, ID, TIME, LENGTH, COUNT, ANY, ANY],
+    },
+];
+
+const VIEWS: [Command; COMMANDS - VIEWS_FROM] = [
+    Command {
+        word: *b"when    ",
+        least: 3,
+        most: 3,
+        time: 1,
+        times: 1,
+        limits: FREE,
+    },
+    Command {
+        word: *b"balance ",
+        least: 1,
+        most: BALANCE_MOST,
+        time: 0,
+        times: 1,
+        limits: FREE,
+    },
+    Command {
+        word: *b"titles  ",
+        least: 1,
+        most: 1,
+        time: 0,
+        times: 1,
+        limits: FREE,
+    },
+    Command {
+        word: *b"lanes   ",
+        least: 3,
+        most: 3,
+        time: 1,
+        times: 1,
+        limits: FREE,
+    },
+    Command {
+        word: *b"quit    ",
+        least: 0,
+        most: 0,
+        time: 0,
+        times: 0,
+        limits: FREE,
+    },
+    Command {
+        word: *b"        ",
+        least: 2,
+        most: 2,
+        time: 1,
+        times: 1,
+        limits: FREE,
+    },
+    Command {
+        word: *b"        ",
+        least: 2,
+        most: 2,
+        time: 1,
+        times: 1,
+        limits: FREE,
+    },
+    Command {
+        word: *b"        ",
+        least: 2,
+        most: 2,
+        time: 1,
+        times: 1,
+        limits: FREE,
     },
 ];
 
 const ASKS_FROM: usize = LANE as usize;
 
 const WRITES_FROM: usize = WRITE_OPEN as usize;
+
+const VIEWS_FROM: usize = WHEN as usize;
 
 fn act_row(i: usize) -> Command
     requires { ⌜ i < doLane ⌝ }
@@ -362,10 +521,17 @@ fn ask_row(i: usize) -> Command
 }
 
 fn write_row(i: usize) -> Command
-    requires { ⌜ i < commandCount - writeOpen ⌝ }
+    requires { ⌜ i < doWhen - writeOpen ⌝ }
     ensures { λ r. ⌜ r ≡ commandOf (writeOpen + i) ⌝ }
 {
     WRITES[i]
+}
+
+fn view_row(i: usize) -> Command
+    requires { ⌜ i < commandCount - doWhen ⌝ }
+    ensures { λ r. ⌜ r ≡ commandOf (doWhen + i) ⌝ }
+{
+    VIEWS[i]
 }
 
 // The row of a command; past the last, that of a line that asks nothing.
@@ -379,26 +545,29 @@ fn entry(command: u8) -> Command
     if k < WRITES_FROM {
         return ask_row(k - ASKS_FROM);
     }
-    if k < COMMANDS {
+    if k < VIEWS_FROM {
         return write_row(k - WRITES_FROM);
+    }
+    if k < COMMANDS {
+        return view_row(k - VIEWS_FROM);
     }
     NOTHING
 }
 
-// command where the word is its name, or other.
+// command where the word is its name, in either case, or other.
 fn named(word: &[u8], command: u8, other: u8) -> u8
-    ensures { λ r. ⌜ r ≡ pick (same (now (word .entry)) (nameOf (commandOf command))) command other ⌝ }
+    ensures { λ r. ⌜ r ≡ pick (same (lowered (now (word .entry))) (nameOf (commandOf command))) command other ⌝ }
 {
     let row = entry(command);
     let name = row.word;
     let end = bytes::run_end(&name, 0, Sort::Word);
-    if check::same(word, &name[..end]) {
+    if letters::alike(word, &name[..end]) {
         return command;
     }
     other
 }
 
-// The command that a word names, or NONE.
+// The command that a word in either case names, or NONE.
 pub fn verb(word: &[u8]) -> u8
     ensures { λ r. ⌜ r ≡ verbOf (now (word .entry)) ⌝ }
 {
@@ -425,6 +594,9 @@ pub fn enough(command: u8, count: usize) -> bool
     if command == SHARE {
         return count % TITLE_NUMBERS == 1;
     }
+    if command == BALANCE {
+        return count % RATED_NUMBERS == 1;
+    }
     entry(command).least <= count
 }
 
@@ -446,6 +618,32 @@ pub fn takes_kind(command: u8, count: usize) -> bool
         return count == 1;
     }
     false
+}
+
+// Whether the next word may be an event whose time is asked for, which follows id and time.
+pub fn takes_act(command: u8, count: usize) -> bool
+    ensures { λ r. ⌜ r ≡ takesAct command count ⌝ }
+{
+    if command == WHEN {
+        return count == 2;
+    }
+    false
+}
+
+// Whether the n-th number, from 0, is a time or a length.
+pub fn is_timed(command: u8, n: usize) -> bool
+    ensures { λ r. ⌜ r ≡ isTimed command n ⌝ }
+{
+    if command == SHARE {
+        return n % TITLE_NUMBERS == SHARE_LENGTH;
+    }
+    let row = entry(command);
+    let time = row.time;
+    let times = row.times;
+    if n < time {
+        return false;
+    }
+    n - time < times
 }
 
 // Whether a command asks for a plan, whose places may stand last.

@@ -1,4 +1,4 @@
 -- Laws of the desk: each test on a line says which case of the definitions it is.
-pub mod Asking
+pub mod Acting
 pub mod Lines
 pub mod Unique

@@ -1,26 +1,18 @@
 // The operator's desk: one line of the console, answered over an agent. `answer` takes the agent, the line's bytes, a
 // lent row and a place in it, and gives back the agent after the line and the place behind its answer, as
 // specs/Desk.antt defines them. It has no `requires`: any agent and any bytes have an answer, and no answer goes past
-// the row's end. `reply`, `put_followed` and `put_fault_line` are for the head-end's desk, which reads lines alike.
+// the row's end. `reply`, `ends`, `put_followed` and `put_fault_line` are for the head-end's desk, which reads lines alike.
 
 use agent::Agent;
 use console_acts::acts;
 use console_acts::named;
-use console_acts::writing::notice_of;
 use console_answers::faults;
 use console_answers::outcomes;
-use console_boxes::lanes;
-use console_boxes::plan;
+use console_asks::ask;
 use console_commands::commands;
 use console_lines::lines;
 use console_lines::lines::Line;
-use console_notices::hex;
-use console_notices::reading;
-use console_notices::writing;
-use console_pools::moves;
-use console_pools::shares;
-use console_pools::titles;
-use story::State;
+use console_reasons::behind;
 use text::output;
 ghost use mathlib.Core.Path.{_≡_};
 ghost use Prim.Native.Nat.{_≤_};
@@ -29,17 +21,18 @@ ghost use Rattle.text.specs.Output.{Written};
 ghost use Rattle.console_lines.specs.Lines.{longest, meaning};
 ghost use Rattle.console_acts.specs.Acts.{agentActed};
 ghost use Rattle.console_desk.specs.Desk.{
+  isSilent,
   mayChange,
   followedText,
+  toldText,
   actText,
-  askText,
-  tellText,
   Left,
   afterWhole,
   wholeText,
   faultLine,
   afterLine,
   lineText,
+  isLast,
 };
 
 // A number of a plan has 16 bits: a blank, and five digits at most.
@@ -52,6 +45,23 @@ pub const ANSWER_MAX: usize = 2 + NUMBER_BYTES * commands::PLACES_MOST;
 pub struct Turned {
     pub agent: Agent,
     pub at: usize,
+}
+
+// The same, and whether the session is over.
+pub struct Answered {
+    pub agent: Agent,
+    pub at: usize,
+    pub over: bool,
+}
+
+// Whether a command has no answer.
+fn is_silent(command: u8) -> bool
+    ensures { λ r. ⌜ r ≡ isSilent command ⌝ }
+{
+    if command == commands::NONE {
+        return true;
+    }
+    command == commands::QUIT
 }
 
 // Whether a command may change the agent.
@@ -78,6 +88,32 @@ pub fn put_followed(out: &mut [u8], at: usize, answer: u8, agent: Agent, named: 
     outcomes::put_value(out, at, answer, held, named)
 }
 
+// What is said of a command that may change the agent, by its answer and the agent after it.
+fn put_told(
+    out: &mut [u8],
+    at: usize,
+    answer: u8,
+    next: Agent,
+    agent: Agent,
+    line: Line,
+    s: &[u8],
+) -> usize
+    requires { ⌜ length (now s) ≤ longest ⌝ }
+    ensures { λ r. ⌜ Written (now (out .entry)) at (toldText answer next agent line (now (s .entry))) (now (out .exit)) r ⌝ }
+{
+    let command = line.command;
+    if command == commands::FRESH {
+        return outcomes::put_done(out, at, answer, 0);
+    }
+    put_followed(
+        out,
+        at,
+        answer,
+        next,
+        named::by_line(answer, agent, line, s),
+    )
+}
+
 // A command that may change the agent.
 fn act(agent: Agent, line: Line, s: &[u8], out: &mut [u8], at: usize) -> Turned
     requires { ⌜ length (now s) ≤ longest ⌝ }
@@ -87,63 +123,9 @@ fn act(agent: Agent, line: Line, s: &[u8], out: &mut [u8], at: usize) -> Turned
     let f = acts::follow(agent, line, s);
     let next = f.agent;
     let answer = f.answer;
-    let command = line.command;
-    if command == commands::FRESH {
-        let p = outcomes::put_done(out, at, answer, 0);
-        return Turned { agent: next, at: p };
-    }
-    let q = put_followed(
-        out,
-        at,
-        answer,
-        next,
-        named::by_line(answer, agent, line, s),
-    );
+    let p = put_told(out, at, answer, next, agent, line, s);
+    let q = behind::put_behind(out, p, answer, agent, line, s);
     Turned { agent: next, at: q }
-}
-
-// Help, and what concerns notices alone.
-fn tell(line: Line, s: &[u8], out: &mut [u8], at: usize) -> usize
-    requires { ⌜ length (now s) ≤ longest ⌝ }
-    ensures { λ r. ⌜ Written (now (out .entry)) at (tellText line (now (s .entry))) (now (out .exit)) r ⌝ }
-{
-    let command = line.command;
-    if command == commands::HELP {
-        return faults::put_help(out, at);
-    }
-    let n = line.numbers;
-    if command == commands::READ {
-        return reading::put_reading(out, at, hex::reading(s, n[0], n[1]));
-    }
-    writing::put_bytes(out, at, notice_of(line))
-}
-
-// A question, which changes nothing.
-fn ask(state: State, line: Line, s: &[u8], out: &mut [u8], at: usize) -> usize
-    requires { ⌜ length (now s) ≤ longest ⌝ }
-    ensures { λ r. ⌜ Written (now (out .entry)) at (askText state line (now (s .entry))) (now (out .exit)) r ⌝ }
-{
-    let command = line.command;
-    let n = line.numbers;
-    if command == commands::LANE {
-        return lanes::put_lane(out, at, state, n[0], n[1], n[2]);
-    }
-    if command == commands::STATUS {
-        return titles::put_status(out, at, state, n, line.count);
-    }
-    if command == commands::SHARE {
-        return shares::put_share(out, at, n, line.count);
-    }
-    if command == commands::PLANNER {
-        return moves::put_planner(out, at, state, n, line.count);
-    }
-    if command == commands::ROM_LANE {
-        return lanes::put_rom_lane(out, at, state, n[0], n[1], n[2]);
-    }
-    if commands::asks_plan(command) {
-        return plan::put_plan(out, at, line);
-    }
-    tell(line, s, out, at)
 }
 
 // A line with nothing wrong.
@@ -153,7 +135,7 @@ fn whole(agent: Agent, line: Line, s: &[u8], out: &mut [u8], at: usize) -> Turne
         (wholeText agent line (now (s .entry))) (r .agent) (now (out .exit)) (r .at) ⌝ }
 {
     let command = line.command;
-    if command == commands::NONE {
+    if is_silent(command) {
         return Turned { agent, at };
     }
     if may_change(command) {
@@ -168,11 +150,11 @@ fn whole(agent: Agent, line: Line, s: &[u8], out: &mut [u8], at: usize) -> Turne
     Turned { agent, at: e }
 }
 
-// What is wrong with a line, and its newline.
-pub fn put_fault_line(out: &mut [u8], at: usize, fault: u8, place: usize) -> usize
-    ensures { λ r. ⌜ Written (now (out .entry)) at (faultLine fault place) (now (out .exit)) r ⌝ }
+// What is wrong with a line of a command, and its newline.
+pub fn put_fault_line(out: &mut [u8], at: usize, fault: u8, place: usize, command: u8) -> usize
+    ensures { λ r. ⌜ Written (now (out .entry)) at (faultLine fault place command) (now (out .exit)) r ⌝ }
 {
-    let p = faults::put_fault(out, at, fault, place);
+    let p = faults::put_fault(out, at, fault, place, command);
     output::put(out, p, b"\n")
 }
 
@@ -186,14 +168,35 @@ pub fn reply(agent: Agent, line: Line, s: &[u8], out: &mut [u8], at: usize) -> T
     if fault == commands::NO_FAULT {
         return whole(agent, line, s, out, at);
     }
-    let e = put_fault_line(out, at, fault, line.place);
+    let e = put_fault_line(out, at, fault, line.place, line.command);
     Turned { agent, at: e }
 }
 
-// Answers one line, given without its newline.
-pub fn answer(agent: Agent, s: &[u8], out: &mut [u8], at: usize) -> Turned
-    ensures { λ r. ⌜ Left (afterLine agent (now (s .entry))) (now (out .entry)) at
-        (lineText agent (now (s .entry))) (r .agent) (now (out .exit)) (r .at) ⌝ }
+// Whether the session is over after a line that has been read.
+pub fn ends(line: Line) -> bool
+    ensures { λ r. ⌜ r ≡ isLast line ⌝ }
 {
-    reply(agent, lines::parse(s), s, out, at)
+    let fault = line.fault;
+    let command = line.command;
+    if fault == commands::NO_FAULT {
+        return command == commands::QUIT;
+    }
+    false
+}
+
+// Answers one line, given without its newline.
+pub fn answer(agent: Agent, s: &[u8], out: &mut [u8], at: usize) -> Answered
+    ensures { λ r. ⌜ (Left (afterLine agent (now (s .entry))) (now (out .entry)) at
+        (lineText agent (now (s .entry))) (r .agent) (now (out .exit)) (r .at))
+        × (r .over ≡ isLast (meaning (now (s .entry)))) ⌝ }
+{
+    let line = lines::parse(s);
+    let over = ends(line);
+    let t = reply(agent, line, s, out, at);
+    let next = t.agent;
+    Answered {
+        agent: next,
+        at: t.at,
+        over: over,
+    }
 }

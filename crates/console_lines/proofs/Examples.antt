@@ -7,6 +7,8 @@ use lib.ListN.{take}
 use Rattle.text.specs.Bytes.{isSort, run, runEnd}
 use Rattle.text.specs.Numbers.{amount, tooLarge}
 use Rattle.text.specs.Texts.{text, same}
+use Rattle.clocks.specs.Clocks.{hasColon, isPart, isThousandths, isTail, isClock, pairAt, tailMs, clockMs}
+use Rattle.console_commands.specs.Letters.{lowerOf, lowered}
 use Rattle.console_commands.specs.Commands.{
   commandTable,
   commandOf,
@@ -18,6 +20,8 @@ use Rattle.console_commands.specs.Commands.{
   enough,
   takesHex,
   takesKind,
+  takesAct,
+  isTimed,
   asksPlan,
   limitOf,
   crowded,
@@ -29,11 +33,16 @@ use Rattle.console_lines.specs.Lines.{
   withFault,
   lineEnded,
   goOn,
+  withAmount,
+  withDigits,
+  wordAt,
+  withClock,
   withNumber,
+  withAct,
   withKind,
   withHex,
-  wordAt,
   withWord,
+  endsAt,
   step,
   withVerb,
   begun,
@@ -45,8 +54,8 @@ unfoldable pub told : Line → List ℕ
 told l = l .command ∷ l .fault ∷ l .place ∷ take (l .count) (l .numbers)
 
 unfoldable pub each : List String → List (List ℕ)
-unfolding told isSort run runEnd amount tooLarge text same commandTable commandOf nameOf seek verbOf leastOf mostOf enough takesHex takesKind asksPlan
-    limitOf crowded oversized blank withFault lineEnded goOn withNumber withKind withHex wordAt withWord step withVerb begun
+unfolding told isSort run runEnd amount tooLarge text same lowerOf lowered hasColon isPart isThousandths isTail isClock pairAt tailMs clockMs commandTable commandOf nameOf seek verbOf leastOf mostOf enough takesHex takesKind takesAct isTimed asksPlan
+    limitOf crowded oversized blank withFault lineEnded goOn withAmount withDigits withClock withNumber withAct withKind withHex wordAt withWord endsAt step withVerb begun
     readOn meaning
 each [] = []
 each (s ∷ rest) = told (meaning (text s)) ∷ each rest
@@ -56,7 +65,6 @@ lines =
     "lane 3 0 12" ∷
     "  close\t007 18446744073709551616 \r" ∷
     "# a remark" ∷
-    "Help" ∷
     "open 1 2" ∷
     "status 5x" ∷
     "plan 2 4 4 0 4097" ∷
@@ -81,6 +89,24 @@ lines =
     "notice 0aF" ∷
     "notice 0g" ∷
     "help me" ∷
+    "HELP" ∷
+    "Halp # me" ∷
+    "Write 7 CLOSE 1 1:30" ∷
+    "open 1 0:00 1:30:00 2 10 4 # the film" ∷
+    "open 1 2 # 3" ∷
+    "change 1 1:60 4" ∷
+    "change 1:00 0 4" ∷
+    "write 7 close 1 5124095576030:25:51.615" ∷
+    "write 7 close 1 5124095576030:25:51.616" ∷
+    "when 1 4 5" ∷
+    "when 1 4 HOLD" ∷
+    "when 1 4 open" ∷
+    "when 1 4 lift 5" ∷
+    "balance 1:00 3 10 4 20" ∷
+    "balance 4 3" ∷
+    "titles 0" ∷
+    "lanes 1 0:00:30.250 32" ∷
+    "quit" ∷
     []
 
 abbrev pub meanings : List (List ℕ)
@@ -88,7 +114,6 @@ meanings =
     (8 ∷ 0 ∷ 11 ∷ 3 ∷ 0 ∷ 12 ∷ []) ∷
     (4 ∷ 0 ∷ 34 ∷ 7 ∷ 18446744073709551615 ∷ []) ∷
     (0 ∷ 0 ∷ 0 ∷ []) ∷
-    (0 ∷ 2 ∷ 0 ∷ []) ∷
     (2 ∷ 3 ∷ 8 ∷ 1 ∷ 2 ∷ []) ∷
     (9 ∷ 5 ∷ 8 ∷ []) ∷
     (10 ∷ 11 ∷ 13 ∷ 2 ∷ 4 ∷ 4 ∷ 0 ∷ []) ∷
@@ -113,11 +138,29 @@ meanings =
     (13 ∷ 7 ∷ 7 ∷ []) ∷
     (13 ∷ 8 ∷ 8 ∷ []) ∷
     (19 ∷ 4 ∷ 5 ∷ []) ∷
+    (19 ∷ 0 ∷ 4 ∷ []) ∷
+    (0 ∷ 2 ∷ 0 ∷ []) ∷
+    (22 ∷ 0 ∷ 20 ∷ 7 ∷ 1 ∷ 5400000 ∷ []) ∷
+    (2 ∷ 0 ∷ 27 ∷ 1 ∷ 0 ∷ 5400000 ∷ 2 ∷ 10 ∷ 4 ∷ []) ∷
+    (2 ∷ 3 ∷ 9 ∷ 1 ∷ 2 ∷ []) ∷
+    (3 ∷ 12 ∷ 9 ∷ 1 ∷ []) ∷
+    (3 ∷ 5 ∷ 8 ∷ []) ∷
+    (22 ∷ 0 ∷ 39 ∷ 7 ∷ 1 ∷ 18446744073709551615 ∷ []) ∷
+    (22 ∷ 6 ∷ 16 ∷ 7 ∷ 1 ∷ []) ∷
+    (26 ∷ 0 ∷ 10 ∷ 1 ∷ 4 ∷ 5 ∷ []) ∷
+    (32 ∷ 0 ∷ 13 ∷ 1 ∷ 4 ∷ []) ∷
+    (26 ∷ 5 ∷ 9 ∷ 1 ∷ 4 ∷ []) ∷
+    (33 ∷ 4 ∷ 14 ∷ 1 ∷ 4 ∷ []) ∷
+    (27 ∷ 0 ∷ 22 ∷ 3600000 ∷ 3 ∷ 10 ∷ 4 ∷ 20 ∷ []) ∷
+    (27 ∷ 3 ∷ 11 ∷ 4 ∷ 3 ∷ []) ∷
+    (28 ∷ 0 ∷ 8 ∷ 0 ∷ []) ∷
+    (29 ∷ 0 ∷ 22 ∷ 1 ∷ 30250 ∷ 32 ∷ []) ∷
+    (30 ∷ 0 ∷ 4 ∷ []) ∷
     []
 
 -- the lines above, one after the other, mean what the list says
 pub shown : each lines ≡ meanings
-unfolding told each isSort run runEnd amount tooLarge text same commandTable commandOf nameOf seek verbOf leastOf mostOf enough takesHex takesKind asksPlan
-    limitOf crowded oversized blank withFault lineEnded goOn withNumber withKind withHex wordAt withWord step withVerb begun
+unfolding told each isSort run runEnd amount tooLarge text same lowerOf lowered hasColon isPart isThousandths isTail isClock pairAt tailMs clockMs commandTable commandOf nameOf seek verbOf leastOf mostOf enough takesHex takesKind takesAct isTimed asksPlan
+    limitOf crowded oversized blank withFault lineEnded goOn withAmount withDigits withClock withNumber withAct withKind withHex wordAt withWord endsAt step withVerb begun
     readOn meaning
 shown = refl

@@ -6,26 +6,32 @@ use mathlib.Core.Bool.{Bool, true, false}
 use mathlib.Core.List.{List}
 use native.Mathlib.Omega.{arith}
 use borrow.Author.Tests.{leb-false, leb-true, eqb-true, eqb-false, ne-eqb}
-use lib.ListN.{length, drop}
+use lib.ListN.{drop}
 use lib.Dec.{eqb, leb, ltb}
-use Rattle.rules.specs.Limits.{within}
+use Rattle.rules.specs.Limits.{both, either, within}
 use Rattle.rules.specs.Refusals.{pick}
 use Rattle.text.specs.declared.bytes.Sort.the-variants.{Separator, Word, Digit, Hex}
 use Rattle.text.specs.Bytes.{runEnd}
 use Rattle.text.specs.Numbers.{amount, tooLarge}
+use Rattle.clocks.specs.Clocks.{hasColon, isClock, clockMs}
 use Rattle.console_commands.specs.Commands
-use Rattle.rules.proofs.Tests.{both-l}
+use Rattle.rules.proofs.Tests.{both-l, both-r, either-false}
 use Rattle.console_commands.proofs.Rows.{most-few}
 use Rattle.console_lines.specs.declared.lines.Line.{Line}
 use Rattle.console_lines.specs.Lines.{
   withFault,
   lineEnded,
   goOn,
+  withAmount,
+  withDigits,
+  wordAt,
+  withClock,
   withNumber,
+  withAct,
   withKind,
   withHex,
-  wordAt,
   withWord,
+  endsAt,
   step,
   begun,
   readOn,
@@ -35,9 +41,13 @@ use Rattle.console_lines.specs.Lines.{
 
 -- ---- room for further words
 
--- how many words a line may still have, its kind counted for one
+-- a word that is no number may follow: a write's kind, the event of a when
+abbrev waits : ℕ → Bool
+waits c = either (eqb c Commands.doWrite) (eqb c Commands.doWhen)
+
+-- how many words a line may still have, such a word counted for one
 unfoldable room : Line → ℕ
-room l = (Commands.wordsMost - l .count) + pick (eqb (l .command) Commands.doWrite) 1 0
+room l = (Commands.wordsMost - l .count) + pick (waits (l .command)) 1 0
 
 pub pick-case : {A : Type 0} (P : A → Type 0) (t : Bool) (a b : A) → (t ≡ true → P a) → (t ≡ false → P b) → P (pick t a b)
 pick-case P true a b f g = f refl
@@ -74,15 +84,32 @@ few c = most-few c
 -- ---- each word takes room
 
 -- a number takes one word
-number-falls : (s : List ℕ) (l : Line) (a e : ℕ) → l .count < Commands.mostOf (l .command)
-    → Falls l (withNumber s l a e)
-unfolding withNumber goOn room
-number-falls s l a e h =
+amount-falls : (l : Line) (a e v : ℕ) → l .count < Commands.mostOf (l .command) → Falls l (withAmount l a e v)
+unfolding withAmount goOn room
+amount-falls l a e v h =
+    pick-case (Falls l) (tooLarge (Commands.limitOf (l .command) (l .count)) v) _ _
+    (λ q. stops l (Commands.oversized (l .command)) a (oversized-known (l .command)))
+    (λ q u. omega (arith, few (l .command)))
+
+digits-falls : (s : List ℕ) (l : Line) (a e : ℕ) → l .count < Commands.mostOf (l .command) → Falls l (withDigits s l a e)
+unfolding withDigits
+digits-falls s l a e h =
     pick-case (Falls l) (ltb (runEnd Digit s a) e) _ _
     (λ t. stops l Commands.notNumber (runEnd Digit s a) (λ u. omega arith))
-    (λ t. pick-case (Falls l) (tooLarge (Commands.limitOf (l .command) (l .count)) (amount 0 (drop a s))) _ _
-    (λ q. stops l (Commands.oversized (l .command)) a (oversized-known (l .command)))
-    (λ q u. omega (arith, few (l .command))))
+    (λ t. amount-falls l a e (amount 0 (drop a s)) h)
+
+clock-falls : (w : List ℕ) (l : Line) (a e : ℕ) → l .count < Commands.mostOf (l .command) → Falls l (withClock w l a e)
+unfolding withClock
+clock-falls w l a e h =
+    pick-case (Falls l) (isClock w) _ _ (λ t. amount-falls l a e (clockMs w) h)
+    (λ t. stops l Commands.notTime a (λ u. omega arith))
+
+number-falls : (s : List ℕ) (l : Line) (a e : ℕ) → l .count < Commands.mostOf (l .command)
+    → Falls l (withNumber s l a e)
+unfolding withNumber
+number-falls s l a e h =
+    pick-case (Falls l) (both (Commands.isTimed (l .command) (l .count)) (hasColon (wordAt s a))) _ _
+    (λ t. clock-falls (wordAt s a) l a e h) (λ t. digits-falls s l a e h)
 
 -- HEX is the one word of its command
 hex-falls : (s : List ℕ) (l : Line) (a e : ℕ) → l .count < 1 → Falls l (withHex s l a e)
@@ -92,21 +119,43 @@ hex-falls s l a e h =
     (λ t. pick-case (Falls l) (eqb ((e - a) % 2) 1) _ _ (λ q. stops l Commands.oddHex a (λ u. omega arith))
     (λ q u. omega arith))
 
-kind-less : (c v n : ℕ) → c ≡ Commands.doWrite → 2 ≤ v
-    → suc (n + pick (eqb (Commands.doWrite + v) Commands.doWrite) 1 0) ≤ n + pick (eqb c Commands.doWrite) 1 0
-kind-less c v n h g =
-    let more : Commands.doWrite + v ≡ Commands.doWrite → ⊥ =
-    λ q. let z : Commands.doWrite + v ≡ Commands.doWrite = q in omega arith in
-    rw (ne-eqb _ _ more, h) (omega arith)
+-- a command at which such a word is awaited becomes one at which none is
+turned : (c d n : ℕ) → waits c ≡ true → waits d ≡ false → suc (n + pick (waits d) 1 0) ≤ n + pick (waits c) 1 0
+turned c d n h g = rw (h, g) (omega arith)
+
+-- those from the first kind of a write on, and from the first event of a when on
+kind-known : (v : ℕ) → 2 ≤ v → v ≤ Commands.doSkip → waits (Commands.doWrite + v) ≡ false
+kind-known v h g =
+    either-false (eqb (Commands.doWrite + v) Commands.doWrite) (eqb (Commands.doWrite + v) Commands.doWhen)
+    (ne-eqb _ _ (λ q. let z : Commands.doWrite + v ≡ Commands.doWrite = q in omega arith))
+    (ne-eqb _ _ (λ q. let z : Commands.doWrite + v ≡ Commands.doWhen = q in omega arith))
+
+act-known : (v : ℕ) → waits (Commands.whenClose + v) ≡ false
+act-known v =
+    either-false (eqb (Commands.whenClose + v) Commands.doWrite) (eqb (Commands.whenClose + v) Commands.doWhen)
+    (ne-eqb _ _ (λ q. let z : Commands.whenClose + v ≡ Commands.doWrite = q in omega arith))
+    (ne-eqb _ _ (λ q. let z : Commands.whenClose + v ≡ Commands.doWhen = q in omega arith))
 
 -- the kind makes a write one of the commands that are no write without kind
 kind-falls : (w : List ℕ) (l : Line) (a e : ℕ) → l .command ≡ Commands.doWrite → Falls l (withKind w l a e)
 unfolding withKind room
 kind-falls w l a e h =
     pick-case (Falls l) (within Commands.doOpen Commands.doSkip (Commands.verbOf w)) _ _
-    (λ t u. kind-less (l .command) (Commands.verbOf w) (Commands.wordsMost - l .count) h
-    (leb-true _ _ (both-l (leb Commands.doOpen (Commands.verbOf w)) (leb (Commands.verbOf w) Commands.doSkip) t)))
+    (λ t u. turned (l .command) (Commands.doWrite + Commands.verbOf w) (Commands.wordsMost - l .count) (rw h)
+    (kind-known (Commands.verbOf w)
+    (leb-true _ _ (both-l (leb Commands.doOpen (Commands.verbOf w)) (leb (Commands.verbOf w) Commands.doSkip) t))
+    (leb-true _ _ (both-r (leb Commands.doOpen (Commands.verbOf w)) (leb (Commands.verbOf w) Commands.doSkip) t))))
     (λ t. stops l Commands.unknownWord a (λ u. omega arith))
+
+-- the event makes a when one of the commands that are no when without event
+act-falls : (s : List ℕ) (l : Line) (a e : ℕ) → l .command ≡ Commands.doWhen → l .count < Commands.mostOf (l .command)
+    → Falls l (withAct s l a e)
+unfolding withAct room
+act-falls s l a e h m =
+    pick-case (Falls l) (within Commands.doClose Commands.doLift (Commands.verbOf (wordAt s a))) _ _
+    (λ t u. turned (l .command) (Commands.whenClose + (Commands.verbOf (wordAt s a) - Commands.doClose))
+    (Commands.wordsMost - l .count) (rw h) (act-known (Commands.verbOf (wordAt s a) - Commands.doClose)))
+    (λ t. number-falls s l a e m)
 
 hex-one : (c : ℕ) → Commands.takesHex c ≡ true → Commands.mostOf c ≡ 1
 unfolding Commands.takesHex Commands.mostOf Commands.commandOf Commands.commandTable
@@ -119,6 +168,10 @@ pub kind-write : (c n : ℕ) → Commands.takesKind c n ≡ true → c ≡ Comma
 unfolding Commands.takesKind
 kind-write c n k = eqb-true c Commands.doWrite (both-l (eqb c Commands.doWrite) (eqb n 1) k)
 
+pub act-when : (c n : ℕ) → Commands.takesAct c n ≡ true → c ≡ Commands.doWhen
+unfolding Commands.takesAct
+act-when c n k = eqb-true c Commands.doWhen (both-l (eqb c Commands.doWhen) (eqb n 2) k)
+
 word-falls : (s : List ℕ) (l : Line) (a : ℕ) → Falls l (withWord s l a)
 unfolding withWord
 word-falls s l a =
@@ -129,15 +182,17 @@ word-falls s l a =
     (λ q. hex-falls s l a (runEnd Word s a) (omega (arith, hex-one (l .command) q)))
     (λ q. pick-case (Falls l) (Commands.takesKind (l .command) (l .count)) _ _
     (λ k. kind-falls (wordAt s a) l a (runEnd Word s a) (kind-write (l .command) (l .count) k))
-    (λ k. number-falls s l a (runEnd Word s a) h)))
+    (λ k. pick-case (Falls l) (Commands.takesAct (l .command) (l .count)) _ _
+    (λ j. act-falls s l a (runEnd Word s a) (act-when (l .command) (l .count) j) h)
+    (λ j. number-falls s l a (runEnd Word s a) h))))
 
 step-falls : (s : List ℕ) (l : Line) → Falls l (step s l)
 unfolding step lineEnded
 step-falls s l =
-    pick-case (Falls l) (ltb (runEnd Separator s (l .place)) (length s)) _ _
-    (λ t. word-falls s l (runEnd Separator s (l .place)))
+    pick-case (Falls l) (endsAt s (runEnd Separator s (l .place))) _ _
     (λ t. stops l _ (runEnd Separator s (l .place))
     (pick-case known (Commands.enough (l .command) (l .count)) _ _ (λ q u. omega arith) (λ q u. omega arith)))
+    (λ t. word-falls s l (runEnd Separator s (l .place)))
 
 -- ---- so the reading ends
 
@@ -164,8 +219,7 @@ one-more false = omega arith
 small : (l : Line) → room l < numbersMost
 unfolding room
 small l =
-    let k : pick (eqb (l .command) Commands.doWrite) 1 0 ≤ 1 = one-more
-    (eqb (l .command) Commands.doWrite) in omega arith
+    let k : pick (waits (l .command)) 1 0 ≤ 1 = one-more (waits (l .command)) in omega arith
 
 -- the reader's answer is a whole line or a fault of it
 pub finished : (s : List ℕ) → (meaning s) .fault ≡ Commands.unread → ⊥

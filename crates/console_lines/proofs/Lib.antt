@@ -3,3 +3,5 @@ pub mod Reading
 pub mod Examples
 pub mod Unique
 pub mod Finished
+pub mod Kept
+pub mod Times

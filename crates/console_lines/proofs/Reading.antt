@@ -9,9 +9,11 @@ use lib.ListN.{length, getD, take, drop, set}
 use lib.Dec.{eqb, ltb}
 use Rattle.rules.specs.Refusals.{pick}
 use Rattle.text.specs.declared.bytes.Sort.the-variants.{Separator, Word, Digit, Hex}
+use Rattle.text.specs.declared.numbers.Number.{Number}
 use Rattle.console_lines.specs.declared.lines.Line.{Line}
 use Rattle.text.specs.Bytes.{runEnd}
 use Rattle.text.specs.Numbers.{top, amount, capped, above, tooLarge}
+use Rattle.clocks.specs.Clocks.{hasColon, isClock, clockMs}
 use Rattle.console_commands.specs.Commands.{
   verbOf,
   limitOf,
@@ -21,25 +23,37 @@ use Rattle.console_commands.specs.Commands.{
   notNumber,
   unknownWord,
   tooLong,
+  notTime,
   unread,
   doOpen,
+  doClose,
+  doLift,
   doSkip,
   doWrite,
+  whenClose,
   mostOf,
   crowded,
+  isTimed,
   takesHex,
   takesKind,
+  takesAct,
 }
 use Rattle.console_lines.specs.Lines.{
   blank,
   withFault,
   lineEnded,
   goOn,
+  withAmount,
+  withDigits,
+  wordAt,
+  withClock,
   withNumber,
+  withAct,
   withKind,
   withHex,
   withWord,
-  wordAt,
+  hash,
+  endsAt,
   step,
   withVerb,
   longest,
@@ -97,25 +111,75 @@ module _ (s : List ℕ) (l : Line) (a e : ℕ) where
   unfolding withKind
   kind-told v q h g = rw (← q, le-leb _ _ h, le-leb _ _ g)
 
-  pub number-bad : (p : ℕ) → p ≡ runEnd Digit s a → p < e → withFault l notNumber p ≡ withNumber s l a e
-  unfolding withNumber
-  number-bad p q h = rw (← q, lt-ltb _ _ h)
+  pub digits-bad : (p : ℕ) → p ≡ runEnd Digit s a → p < e → withFault l notNumber p ≡ withDigits s l a e
+  unfolding withDigits
+  digits-bad p q h = rw (← q, lt-ltb _ _ h)
 
-  module _ (p : ℕ) (q : p ≡ runEnd Digit s a) (h : e ≤ p) (m : ℕ) (r : m ≡ limitOf (l .command) (l .count))
-      (small : m ≤ top) where
-    number-rest : pick (above m (capped (amount 0 (drop a s)))) (withFault l (oversized (l .command)) a)
-        (goOn l (amount 0 (drop a s)) e)
-        ≡ withNumber s l a e
+  pub digits-whole : (p : ℕ) → p ≡ runEnd Digit s a → e ≤ p → withAmount l a e (amount 0 (drop a s)) ≡ withDigits s l a e
+  unfolding withDigits
+  digits-whole p q h = rw (← q, le-ltb _ _ h)
+
+  pub clock-right : (t : Bool) → t ≡ isClock s → t ≡ true → withAmount l a e (clockMs s) ≡ withClock s l a e
+  unfolding withClock
+  clock-right t f y = rw (← f, y)
+
+  pub clock-wrong : (t : Bool) → t ≡ isClock s → t ≡ false → withFault l notTime a ≡ withClock s l a e
+  unfolding withClock
+  clock-wrong t f n = rw (← f, n)
+
+-- a number as it is handed on: above its limit, or the next of the command
+module _ (l : Line) (a e m : ℕ) (r : m ≡ limitOf (l .command) (l .count)) (small : m ≤ top) (n : Number) (v : ℕ)
+    (is : n ≡ capped v) (t : Bool) (f : t ≡ above m n) where
+  amount-told : t ≡ tooLarge (limitOf (l .command) (l .count)) v
+  amount-told = f ∙ ap (above m) is ∙ above-capped m v small ∙ ap (λ (k : ℕ). tooLarge k v) r
+
+  pub amount-large : t ≡ true → withFault l (oversized (l .command)) a ≡ withAmount l a e v
+  unfolding withAmount
+  amount-large y = rw (← amount-told, y)
+
+  pub amount-whole : t ≡ false
+      → record {
+        command = l .command;
+        fault = l .fault;
+        place = e;
+        count = l .count + 1;
+        numbers = set (l .numbers) (l .count) (n .value);
+      }
+      ≡ withAmount l a e v
+  unfolding withAmount goOn capped
+  amount-whole y = rw (← amount-told, y, is)
+
+-- a word that ends at e: a time of the clock or digits, an event or a number
+module _ (s : List ℕ) (l : Line) (a e : ℕ) (q : e ≡ runEnd Word s a) where
+  module _ (t : Bool) (f : t ≡ isTimed (l .command) (l .count)) where
+    pub number-clock : t ≡ true → (u : Bool) → u ≡ hasColon (take (e - a) (drop a s)) → u ≡ true
+        → withClock (take (e - a) (drop a s)) l a e ≡ withNumber s l a e
+    unfolding withNumber wordAt
+    number-clock y u g z = rw (← q, ← f, y, ← g, z)
+
+    pub number-plain : t ≡ true → (u : Bool) → u ≡ hasColon (take (e - a) (drop a s)) → u ≡ false
+        → withDigits s l a e ≡ withNumber s l a e
+    unfolding withNumber wordAt
+    number-plain y u g z = rw (← q, ← f, y, ← g, z)
+
+    pub number-untimed : t ≡ false → withDigits s l a e ≡ withNumber s l a e
     unfolding withNumber
-    number-rest = rw (← q, le-ltb _ _ h, ← r, above-capped m (amount 0 (drop a s)) small)
+    number-untimed n = rw (← f, n)
 
-    pub number-large : (t : Bool) → t ≡ above m (capped (amount 0 (drop a s))) → t ≡ true
-        → withFault l (oversized (l .command)) a ≡ withNumber s l a e
-    number-large t f g = rw (sym f ∙ g) at number-rest
+  module _ (v : ℕ) (f : v ≡ verbOf (take (e - a) (drop a s))) where
+    pub act-low : v < doClose → withNumber s l a e ≡ withAct s l a e
+    unfolding withAct wordAt
+    act-low h = rw (← q, ← f, lt-leb _ _ h)
 
-    pub number-whole : (t : Bool) → t ≡ above m (capped (amount 0 (drop a s))) → t ≡ false
-        → goOn l (amount 0 (drop a s)) e ≡ withNumber s l a e
-    number-whole t f g = rw (sym f ∙ g) at number-rest
+    pub act-high : doClose ≤ v → doLift < v → withNumber s l a e ≡ withAct s l a e
+    unfolding withAct wordAt
+    act-high h g = rw (← q, ← f, le-leb _ _ h, lt-leb _ _ g)
+
+    pub act-told : doClose ≤ v → v ≤ doLift
+        → record { command = whenClose + (v - doClose); fault = l .fault; place = e; count = l .count; numbers = l .numbers }
+        ≡ withAct s l a e
+    unfolding withAct wordAt
+    act-told h g = rw (← q, ← f, le-leb _ _ h, le-leb _ _ g)
 
 -- ---- which of them the next word is
 
@@ -134,20 +198,34 @@ module _ (s : List ℕ) (l : Line) (a m : ℕ) (q : m ≡ mostOf (l .command)) w
       unfolding withWord wordAt
       word-kind y = rw (← q, lt-leb _ _ h, ← f, n, ← k, y, ← g)
 
-      pub word-number : u ≡ false → withNumber s l a e ≡ withWord s l a
-      unfolding withWord
-      word-number y = rw (← q, lt-leb _ _ h, ← f, n, ← k, y, ← g)
+      module _ (o : u ≡ false) (w : Bool) (j : w ≡ takesAct (l .command) (l .count)) where
+        pub word-act : w ≡ true → withAct s l a e ≡ withWord s l a
+        unfolding withWord
+        word-act y = rw (← q, lt-leb _ _ h, ← f, n, ← k, o, ← j, y, ← g)
+
+        pub word-number : w ≡ false → withNumber s l a e ≡ withWord s l a
+        unfolding withWord
+        word-number y = rw (← q, lt-leb _ _ h, ← f, n, ← k, o, ← j, y, ← g)
 
 -- ---- the next word, or the line's end
 
-module _ (s : List ℕ) (l : Line) (a : ℕ) (q : a ≡ runEnd Separator s (l .place)) where
-  pub step-word : a < length s → withWord s l a ≡ step s l
-  unfolding step
-  step-word h = rw (← q, lt-ltb _ _ h)
+-- where the words do not end, there is a word
+pub word-there : (s : List ℕ) (a : ℕ) → endsAt s a ≡ false → a < length s
+unfolding endsAt
+word-there s a = go (ltb a (length s)) refl
+  where
+    go : (t : Bool) → ltb a (length s) ≡ t → pick t (eqb (getD s a 0) hash) true ≡ false → a < length s
+    go true e h = ltb-true _ _ e
+    go false e h = let z : _≡_ {A = ℕ} 0 1 = cc in omega arith
 
-  pub step-end : length s ≤ a → lineEnded l a ≡ step s l
+module _ (s : List ℕ) (l : Line) (a : ℕ) (q : a ≡ runEnd Separator s (l .place)) (t : Bool) (f : t ≡ endsAt s a) where
+  pub step-end : t ≡ true → lineEnded l a ≡ step s l
   unfolding step
-  step-end h = rw (← q, le-ltb _ _ h)
+  step-end y = rw (← q, ← f, y)
+
+  pub step-word : t ≡ false → withWord s l a ≡ step s l
+  unfolding step
+  step-word n = rw (← q, ← f, n)
 
 -- ---- the first word
 
@@ -156,19 +234,15 @@ module _ (s : List ℕ) where
   unfolding begun
   begun-long h = rw (lt-ltb _ _ h)
 
-  module _ (h : length s ≤ longest) (a : ℕ) (q : a ≡ runEnd Separator s 0) where
-    pub begun-blank : length s ≤ a → blank ≡ begun s
+  module _ (h : length s ≤ longest) (a : ℕ) (q : a ≡ runEnd Separator s 0) (t : Bool) (f : t ≡ endsAt s a) where
+    pub begun-blank : t ≡ true → blank ≡ begun s
     unfolding begun
-    begun-blank g = rw (le-ltb _ _ h, ← q, le-ltb _ _ g)
+    begun-blank y = rw (le-ltb _ _ h, ← q, ← f, y)
 
-    pub begun-hash : a < length s → getD s a 0 ≡ 35 → blank ≡ begun s
-    unfolding begun
-    begun-hash g e = rw (le-ltb _ _ h, ← q, lt-ltb _ _ g, eq-eqb _ _ e)
-
-    pub begun-verb : a < length s → (getD s a 0 ≡ 35 → ⊥) → (e : ℕ) → e ≡ runEnd Word s a
+    pub begun-verb : t ≡ false → (e : ℕ) → e ≡ runEnd Word s a
         → withVerb (verbOf (take (e - a) (drop a s))) a e ≡ begun s
     unfolding begun wordAt
-    begun-verb g n e r = rw (le-ltb _ _ h, ← q, lt-ltb _ _ g, ne-eqb _ _ n, ← r)
+    begun-verb n e r = rw (le-ltb _ _ h, ← q, ← f, n, ← r)
 
 -- ---- the reading's turns
 

@@ -1,15 +1,17 @@
 -- What a line of the console means: which command with which numbers, or what is wrong with it and at which byte
 -- (docs/CONSOLE.md, "Lines"). A line is read from the left, word by word; the first thing wrong decides.
 use Prim.Native.Nat.{ℕ, zero, suc, _+_, _-_, _%_, min}
+use mathlib.Core.Bool.{Bool, true}
 use mathlib.Core.List.{List}
 use lib.ListN.{length, getD, take, drop, set, replicate}
 use lib.Dec.{eqb, leb, ltb}
-use Rattle.rules.specs.Limits.{within}
+use Rattle.rules.specs.Limits.{both, within}
 use Rattle.rules.specs.Refusals.{pick}
 use Rattle.text.specs.declared.bytes.Sort.the-variants.{Separator, Word, Digit, Hex}
 use Rattle.console_lines.specs.declared.lines.Line.{Line}
 use Rattle.text.specs.Bytes.{runEnd}
 use Rattle.text.specs.Numbers.{top, amount, tooLarge}
+use Rattle.clocks.specs.Clocks.{hasColon, isClock, clockMs}
 use Rattle.console_commands.specs.Commands
 
 -- room for the numbers of a line; no command has so many
@@ -50,13 +52,29 @@ goOn l v e =
       numbers = set (l .numbers) (l .count) (min v top);
     }
 
--- the word from a to e is a number: digits only, and no larger than its limit
+-- the word from a to e is the number v, and no larger than its limit
+unfoldable pub withAmount : Line → ℕ → ℕ → ℕ → Line
+withAmount l a e v =
+    pick (tooLarge (Commands.limitOf (l .command) (l .count)) v) (withFault l (Commands.oversized (l .command)) a) (goOn l v e)
+
+-- the word from a to e is a number in decimal: digits only
+unfoldable pub withDigits : List ℕ → Line → ℕ → ℕ → Line
+withDigits s l a e =
+    pick (ltb (runEnd Digit s a) e) (withFault l Commands.notNumber (runEnd Digit s a)) (withAmount l a e (amount 0 (drop a s)))
+
+-- the word that starts at a
+unfoldable pub wordAt : List ℕ → ℕ → List ℕ
+wordAt s a = take (runEnd Word s a - a) (drop a s)
+
+-- the word w is a time of the clock: one of its three forms
+unfoldable pub withClock : List ℕ → Line → ℕ → ℕ → Line
+withClock w l a e = pick (isClock w) (withAmount l a e (clockMs w)) (withFault l Commands.notTime a)
+
+-- the word from a to e is a number; a time or a length that has a colon in it is one of the clock
 unfoldable pub withNumber : List ℕ → Line → ℕ → ℕ → Line
 withNumber s l a e =
-    pick (ltb (runEnd Digit s a) e) (withFault l Commands.notNumber (runEnd Digit s a))
-    (pick (tooLarge (Commands.limitOf (l .command) (l .count)) (amount 0 (drop a s)))
-    (withFault l (Commands.oversized (l .command)) a)
-    (goOn l (amount 0 (drop a s)) e))
+    pick (both (Commands.isTimed (l .command) (l .count)) (hasColon (wordAt s a))) (withClock (wordAt s a) l a e)
+    (withDigits s l a e)
 
 -- the word is the kind of the notice to write: that of an event
 unfoldable pub withKind : List ℕ → Line → ℕ → ℕ → Line
@@ -71,6 +89,19 @@ withKind w l a e =
     })
     (withFault l Commands.unknownWord a)
 
+-- the word from a to e is the event whose time is asked for, close, hold or lift; any other word is the count of a change
+unfoldable pub withAct : List ℕ → Line → ℕ → ℕ → Line
+withAct s l a e =
+    pick (within Commands.doClose Commands.doLift (Commands.verbOf (wordAt s a)))
+    (record {
+      command = Commands.whenClose + (Commands.verbOf (wordAt s a) - Commands.doClose);
+      fault = l .fault;
+      place = e;
+      count = l .count;
+      numbers = l .numbers;
+    })
+    (withNumber s l a e)
+
 -- the word from a to e is hexadecimal: an even count of digits. Kept are its two ends
 unfoldable pub withHex : List ℕ → Line → ℕ → ℕ → Line
 withHex s l a e =
@@ -84,23 +115,28 @@ withHex s l a e =
       numbers = set (set (l .numbers) 0 a) 1 e;
     }))
 
--- the word that starts at a
-unfoldable pub wordAt : List ℕ → ℕ → List ℕ
-wordAt s a = take (runEnd Word s a - a) (drop a s)
-
 -- the next word starts at a, and there is one
 unfoldable pub withWord : List ℕ → Line → ℕ → Line
 withWord s l a =
     pick (leb (Commands.mostOf (l .command)) (l .count)) (withFault l (Commands.crowded (l .command)) a)
     (pick (Commands.takesHex (l .command)) (withHex s l a (runEnd Word s a))
     (pick (Commands.takesKind (l .command) (l .count)) (withKind (wordAt s a) l a (runEnd Word s a))
-    (withNumber s l a (runEnd Word s a))))
+    (pick (Commands.takesAct (l .command) (l .count)) (withAct s l a (runEnd Word s a))
+    (withNumber s l a (runEnd Word s a)))))
+
+-- the byte #
+abbrev pub hash : ℕ
+hash = 35
+
+-- a word that begins with # stands at a, or nothing does: there a line's words end
+unfoldable pub endsAt : List ℕ → ℕ → Bool
+endsAt s a = pick (ltb a (length s)) (eqb (getD s a 0) hash) true
 
 -- the next word of the line, or its end
 unfoldable pub step : List ℕ → Line → Line
 step s l =
-    pick (ltb (runEnd Separator s (l .place)) (length s)) (withWord s l (runEnd Separator s (l .place)))
-    (lineEnded l (runEnd Separator s (l .place)))
+    pick (endsAt s (runEnd Separator s (l .place))) (lineEnded l (runEnd Separator s (l .place)))
+    (withWord s l (runEnd Separator s (l .place)))
 
 -- the first word, at a, is the command v
 unfoldable pub withVerb : ℕ → ℕ → ℕ → Line
@@ -112,19 +148,13 @@ withVerb v a e =
 abbrev pub longest : ℕ
 longest = 4095
 
--- the byte #
-abbrev pub hash : ℕ
-hash = 35
-
 -- the first word: none, or one that begins with #, asks nothing
 unfoldable pub begun : List ℕ → Line
 begun s =
     pick (ltb longest (length s)) (withFault blank Commands.tooLong longest)
-    (pick (ltb (runEnd Separator s 0) (length s))
-    (pick (eqb (getD s (runEnd Separator s 0) 0) hash) blank
+    (pick (endsAt s (runEnd Separator s 0)) blank
     (withVerb (Commands.verbOf (wordAt s (runEnd Separator s 0))) (runEnd Separator s 0)
     (runEnd Word s (runEnd Separator s 0))))
-    blank)
 
 -- reading on, at most so many words, until the line is whole or faulty
 unfoldable pub readOn : ℕ → List ℕ → Line → Line

@@ -1,20 +1,27 @@
 // A line of the console, read word by word until it is whole or something is wrong with it.
 
+use clocks::reading;
 use console_commands::commands;
 use text::bytes;
 use text::bytes::Sort;
 use text::numbers;
+use text::numbers::Number;
 ghost use mathlib.Core.Path.{_≡_};
 ghost use Prim.Native.Nat.{_<_, _≤_};
 ghost use lib.ListN.{length};
+ghost use Rattle.console_lines.specs.inner.Taking.{WordIn, Taken};
 ghost use Rattle.console_lines.specs.Lines.{
   blank,
   withFault,
   lineEnded,
+  withDigits,
+  withClock,
   withNumber,
+  withAct,
   withKind,
   withHex,
   withWord,
+  endsAt,
   step as stepped,
   withVerb,
   begun,
@@ -70,24 +77,74 @@ fn end(line: Line, place: usize) -> Line
     faulted(line, commands::TOO_FEW, place)
 }
 
-// The word from a to e is a number.
-fn take_number(s: &[u8], line: Line, a: usize, e: usize) -> Line
+// The word from a to e is the number n.
+fn take_amount(line: Line, n: Number, a: usize, e: usize) -> Line
     requires { ⌜ line .count < numbersMost ⌝ }
-    ensures { λ r. ⌜ r ≡ withNumber (now (s .entry)) line a e ⌝ }
+    ensures { λ r. ⌜ Taken line n a e r ⌝ }
 {
-    let p = bytes::run_end(s, a, Sort::Digit);
-    if p < e {
-        return faulted(line, commands::NOT_NUMBER, p);
-    }
     let command = line.command;
     let count = line.count;
-    let n = numbers::spelt(s, a);
     if numbers::above(commands::limit(command, count), n) {
         return faulted(line, commands::oversized_fault(command), a);
     }
     let mut l = line;
     l.numbers[count] = n.value;
     l.count = count + 1;
+    l.place = e;
+    l
+}
+
+// The word from a to e is a number in decimal.
+fn take_digits(s: &[u8], line: Line, a: usize, e: usize) -> Line
+    requires { ⌜ line .count < numbersMost ⌝ }
+    ensures { λ r. ⌜ r ≡ withDigits (now (s .entry)) line a e ⌝ }
+{
+    let p = bytes::run_end(s, a, Sort::Digit);
+    if p < e {
+        return faulted(line, commands::NOT_NUMBER, p);
+    }
+    take_amount(line, numbers::spelt(s, a), a, e)
+}
+
+// The word is a time of the clock.
+fn take_clock(word: &[u8], line: Line, a: usize, e: usize) -> Line
+    requires { ⌜ line .count < numbersMost ⌝ }
+    ensures { λ r. ⌜ r ≡ withClock (now (word .entry)) line a e ⌝ }
+{
+    if reading::is_clock(word) {
+        return take_amount(line, reading::clock(word), a, e);
+    }
+    faulted(line, commands::NOT_TIME, a)
+}
+
+// The word from a to e, which is its end, is a number; a time or a length that has a colon in it is one of the clock.
+fn take_number(s: &[u8], line: Line, a: usize, e: usize) -> Line
+    requires { ⌜ (line .count < numbersMost) × WordIn (now s) a e ⌝ }
+    ensures { λ r. ⌜ r ≡ withNumber (now (s .entry)) line a e ⌝ }
+{
+    if commands::is_timed(line.command, line.count) {
+        if reading::has_colon(&s[a..e]) {
+            return take_clock(&s[a..e], line, a, e);
+        }
+        return take_digits(s, line, a, e);
+    }
+    take_digits(s, line, a, e)
+}
+
+// The word from a to e, which is its end, is an event whose time is asked for, or a number.
+fn take_act(s: &[u8], line: Line, a: usize, e: usize) -> Line
+    requires { ⌜ (line .count < numbersMost) × WordIn (now s) a e ⌝ }
+    ensures { λ r. ⌜ r ≡ withAct (now (s .entry)) line a e ⌝ }
+{
+    let v = commands::verb(&s[a..e]);
+    if v < commands::CLOSE {
+        return take_number(s, line, a, e);
+    }
+    if commands::LIFT < v {
+        return take_number(s, line, a, e);
+    }
+    let mut l = line;
+    l.command = commands::WHEN_CLOSE + (v - commands::CLOSE);
     l.place = e;
     l
 }
@@ -146,7 +203,20 @@ fn take_word(s: &[u8], line: Line, a: usize) -> Line
     if commands::takes_kind(command, count) {
         return take_kind(&s[a..e], line, a, e);
     }
+    if commands::takes_act(command, count) {
+        return take_act(s, line, a, e);
+    }
     take_number(s, line, a, e)
+}
+
+// Whether a word that begins with # stands at a place, or nothing.
+fn ends_at(s: &[u8], a: usize) -> bool
+    ensures { λ r. ⌜ r ≡ endsAt (now (s .entry)) a ⌝ }
+{
+    if a < s.len() {
+        return s[a] == b'#';
+    }
+    true
 }
 
 // The next word, or the line's end.
@@ -155,10 +225,10 @@ fn step(s: &[u8], line: Line) -> Line
 {
     let place = line.place;
     let a = bytes::run_end(s, place, Sort::Separator);
-    if a < s.len() {
-        return take_word(s, line, a);
+    if ends_at(s, a) {
+        return end(line, a);
     }
-    end(line, a)
+    take_word(s, line, a)
 }
 
 // The first word, from a to e, is the command.
@@ -184,14 +254,11 @@ fn begin(s: &[u8]) -> Line
         return faulted(empty(), commands::TOO_LONG, LONGEST_LINE);
     }
     let a = bytes::run_end(s, 0, Sort::Separator);
-    if a < s.len() {
-        if s[a] == b'#' {
-            return empty();
-        }
-        let e = bytes::run_end(s, a, Sort::Word);
-        return take_verb(commands::verb(&s[a..e]), a, e);
+    if ends_at(s, a) {
+        return empty();
     }
-    empty()
+    let e = bytes::run_end(s, a, Sort::Word);
+    take_verb(commands::verb(&s[a..e]), a, e)
 }
 
 // What a line means, given without its newline.

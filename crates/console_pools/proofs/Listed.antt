@@ -1,4 +1,4 @@
--- What the planner gave, put behind a place, is what the definitions say: its list behind a 0, or the refusal alone. Rests on
+-- What the planner gave, put behind a place, is what the definitions say: its list behind a 0, or the refusal and its reason. Rests on
 -- the planner's own account of its answer and of the rows that it leaves.
 use Prim.Native.Nat.{ℕ, _≤_, _<_}
 use mathlib.Core.Path.{_≡_, sym, _∙_, ap}
@@ -15,7 +15,10 @@ use Rattle.console_pools.specs.Beside.{entryAt, besideAt, beside}
 use Rattle.console_answers.specs.Outcomes.{doneText}
 use Rattle.console_pools.specs.Moves.{listText, plannerText}
 use Rattle.console_answers.proofs.Rows.{each-same, counted}
-use Rattle.console_answers.proofs.Answered.{told, refused}
+use Rattle.console_answers.proofs.Answered.{told-plain, refused-for}
+use Rattle.console_commands.specs.Commands.{doPlanner}
+use Rattle.console_reasons.specs.Asked.{askedReason}
+use Rattle.console_reasons.proofs.Silent.{done-asked}
 
 -- so many places of a row are lent three times: that is the room
 pub lent : (n m : ℕ) (row : List ℕ) → length row ≡ m → n ≤ m → roomOf (take n row) (take n row) (take n row) ≡ n
@@ -42,12 +45,12 @@ module _ (s : State) (τ : ℕ) (rates is ts ks : List ℕ) (a n : ℕ) (is' ts'
       ∙ each-same _ _ (length ms)
       (λ j h. rw (stands _ ms is is' (e .ids) j h, stands _ ms ts ts' (e .times) j h, stands _ ms ks ks' (e .counts) j h))
 
-  module _ (p q r : Page) (g : q ≡ puts p (doneText a 0)) where
-    pub planner-refused : (a ≡ done → ⊥) → q ≡ puts p (plannerText s τ rates (roomOf is ts ks))
+  module _ (ns : List ℕ) (p q r : Page) (g : q ≡ puts p (doneText a 0)) where
+    pub planner-refused : (a ≡ done → ⊥) → r ≡ puts q (askedReason a doPlanner ns (s .last)) → r ≡ puts p (plannerText ns s τ rates (roomOf is ts ks))
     unfolding plannerText
-    planner-refused z = rw (sym (e .answer)) (refused p q a 0 _ g z)
+    planner-refused z f = rw (sym (e .answer)) (refused-for p q r a 0 _ _ g z f)
 
     pub planner-told : a ≡ done → r ≡ puts q (beside is' ts' ks' [] n)
-        → r ≡ puts p (plannerText s τ rates (roomOf is ts ks))
+        → r ≡ puts p (plannerText ns s τ rates (roomOf is ts ks))
     unfolding plannerText
-    planner-told z f = rw (sym (e .answer)) (told p q r a 0 _ g z (f ∙ ap (puts q) listed))
+    planner-told z f = rw (sym (e .answer)) (told-plain p q r a 0 _ _ g z (f ∙ ap (puts q) listed) (done-asked a doPlanner ns (s .last) z))

@@ -3,9 +3,11 @@
 use crate::beside::put_beside;
 use crate::columns::column;
 use console_answers::outcomes;
+use console_commands::commands;
 use console_commands::commands::ROOM_MOST;
 use console_commands::commands::TITLES_MOST;
 use console_lines::lines::NUMBERS_MOST;
+use console_reasons::asked::put_asked;
 use rules::DONE;
 use story::State;
 ghost use mathlib.Core.Path.{_≡_};
@@ -13,12 +15,13 @@ ghost use Prim.Native.Nat.{_-_, _≤_, min};
 ghost use Rattle.console_commands.specs.Commands.{titlesMost, roomMost};
 ghost use Rattle.planner.specs.Outcome.{roomOf};
 ghost use Rattle.text.specs.Output.{Written};
-ghost use Rattle.console_pools.specs.Moves.{plannerText, plannerIn};
+ghost use Rattle.console_pools.specs.Moves.{plannerText, ratesOf, plannerIn};
 
-// Into rows that are lent.
+// Into rows that are lent, with the line's numbers besides.
 fn put_rows(
     out: &mut [u8],
     at: usize,
+    asked: &[u64],
     s: State,
     time: u64,
     rates: &[u32],
@@ -27,7 +30,7 @@ fn put_rows(
     counts: &mut [u64],
 ) -> usize
     ensures { λ r. ⌜ Written (now (out .entry)) at
-        (plannerText s time (now (rates .entry)) (roomOf (now (ids .entry)) (now (times .entry)) (now (counts .entry))))
+        (plannerText (now (asked .entry)) s time (now (rates .entry)) (roomOf (now (ids .entry)) (now (times .entry)) (now (counts .entry))))
         (now (out .exit)) r ⌝ }
 {
     let listed = planner::planner(s, time, rates, ids, times, counts);
@@ -37,12 +40,12 @@ fn put_rows(
         let none = [0u64; 0];
         return put_beside(out, a, ids, times, counts, &none, listed.many as usize);
     }
-    a
+    put_asked(out, a, answer, commands::PLANNER, asked, s.last)
 }
 
 // How many rates follow the time and the room, up to the most.
 fn rates_of(count: usize) -> usize
-    ensures { λ r. ⌜ (r ≡ min (count - 2) titlesMost) × (r ≤ titlesMost) ⌝ }
+    ensures { λ r. ⌜ (r ≡ ratesOf count) × (r ≤ titlesMost) ⌝ }
 {
     if count < 2 {
         return 0;
@@ -79,11 +82,14 @@ pub fn put_planner(
     let mut ids = [0u64; ROOM_MOST];
     let mut times = [0u64; ROOM_MOST];
     let mut counts = [0u64; ROOM_MOST];
+    let time = numbers[0];
+    let end = 2 + n;
     put_rows(
         out,
         at,
+        &numbers[..end],
         s,
-        numbers[0],
+        time,
         &rates[..n],
         &mut ids[..room],
         &mut times[..room],

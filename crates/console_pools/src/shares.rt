@@ -3,9 +3,11 @@
 use crate::columns::column;
 use console_answers::entries::put_entry;
 use console_answers::outcomes;
+use console_commands::commands;
 use console_commands::commands::TITLE_NUMBERS;
 use console_commands::commands::TITLES_MOST;
 use console_lines::lines::NUMBERS_MOST;
+use console_reasons::asked::put_limits;
 use rules::DONE;
 ghost use mathlib.Core.Path.{_≡_};
 ghost use Prim.Native.Nat.{_≤_};
@@ -29,10 +31,11 @@ pub fn put_shares(out: &mut [u8], at: usize, row: &[u32]) -> usize
     place
 }
 
-// Over rows that are lent.
+// Over rows that are lent, with the line's numbers besides.
 fn put_rows(
     out: &mut [u8],
     at: usize,
+    asked: &[u64],
     pool: u64,
     rates: &[u32],
     lengths: &[u32],
@@ -41,7 +44,7 @@ fn put_rows(
     counts: &mut [u32],
 ) -> usize
     ensures { λ r. ⌜ Written (now (out .entry)) at
-        (shareText pool (now (rates .entry)) (now (lengths .entry)) (now (floors .entry)) (now (caps .entry))
+        (shareText (now (asked .entry)) pool (now (rates .entry)) (now (lengths .entry)) (now (floors .entry)) (now (caps .entry))
         (now (counts .entry))) (now (out .exit)) r ⌝ }
 {
     let answer = sharing::share(pool, rates, lengths, floors, caps, counts);
@@ -49,7 +52,7 @@ fn put_rows(
     if answer == DONE {
         return put_shares(out, a, counts);
     }
-    a
+    put_limits(out, a, answer, commands::SHARE, asked)
 }
 
 // How many titles follow the pool, up to the most.
@@ -76,10 +79,13 @@ pub fn put_share(out: &mut [u8], at: usize, row: [u64; NUMBERS_MOST], count: usi
     let floors = column(&row, 3, TITLE_NUMBERS);
     let caps = column(&row, 4, TITLE_NUMBERS);
     let mut counts = [0u32; TITLES_MOST];
+    let pool = row[0];
+    let end = 1 + TITLE_NUMBERS * n;
     put_rows(
         out,
         at,
-        row[0],
+        &row[..end],
+        pool,
         &rates[..n],
         &lengths[..n],
         &floors[..n],

@@ -2,38 +2,42 @@
 
 use crate::beside::put_beside;
 use console_answers::outcomes;
+use console_commands::commands;
 use console_commands::commands::IDS_MOST;
 use console_lines::lines::NUMBERS_MOST;
+use console_reasons::asked::put_asked;
 use rules::DONE;
 use story::State;
 ghost use mathlib.Core.Path.{_≡_};
-ghost use Prim.Native.Nat.{_-_, _≤_, min};
-ghost use lib.ListN.{length, getD};
+ghost use Prim.Native.Nat.{_-_, _<_, _≤_, min};
+ghost use lib.ListN.{length, getD, drop};
 ghost use Rattle.console_commands.specs.Commands.{idsMost};
 ghost use Rattle.text.specs.Output.{Written};
 ghost use Rattle.console_pools.specs.Titles.{statusText, idsIn};
 
-// Over rows of one length.
+// Over the line's time and ids, and a row for each number that is told of an id.
 fn put_rows(
     out: &mut [u8],
     at: usize,
     s: State,
-    time: u64,
-    ids: &[u64],
+    asked: &[u64],
     counts: &mut [u64],
     held: &mut [u64],
     marks: &mut [u64],
 ) -> usize
-    requires { ⌜ (length (now counts) ≡ length (now ids))
-        × ((length (now held) ≡ length (now ids)) × (length (now marks) ≡ length (now ids))) ⌝ }
-    ensures { λ r. ⌜ Written (now (out .entry)) at (statusText s time (now (ids .entry))) (now (out .exit)) r ⌝ }
+    requires { ⌜ (0 < length (now asked)) × ((length (now counts) ≡ length (drop 1 (now asked)))
+        × ((length (now held) ≡ length (drop 1 (now asked))) × (length (now marks) ≡ length (drop 1 (now asked))))) ⌝ }
+    ensures { λ r. ⌜ Written (now (out .entry)) at
+        (statusText s (getD (now (asked .entry)) 0 0) (drop 1 (now (asked .entry)))) (now (out .exit)) r ⌝ }
 {
-    let answer = status::status(s, time, ids, counts, held, marks);
+    let time = asked[0];
+    let answer = status::status(s, time, &asked[1..], counts, held, marks);
     let a = outcomes::put_done(out, at, answer, 0);
     if answer == DONE {
-        return put_beside(out, a, ids, counts, held, marks, ids.len());
+        let n = asked.len() - 1;
+        return put_beside(out, a, &asked[1..], counts, held, marks, n);
     }
-    a
+    put_asked(out, a, answer, commands::STATUS, asked, s.last)
 }
 
 // How many ids follow the time, up to the most.
@@ -69,8 +73,7 @@ pub fn put_status(
         out,
         at,
         s,
-        numbers[0],
-        &numbers[1..end],
+        &numbers[..end],
         &mut counts[..n],
         &mut held[..n],
         &mut marks[..n],

@@ -1,8 +1,11 @@
 // A session of lines from standard input, answered to standard output: which line is next, and the row in which answers
 // wait to be written. Input is read as it comes, in blocks; what was answered is written out before each read, so that on
-// a terminal an answer appears as its line is entered, and a file costs few system calls. A read or a write that fails is
-// said on standard error and ends the session. No contract can say what is read and written.
+// a terminal an answer appears as its line is entered, and a file costs few system calls. Where both are a terminal a prompt
+// stands before each line that is waited for. A read or a write that fails is said on standard error and ends the session. No
+// contract can say what is read and written.
 
+use libc::STDIN_FILENO;
+use libc::STDOUT_FILENO;
 use streams::Filled;
 use streams::refill;
 use text::bytes;
@@ -22,10 +25,20 @@ pub struct Session {
     passing: bool,
     // no byte will follow those
     last: bool,
+    // a line that is waited for has a prompt
+    prompts: bool,
     // how far the output row is written
     pub at: usize,
     // whether the session goes on
     pub more: bool,
+}
+
+// Whether lines are typed and answers are seen on a terminal.
+fn is_terminal() -> bool {
+    if libc::isatty(STDIN_FILENO) == 1 {
+        return libc::isatty(STDOUT_FILENO) == 1;
+    }
+    false
 }
 
 // A session at its start.
@@ -38,6 +51,7 @@ pub fn begun() -> Session {
         to: 0,
         passing: false,
         last: false,
+        prompts: is_terminal(),
         at: 0,
         more: true,
     }
@@ -59,6 +73,11 @@ fn written(session: Session, out: &[u8]) -> Session {
         return s;
     }
     over(session)
+}
+
+// The session ended by one of its lines: what was answered is written out, and nothing more is read.
+pub fn ended(session: Session, out: &[u8]) -> Session {
+    over(written(session, out))
 }
 
 // Whether the output row has room for one more answer, where `longest` is the longest.
@@ -128,15 +147,45 @@ fn with_last(session: Session, to: usize) -> Session {
     s
 }
 
-// The session with a block read behind the bytes that are no line yet. After a read that failed nothing is answered.
+// The session with a few bytes written on a terminal, over where that failed; unchanged where there is no prompt.
+fn shown(session: Session, bytes: &[u8]) -> Session {
+    let mut s = session;
+    if session.prompts {
+        s.more = streams::write_all(bytes);
+    }
+    s
+}
+
+// The session with its prompt written. A line of which a part is there, or is passed over, has had its own.
+fn prompted(session: Session) -> Session {
+    if session.passing {
+        return session;
+    }
+    if session.next < session.to {
+        return session;
+    }
+    shown(session, b"> ")
+}
+
+// The session with a block read behind the bytes that are no line yet. After a read that failed nothing is answered. The end of what
+// is typed leaves the prompt's line.
 fn read_block(session: Session, input: &mut [u8]) -> Session {
     let kept = feed::compact(input, session.next, session.to);
     let filled = refill(input, kept);
     match filled {
         Filled::More(n) => with_block(session, input, n),
-        Filled::Last(n) => with_last(session, n),
+        Filled::Last(n) => with_last(shown(session, b"\n"), n),
         Filled::Failed => over(session),
     }
+}
+
+// The session with a block read, and a prompt before it.
+fn waited_for(session: Session, input: &mut [u8]) -> Session {
+    let p = prompted(session);
+    if p.more {
+        return read_block(p, input);
+    }
+    p
 }
 
 // The session with its answers written out, and one more block read where no line is at hand.
@@ -149,7 +198,7 @@ fn written_on(session: Session, input: &mut [u8], out: &[u8]) -> Session {
         return over(w);
     }
     if w.more {
-        return read_block(w, input);
+        return waited_for(w, input);
     }
     w
 }

@@ -5,9 +5,14 @@ use borrow.Author.Needs.{needs}
 use Rattle.console_desk.proofs.whole.Statement.{statement}
 use Rattle.console_desk.proofs.whole.Tie as tie
 
+is-silent-requires : tie.Need-is-silent-requires
+is-silent-requires c κs = search needs
+
 returns : tie.Need-returns
-returns c = let x = c .before .before .before .args in
-    asks-nothing (x .agent) (x .line) (x .s .now) (page (x .out .now) (x .at)) (c .if1 .taken)
+returns c =
+    let at-is-silent = c .before in
+    let x = at-is-silent .before .before .before .args in
+    asks-nothing (x .agent) (x .line) (x .s .now) (page (x .out .now) (x .at)) _ (at-is-silent .is-silent .ensures) (c .if1 .taken)
 
 may-change-requires : tie.Need-may-change-requires
 may-change-requires c κs = search needs
@@ -31,10 +36,11 @@ returns-2 c =
     let at-if2 = at-act .before .before in
     let at-may-change = at-if2 .before in
     let at-if1 = at-may-change .before in
-    let at-start = at-if1 .before .before .before in
+    let at-is-silent = at-if1 .before in
+    let at-start = at-is-silent .before .before .before in
     let x = at-start .args in
     let p = page (x .out .now) (x .at) in
-    it-acts (x .agent) (x .line) (x .s .now) p (at-if1 .if1 .left) _ (at-may-change .may-change .ensures) _ _ _
+    it-acts (x .agent) (x .line) (x .s .now) p _ (at-is-silent .is-silent .ensures) (at-if1 .if1 .left) _ (at-may-change .may-change .ensures) _ _ _
     (at-if2 .if2 .taken) (at-act .act .ensures) (at-put .put .ensures)
 
 ask-requires : tie.Need-ask-requires
@@ -56,16 +62,18 @@ returns-3 c =
     let at-if2 = at-ask .before .before .before in
     let at-may-change = at-if2 .before in
     let at-if1 = at-may-change .before in
-    let at-start = at-if1 .before .before .before in
+    let at-is-silent = at-if1 .before in
+    let at-start = at-is-silent .before .before .before in
     let x = at-start .args in
     let p = page (x .out .now) (x .at) in
-    it-asks (x .agent) (x .line) (x .s .now) p (at-if1 .if1 .left) _ (at-may-change .may-change .ensures) (x .agent) _ _
+    it-asks (x .agent) (x .line) (x .s .now) p _ (at-is-silent .is-silent .ensures) (at-if1 .if1 .left) _ (at-may-change .may-change .ensures) (x .agent) _ _
     (at-if2 .if2 .left) (at-ask .ask .ensures) (at-put2 .put2 .ensures)
 
 pub whole-spec : {M : Type 1} → statement M
 whole-spec =
     tie.close
     (tie.spec
+    is-silent-requires
     returns
     may-change-requires
     act-requires

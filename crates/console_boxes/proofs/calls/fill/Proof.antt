@@ -1,26 +1,26 @@
 -- `console_boxes::calls::fill` meets its contract: each test on the command is that of the definition.
 use borrow.Author.Tests.{eq-eqb, ne-eqb}
-use Rattle.console_boxes.specs.Plan.{planOver}
+use Rattle.console_boxes.specs.Plan.{planOver, answerOver}
 use borrow.Author.Needs.{needs}
 use Rattle.console_boxes.proofs.calls.fill.Statement.{statement}
 use Rattle.console_boxes.proofs.calls.fill.Tie as tie
 
 returns : tie.Need-returns
-unfolding planOver
+unfolding planOver answerOver
 returns c =
     let at-forward = c .before .before in
     let at-if1 = at-forward .before .before in
     rw (eq-eqb _ _ (at-if1 .if1 .taken)) (at-forward .forward .ensures)
 
 returns-2 : tie.Need-returns-2
-unfolding planOver
+unfolding planOver answerOver
 returns-2 c =
     let at-small = c .before .before in
     let at-if2 = at-small .before .before in
     rw (ne-eqb _ _ (at-if2 .before .if1 .left), eq-eqb _ _ (at-if2 .if2 .taken)) (at-small .small .ensures)
 
 returns-3 : tie.Need-returns-3
-unfolding planOver
+unfolding planOver answerOver
 returns-3 c =
     let at-padded = c .before .before in
     let at-if2 = at-padded .before .before in

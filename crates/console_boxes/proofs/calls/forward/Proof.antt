@@ -25,6 +25,7 @@ returns c =
     let x = at-plan .before .before .before .args in
     let cells = rw (c .before .one-less .ensures) at (c .cells-of .ensures) in
     record {
+      answered = at-plan .skip-plan .ensures .answer;
       told = forward-told (x .count) (x .arrival) _ _ (x .row .now) _ cells (at-plan .skip-plan .ensures);
       room = cells-fit _ _ (blocks (x .count)) _ cells (λ z. omega (arith, fits at-plan z .room, at-plan .skip-plan .kept));
     }

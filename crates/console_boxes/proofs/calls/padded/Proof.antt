@@ -25,6 +25,7 @@ returns c =
     let at-plan = at-missed .before .before .before in
     let x = at-plan .before .before .before .args in
     record {
+      answered = at-plan .plan .ensures .answer;
       told = padded-told (x .floor) (x .cap) (x .count) (x .arrival) _ _ _ (x .row .now) _ (at-missed .missed .ensures)
           (c .cells-of .ensures) (at-plan .plan .ensures);
       room = cells-fit _ _ (2 ^ x .cap) _ (c .cells-of .ensures)

@@ -37,6 +37,7 @@ returns c =
     let at-plan = at-missed .before .before .before in
     let x = at-plan .before .before .before .before .before .args in
     record {
+      answered = planned at-plan .answer;
       told = small-told (x .floor) (x .cap) (x .count) (x .arrival) _ _ _ (x .row .now) _ (at-missed .missed .ensures)
           (c .cells-of .ensures) (planned at-plan);
       room = cells-fit _ _ (2 ^ x .cap) _ (c .cells-of .ensures)

@@ -4,8 +4,8 @@ use mathlib.Core.Path.{_≡_, sym, ap, _∙_}
 use native.Mathlib.Omega.{arith}
 use lib.ListN.{length, length-take}
 use Rattle.text.specs.Texts.{same}
-use Rattle.text.proofs.Tables.{told}
 use Rattle.console_commands.specs.declared.commands.Command.{Command}
+use Rattle.console_commands.specs.Letters.{lowered}
 use Rattle.console_commands.specs.Commands.{commandOf, nameOf}
 use Rattle.console_commands.proofs.Rows.{word-room, name-is, name-fits}
 use borrow.Author.Needs.{needs}
@@ -23,15 +23,15 @@ fits c =
     )
 
 -- what the comparison told
-tells : (c : tie.After-same) →
+tells : (c : tie.After-alike) →
     let a = c .before .before .before .before .before .before .before .args in
-    c .same .result ≡ same (a .word .now) (nameOf (commandOf (a .command)))
+    c .alike .result ≡ same (lowered (a .word .now)) (nameOf (commandOf (a .command)))
 tells c =
     let at-run-end = c .before .before in
     let at-entry = at-run-end .before .before .before in
     let a = at-entry .before .before .args in
-    told (a .word .now) _ _ (c .same .ensures .0) (c .same .ensures .1)
-    ∙ ap (same (a .word .now)) (name-is _ _ _ (at-entry .entry .ensures) (at-run-end .run-end .ensures))
+    c .alike .ensures
+    ∙ ap (same (lowered (a .word .now))) (name-is _ _ _ (at-entry .entry .ensures) (at-run-end .run-end .ensures))
 
 slice-aggregate-run-end : tie.Need-slice-aggregate-run-end
 slice-aggregate-run-end c = let e = word-room (c .before .before .before .before .args .command) in search needs
@@ -39,8 +39,8 @@ slice-aggregate-run-end c = let e = word-room (c .before .before .before .before
 array-share-prefix-name : tie.Need-array-share-prefix-name
 array-share-prefix-name c = omega (arith, fits c .0, fits c .1)
 
-slice-aggregate-same : tie.Need-slice-aggregate-same
-slice-aggregate-same c = rw length-take (omega (arith, fits (c .before) .0))
+slice-aggregate-alike : tie.Need-slice-aggregate-alike
+slice-aggregate-alike c = rw length-take (omega (arith, fits (c .before) .0))
 
 returns : tie.Need-returns
 returns c = rw (sym (tells (c .before)) ∙ c .if1 .taken)
@@ -56,7 +56,7 @@ named-spec =
     slice-aggregate-run-end
     (λ c κs. search needs)
     array-share-prefix-name
-    slice-aggregate-same
+    slice-aggregate-alike
     (λ c κs. search needs)
     returns
     returns-2)

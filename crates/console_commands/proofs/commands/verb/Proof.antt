@@ -3,6 +3,7 @@ use Prim.Native.Nat.{_≤_}
 use mathlib.Core.Path.{_≡_}
 use native.Mathlib.Omega.{arith}
 use lib.ListN.{drop}
+use Rattle.console_commands.specs.Letters.{lowered}
 use Rattle.console_commands.specs.Commands.{commandCount, commandTable, seek}
 use Rattle.console_commands.proofs.Rows.{sought-none, sought-back, sought-all}
 use borrow.Author.Needs.{needs}
@@ -10,7 +11,7 @@ use Rattle.console_commands.proofs.commands.verb.Statement.{statement}
 use Rattle.console_commands.proofs.commands.verb.Tie as tie
 
 abbrev Inv-loop : tie.InvT-loop
-Inv-loop word found₀ left₀ found left = (left ≤ commandCount) × (found ≡ seek word left (drop left commandTable))
+Inv-loop word found₀ left₀ found left = (left ≤ commandCount) × (found ≡ seek (lowered word) left (drop left commandTable))
 
 abbrev μ-loop : tie.MeasureT-loop
 μ-loop word found₀ left₀ found left = left

@@ -14,12 +14,13 @@ slice-aggregate-put-rows : tie.Need-slice-aggregate-put-rows
 slice-aggregate-put-rows c =
     let at-column = c .before .before in
     let at-rates-of = at-column .before .before .before in
-    counted _ titlesMost (at-column .column .result) (at-column .column .ensures .1) (at-rates-of .rates-of .ensures .1)
+    rw length-take (omega (arith, at-rates-of .rates-of .ensures .1))
 
 slice-aggregate-put-rows-2 : tie.Need-slice-aggregate-put-rows-2
 slice-aggregate-put-rows-2 c =
-    let at-room-for = c .before .before .before .before .before in
-    rw length-take (omega (arith, at-room-for .room-for .ensures .1))
+    let at-column = c .before .before .before in
+    let at-rates-of = at-column .before .before .before in
+    counted _ titlesMost (at-column .column .result) (at-column .column .ensures .1) (at-rates-of .rates-of .ensures .1)
 
 slice-aggregate-put-rows-3 : tie.Need-slice-aggregate-put-rows-3
 slice-aggregate-put-rows-3 c =
@@ -31,11 +32,16 @@ slice-aggregate-put-rows-4 c =
     let at-room-for = c .before .before .before .before .before .before .before in
     rw length-take (omega (arith, at-room-for .room-for .ensures .1))
 
+slice-aggregate-put-rows-5 : tie.Need-slice-aggregate-put-rows-5
+slice-aggregate-put-rows-5 c =
+    let at-room-for = c .before .before .before .before .before .before .before .before in
+    rw length-take (omega (arith, at-room-for .room-for .ensures .1))
+
 returns : tie.Need-returns
 unfolding plannerIn ratesIn
 returns c =
     let at-put-rows = c .before .before .before .before .before in
-    let at-column = at-put-rows .before .before .before .before .before .before in
+    let at-column = at-put-rows .before .before .before .before .before .before .before in
     let at-room-for = at-column .before .before in
     let at-rates-of = at-room-for .before in
     let whole = lent (at-room-for .room-for .result) roomMost (replicate roomMost 0) refl (at-room-for .room-for .ensures .1) in
@@ -56,6 +62,7 @@ put-planner-spec =
     (λ c κs. search needs)
     (λ c. search needs)
     (λ c. search needs)
+    (λ c. search needs)
     slice-aggregate-put-rows
     (λ c. search needs)
     slice-aggregate-put-rows-2
@@ -63,6 +70,8 @@ put-planner-spec =
     slice-aggregate-put-rows-3
     (λ c. search needs)
     slice-aggregate-put-rows-4
+    (λ c. search needs)
+    slice-aggregate-put-rows-5
     (λ c κs. search needs)
     (λ c. search needs)
     returns)

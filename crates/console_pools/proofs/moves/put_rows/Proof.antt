@@ -15,7 +15,7 @@ asked at-put-done =
 abbrev start : tie.After-planner → tie.Start
 start at-planner =
     let rows-lent = at-planner .before .before .before .before .before in
-    rows-lent .before .before .before .before
+    rows-lent .before .before .before .before .before
 
 returns : tie.Need-returns
 returns c =
@@ -25,17 +25,19 @@ returns c =
     let at-planner = asked at-put-done in
     let x = start at-planner .args in
     planner-told (x .s) (x .time) (x .rates .now) (x .ids .now) (x .times .now) (x .counts .now) _ _ _ _ _
-    (at-planner .planner .ensures) (page (x .out .now) (x .at)) _ _ (at-put-done .put-done .ensures)
+    (at-planner .planner .ensures) (x .asked .now) (page (x .out .now) (x .at)) _ _ (at-put-done .put-done .ensures)
     (at-if1 .if1 .taken) (at-put-beside .put-beside .ensures)
 
 returns-2 : tie.Need-returns-2
 returns-2 c =
-    let at-put-done = c .before .before .before in
+    let at-put-asked = c .before .before in
+    let at-if1 = at-put-asked .before .before in
+    let at-put-done = at-if1 .before .before .before in
     let at-planner = asked at-put-done in
     let x = start at-planner .args in
-    let p = page (x .out .now) (x .at) in
     planner-refused (x .s) (x .time) (x .rates .now) (x .ids .now) (x .times .now) (x .counts .now) _ _ _ _ _
-    (at-planner .planner .ensures) p _ p (at-put-done .put-done .ensures) (c .if1 .left)
+    (at-planner .planner .ensures) (x .asked .now) (page (x .out .now) (x .at)) _ _ (at-put-done .put-done .ensures)
+    (at-if1 .if1 .left) (at-put-asked .put-asked .ensures)
 
 pub put-rows-spec : {M : Type 1} → statement M
 put-rows-spec =
@@ -50,6 +52,7 @@ put-rows-spec =
     (λ c. search needs)
     (λ c. search needs)
     returns
+    (λ c κs. search needs)
     (λ c. search needs)
     (λ c. search needs)
     (λ c. search needs)

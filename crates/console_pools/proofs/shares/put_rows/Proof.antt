@@ -5,11 +5,11 @@ use borrow.Author.Needs.{needs}
 use Rattle.console_pools.proofs.shares.put_rows.Statement.{statement}
 use Rattle.console_pools.proofs.shares.put_rows.Tie as tie
 
--- the function's start, seen from the sharing: six rows and their lending come between
+-- the function's start, seen from the sharing: seven rows and their lending come between
 abbrev start : tie.After-share → tie.Start
 start at-share =
     let at-lent = at-share .before .before in
-    at-lent .before .before .before .before .before .before
+    at-lent .before .before .before .before .before .before .before
 
 returns : tie.Need-returns
 returns c =
@@ -19,18 +19,20 @@ returns c =
     let at-share = at-put-done .before .before .before .before in
     let x = start at-share .args in
     let p = page (x .out .now) (x .at) in
-    share-told p _ _ (x .pool) _ (x .rates .now) (x .lengths .now) (x .floors .now) (x .caps .now) (x .counts .now) _
+    share-told p _ _ (x .asked .now) (x .pool) _ (x .rates .now) (x .lengths .now) (x .floors .now) (x .caps .now) (x .counts .now) _
     (at-share .share .ensures) (at-put-done .put-done .ensures) (at-if1 .if1 .taken) (search needs)
     (at-put-shares .put-shares .ensures)
 
 returns-2 : tie.Need-returns-2
 returns-2 c =
-    let at-put-done = c .before .before .before in
+    let at-put-limits = c .before .before in
+    let at-if1 = at-put-limits .before .before in
+    let at-put-done = at-if1 .before .before .before in
     let at-share = at-put-done .before .before .before .before in
     let x = start at-share .args in
     let p = page (x .out .now) (x .at) in
-    share-refused p _ p (x .pool) _ (x .rates .now) (x .lengths .now) (x .floors .now) (x .caps .now) (x .counts .now) _
-    (at-share .share .ensures) (at-put-done .put-done .ensures) (c .if1 .left)
+    share-refused p _ _ (x .asked .now) (x .pool) _ (x .rates .now) (x .lengths .now) (x .floors .now) (x .caps .now) (x .counts .now) _
+    (at-share .share .ensures) (at-put-done .put-done .ensures) (at-if1 .if1 .left) (at-put-limits .put-limits .ensures)
 
 pub put-rows-spec : {M : Type 1} → statement M
 put-rows-spec =
@@ -42,6 +44,7 @@ put-rows-spec =
     (λ c. search needs)
     (λ c. search needs)
     returns
+    (λ c κs. search needs)
     (λ c. search needs)
     (λ c. search needs)
     returns-2)

@@ -1,0 +1,81 @@
+-- `console_asks::telling::tell` meets its contract: help, a reading, or the bytes of the line's notice.
+use Rattle.text.specs.Output.{page}
+use Rattle.console_asks.proofs.Asking.{tells-help, tells-reading, tells-bytes}
+use borrow.Author.Needs.{needs}
+use Rattle.console_asks.proofs.telling.tell.Statement.{statement}
+use Rattle.console_asks.proofs.telling.tell.Tie as tie
+
+put-help-requires : tie.Need-put-help-requires
+put-help-requires c κs = search needs
+
+same-length : tie.Need-same-length
+same-length c = search needs
+
+returns : tie.Need-returns
+returns c = let x = c .before .before .before .before .before .before .before .args in
+    tells-help (x .line) (x .s .now) (page (x .out .now) (x .at)) _ (c .before .before .before .before .if1 .taken)
+    (c .before .before .put-help .ensures)
+
+array-read-reading : tie.Need-array-read-reading
+array-read-reading c = search needs
+
+array-read-reading-2 : tie.Need-array-read-reading-2
+array-read-reading-2 c = search needs
+
+reading-requires : tie.Need-reading-requires
+reading-requires c κs = search needs
+
+put-reading-requires : tie.Need-put-reading-requires
+put-reading-requires c κs = search needs
+
+same-length-2 : tie.Need-same-length-2
+same-length-2 c = search needs
+
+returns-2 : tie.Need-returns-2
+returns-2 c =
+    let at-put-reading = c .before .before in
+    let at-reading = at-put-reading .before in
+    let at-if2 = at-reading .before .before in
+    let at-if1 = at-if2 .before .before in
+    let at-start = at-if1 .before .before .before in
+    let x = at-start .args in
+    tells-reading (x .line) (x .s .now) (page (x .out .now) (x .at)) _ _ (at-if1 .if1 .left) (at-if2 .if2 .taken)
+    (at-reading .reading .ensures) (at-put-reading .put-reading .ensures)
+
+notice-of-requires : tie.Need-notice-of-requires
+notice-of-requires c κs = search needs
+
+put-bytes-requires : tie.Need-put-bytes-requires
+put-bytes-requires c κs = search needs
+
+same-length-3 : tie.Need-same-length-3
+same-length-3 c = search needs
+
+returns-3 : tie.Need-returns-3
+returns-3 c =
+    let at-put-bytes = c .before .before in
+    let at-notice-of = at-put-bytes .before in
+    let at-if2 = at-notice-of .before .before in
+    let at-if1 = at-if2 .before .before in
+    let at-start = at-if1 .before .before .before in
+    let x = at-start .args in
+    tells-bytes (x .line) (x .s .now) (page (x .out .now) (x .at)) _ _ (at-if1 .if1 .left) (at-if2 .if2 .left)
+    (at-notice-of .notice-of .ensures) (at-put-bytes .put-bytes .ensures)
+
+pub tell-spec : {M : Type 1} → statement M
+tell-spec =
+    tie.close
+    (tie.spec
+    put-help-requires
+    same-length
+    returns
+    array-read-reading
+    array-read-reading-2
+    reading-requires
+    put-reading-requires
+    same-length-2
+    returns-2
+    notice-of-requires
+    put-bytes-requires
+    same-length-3
+    returns-3)
