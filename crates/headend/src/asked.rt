@@ -1,7 +1,7 @@
 // What the arguments ask for: what to do, with which pool, and the journal's name.
 
 use files::arguments::Pool;
-use files::arguments::count_is;
+use files::arguments::are_right;
 use files::arguments::is_word;
 use files::arguments::pool_given;
 use files::complaints::complain;
@@ -86,7 +86,13 @@ pub fn take_arguments(room: &mut [u8]) -> Asked
 {
     let task = task_asked();
     let place = pool_place(task);
-    if count_is(place + 2, b"[--check | --sums] POOL JOURNAL") {
+    let many = place + 2;
+    if are_right(
+        place,
+        many,
+        many,
+        b"headend [--check | --sums] POOL JOURNAL",
+    ) {
         let pool = pool_asked(place);
         if pool != 0 {
             let n = name_asked(place + 1, room);

@@ -5,6 +5,7 @@ use agent::Agent;
 use console_desk::ANSWER_MAX;
 use console_lines::lines::LONGEST_LINE;
 use files::pages::within_row;
+use headend_desk::Answered;
 use headend_desk::Desk;
 use headend_desk::has_room;
 use journal_files::appending::append;
@@ -41,7 +42,7 @@ fn answered(
     out: &mut [u8],
     notices: &mut [u8],
     sums: &mut [u8],
-) -> Desk {
+) -> Answered {
     let from = session.from;
     let end = session.end;
     if session.found {
@@ -51,7 +52,10 @@ fn answered(
             }
         }
     }
-    desk
+    Answered {
+        desk: desk,
+        over: false,
+    }
 }
 
 // Whether the journal has to be written now: answers are about to be, or the next notice might not fit.
@@ -113,18 +117,37 @@ fn keep_and_go_on(
     ended(desk, session)
 }
 
-// Goes on from a line that was answered to the next.
-fn pass_on(
+// The session ended by its last line, once what was accepted is kept and what was answered is written.
+fn keep_and_end(
     pair: Pair,
     desk: Desk,
+    session: Session,
+    out: &[u8],
+    notices: &[u8],
+    sums: &[u8],
+) -> Turn {
+    if keep(pair, desk, notices, sums) {
+        return ended(desk, sessions::ended(session, out));
+    }
+    ended(desk, session)
+}
+
+// Goes on from a line that was answered to the next, if there is to be one.
+fn pass_on(
+    pair: Pair,
+    line: Answered,
     session: Session,
     input: &mut [u8],
     out: &[u8],
     notices: &[u8],
     sums: &[u8],
 ) -> Turn {
+    let desk = line.desk;
     let mut s = session;
     s.at = desk.at;
+    if line.over {
+        return keep_and_end(pair, desk, s, out, notices, sums);
+    }
     let next = sought(s, input, LONGEST_LINE);
     if is_due(desk, next, out, notices, sums) {
         return keep_and_go_on(pair, desk, next, input, out, notices, sums);
@@ -140,24 +163,24 @@ fn answered_in(
     out: &mut [u8; BLOCK],
     notices: &mut [u8; NOTICES_ROOM],
     sums: &mut [u8; SUMS_ROOM],
-) -> Desk {
+) -> Answered {
     answered(desk, session, input, out, notices, sums)
 }
 
 fn passed_on_in(
     pair: Pair,
-    desk: Desk,
+    line: Answered,
     session: Session,
     input: &mut [u8; BLOCK],
     out: &[u8; BLOCK],
     notices: &[u8; NOTICES_ROOM],
     sums: &[u8; SUMS_ROOM],
 ) -> Turn {
-    pass_on(pair, desk, session, input, out, notices, sums)
+    pass_on(pair, line, session, input, out, notices, sums)
 }
 
-// Answers the lines until the input ends, or a read, a write or a force fails. A proved loop has to end, and nothing says that the
-// input does: so the turns are counted down from a number that no run uses up.
+// Answers the lines until one of them or the input ends, or a read, a write or a force fails. A proved loop has to end, and nothing says
+// that the input does: so the turns are counted down from a number that no run uses up.
 pub fn answer_lines(pair: Pair, first: Agent) {
     let mut input = [0u8; BLOCK];
     let mut out = [0u8; BLOCK];
@@ -167,8 +190,8 @@ pub fn answer_lines(pair: Pair, first: Agent) {
     let mut session = sessions::begun();
     let mut turns = u64::MAX;
     while turns > 0 && session.more {
-        let d = answered_in(desk, session, &input, &mut out, &mut notices, &mut sums);
-        let turn = passed_on_in(pair, d, session, &mut input, &out, &notices, &sums);
+        let line = answered_in(desk, session, &input, &mut out, &mut notices, &mut sums);
+        let turn = passed_on_in(pair, line, session, &mut input, &out, &notices, &sums);
         desk = turn.desk;
         session = turn.session;
         turns -= 1;

@@ -2,7 +2,7 @@
 use Prim.Native.Nat.{ℕ, _≤_}
 use mathlib.Core.Path.{_≡_, refl, sym, ap, _∙_}
 use mathlib.Core.Bool.{Bool, true, false}
-use mathlib.Core.List.{List, []}
+use mathlib.Core.List.{List, [], _++_}
 use borrow.Author.Tests.{eq-eqb, ne-eqb, eqb-true}
 use lib.Dec.{eqb}
 use lib.ListN.{length}
@@ -17,22 +17,31 @@ use Rattle.agent.specs.Series.{noticeFor}
 use Rattle.text.specs.declared.bytes.Sort.the-variants.{Separator}
 use Rattle.text.specs.Bytes.{runEnd}
 use Rattle.text.specs.Output.{Page, puts, Written}
+use Rattle.text.proofs.Pages.{puts-then}
 use Rattle.console_commands.specs.Commands
 use Rattle.console_lines.specs.declared.lines.Line.{Line}
 use Rattle.console_lines.specs.Lines.{meaning, longest}
 use Rattle.console_acts.specs.Events.{eventIn}
 use Rattle.console_acts.specs.Named.{namedIn}
 use Rattle.console_acts.specs.Writing.{cutEvent}
-use Rattle.console_desk.specs.Desk.{faultLine, lineText}
+use Rattle.console_reasons.specs.Behind.{behindIn}
+use Rattle.console_desk.specs.Desk.{lineEnd, faultLine, lineText}
 use Rattle.console_desk.proofs.Lines.{readable}
 use Rattle.headend_desk.specs.declared.Desk.{Desk}
-use Rattle.headend_desk.specs.Desk.{isApart, startsApart, isEventOf, headAnswer, headNext, takenText, eventText}
+use Rattle.headend_desk.specs.Desk.{isApart, startsApart, isEventOf, headAnswer, headNext, headTold, answerLine, eventText}
 use Rattle.headend_desk.specs.Desk.{nextBytes, sumText, eventNotice, eventSum, otherText, headText, headAfter, headNotice}
 use Rattle.headend_desk.specs.Desk.{headSum, Leaves, Replies}
 use Rattle.headend_desk.proofs.FirstWord.{first-word}
 use Rattle.headend_desk.proofs.Taking.{Taken, next-notice}
 
 -- ---- an event
+
+-- the line that answers it: by its number, the words behind it and a newline
+pub answers-line : (g : Agent) (l : Line) (s : List ℕ) (a : ℕ) (h : Agent) (p q r o : Page) (named : ℕ) → named ≡ namedIn a g l s →
+    q ≡ puts p (headTold a h named) → r ≡ puts q (behindIn a g l s) → o ≡ puts r lineEnd → o ≡ puts p (answerLine a h g l s)
+unfolding answerLine
+answers-line g l s a h p q r o named names told more ended =
+    rw (← names) (puts-then p (headTold a h named ++ behindIn a g l s) lineEnd (puts-then p _ _ told more) ended)
 
 module _ (g : Agent) (l : Line) (s : List ℕ) (e : Event) (is : e ≡ eventIn l) (a : ℕ) (h : Agent) (taken : Taken g e a h) where
   pub acts-agent : h ≡ headNext g (eventIn l)
@@ -41,10 +50,9 @@ module _ (g : Agent) (l : Line) (s : List ℕ) (e : Event) (is : e ≡ eventIn l
   acts-answer : headAnswer g (eventIn l) ≡ a
   acts-answer = ap (headAnswer g) (sym is) ∙ sym (taken .0)
 
-  pub acts-text : (p q : Page) (named : ℕ) → named ≡ namedIn a g l s → q ≡ puts p (takenText a h named) →
-      q ≡ puts p (eventText g l s)
+  pub acts-text : (p q : Page) → q ≡ puts p (answerLine a h g l s) → q ≡ puts p (eventText g l s)
   unfolding eventText
-  acts-text p q named names w = rw (acts-answer, ← acts-agent, ← names) w
+  acts-text p q w = rw (acts-answer, ← acts-agent) w
 
   -- accepted: its notice and its sum
   its-bytes : a ≡ done → (n : Notice) → n ≡ noticeFor (h .sequence) (cutEvent e) → bytesOf n ≡ nextBytes g (eventIn l)
@@ -82,7 +90,7 @@ module _ (g : Agent) (s : List ℕ) (l : Line) (is : l ≡ meaning s) (t : Bool)
   starts : startsApart s ≡ t
   starts = sym (first-word s) ∙ ap (λ (m : Line). isApart (m .command)) (sym is) ∙ sym e
 
-  pub unknown-here : t ≡ true → (place : ℕ) → place ≡ runEnd Separator s 0 → q ≡ puts p (faultLine Commands.unknownWord place) →
+  pub unknown-here : t ≡ true → (place : ℕ) → place ≡ runEnd Separator s 0 → q ≡ puts p (faultLine Commands.unknownWord place Commands.none) →
       q ≡ puts p (otherText g s)
   unfolding otherText
   unknown-here y place at w = rw (starts ∙ y, ← at) w

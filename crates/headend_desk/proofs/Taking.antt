@@ -4,7 +4,7 @@ use Prim.Native.Nat.{ℕ, suc, _+_, _<_, _≤_, _^_}
 use mathlib.Core.Path.{_≡_, refl, sym, ap, _∙_}
 use mathlib.Core.Bool.{Bool, true, false}
 use mathlib.Core.Logic.{⊎-elim}
-use mathlib.Core.List.{List, [], _++_, append-nil}
+use mathlib.Core.List.{append-nil}
 use native.Mathlib.Numerals.{add-one}
 use native.Mathlib.Omega.{arith}
 use borrow.Author.Tests.{eq-eqb, ne-eqb, eqb-true, eqb-false, lt-ltb, le-ltb, ltb-true}
@@ -24,8 +24,8 @@ use Rattle.text.proofs.Pages.{puts-then}
 use Rattle.console_answers.specs.Entries.{entry}
 use Rattle.console_acts.specs.Writing.{cutEvent}
 use Rattle.console_acts.proofs.Written.{uncut}
-use Rattle.console_desk.specs.Desk.{followedText, lineEnd}
-use Rattle.headend_desk.specs.Desk.{headAnswer, headNext, takenText}
+use Rattle.console_desk.specs.Desk.{followedText}
+use Rattle.headend_desk.specs.Desk.{headAnswer, headNext, headTold}
 
 -- what an event is answered, and the agent after it
 abbrev pub Taken : Agent → Event → ℕ → Agent → Type 0
@@ -105,11 +105,10 @@ module _ (g : Agent) (e : Event) where
 -- ---- what it is answered
 
 module _ (p q : Page) (a : ℕ) (g : Agent) (named : ℕ) (told : q ≡ puts p (followedText a g named)) where
-  pub tells-taken : a ≡ done → (r o : Page) → r ≡ puts q (entry (g .sequence)) → o ≡ puts r lineEnd →
-      o ≡ puts p (takenText a g named)
-  unfolding takenText
-  tells-taken h r o e f = rw (eq-eqb a done h) (puts-then p (followedText a g named ++ entry (g .sequence)) lineEnd (puts-then p _ _ told e) f)
+  pub tells-taken : a ≡ done → (r : Page) → r ≡ puts q (entry (g .sequence)) → r ≡ puts p (headTold a g named)
+  unfolding headTold
+  tells-taken h r e = rw (eq-eqb a done h) (puts-then p (followedText a g named) (entry (g .sequence)) told e)
 
-  pub tells-refused : (a ≡ done → ⊥) → (o : Page) → o ≡ puts q lineEnd → o ≡ puts p (takenText a g named)
-  unfolding takenText
-  tells-refused h o f = rw (ne-eqb a done h, append-nil) (puts-then p (followedText a g named) lineEnd told f)
+  pub tells-refused : (a ≡ done → ⊥) → q ≡ puts p (headTold a g named)
+  unfolding headTold
+  tells-refused h = rw (ne-eqb a done h, append-nil) told

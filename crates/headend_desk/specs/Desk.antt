@@ -26,6 +26,7 @@ use Rattle.console_lines.specs.Lines.{begun, meaning}
 use Rattle.console_answers.specs.Entries.{entry}
 use Rattle.console_acts.specs.Events.{eventIn}
 use Rattle.console_acts.specs.Named.{namedIn}
+use Rattle.console_reasons.specs.Behind.{behindIn}
 use Rattle.console_desk.specs.Desk.{followedText, lineEnd, faultLine, lineText}
 use Rattle.headend_desk.specs.declared.Desk.{Desk}
 
@@ -58,13 +59,15 @@ unfoldable pub headNext : Agent → Event → Agent
 headNext g e =
     pick (eqb (headAnswer g e) done) (record { sequence = suc (g .sequence); state = called (g .state) e }) g
 
--- its answer: 0, the lanes held and the sequence of its notice, or the refusal in the console's words
-unfoldable pub takenText : ℕ → Agent → ℕ → List ℕ
-takenText a after named = (followedText a after named ++ pick (eqb a done) (entry (after .sequence)) []) ++ lineEnd
+-- its answer: 0, the lanes held and the sequence of its notice, or the refusal in the console's words; what to type next stands behind it
+unfoldable pub headTold : ℕ → Agent → ℕ → List ℕ
+headTold a after named = followedText a after named ++ pick (eqb a done) (entry (after .sequence)) []
+
+unfoldable pub answerLine : ℕ → Agent → Agent → Line → List ℕ → List ℕ
+answerLine a after g l s = (headTold a after (namedIn a g l s) ++ behindIn a g l s) ++ lineEnd
 
 unfoldable pub eventText : Agent → Line → List ℕ → List ℕ
-eventText g l s =
-    takenText (headAnswer g (eventIn l)) (headNext g (eventIn l)) (namedIn (headAnswer g (eventIn l)) g l s)
+eventText g l s = answerLine (headAnswer g (eventIn l)) (headNext g (eventIn l)) g l s
 
 -- the bytes of its notice, which has the next sequence, and their sum in four bytes
 abbrev pub nextBytes : Agent → Event → List ℕ
@@ -84,7 +87,7 @@ eventSum g e = pick (eqb (headAnswer g e) done) (sumText (nextBytes g e)) []
 
 -- what a line that says no event is answered: its first word is unknown here, or as the console answers it
 unfoldable pub otherText : Agent → List ℕ → List ℕ
-otherText g s = pick (startsApart s) (faultLine Commands.unknownWord (runEnd Separator s 0)) (lineText g s)
+otherText g s = pick (startsApart s) (faultLine Commands.unknownWord (runEnd Separator s 0) Commands.none) (lineText g s)
 
 unfoldable pub headText : Agent → List ℕ → List ℕ
 headText g s = pick (isEventLine s) (eventText g (meaning s) s) (otherText g s)

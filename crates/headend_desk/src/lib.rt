@@ -9,11 +9,13 @@ use console_acts::named;
 use console_acts::writing::notice_with;
 use console_answers::entries;
 use console_commands::commands;
+use console_desk::ends;
 use console_desk::put_fault_line;
 use console_desk::put_followed;
 use console_desk::reply;
 use console_lines::lines;
 use console_lines::lines::Line;
+use console_reasons::behind;
 use notice::LONGEST_NOTICE;
 use notice::Notice;
 use notice_fields::numbers;
@@ -32,12 +34,14 @@ ghost use Rattle.text.specs.Output.{Written};
 ghost use Rattle.notice.specs.Encode.{bytesOf};
 ghost use Rattle.console_lines.specs.Lines.{longest, meaning};
 ghost use Rattle.console_acts.specs.Events.{eventIn};
+ghost use Rattle.console_desk.specs.Desk.{isLast};
 ghost use Rattle.headend_desk.specs.Desk.{
   isApart,
   isEventOf,
   headAnswer,
   headNext,
-  takenText,
+  headTold,
+  answerLine,
   eventText,
   sumText,
   eventNotice,
@@ -60,6 +64,12 @@ pub struct Desk {
     pub at: usize,
     pub noticed: usize,
     pub summed: usize,
+}
+
+// What a line leaves: the desk, and whether the session is over.
+pub struct Answered {
+    pub desk: Desk,
+    pub over: bool,
 }
 
 // The places behind a notice and its sum.
@@ -123,14 +133,32 @@ fn take(agent: Agent, e: Event) -> Followed
 
 // What an event is answered: lanes held and sequence, or its refusal.
 fn put_taken(out: &mut [u8], at: usize, answer: u8, after: Agent, named: u64) -> usize
-    ensures { λ r. ⌜ Written (now (out .entry)) at (takenText answer after named) (now (out .exit)) r ⌝ }
+    ensures { λ r. ⌜ Written (now (out .entry)) at (headTold answer after named) (now (out .exit)) r ⌝ }
 {
     let p = put_followed(out, at, answer, after, named);
     if answer == DONE {
-        let q = entries::put_entry(out, p, after.sequence as u64);
-        return output::put(out, q, b"\n");
+        return entries::put_entry(out, p, after.sequence as u64);
     }
-    output::put(out, p, b"\n")
+    p
+}
+
+// The line that answers an event of an agent: by its number and the agent after it.
+fn put_event(
+    out: &mut [u8],
+    at: usize,
+    answer: u8,
+    after: Agent,
+    agent: Agent,
+    line: Line,
+    s: &[u8],
+) -> usize
+    requires { ⌜ length (now s) ≤ longest ⌝ }
+    ensures { λ r. ⌜ Written (now (out .entry)) at (answerLine answer after agent line (now (s .entry))) (now (out .exit)) r ⌝ }
+{
+    let named = named::by_line(answer, agent, line, s);
+    let p = put_taken(out, at, answer, after, named);
+    let q = behind::put_behind(out, p, answer, agent, line, s);
+    output::put(out, q, b"\n")
 }
 
 // The sum of a notice's bytes.
@@ -166,7 +194,7 @@ fn put_other(agent: Agent, line: Line, s: &[u8], out: &mut [u8], at: usize) -> u
 {
     if is_apart(line.command) {
         let place = bytes::run_end(s, 0, Sort::Separator);
-        return put_fault_line(out, at, commands::UNKNOWN_WORD, place);
+        return put_fault_line(out, at, commands::UNKNOWN_WORD, place, commands::NONE);
     }
     let turned = reply(agent, line, s, out, at);
     turned.at
@@ -192,8 +220,7 @@ fn act(
     let taken = take(agent, e);
     let after = taken.agent;
     let told = taken.answer;
-    let named = named::by_line(told, agent, line, s);
-    let at = put_taken(out, desk.at, told, after, named);
+    let at = put_event(out, desk.at, told, after, agent, line, s);
     if told == DONE {
         let n = notice_with(after.sequence, e);
         let kept = keep(n, notices, sums, desk.noticed, desk.summed);
@@ -212,12 +239,19 @@ fn act(
     }
 }
 
-// Answers one line, given without its newline.
-pub fn answer(desk: Desk, s: &[u8], out: &mut [u8], notices: &mut [u8], sums: &mut [u8]) -> Desk
+// Replies to one line that has been read.
+fn turn(
+    desk: Desk,
+    line: Line,
+    s: &[u8],
+    out: &mut [u8],
+    notices: &mut [u8],
+    sums: &mut [u8],
+) -> Desk
+    requires { ⌜ line ≡ meaning (now s) ⌝ }
     ensures { λ r. ⌜ Replies desk (now (s .entry)) (now (out .entry)) (now (notices .entry)) (now (sums .entry)) r
         (now (out .exit)) (now (notices .exit)) (now (sums .exit)) ⌝ }
 {
-    let line = lines::parse(s);
     if is_event(line) {
         return act(desk, line, s, out, notices, sums);
     }
@@ -228,6 +262,21 @@ pub fn answer(desk: Desk, s: &[u8], out: &mut [u8], notices: &mut [u8], sums: &m
         at: at,
         noticed: desk.noticed,
         summed: desk.summed,
+    }
+}
+
+// Answers one line, given without its newline.
+pub fn answer(desk: Desk, s: &[u8], out: &mut [u8], notices: &mut [u8], sums: &mut [u8]) -> Answered
+    ensures { λ r. ⌜ (Replies desk (now (s .entry)) (now (out .entry)) (now (notices .entry)) (now (sums .entry)) (r .desk)
+        (now (out .exit)) (now (notices .exit)) (now (sums .exit)))
+        × (r .over ≡ isLast (meaning (now (s .entry)))) ⌝ }
+{
+    let line = lines::parse(s);
+    let over = ends(line);
+    let after = turn(desk, line, s, out, notices, sums);
+    Answered {
+        desk: after,
+        over: over,
     }
 }
 

@@ -11,11 +11,8 @@ event-in-requires c κs = search needs
 take-requires : tie.Need-take-requires
 take-requires c κs = search needs
 
-by-line-requires : tie.Need-by-line-requires
-by-line-requires c κs = search needs
-
-put-taken-requires : tie.Need-put-taken-requires
-put-taken-requires c κs = search needs
+put-event-requires : tie.Need-put-event-requires
+put-event-requires c κs = search needs
 
 notice-with-requires : tie.Need-notice-with-requires
 notice-with-requires c κs = search needs
@@ -37,23 +34,21 @@ returns c =
     let at-keep = c .before .before .before .before in
     let at-notice-with = at-keep .before .before .before in
     let at-if1 = at-notice-with .before in
-    let at-put-taken = at-if1 .before .before .before in
-    let at-by-line = at-put-taken .before .before in
-    let at-take = at-by-line .before .before in
+    let at-put-event = at-if1 .before .before .before in
+    let at-take = at-put-event .before .before .before in
     let at-event-in = at-take .before in
     let at-start = at-event-in .before .before .before .before .before .before in
     let x = at-start .args in
     let g = x .desk .agent in
     let is = at-event-in .event-in .ensures in
     let taken = at-take .take .ensures in
-    let names = at-by-line .by-line .ensures in
     let done = at-if1 .if1 .taken in
     let made = at-notice-with .notice-with .ensures in
     let kept = at-keep .keep .ensures in
     record {
       agent = acts-agent g (x .line) (x .s .now) _ is _ _ taken;
       answered =
-          acts-text g (x .line) (x .s .now) _ is _ _ taken (page (x .out .now) (x .desk .at)) _ _ names (at-put-taken .put-taken .ensures);
+          acts-text g (x .line) (x .s .now) _ is _ _ taken (page (x .out .now) (x .desk .at)) _ (at-put-event .put-event .ensures);
       noticed =
           acts-notice g (x .line) (x .s .now) _ is _ _ taken done _ made (page (x .notices .now) (x .desk .noticed)) _ (kept .0);
       summed = acts-sum g (x .line) (x .s .now) _ is _ _ taken done _ made (page (x .sums .now) (x .desk .summed)) _ (kept .1);
@@ -64,20 +59,18 @@ same-length-4 c = search needs
 
 returns-2 : tie.Need-returns-2
 returns-2 c =
-    let at-put-taken = c .before .before .before in
-    let at-by-line = at-put-taken .before .before in
-    let at-take = at-by-line .before .before in
+    let at-put-event = c .before .before .before in
+    let at-take = at-put-event .before .before .before in
     let at-event-in = at-take .before in
     let at-start = at-event-in .before .before .before .before .before .before in
     let x = at-start .args in
     let g = x .desk .agent in
     let is = at-event-in .event-in .ensures in
     let taken = at-take .take .ensures in
-    let names = at-by-line .by-line .ensures in
     record {
       agent = acts-agent g (x .line) (x .s .now) _ is _ _ taken;
       answered =
-          acts-text g (x .line) (x .s .now) _ is _ _ taken (page (x .out .now) (x .desk .at)) _ _ names (at-put-taken .put-taken .ensures);
+          acts-text g (x .line) (x .s .now) _ is _ _ taken (page (x .out .now) (x .desk .at)) _ (at-put-event .put-event .ensures);
       noticed = no-notice g (x .line) (x .s .now) _ is _ _ taken (c .if1 .left) (page (x .notices .now) (x .desk .noticed));
       summed = no-sum g (x .line) (x .s .now) _ is _ _ taken (c .if1 .left) (page (x .sums .now) (x .desk .summed));
     }
@@ -88,8 +81,7 @@ act-spec =
     (tie.spec
     event-in-requires
     take-requires
-    by-line-requires
-    put-taken-requires
+    put-event-requires
     notice-with-requires
     keep-requires
     same-length

@@ -1,5 +1,6 @@
--- `headend_desk::answer` meets its contract: an event, or any other line.
-use Rattle.headend_desk.proofs.Replying.{event-readable, says-event, says-none}
+-- `headend_desk::answer` meets its contract: what is read is replied to, and whether the session is over.
+use mathlib.Core.Path.{_∙_, ap}
+use Rattle.console_desk.specs.Desk.{isLast}
 use borrow.Author.Needs.{needs}
 use Rattle.headend_desk.proofs.answer.Statement.{statement}
 use Rattle.headend_desk.proofs.answer.Tie as tie
@@ -7,16 +8,11 @@ use Rattle.headend_desk.proofs.answer.Tie as tie
 parse-requires : tie.Need-parse-requires
 parse-requires c κs = search needs
 
-is-event-requires : tie.Need-is-event-requires
-is-event-requires c κs = search needs
+ends-requires : tie.Need-ends-requires
+ends-requires c κs = search needs
 
-act-requires : tie.Need-act-requires
-act-requires c κs =
-    let at-if1 = c .before .before .before in
-    let at-is-event = at-if1 .before in
-    let at-parse = at-is-event .before in
-    let at-start = at-parse .before .before .before .before .before in
-    event-readable (at-start .args .s .now) _ (at-parse .parse .ensures) _ (at-is-event .is-event .ensures) (at-if1 .if1 .taken)
+turn-requires : tie.Need-turn-requires
+turn-requires c κs = c .before .before .before .before .parse .ensures
 
 same-length : tie.Need-same-length
 same-length c = search needs
@@ -29,43 +25,12 @@ same-length-3 c = search needs
 
 returns : tie.Need-returns
 returns c =
-    let at-act = c .before .before .before .before .before .before in
-    let at-if1 = at-act .before .before .before .before in
-    let at-is-event = at-if1 .before in
-    let at-parse = at-is-event .before in
-    let at-start = at-parse .before .before .before .before .before in
-    let x = at-start .args in
-    says-event (x .s .now) _ (at-parse .parse .ensures) _ (at-is-event .is-event .ensures) (x .desk) (x .out .now) (x .notices .now) (x .sums .now)
-    (at-if1 .if1 .taken) _ _ _ _ (at-act .act .ensures)
-
-put-other-requires : tie.Need-put-other-requires
-put-other-requires c κs = search needs
-
-same-length-4 : tie.Need-same-length-4
-same-length-4 c = search needs
-
-returns-2 : tie.Need-returns-2
-returns-2 c =
-    let at-put-other = c .before .before in
-    let at-if1 = at-put-other .before .before .before in
-    let at-is-event = at-if1 .before in
-    let at-parse = at-is-event .before in
-    let at-start = at-parse .before .before .before .before .before in
-    let x = at-start .args in
-    says-none (x .s .now) _ (at-parse .parse .ensures) _ (at-is-event .is-event .ensures) (x .desk) (x .out .now) (x .notices .now) (x .sums .now)
-    (at-if1 .if1 .left) _ _ (at-put-other .put-other .ensures)
+    let at-turn = c .before .before .before .before .before .before in
+    let at-ends = at-turn .before .before .before .before in
+    let at-parse = at-ends .before in
+    (at-turn .turn .ensures, at-ends .ends .ensures ∙ ap isLast (at-parse .parse .ensures))
 
 pub answer-spec : {M : Type 1} → statement M
 answer-spec =
     tie.close
-    (tie.spec
-    parse-requires
-    is-event-requires
-    act-requires
-    same-length
-    same-length-2
-    same-length-3
-    returns
-    put-other-requires
-    same-length-4
-    returns-2)
+    (tie.spec parse-requires ends-requires turn-requires same-length same-length-2 same-length-3 returns)

@@ -1,4 +1,4 @@
--- `headend_desk::put_taken` meets its contract: the console's answer, the sequence behind a 0, and a newline.
+-- `headend_desk::put_taken` meets its contract: the console's answer, and the sequence behind a 0.
 use Rattle.text.specs.Output.{page}
 use Rattle.headend_desk.proofs.Taking.{tells-taken, tells-refused}
 use borrow.Author.Needs.{needs}
@@ -14,44 +14,28 @@ cast-put-entry c = search needs
 put-entry-requires : tie.Need-put-entry-requires
 put-entry-requires c κs = search needs
 
-slice-aggregate-put : tie.Need-slice-aggregate-put
-slice-aggregate-put c = search needs
-
-put-requires : tie.Need-put-requires
-put-requires c κs = search needs
-
 same-length : tie.Need-same-length
 same-length c = search needs
 
 returns : tie.Need-returns
 returns c =
-    let at-put = c .before .before in
-    let at-put-entry = at-put .before .before .before .before .before in
+    let at-put-entry = c .before .before in
     let at-if1 = at-put-entry .before .before .before in
     let at-put-followed = at-if1 .before .before .before in
     let at-start = at-put-followed .before .before .before in
     let x = at-start .args in
-    tells-taken (page (x .out .now) (x .at)) _ (x .answer) (x .after) (x .named) (at-put-followed .put-followed .ensures) (at-if1 .if1 .taken) _ _
-    (at-put-entry .put-entry .ensures) (at-put .put .ensures)
-
-slice-aggregate-put-2 : tie.Need-slice-aggregate-put-2
-slice-aggregate-put-2 c = search needs
-
-put-requires-2 : tie.Need-put-requires-2
-put-requires-2 c κs = search needs
+    tells-taken (page (x .out .now) (x .at)) _ (x .answer) (x .after) (x .named) (at-put-followed .put-followed .ensures) (at-if1 .if1 .taken) _
+    (at-put-entry .put-entry .ensures)
 
 same-length-2 : tie.Need-same-length-2
 same-length-2 c = search needs
 
 returns-2 : tie.Need-returns-2
 returns-2 c =
-    let at-put2 = c .before .before in
-    let at-if1 = at-put2 .before .before .before in
-    let at-put-followed = at-if1 .before .before .before in
+    let at-put-followed = c .before .before .before in
     let at-start = at-put-followed .before .before .before in
     let x = at-start .args in
-    tells-refused (page (x .out .now) (x .at)) _ (x .answer) (x .after) (x .named) (at-put-followed .put-followed .ensures) (at-if1 .if1 .left) _
-    (at-put2 .put2 .ensures)
+    tells-refused (page (x .out .now) (x .at)) _ (x .answer) (x .after) (x .named) (at-put-followed .put-followed .ensures) (c .if1 .left)
 
 pub put-taken-spec : {M : Type 1} → statement M
 put-taken-spec =
@@ -60,11 +44,7 @@ put-taken-spec =
     put-followed-requires
     cast-put-entry
     put-entry-requires
-    slice-aggregate-put
-    put-requires
     same-length
     returns
-    slice-aggregate-put-2
-    put-requires-2
     same-length-2
     returns-2)
