@@ -1,0 +1,2 @@
+-- What the program writes beside its lines.
+pub mod Complaints
