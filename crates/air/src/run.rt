@@ -72,7 +72,7 @@ fn lend(pool: u64, title: u64, log: &mut [u8; LOG_ROOM], text: &mut [u8; TEXT_RO
 
 // Arguments are tested in their order, then the files.
 pub fn run() {
-    let Asked::About(pool, title) = pool_and_title(b"POOL TITLE LOG RECORD") else {
+    let Asked::About(pool, title) = pool_and_title(b"air POOL TITLE LOG RECORD") else {
         return;
     };
     let mut log = [0u8; LOG_ROOM];

@@ -1,5 +1,5 @@
 // The arguments of programs: numbers, words, the pool and how many there are, and what programs over a log have in common, POOL TITLE
-// LOG and a file of the program's own.
+// LOG and a file of the program's own. Where they are others than a program takes, one line says what is wrong and how it is used.
 
 use crate::complaints::complain;
 use rules::POOL_MAX;
@@ -13,7 +13,7 @@ use text::numbers::spelt;
 const ARGUMENT_ROOM: usize = 131_072;
 
 // What an argument is.
-enum Given {
+pub enum Given {
     Number(u64),
     NoNumber,
 }
@@ -48,6 +48,15 @@ fn number_given(i: usize) -> Given {
     Given::Number(number.value)
 }
 
+// The same of an argument with a name, by which standard error says that it spells none.
+pub fn number_named(i: usize, name: &[u8]) -> Given {
+    let Given::Number(n) = number_given(i) else {
+        complain(name, b" is no number");
+        return Given::NoNumber;
+    };
+    Given::Number(n)
+}
+
 // Whether two texts are the same.
 pub fn same(a: &[u8], b: &[u8]) -> bool {
     if a.len() != b.len() {
@@ -73,35 +82,50 @@ pub fn is_word(i: usize, word: &[u8]) -> bool {
     same(&room[..n], word)
 }
 
-// Whether there are so many arguments, the program's own name among them; standard error says which there are to be.
-pub fn count_is(many: usize, names: &[u8]) -> bool {
+// Whether an argument begins with a dash, as no number and none of the words of a program's usage but its options does.
+fn is_option(i: usize) -> bool {
+    let mut first = [0u8; 1];
+    os::arg(i, &mut first);
+    first[0] == b'-'
+}
+
+// Whether there are from so many to so many arguments, the program's own name among them, and no option at the place of the first that
+// is none.
+pub fn are_right(first: usize, least: usize, most: usize, usage: &[u8]) -> bool {
     let given = os::arg_count();
-    if given < many {
-        complain(b"too few arguments: ", names);
+    if is_option(first) {
+        complain(b"unknown argument: usage: ", usage);
         return false;
     }
-    if many < given {
-        complain(b"too many arguments: ", names);
+    if given < least {
+        complain(b"too few arguments: usage: ", usage);
+        return false;
+    }
+    if most < given {
+        complain(b"too many arguments: usage: ", usage);
         return false;
     }
     true
 }
 
+// The same for one number of arguments, with no option before them.
+pub fn count_is(many: usize, usage: &[u8]) -> bool {
+    are_right(1, many, many, usage)
+}
+
 // How many arguments there are is tested first, then the numbers in their order.
-pub fn pool_and_title(names: &[u8]) -> Asked {
-    if count_is(5, names) {
+pub fn pool_and_title(usage: &[u8]) -> Asked {
+    if count_is(5, usage) {
         return numbers_given();
     }
     Asked::Nothing
 }
 
 fn numbers_given() -> Asked {
-    let Given::Number(pool) = number_given(1) else {
-        complain(b"POOL", b" is no number");
+    let Given::Number(pool) = number_named(1, b"POOL") else {
         return Asked::Nothing;
     };
-    let Given::Number(title) = number_given(2) else {
-        complain(b"TITLE", b" is no number");
+    let Given::Number(title) = number_named(2, b"TITLE") else {
         return Asked::Nothing;
     };
     Asked::About(pool, title)
@@ -124,15 +148,13 @@ pub fn pool_given(i: usize) -> Pool {
     Pool::Nothing
 }
 
-// The pool that the only argument names, the usual one without. Where there are more, what to give is said.
-pub fn pool_or(usual: u64, give: &[u8]) -> Pool {
-    let given = os::arg_count();
-    if given < 2 {
-        return Pool::Lanes(usual);
+// The pool that the only argument names, the usual one without.
+pub fn pool_or(usual: u64, usage: &[u8]) -> Pool {
+    if are_right(1, 1, 2, usage) {
+        if os::arg_count() < 2 {
+            return Pool::Lanes(usual);
+        }
+        return pool_given(1);
     }
-    if given > 2 {
-        complain(b"too many arguments: ", give);
-        return Pool::Nothing;
-    }
-    pool_given(1)
+    Pool::Nothing
 }

@@ -27,6 +27,12 @@ pub struct Files {
     pub ok: bool,
 }
 
+// What became of the log where a program has no other file: so many bytes of it, at its room's start, once it is loaded.
+pub struct Log {
+    pub size: usize,
+    pub ok: bool,
+}
+
 // What one read gave.
 struct Part {
     size: usize,
@@ -107,6 +113,21 @@ fn complain_of(what: &[u8], file: File) {
     } else {
         complain(what, b" cannot be read");
     }
+}
+
+// The log; what is wrong with it is said on standard error.
+pub fn load_log(log: &mut [u8]) -> Log
+    ensures { λ r. ⌜ r .size ≤ length (now (log .entry)) ⌝ }
+{
+    let first = load(LOG_ARGUMENT, log);
+    if first.ok {
+        return Log {
+            size: first.size,
+            ok: true,
+        };
+    }
+    complain_of(b"LOG", first);
+    Log { size: 0, ok: false }
 }
 
 // The log and the program's own file, under the name that a complaint gives it. The first that was not loaded is said on

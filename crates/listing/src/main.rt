@@ -7,7 +7,7 @@ use files::arguments::pool_or;
 const USUAL_POOL: u64 = 8;
 
 fn main() {
-    let Pool::Lanes(pool) = pool_or(USUAL_POOL, b"give one POOL, or none for 8") else {
+    let Pool::Lanes(pool) = pool_or(USUAL_POOL, b"listing [POOL] < LOG") else {
         return;
     };
     listing_io::input::list_input(pool);

@@ -21,7 +21,7 @@ ghost use mathlib.Core.Path.{_≡_};
 ghost use Rattle.rom.specs.Lanes.{isForeign, romLaneAnswer, tableLaneAnswer, tableLaneShows};
 
 // Whether a slot's title has another floor or cap, or another scheme.
-fn is_foreign(t: Title) -> bool
+pub fn is_foreign(t: Title) -> bool
     ensures { λ r. ⌜ r ≡ isForeign t ⌝ }
 {
     if t.mode == ABSENT {

@@ -3,10 +3,14 @@
 mod blocks;
 mod input;
 
+use files::arguments::count_is;
+
 fn main() {
-    let ports = input::Ports {
-        taken: libc::STDOUT_FILENO,
-        told: libc::STDERR_FILENO,
-    };
-    input::salvage_input(ports);
+    if count_is(1, b"salvage < DAMAGED > LOG") {
+        let ports = input::Ports {
+            taken: libc::STDOUT_FILENO,
+            told: libc::STDERR_FILENO,
+        };
+        input::salvage_input(ports);
+    }
 }

@@ -3,5 +3,6 @@ pub mod Answers
 pub mod Counting
 pub mod Reading
 pub mod Telling
+pub mod Unopened
 pub mod Unique
 pub mod OneMoment

@@ -4,7 +4,9 @@
 -- it.
 -- - The report's numbers are the tally of that life, for every log and row: `waiting::report_of`, contract `Reports`. Every number fits,
 --   with no hypothesis on the log.
+-- - Whether the log never opens the title, which turns all arrivals away: `waiting::reasons::never_opened`, contract `isNeverOpened`.
 -- - Where both orders of two events at one moment are accepted, the logs that a head-end keeps of them (`agent` specs/Series `logKept`)
 --   have equal reports: `waiting` proofs/OneMoment `reports-alike` (02, request 14).
 pub mod Report
+pub mod Reasons
 pub mod inner

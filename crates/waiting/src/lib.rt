@@ -1,6 +1,8 @@
 // How long people waited (02, request 1): for the latest opening of one title in a log of notices, how many arrivals got in, the
 // longest wait and the exact sum of waits. No public function has a `requires`: any pool, bytes, title and row have an answer.
 
+pub mod reasons;
+
 use admissions::Tally;
 use admissions::Waits;
 use admissions::ended;

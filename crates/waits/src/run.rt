@@ -26,9 +26,9 @@ fn show(report: Report) {
     write_page(&out, size);
 }
 
-fn complain_beside(pool: u64, log: &[u8], arrivals: usize) {
+fn complain_beside(pool: u64, log: &[u8], title: u64, arrivals: usize) {
     let mut out = io::buffer();
-    let size = put_complaints(&mut out, pool, log, arrivals);
+    let size = put_complaints(&mut out, pool, log, title, arrivals);
     write_complaints(&out, size);
 }
 
@@ -39,7 +39,7 @@ fn tell(pool: u64, title: u64, log: &[u8], text: &[u8]) {
     if scan.ok {
         let count = scan.count;
         show(report_of(pool, log, title, &row[..count]));
-        complain_beside(pool, log, count);
+        complain_beside(pool, log, title, count);
         return;
     }
     complain_at(b"ARRIVALS", b": no number at byte ", scan.place);
@@ -61,7 +61,7 @@ fn lend(pool: u64, title: u64, log: &mut [u8; LOG_ROOM], text: &mut [u8; TEXT_RO
 
 // Arguments are tested in their order, then the files.
 pub fn run() {
-    let Asked::About(pool, title) = pool_and_title(b"POOL TITLE LOG ARRIVALS") else {
+    let Asked::About(pool, title) = pool_and_title(b"waits POOL TITLE LOG ARRIVALS") else {
         return;
     };
     let mut log = [0u8; LOG_ROOM];
