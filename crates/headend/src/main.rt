@@ -2,16 +2,13 @@
 // --check before them it only looks at the journal, with --sums it makes the sums of its notices anew.
 
 mod asked;
-mod findings;
 mod lines;
-mod looking;
-mod playing;
-mod renewing;
-mod saying;
 mod serving;
 
 use crate::asked::Task;
 use crate::asked::take_arguments;
+use journal_starts::looking;
+use journal_starts::renewing;
 
 fn main() {
     let mut room = io::buffer();

@@ -1,11 +1,6 @@
 // The head-end's life: the journal is opened and held, played and set right, and then lines are answered.
 
-use crate::findings::is_good;
-use crate::findings::say_ends;
-use crate::findings::say_wrong;
 use crate::lines::answer_lines;
-use crate::playing::play;
-use crate::saying::say_heard;
 use agent_rows::LAST_AT;
 use agent_rows::ROW_LENGTH;
 use agent_rows::SEQUENCE_AT;
@@ -18,6 +13,11 @@ use journal_files::opening::Way;
 use journal_files::opening::open_or_make;
 use journal_files::pairs::Pair;
 use journal_files::pairs::gone_on_with;
+use journal_starts::findings::is_good;
+use journal_starts::findings::say_ends;
+use journal_starts::findings::say_wrong;
+use journal_starts::playing::play;
+use journal_starts::saying::say_heard;
 use journals::Start;
 use journals::sums_length;
 use libc::STDERR_FILENO;

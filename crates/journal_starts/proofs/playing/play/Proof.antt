@@ -1,9 +1,9 @@
--- `headend::playing::play` is safe and ends: the rows keep their lengths, and the windows are counted down.
+-- `journal_starts::playing::play` is safe and ends: the rows keep their lengths, and the windows are counted down.
 use mathlib.Core.Path.{_≡_}
 use lib.ListN.{length}
 use borrow.Author.Needs.{needs}
-use Rattle.headend.proofs.playing.play.Statement.{statement}
-use Rattle.headend.proofs.playing.play.Tie as tie
+use Rattle.journal_starts.proofs.playing.play.Statement.{statement}
+use Rattle.journal_starts.proofs.playing.play.Tie as tie
 
 abbrev Inv-loop : tie.InvT-loop
 Inv-loop pair row₀ room₀ sums₀ start₀ windows₀ row room sums start windows =

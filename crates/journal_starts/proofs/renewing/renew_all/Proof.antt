@@ -1,9 +1,9 @@
--- `headend::renewing::renew_all` is safe and ends: the rows keep their lengths, and the windows are counted down.
+-- `journal_starts::renewing::renew_all` is safe and ends: the rows keep their lengths, and the windows are counted down.
 use mathlib.Core.Path.{_≡_}
 use lib.ListN.{length}
 use borrow.Author.Needs.{needs}
-use Rattle.headend.proofs.renewing.renew_all.Statement.{statement}
-use Rattle.headend.proofs.renewing.renew_all.Tie as tie
+use Rattle.journal_starts.proofs.renewing.renew_all.Statement.{statement}
+use Rattle.journal_starts.proofs.renewing.renew_all.Tie as tie
 
 abbrev Inv-loop : tie.InvT-loop
 Inv-loop r row₀ room₀ sums₀ start₀ windows₀ row room sums start windows =
