@@ -145,7 +145,7 @@ def toolchain_says(*words):
     try:
         return subprocess.run(["rt", *words], cwd=ROOT, capture_output=True, text=True, check=True).stdout
     except (FileNotFoundError, subprocess.CalledProcessError) as wrong:
-        raise Failure(f"rt, the toolchain that TOOLCHAIN names, is not installed or does not answer: {wrong}") from wrong
+        raise Failure(f"rt, of a toolchain that TOOLCHAIN names, is not installed or does not answer: {wrong}") from wrong
 
 
 class Progress:
