@@ -70,6 +70,7 @@ usages =
     text "titles TIME" ∷
     text "lanes ID TIME TICKS" ∷
     text "quit" ∷
+    text "draw" ∷
     whenUsage ∷
     whenUsage ∷
     whenUsage ∷ []
@@ -113,6 +114,7 @@ helpOrder =
     Commands.doBalance ∷
     Commands.doTitles ∷
     Commands.doLanes ∷
+    Commands.doDraw ∷
     Commands.doQuit ∷
     Commands.doHelp ∷ []
 

@@ -76,6 +76,7 @@ pub fn put_usage(out: &mut [u8], at: usize, command: u8) -> usize
         titles TIME\n\
         lanes ID TIME TICKS\n\
         quit\n\
+        draw\n\
         when ID TIME close|hold|lift\n\
         when ID TIME close|hold|lift\n\
         when ID TIME close|hold|lift\n";
@@ -95,7 +96,7 @@ pub fn put_fault(out: &mut [u8], at: usize, fault: u8, place: usize, command: u8
 }
 
 // The commands as help lists them.
-const LISTED: usize = 30;
+const LISTED: usize = 31;
 
 const HELP_ORDER: [u8; LISTED] = [
     commands::FRESH,
@@ -126,6 +127,7 @@ const HELP_ORDER: [u8; LISTED] = [
     commands::BALANCE,
     commands::TITLES,
     commands::LANES,
+    commands::DRAW,
     commands::QUIT,
     commands::HELP,
 ];

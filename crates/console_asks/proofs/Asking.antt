@@ -14,6 +14,7 @@ use Rattle.notice.specs.Decode.{readOf}
 use Rattle.console_commands.specs.Commands
 use Rattle.console_lines.specs.declared.lines.Line.{Line}
 use Rattle.text.specs.Output.{Page, puts}
+use Rattle.text.specs.Texts.{text}
 use Rattle.text.specs.Digits.{hexText}
 use Rattle.console_answers.specs.Faults.{helpText}
 use Rattle.console_notices.specs.Reading.{readingText}
@@ -32,17 +33,21 @@ module _ (l : Line) (s : List ℕ) (p q : Page) where
   unfolding tellText
   tells-help h e = rw (eq-eqb _ _ h) e
 
-  pub tells-reading : (r : Reading) → (l .command ≡ Commands.doHelp → ⊥) → l .command ≡ Commands.doRead
-      → r ≡ readOf (bytesIn s l) → q ≡ puts p (readingText r)
-      → q ≡ puts p (tellText l s)
-  unfolding tellText
-  tells-reading r o h e f = rw (ne-eqb _ _ o, eq-eqb _ _ h, ← e) f
+  module _ (no-help : l .command ≡ Commands.doHelp → ⊥) where
+    pub tells-draw : l .command ≡ Commands.doDraw → q ≡ puts p (text "0") → q ≡ puts p (tellText l s)
+    unfolding tellText
+    tells-draw h e = rw (ne-eqb _ _ no-help, eq-eqb _ _ h) e
 
-  pub tells-bytes : (n : Notice) → (l .command ≡ Commands.doHelp → ⊥) → (l .command ≡ Commands.doRead → ⊥)
-      → n ≡ writtenNotice l → q ≡ puts p (hexText (bytesOf n))
-      → q ≡ puts p (tellText l s)
-  unfolding tellText
-  tells-bytes n o h e f = rw (ne-eqb _ _ o, ne-eqb _ _ h, ← e) f
+    module _ (no-draw : l .command ≡ Commands.doDraw → ⊥) where
+      pub tells-reading : (r : Reading) → l .command ≡ Commands.doRead → r ≡ readOf (bytesIn s l) → q ≡ puts p (readingText r)
+          → q ≡ puts p (tellText l s)
+      unfolding tellText
+      tells-reading r h e f = rw (ne-eqb _ _ no-help, ne-eqb _ _ no-draw, eq-eqb _ _ h, ← e) f
+
+      pub tells-bytes : (n : Notice) → (l .command ≡ Commands.doRead → ⊥) → n ≡ writtenNotice l → q ≡ puts p (hexText (bytesOf n))
+          → q ≡ puts p (tellText l s)
+      unfolding tellText
+      tells-bytes n h e f = rw (ne-eqb _ _ no-help, ne-eqb _ _ no-draw, ne-eqb _ _ h, ← e) f
 
   module _ (t : State) where
     pub asks-lane : l .command ≡ Commands.doLane → q ≡ puts p (laneText t (numberIn l 0) (numberIn l 1) (numberIn l 2))

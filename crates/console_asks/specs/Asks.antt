@@ -12,6 +12,7 @@ use Rattle.story.specs.declared.Event.{Event}
 use Rattle.story.specs.Story.{event, holds, lifts}
 use Rattle.notice.specs.Encode.{bytesOf}
 use Rattle.notice.specs.Decode.{readOf}
+use Rattle.text.specs.Texts.{text}
 use Rattle.text.specs.Digits.{hexText}
 use Rattle.console_commands.specs.Commands
 use Rattle.console_lines.specs.declared.lines.Line.{Line}
@@ -54,13 +55,14 @@ viewText t l =
     (pick (eqb (l .command) Commands.doBalance) (balanceText t (l .numbers) (l .count))
     (whenText t (whenEvent l))))
 
--- ---- what is told of notices, and help
+-- ---- what is told of notices, help, and draw, which is no question: what it does to the session is `console_drawing` specs/Drawn
 
 unfoldable pub tellText : Line → List ℕ → List ℕ
 tellText l s =
     pick (eqb (l .command) Commands.doHelp) helpText
+    (pick (eqb (l .command) Commands.doDraw) (text "0")
     (pick (eqb (l .command) Commands.doRead) (readingText (readOf (bytesIn s l)))
-    (hexText (bytesOf (writtenNotice l))))
+    (hexText (bytesOf (writtenNotice l)))))
 
 -- ---- a question
 

@@ -1,4 +1,4 @@
-// Help, and what concerns notices alone.
+// Help, draw, and what concerns notices alone.
 
 use console_acts::writing::notice_of;
 use console_answers::faults;
@@ -7,6 +7,7 @@ use console_lines::lines::Line;
 use console_notices::hex;
 use console_notices::reading;
 use console_notices::writing;
+use text::output;
 ghost use mathlib.Core.Path.{_≡_};
 ghost use Prim.Native.Nat.{_≤_};
 ghost use lib.ListN.{length};
@@ -21,6 +22,9 @@ pub fn tell(line: Line, s: &[u8], out: &mut [u8], at: usize) -> usize
     let command = line.command;
     if command == commands::HELP {
         return faults::put_help(out, at);
+    }
+    if command == commands::DRAW {
+        return output::put(out, at, b"0");
     }
     let n = line.numbers;
     if command == commands::READ {

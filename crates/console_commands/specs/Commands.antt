@@ -115,18 +115,22 @@ doLanes = 29
 abbrev pub doQuit : ℕ
 doQuit = 30
 
+-- on a terminal, each event shows its title's lanes from here on, or no longer does
+abbrev pub doDraw : ℕ
+doDraw = 31
+
 abbrev pub whenClose : ℕ
-whenClose = 31
+whenClose = 32
 
 abbrev pub whenHold : ℕ
-whenHold = 32
+whenHold = 33
 
 abbrev pub whenLift : ℕ
-whenLift = 33
+whenLift = 34
 
 -- how many commands there are
 abbrev pub commandCount : ℕ
-commandCount = 34
+commandCount = 35
 
 -- what a line may name at most: ids of a status, titles of a share and rates of a planner, places of a plan, as many as the
 -- longest has, and places for a planner's list, one for each title. One title or rate more than the product takes, so that
@@ -183,7 +187,7 @@ commandRow w least most time times limits =
     record { word = text w; least = least; most = most; time = time; times = times; limits = limits }
 
 -- a row for each command, by its number: fresh and the events, what asks and tells, the kinds of a write, and what shows a pool
--- to people, with quit
+-- to people, with quit and draw
 unfoldable pub commandTable : List Command
 commandTable =
     commandRow "        " 0 0 0 0 free
@@ -217,6 +221,7 @@ commandTable =
     ∷ commandRow "titles  " 1 1 0 1 free
     ∷ commandRow "lanes   " 3 3 1 1 free
     ∷ commandRow "quit    " 0 0 0 0 free
+    ∷ commandRow "draw    " 0 0 0 0 free
     ∷ commandRow "        " 2 2 1 1 free
     ∷ commandRow "        " 2 2 1 1 free
     ∷ commandRow "        " 2 2 1 1 free

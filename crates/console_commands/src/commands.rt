@@ -104,11 +104,14 @@ pub const LANES: u8 = 29;
 
 pub const QUIT: u8 = 30;
 
-pub const WHEN_CLOSE: u8 = 31;
+// On a terminal, each event shows its title's lanes from here on, or no longer does.
+pub const DRAW: u8 = 31;
 
-pub const WHEN_HOLD: u8 = 32;
+pub const WHEN_CLOSE: u8 = 32;
 
-pub const WHEN_LIFT: u8 = 33;
+pub const WHEN_HOLD: u8 = 33;
+
+pub const WHEN_LIFT: u8 = 34;
 
 // What can be wrong with a line.
 pub const NO_FAULT: u8 = 0;
@@ -141,7 +144,7 @@ pub const NOT_TIME: u8 = 12;
 pub const UNREAD: u8 = 13;
 
 // How many there are.
-const COMMANDS: usize = 34;
+const COMMANDS: usize = 35;
 
 // What a line may name at most: ids of a status, titles of a share and rates of a planner, places of a plan, as many as the
 // longest has, and places for a planner's list, one for each title. One title or rate more than the product takes, so that
@@ -222,7 +225,7 @@ const NOTHING: Command = Command {
 };
 
 // The rows of the commands by their number, in parts, since a table is built wherever it is named: fresh and the events, what
-// asks and tells, the kinds of a write, which two words name, and what shows a pool to people, with quit.
+// asks and tells, the kinds of a write, which two words name, and what shows a pool to people, with quit and draw.
 const ACTS: [Command; ASKS_FROM] = [
     NOTHING,
     Command {
@@ -468,6 +471,14 @@ const VIEWS: [Command; COMMANDS - VIEWS_FROM] = [
     },
     Command {
         word: *b"quit    ",
+        least: 0,
+        most: 0,
+        time: 0,
+        times: 0,
+        limits: FREE,
+    },
+    Command {
+        word: *b"draw    ",
         least: 0,
         most: 0,
         time: 0,

@@ -1,36 +1,22 @@
 -- A line from its first test on: what is wrong with it, nothing asked, an act or a question; a newline behind each
 -- answer.
-use Prim.Native.Nat.{ℕ, _≤_}
+use Prim.Native.Nat.{ℕ}
 use mathlib.Core.Path.{_≡_, refl, sym, _∙_}
 use mathlib.Core.Bool.{Bool, true, false}
 use mathlib.Core.Logic.{⊎-elim}
 use mathlib.Core.List.{List}
-use native.Mathlib.Omega.{arith}
-use borrow.Author.Tests.{eq-eqb, ne-eqb, eqb-true, ltb-false}
-use lib.ListN.{length}
-use lib.Dec.{eqb, ltb}
+use borrow.Author.Tests.{eq-eqb, ne-eqb, eqb-true}
+use lib.Dec.{eqb}
 use Rattle.rules.proofs.Tests.{either-out}
 use Rattle.agent.specs.declared.Agent.{Agent}
 use Rattle.console_commands.specs.Commands
 use Rattle.console_lines.specs.declared.lines.Line.{Line}
-use Rattle.console_lines.specs.Lines.{withFault, begun, readOn, meaning, longest}
+use Rattle.console_lines.specs.Lines.{meaning}
 use Rattle.text.specs.Output.{Page, puts}
 use Rattle.text.proofs.Pages.{puts-append}
 use Rattle.console_acts.specs.Acts.{agentActed}
 use Rattle.console_asks.specs.Asks.{askText}
 use Rattle.console_desk.specs.Desk.{isSilent, mayChange, actText, lineEnd, wholeText, afterWhole, faultLine, lineText, afterLine, Left}
-
--- a line that is too long is read as such
-too-long : (s : List ℕ) → ltb longest (length s) ≡ true → (meaning s) .fault ≡ Commands.tooLong
-unfolding meaning readOn begun withFault
-too-long s h = rw h
-
--- a line with nothing wrong is no longer than the longest
-pub readable : (s : List ℕ) → (meaning s) .fault ≡ Commands.noFault → length s ≤ longest
-readable s e = by-test (ltb longest (length s)) refl where
-  by-test : (t : Bool) → ltb longest (length s) ≡ t → length s ≤ longest
-  by-test true h = let z : _≡_ {A = ℕ} 1 0 = sym (too-long s h) ∙ e in omega arith
-  by-test false h = ltb-false _ _ h
 
 -- what a line leaves, over a page before and a page after
 abbrev pub Leaves : Agent → Page → List ℕ → Agent → Page → Type 0

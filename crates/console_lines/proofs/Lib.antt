@@ -4,4 +4,5 @@ pub mod Examples
 pub mod Unique
 pub mod Finished
 pub mod Kept
+pub mod Longest
 pub mod Times

@@ -176,11 +176,12 @@ quantityTable =
     ∷ noQuantities
     ∷ noQuantities
     ∷ noQuantities
-    -- when, balance, titles, lanes, quit
+    -- when, balance, titles, lanes, quit, draw
     ∷ changeRow
     ∷ quantityRow ofTime ofId ofRate ofAny ofAny ofAny
     ∷ quantityRow ofAsked ofAny ofAny ofAny ofAny ofAny
     ∷ quantityRow ofId ofAsked ofTicks ofAny ofAny ofAny
+    ∷ noQuantities
     ∷ noQuantities
     -- when of a close, of a hold, of a lift
     ∷ plainRow

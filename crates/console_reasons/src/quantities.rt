@@ -197,7 +197,7 @@ const PLAN: Row = Row {
     quantities: [FLOOR, CAP, COUNT, ARRIVAL, ANY, ANY],
 };
 
-const COMMANDS: usize = 34;
+const COMMANDS: usize = 35;
 
 // A row for each command, by its number.
 const ROWS: [Row; COMMANDS] = [
@@ -247,7 +247,7 @@ const ROWS: [Row; COMMANDS] = [
     NOTHING,
     NOTHING,
     NOTHING,
-    // when, balance, titles, lanes, quit
+    // when, balance, titles, lanes, quit, draw
     CHANGE,
     Row {
         quantities: [TIME, ID, RATE, ANY, ANY, ANY],
@@ -258,6 +258,7 @@ const ROWS: [Row; COMMANDS] = [
     Row {
         quantities: [ID, ASKED, TICKS, ANY, ANY, ANY],
     },
+    NOTHING,
     NOTHING,
     // when of a close, of a hold, of a lift
     PLAIN,

@@ -26,7 +26,7 @@ use Rattle.console_acts.specs.Named.{namedIn}
 use Rattle.console_acts.specs.Writing.{cutEvent}
 use Rattle.console_reasons.specs.Behind.{behindIn}
 use Rattle.console_desk.specs.Desk.{lineEnd, faultLine, lineText}
-use Rattle.console_desk.proofs.Lines.{readable}
+use Rattle.console_lines.proofs.Longest.{readable}
 use Rattle.headend_desk.specs.declared.Desk.{Desk}
 use Rattle.headend_desk.specs.Desk.{isApart, startsApart, isEventOf, headAnswer, headNext, headTold, answerLine, eventText}
 use Rattle.headend_desk.specs.Desk.{nextBytes, sumText, eventNotice, eventSum, otherText, headText, headAfter, headNotice}

@@ -2,7 +2,8 @@
 use mathlib.Core.Path.{sym, _∙_, ap}
 use Rattle.console_lines.specs.declared.lines.Line.{Line}
 use Rattle.text.specs.Output.{page}
-use Rattle.console_desk.proofs.Lines.{readable, it-is-whole, it-is-faulty}
+use Rattle.console_lines.proofs.Longest.{readable}
+use Rattle.console_desk.proofs.Lines.{it-is-whole, it-is-faulty}
 use borrow.Author.Needs.{needs}
 use Rattle.console_desk.proofs.reply.Statement.{statement}
 use Rattle.console_desk.proofs.reply.Tie as tie
