@@ -4,6 +4,8 @@
 use agent::Agent;
 use console_desk::ANSWER_MAX;
 use console_desk::Answered;
+use console_drawing::drawn::put_drawn;
+use console_drawing::drawn::switched;
 use console_lines::lines::LONGEST_LINE;
 use files::arguments::count_is;
 use sessions::Session;
@@ -11,22 +13,28 @@ use sessions::Session;
 // The pool that a session starts with.
 const POOL: u64 = 8;
 
-// Answers the line at hand, where there is one.
-fn answered(agent: Agent, session: Session, input: &[u8], out: &mut [u8]) -> Answered {
-    let from = session.from;
-    let end = session.end;
-    if session.found {
-        if end <= input.len() {
-            if from <= end {
-                return console_desk::answer(agent, &input[from..end], out, session.at);
-            }
+// Answers the line at hand: where there is none, an empty line asks nothing. On a terminal its event is drawn behind the answer, where events
+// are.
+fn answered(
+    agent: Agent,
+    drawing: bool,
+    session: Session,
+    input: &[u8],
+    out: &mut [u8],
+) -> Answered {
+    let s = sessions::line(session, input);
+    let mut line = console_desk::answer(agent, s, out, session.at);
+    if drawing {
+        if session.prompts {
+            line.at = put_drawn(out, line.at, agent, s);
         }
     }
-    Answered {
-        agent: agent,
-        at: session.at,
-        over: false,
-    }
+    line
+}
+
+// Whether events are drawn after the line at hand.
+fn draws_on(drawing: bool, session: Session, input: &[u8]) -> bool {
+    switched(drawing, sessions::line(session, input))
 }
 
 // Goes on to the next line, or ends the session once what was answered is written.
@@ -44,11 +52,13 @@ fn answer_lines() {
     let mut out = io::large_buffer();
     let fresh = agent::fresh_agent(POOL);
     let mut agent = fresh.agent;
+    let mut drawing = false;
     let mut session = sessions::begun();
     let mut turns = u64::MAX;
     while turns > 0 && session.more {
-        let line = answered(agent, session, &input, &mut out);
+        let line = answered(agent, drawing, session, &input, &mut out);
         agent = line.agent;
+        drawing = draws_on(drawing, session, &input);
         session.at = line.at;
         session = go_on(line.over, session, &mut input, &out);
         turns -= 1;

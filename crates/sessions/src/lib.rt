@@ -25,8 +25,8 @@ pub struct Session {
     passing: bool,
     // no byte will follow those
     last: bool,
-    // a line that is waited for has a prompt
-    prompts: bool,
+    // lines are typed and answers are seen on a terminal: a line that is waited for has a prompt
+    pub prompts: bool,
     // how far the output row is written
     pub at: usize,
     // whether the session goes on
@@ -96,6 +96,20 @@ fn with_line(session: Session, from: usize, end: usize, next: usize) -> Session 
     s.end = end;
     s.next = next;
     s
+}
+
+// The line at hand, empty where there is none.
+pub fn line(session: Session, input: &[u8]) -> &[u8] {
+    let from = session.from;
+    let end = session.end;
+    if session.found {
+        if end <= input.len() {
+            if from <= end {
+                return &input[from..end];
+            }
+        }
+    }
+    &input[..0]
 }
 
 // The next line of the bytes that were read: up to its newline, or to the end of the input. Of one that is too long what

@@ -7,11 +7,11 @@ use Rattle.console.proofs.answer_lines.Statement.{statement}
 use Rattle.console.proofs.answer_lines.Tie as tie
 
 abbrev Inv-loop : tie.InvT-loop
-Inv-loop input₀ out₀ agent₀ session₀ turns₀ input out agent session turns =
+Inv-loop input₀ out₀ agent₀ drawing₀ session₀ turns₀ input out agent drawing session turns =
     (length input ≡ 65536) × (length out ≡ 65536)
 
 abbrev μ-loop : tie.MeasureT-loop
-μ-loop input₀ out₀ agent₀ session₀ turns₀ input out agent session turns = turns
+μ-loop input₀ out₀ agent₀ drawing₀ session₀ turns₀ input out agent drawing session turns = turns
 
 pub answer-lines-spec : {M : Type 1} → statement M
 answer-lines-spec =
@@ -25,6 +25,8 @@ answer-lines-spec =
     (λ c κs. search needs)
     (λ c. search needs)
     (λ c. search needs)
+    (λ c. search needs)
+    (λ c κs. search needs)
     (λ c. search needs)
     (λ c κs. search needs)
     (λ c. search needs)
