@@ -3,6 +3,8 @@
 
 use agent::Agent;
 use console_desk::ANSWER_MAX;
+use console_drawing::drawn::put_drawn;
+use console_drawing::drawn::switched;
 use console_lines::lines::LONGEST_LINE;
 use files::pages::within_row;
 use headend_desk::Answered;
@@ -34,28 +36,39 @@ fn clear(agent: Agent, at: usize) -> Desk {
     }
 }
 
-// Answers the line at hand, where there is one.
+// The place behind what a terminal shows of a line, where events are drawn: the picture of one that was accepted, which moved the sequence.
+fn drawn(before: Desk, after: Desk, session: Session, s: &[u8], out: &mut [u8]) -> usize {
+    let agent = before.agent;
+    if session.prompts {
+        if agent.sequence < after.agent.sequence {
+            return put_drawn(out, after.at, agent, s);
+        }
+    }
+    after.at
+}
+
+// Answers the line at hand: where there is none, an empty line asks nothing. Its event is drawn behind the answer, where events are.
 fn answered(
     desk: Desk,
+    drawing: bool,
     session: Session,
     input: &[u8],
     out: &mut [u8],
     notices: &mut [u8],
     sums: &mut [u8],
 ) -> Answered {
-    let from = session.from;
-    let end = session.end;
-    if session.found {
-        if end <= input.len() {
-            if from <= end {
-                return headend_desk::answer(desk, &input[from..end], out, notices, sums);
-            }
-        }
+    let s = sessions::line(session, input);
+    let line = headend_desk::answer(desk, s, out, notices, sums);
+    if drawing {
+        let mut after = line.desk;
+        let at = drawn(desk, after, session, s, out);
+        after.at = at;
+        return Answered {
+            desk: after,
+            over: line.over,
+        };
     }
-    Answered {
-        desk: desk,
-        over: false,
-    }
+    line
 }
 
 // Whether the journal has to be written now: answers are about to be, or the next notice might not fit.
@@ -158,13 +171,19 @@ fn pass_on(
 // The rows are lent as arrays, whose lengths then need no proof.
 fn answered_in(
     desk: Desk,
+    drawing: bool,
     session: Session,
     input: &[u8; BLOCK],
     out: &mut [u8; BLOCK],
     notices: &mut [u8; NOTICES_ROOM],
     sums: &mut [u8; SUMS_ROOM],
 ) -> Answered {
-    answered(desk, session, input, out, notices, sums)
+    answered(desk, drawing, session, input, out, notices, sums)
+}
+
+// Whether events are drawn after the line at hand.
+fn draws_on(drawing: bool, session: Session, input: &[u8; BLOCK]) -> bool {
+    switched(drawing, sessions::line(session, input))
 }
 
 fn passed_on_in(
@@ -187,10 +206,20 @@ pub fn answer_lines(pair: Pair, first: Agent) {
     let mut notices = [0u8; NOTICES_ROOM];
     let mut sums = [0u8; SUMS_ROOM];
     let mut desk = clear(first, 0);
+    let mut drawing = false;
     let mut session = sessions::begun();
     let mut turns = u64::MAX;
     while turns > 0 && session.more {
-        let line = answered_in(desk, session, &input, &mut out, &mut notices, &mut sums);
+        let line = answered_in(
+            desk,
+            drawing,
+            session,
+            &input,
+            &mut out,
+            &mut notices,
+            &mut sums,
+        );
+        drawing = draws_on(drawing, session, &input);
         let turn = passed_on_in(pair, line, session, &mut input, &out, &notices, &sums);
         desk = turn.desk;
         session = turn.session;
