@@ -13,8 +13,7 @@ use sessions::Session;
 // The pool that a session starts with.
 const POOL: u64 = 8;
 
-// Answers the line at hand: where there is none, an empty line asks nothing. On a terminal its event is drawn behind the answer, where events
-// are.
+// Answers the line at hand: where there is none, an empty line asks nothing. Its event is drawn behind the answer, where events are.
 fn answered(
     agent: Agent,
     drawing: bool,
@@ -25,16 +24,17 @@ fn answered(
     let s = sessions::line(session, input);
     let mut line = console_desk::answer(agent, s, out, session.at);
     if drawing {
-        if session.prompts {
-            line.at = put_drawn(out, line.at, agent, s);
-        }
+        line.at = put_drawn(out, line.at, agent, s);
     }
     line
 }
 
-// Whether events are drawn after the line at hand.
+// Whether events are drawn after the line at hand: never but on a terminal.
 fn draws_on(drawing: bool, session: Session, input: &[u8]) -> bool {
-    switched(drawing, sessions::line(session, input))
+    if session.prompts {
+        return switched(drawing, sessions::line(session, input));
+    }
+    false
 }
 
 // Goes on to the next line, or ends the session once what was answered is written.

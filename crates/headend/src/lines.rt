@@ -36,13 +36,11 @@ fn clear(agent: Agent, at: usize) -> Desk {
     }
 }
 
-// The place behind what a terminal shows of a line, where events are drawn: the picture of one that was accepted, which moved the sequence.
-fn drawn(before: Desk, after: Desk, session: Session, s: &[u8], out: &mut [u8]) -> usize {
+// The place behind what is drawn of a line: an event that was accepted, which moved the sequence.
+fn drawn(before: Desk, after: Desk, s: &[u8], out: &mut [u8]) -> usize {
     let agent = before.agent;
-    if session.prompts {
-        if agent.sequence < after.agent.sequence {
-            return put_drawn(out, after.at, agent, s);
-        }
+    if agent.sequence < after.agent.sequence {
+        return put_drawn(out, after.at, agent, s);
     }
     after.at
 }
@@ -61,7 +59,7 @@ fn answered(
     let line = headend_desk::answer(desk, s, out, notices, sums);
     if drawing {
         let mut after = line.desk;
-        let at = drawn(desk, after, session, s, out);
+        let at = drawn(desk, after, s, out);
         after.at = at;
         return Answered {
             desk: after,
@@ -181,9 +179,12 @@ fn answered_in(
     answered(desk, drawing, session, input, out, notices, sums)
 }
 
-// Whether events are drawn after the line at hand.
+// Whether events are drawn after the line at hand: never but on a terminal.
 fn draws_on(drawing: bool, session: Session, input: &[u8; BLOCK]) -> bool {
-    switched(drawing, sessions::line(session, input))
+    if session.prompts {
+        return switched(drawing, sessions::line(session, input));
+    }
+    false
 }
 
 fn passed_on_in(
