@@ -30,5 +30,5 @@ xOf span n = plotLeft + partOf plotWidth span n
 -- a mark down from a place, and below it a time in hours, minutes and seconds
 unfoldable pub timeMarkText : ℕ → ℕ → ℕ → List ℕ
 timeMarkText x y ms =
-    (pathText (text "axis") ++ pointText 77 x y ++ stepText 86 (y + 60) ++ pathEnd)
+    pathText (text "axis") ++ pointText 77 x y ++ stepText 86 (y + 60) ++ pathEnd
     ++ labelText (text "time") x (y + 190) ++ clockText ms ++ labelEnd

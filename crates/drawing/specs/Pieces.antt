@@ -16,7 +16,7 @@ fieldText lead n = lead ++ tenthsText n
 -- a rectangle of a class and a number of that class, up to where its hover text begins; and what ends both
 unfoldable pub rectText : List ℕ → ℕ → Area → List ℕ
 rectText class n a =
-    (text "<rect class='" ++ class ++ decimal n)
+    text "<rect class='" ++ class ++ decimal n
     ++ fieldText (text "' x='") (a .x)
     ++ fieldText (text "' y='") (a .y)
     ++ fieldText (text "' width='") (a .width)

@@ -23,7 +23,10 @@ ghost use Rattle.rules.specs.Limits.{idMax};
 fn put_sheet_of_lines(out: &mut [u8], at: usize) -> usize
     ensures { λ r. ⌜ Written (now (out .entry)) at sheetOfLines (now (out .exit)) r ⌝ }
 {
-    put(out, at, b"svg{max-width:100%;height:auto;background:#fff}\n\
+    put(
+        out,
+        at,
+        b"svg{max-width:100%;height:auto;background:#fff}\n\
         text{font:12px sans-serif;fill:#222}\n\
         .head{font-size:16px;font-weight:bold}\n\
         .time{text-anchor:middle;font-size:11px}\n\
@@ -35,25 +38,33 @@ fn put_sheet_of_lines(out: &mut [u8], at: usize) -> usize
         .grid{stroke:#ddd}\n\
         .limit{stroke:#b00020;stroke-dasharray:6 3}\n\
         .plays{stroke:#222;stroke-width:1.5}\n\
-        .curve{stroke:#0b3d91;stroke-width:1.5}\n")
+        .curve{stroke:#0b3d91;stroke-width:1.5}\n",
+    )
 }
 
 // Bands, events and refusals.
 fn put_sheet_of_marks(out: &mut [u8], at: usize) -> usize
     ensures { λ r. ⌜ Written (now (out .entry)) at sheetOfMarks (now (out .exit)) r ⌝ }
 {
-    put(out, at, b"rect{fill:#222}\n\
+    put(
+        out,
+        at,
+        b"rect{fill:#222}\n\
         .b0{fill:#f7f7f7}\n\
         .b1{fill:#efefef}\n\
         .d0{fill:#555;fill-opacity:.45}\n\
-        [class^='r']{fill:#d00020}\n")
+        [class^='r']{fill:#d00020}\n",
+    )
 }
 
 // Active lanes and sending lanes of each title.
 fn put_sheet_of_titles(out: &mut [u8], at: usize) -> usize
     ensures { λ r. ⌜ Written (now (out .entry)) at sheetOfTitles (now (out .exit)) r ⌝ }
 {
-    put(out, at, b".t0{fill:#0e6a91}.s0{fill:url(#h0);stroke:#0e6a91}\n\
+    put(
+        out,
+        at,
+        b".t0{fill:#0e6a91}.s0{fill:url(#h0);stroke:#0e6a91}\n\
         .t1{fill:#fe8a84}.s1{fill:url(#h1);stroke:#fe8a84}\n\
         .t2{fill:#0d9971}.s2{fill:url(#h2);stroke:#0d9971}\n\
         .t3{fill:#473b9d}.s3{fill:url(#h3);stroke:#473b9d}\n\
@@ -68,15 +79,20 @@ fn put_sheet_of_titles(out: &mut [u8], at: usize) -> usize
         .t12{fill:#9a920e}.s12{fill:url(#h12);stroke:#9a920e}\n\
         .t13{fill:#01485d}.s13{fill:url(#h13);stroke:#01485d}\n\
         .t14{fill:#fe97a3}.s14{fill:url(#h14);stroke:#fe97a3}\n\
-        .t15{fill:#059050}.s15{fill:url(#h15);stroke:#059050}\n")
+        .t15{fill:#059050}.s15{fill:url(#h15);stroke:#059050}\n",
+    )
 }
 
 // The shades of lanes.
 fn put_sheet_of_lanes(out: &mut [u8], at: usize) -> usize
     ensures { λ r. ⌜ Written (now (out .entry)) at sheetOfLanes (now (out .exit)) r ⌝ }
 {
-    put(out, at, b".l0{fill:#2f2e7e}.l1{fill:#074484}.l2{fill:#025482}.l3{fill:#036385}.l4{fill:#087289}.l5{fill:#03818c}\n\
-        .l6{fill:#0b908c}.l7{fill:#06a085}.l8{fill:#35af74}.l9{fill:#72b967}.l10{fill:#a2c160}.l11{fill:#cec762}\n")
+    put(
+        out,
+        at,
+        b".l0{fill:#2f2e7e}.l1{fill:#074484}.l2{fill:#025482}.l3{fill:#036385}.l4{fill:#087289}.l5{fill:#03818c}\n\
+        .l6{fill:#0b908c}.l7{fill:#06a085}.l8{fill:#35af74}.l9{fill:#72b967}.l10{fill:#a2c160}.l11{fill:#cec762}\n",
+    )
 }
 
 fn put_sheet(out: &mut [u8], at: usize) -> usize
