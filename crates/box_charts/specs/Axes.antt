@@ -32,11 +32,12 @@ plotRight = plotLeft + plotWidth
 unfoldable pub yOf : ℕ → ℕ → ℕ
 yOf n c = takenBottom - partOf takenHeight n c
 
--- both frames, left and below
+-- both frames, left and below, and what is counted upwards
 unfoldable pub framesText : List ℕ
 framesText =
     pathText (text "axis") ++ pointText 77 plotLeft takenTop ++ stepText 86 takenBottom ++ stepText 72 plotRight
     ++ pointText 77 plotLeft keptTop ++ stepText 86 keptBottom ++ stepText 72 plotRight ++ pathEnd
+    ++ labelText (text "right") (plotLeft - 80) (takenTop - 140) ++ text "cell" ++ labelEnd
 
 -- q quarters of n
 abbrev pub quartersOf : ℕ → ℕ → ℕ

@@ -40,7 +40,7 @@ pub fn y_of(n: u64, c: u64) -> u64
     TAKEN_BOTTOM - part(TAKEN_HEIGHT, n, c)
 }
 
-// Both frames, left and below.
+// Both frames, left and below, and what is counted upwards.
 pub fn put_frames(out: &mut [u8], at: usize) -> usize
     ensures { λ r. ⌜ Written (now (out .entry)) at framesText (now (out .exit)) r ⌝ }
 {
@@ -51,7 +51,10 @@ pub fn put_frames(out: &mut [u8], at: usize) -> usize
     let e = put_point(out, d, b'M', PLOT_LEFT, KEPT_TOP);
     let f = put_step(out, e, b'V', KEPT_BOTTOM);
     let g = put_step(out, f, b'H', PLOT_RIGHT);
-    put_path_end(out, g)
+    let h = put_path_end(out, g);
+    let i = put_label(out, h, b"right", PLOT_LEFT - 80, TAKEN_TOP - 140);
+    let j = put(out, i, b"cell");
+    put_label_end(out, j)
 }
 
 // A line through both plots, and the tick between them.

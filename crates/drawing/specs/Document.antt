@@ -30,7 +30,7 @@ sheetOfMarks =
     ++ text ".b0{fill:#f7f7f7}\n"
     ++ text ".b1{fill:#efefef}\n"
     ++ text ".d0{fill:#555;fill-opacity:.45}\n"
-    ++ text "[class^='r']{fill:#d00020}\n"
+    ++ text "rect[class^='r']{fill:#d00020}\n"
 
 -- what a title's id is drawn in: t where it is active, s where a lane still sends
 abbrev pub sheetOfTitles : List ℕ
@@ -52,11 +52,11 @@ sheetOfTitles =
     ++ text ".t14{fill:#fe97a3}.s14{fill:url(#h14);stroke:#fe97a3}\n"
     ++ text ".t15{fill:#059050}.s15{fill:url(#h15);stroke:#059050}\n"
 
--- the shades of lanes, from dark to light
+-- the shades of lanes, neighbours one dark and one light
 abbrev pub sheetOfLanes : List ℕ
 sheetOfLanes =
-    text ".l0{fill:#2f2e7e}.l1{fill:#074484}.l2{fill:#025482}.l3{fill:#036385}.l4{fill:#087289}.l5{fill:#03818c}\n"
-    ++ text ".l6{fill:#0b908c}.l7{fill:#06a085}.l8{fill:#35af74}.l9{fill:#72b967}.l10{fill:#a2c160}.l11{fill:#cec762}\n"
+    text ".l0{fill:#043875}.l1{fill:#eb734a}.l2{fill:#047339}.l3{fill:#e3b543}.l4{fill:#870368}.l5{fill:#15b0c9}\n"
+    ++ text ".l6{fill:#cc3e49}.l7{fill:#bdd75d}.l8{fill:#095b7d}.l9{fill:#fe86a5}.l10{fill:#be6d17}.l11{fill:#14f0e6}\n"
 
 unfoldable pub sheet : List ℕ
 sheet = text "<style>\n" ++ sheetOfLines ++ sheetOfMarks ++ sheetOfTitles ++ sheetOfLanes ++ text "</style>\n"

@@ -53,7 +53,7 @@ fn put_sheet_of_marks(out: &mut [u8], at: usize) -> usize
         .b0{fill:#f7f7f7}\n\
         .b1{fill:#efefef}\n\
         .d0{fill:#555;fill-opacity:.45}\n\
-        [class^='r']{fill:#d00020}\n",
+        rect[class^='r']{fill:#d00020}\n",
     )
 }
 
@@ -90,8 +90,8 @@ fn put_sheet_of_lanes(out: &mut [u8], at: usize) -> usize
     put(
         out,
         at,
-        b".l0{fill:#2f2e7e}.l1{fill:#074484}.l2{fill:#025482}.l3{fill:#036385}.l4{fill:#087289}.l5{fill:#03818c}\n\
-        .l6{fill:#0b908c}.l7{fill:#06a085}.l8{fill:#35af74}.l9{fill:#72b967}.l10{fill:#a2c160}.l11{fill:#cec762}\n",
+        b".l0{fill:#043875}.l1{fill:#eb734a}.l2{fill:#047339}.l3{fill:#e3b543}.l4{fill:#870368}.l5{fill:#15b0c9}\n\
+        .l6{fill:#cc3e49}.l7{fill:#bdd75d}.l8{fill:#095b7d}.l9{fill:#fe86a5}.l10{fill:#be6d17}.l11{fill:#14f0e6}\n",
     )
 }
 

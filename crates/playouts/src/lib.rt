@@ -1,11 +1,12 @@
 // What the twelve lanes of a title carry over its latest opening in a log, as text: a line for each tick. The log is played twice, read
-// by read: once for the title's latest opening, once for its lanes. No public function has a `requires`.
+// by read: once for the title's latest opening, once for its lanes. No public function of this file has a `requires`; those of `follow`
+// and `window` are for the crates above, and say in one what they build on.
 
 mod cells;
-mod follow;
+pub mod follow;
 mod given;
-mod lines;
-mod window;
+pub mod lines;
+pub mod window;
 
 use given::in_limits;
 use judging::TICKS_MAX;

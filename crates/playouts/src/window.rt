@@ -50,7 +50,7 @@ pub fn window_answer(pool: u64, log: &[u8], title: u64, tick: u64) -> u8
 
 // The numbers of a window, where the log answers done: those up to the latest event as the log is played, and the rest as the title
 // stands at its end.
-fn fill(pool: u64, log: &[u8], title: u64, from: u64, ticks: u64, numbers: &mut [u16]) -> u8
+pub fn fill(pool: u64, log: &[u8], title: u64, from: u64, ticks: u64, numbers: &mut [u16]) -> u8
     requires { ⌜ inLimits pool title ≡ true ⌝ }
     requires { ⌜ Fillable from (now numbers) ⌝ }
     requires { ⌜ WholeTicks ticks (now numbers) ⌝ }

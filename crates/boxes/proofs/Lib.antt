@@ -1,0 +1,5 @@
+-- Laws of a box's beginning and of its rooms, that its cells are taken in time, and that outcomes are one.
+pub mod Standing
+pub mod Beginnings
+pub mod Rows
+pub mod InTime

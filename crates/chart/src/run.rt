@@ -1,0 +1,91 @@
+// The program: arguments POOL ID TIME, the log on standard input. No contract can say what is read and written: the work is in `boxes` and
+// in `complaints`; these functions are safe and end.
+
+use crate::complaints::put_beginning;
+use crate::input::Log;
+use crate::input::read_log;
+use crate::input::time_given;
+use boxes::beginning_of;
+use boxes::put_box;
+use files::arguments::Given;
+use files::arguments::are_right;
+use files::arguments::number_named;
+use files::complaints::write_complaints;
+use files::loading::LOG_ROOM;
+use files::pages::write_page;
+use unheard_io::put_unheard;
+
+// No picture is longer.
+const PICTURE_ROOM: usize = 4_999_999;
+
+// The box that was asked for.
+struct Asked {
+    pool: u64,
+    title: u64,
+    time: u64,
+}
+
+// It, or that standard error says what is wrong.
+enum Box {
+    Of(Asked),
+    Nothing,
+}
+
+fn show(asked: Asked, log: &[u8], out: &mut [u8]) {
+    let size = put_box(out, asked.pool, log, asked.title, asked.time);
+    write_page(out, size);
+}
+
+fn complain_beside(asked: Asked, log: &[u8]) {
+    let mut out = io::buffer();
+    let found = beginning_of(asked.pool, log, asked.title, asked.time);
+    let a = put_unheard(&mut out, 0, asked.pool, log);
+    let size = put_beginning(&mut out, a, asked.title, asked.time, found);
+    write_complaints(&out, size);
+}
+
+fn with_rooms(asked: Asked, log: &[u8], out: &mut [u8]) {
+    show(asked, log, out);
+    complain_beside(asked, log);
+}
+
+// The rooms are lent as arrays first, whose lengths then need no proof.
+fn lend(asked: Asked, log: &mut [u8; LOG_ROOM], out: &mut [u8; PICTURE_ROOM]) {
+    let read = read_log(log);
+    let Log::Bytes(size) = read else {
+        return;
+    };
+    if size <= log.len() {
+        with_rooms(asked, &log[..size], out);
+    }
+}
+
+// The numbers are tested in their order.
+fn box_given() -> Box {
+    let Given::Number(pool) = number_named(1, b"POOL") else {
+        return Box::Nothing;
+    };
+    let Given::Number(title) = number_named(2, b"ID") else {
+        return Box::Nothing;
+    };
+    let Given::Number(time) = time_given(3) else {
+        return Box::Nothing;
+    };
+    Box::Of(Asked {
+        pool: pool,
+        title: title,
+        time: time,
+    })
+}
+
+// How many arguments there are is tested first, then the numbers, then the log.
+pub fn run() {
+    if are_right(1, 4, 4, b"chart POOL ID TIME < LOG") {
+        let Box::Of(asked) = box_given() else {
+            return;
+        };
+        let mut log = [0u8; LOG_ROOM];
+        let mut out = [0u8; PICTURE_ROOM];
+        lend(asked, &mut log, &mut out);
+    }
+}
