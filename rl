@@ -324,6 +324,7 @@ REPORTS = {
     "waits": re.compile(rb"\d+ [a-z]"),
     "air": re.compile(rb"\d+ [a-z]"),
     "playout": re.compile(rb"\d+ [a-z]"),
+    "chart": re.compile(rb"\d+ [a-z]"),
     "headend --check": re.compile(rb"\? "),
     "headend --sums": re.compile(rb"\? "),
 }

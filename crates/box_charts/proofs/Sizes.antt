@@ -9,7 +9,7 @@ use Rattle.drawing.specs.Axis.{xOf, timeMarkText}
 use Rattle.takings.specs.declared.Peak.{Peak}
 use Rattle.box_charts.specs.Axes.{yOf}
 use Rattle.box_charts.specs.Marks.{markLeast, markArea}
-use Rattle.box_charts.specs.Curve.{curveText}
+use Rattle.box_charts.specs.Curve.{keptCurve}
 
 pub quarter-low : (n q : ℕ) → n ≤ planPlaces → q ≤ 4 → n * q ≤ planPlaces * 4
 quarter-low n q h k = mul-le-mul h k
@@ -24,8 +24,8 @@ later-low n q tick h k g = mul-le-mul (quarter-of n q h k) g
 pub time-at : {x z : ℕ} (y ms : ℕ) → x ≡ z → timeMarkText x y ms ≡ timeMarkText z y ms
 time-at y ms e = ap (λ x. timeMarkText x y ms) e
 
-pub curve-of : {p q : Peak} (n : ℕ) (kept : ℕ → ℕ) → p ≡ q → curveText n (p .many) kept ≡ curveText n (q .many) kept
-curve-of n kept e = ap (λ (p : Peak). curveText n (p .many) kept) e
+pub curve-of : {p q : Peak} (n : ℕ) (kept : ℕ → ℕ) → p ≡ q → keptCurve n (p .many) kept ≡ keptCurve n (q .many) kept
+curve-of n kept e = ap (λ (p : Peak). keptCurve n (p .many) kept) e
 
 -- the area of a mark, from where its tick begins and ends and its cell begins and ends
 pub area-is : (n tick c s e w t b h : ℕ) → e ≡ xOf n (tick + 1) → s ≡ xOf n tick → w ≡ max (e - s) markLeast → t ≡ yOf n (c + 1)

@@ -17,8 +17,8 @@ unfoldable pub curveTo : ℕ → ℕ → (ℕ → ℕ) → ℕ → List ℕ
 curveTo n most kept zero = []
 curveTo n most kept (suc t) = curveTo n most kept t ++ stepText 86 (keptY most (kept t)) ++ stepText 72 (xOf n (suc t))
 
-unfoldable pub curveText : ℕ → ℕ → (ℕ → ℕ) → List ℕ
-curveText n most kept =
+unfoldable pub keptCurve : ℕ → ℕ → (ℕ → ℕ) → List ℕ
+keptCurve n most kept =
     pathText (text "curve") ++ pointText 77 plotLeft keptBottom ++ curveTo n most kept n ++ stepText 86 keptBottom ++ pathEnd
 
 -- the line of the most, and what it is

@@ -7,8 +7,8 @@ use Rattle.clocks.specs.Clocks.{clockText}
 use Rattle.drawing.specs.Pieces.{rectText, rectEnd, labelText, labelEnd}
 use Rattle.drawing.specs.Axis.{plotLeft}
 
-unfoldable pub headingText : ℕ → ℕ → List ℕ
-headingText title moment =
+unfoldable pub boxHeading : ℕ → ℕ → List ℕ
+boxHeading title moment =
     labelText (text "head") plotLeft 360
     ++ text "Title " ++ decimal title ++ text ": the box that begins at " ++ clockText moment
     ++ labelEnd

@@ -5,10 +5,10 @@ use mathlib.Core.List.{List, _++_}
 use Rattle.drawing.specs.Document.{headText, footText}
 use Rattle.takings.specs.Takings.{keptAt, peakTo}
 use Rattle.box_charts.specs.declared.Begun.{Begun}
-use Rattle.box_charts.specs.Heading.{headingText, meaningLine, laneKeys}
+use Rattle.box_charts.specs.Heading.{boxHeading, meaningLine, laneKeys}
 use Rattle.box_charts.specs.Axes.{quartersText, framesText}
 use Rattle.box_charts.specs.Marks.{playsText, marksTo}
-use Rattle.box_charts.specs.Curve.{curveText, peakText}
+use Rattle.box_charts.specs.Curve.{keptCurve, peakText}
 
 abbrev pub chartWidth : ℕ
 chartWidth = 13_600
@@ -17,10 +17,10 @@ abbrev pub chartHeight : ℕ
 chartHeight = 9_300
 
 -- what stands above the plots, and their frames
-unfoldable pub frameText : Begun → ℕ → List ℕ
-frameText b n =
+unfoldable pub boxFrame : Begun → ℕ → List ℕ
+boxFrame b n =
     headText chartWidth chartHeight
-    ++ headingText (b .title) (b .moment)
+    ++ boxHeading (b .title) (b .moment)
     ++ meaningLine n (b .tick)
     ++ laneKeys (b .lanes)
     ++ quartersText (b .moment) (b .tick) n 5
@@ -31,8 +31,8 @@ unfoldable pub drawnText : (ℕ → ℕ) → ℕ → List ℕ
 drawnText place n =
     playsText n
     ++ marksTo n place n
-    ++ curveText n (peakTo (keptAt place n) n .many) (keptAt place n)
+    ++ keptCurve n (peakTo (keptAt place n) n .many) (keptAt place n)
     ++ peakText (peakTo (keptAt place n) n)
 
-unfoldable pub pictureText : Begun → (ℕ → ℕ) → ℕ → List ℕ
-pictureText b place n = frameText b n ++ drawnText place n ++ footText
+unfoldable pub boxDrawing : Begun → (ℕ → ℕ) → ℕ → List ℕ
+boxDrawing b place n = boxFrame b n ++ drawnText place n ++ footText

@@ -23,7 +23,7 @@ ghost use lib.ListN.{length, getD};
 ghost use Rattle.rules.specs.Limits.{planPlaces};
 ghost use Rattle.text.specs.Output.{Written};
 ghost use Rattle.takings.specs.Takings.{keptAt};
-ghost use Rattle.box_charts.specs.Curve.{keptY, curveTo, curveText, peakText};
+ghost use Rattle.box_charts.specs.Curve.{keptY, curveTo, keptCurve, peakText};
 
 // How high so many kept cells reach.
 fn kept_y(most: u64, many: u64) -> u64
@@ -51,7 +51,7 @@ fn put_curve_steps(out: &mut [u8], at: usize, taken: &[u16], most: u64) -> usize
 
 pub fn put_curve(out: &mut [u8], at: usize, taken: &[u16], most: u64) -> usize
     requires { ⌜ length (now taken) ≤ planPlaces ⌝ }
-    ensures { λ r. ⌜ Written (now (out .entry)) at (curveText (length (now (taken .entry))) most (keptAt (λ c. getD (now (taken .entry)) c 0) (length (now (taken .entry))))) (now (out .exit)) r ⌝ }
+    ensures { λ r. ⌜ Written (now (out .entry)) at (keptCurve (length (now (taken .entry))) most (keptAt (λ c. getD (now (taken .entry)) c 0) (length (now (taken .entry))))) (now (out .exit)) r ⌝ }
 {
     let a = put_path(out, at, b"curve");
     let b = put_point(out, a, b'M', PLOT_LEFT, KEPT_BOTTOM);

@@ -12,13 +12,13 @@ use text::output::put;
 ghost use Prim.Native.Nat.{_≤_};
 ghost use Rattle.rules.specs.Limits.{countMax};
 ghost use Rattle.text.specs.Output.{Written};
-ghost use Rattle.box_charts.specs.Heading.{headingText, meaningLine, laneName, laneKey, laneKeys};
+ghost use Rattle.box_charts.specs.Heading.{boxHeading, meaningLine, laneName, laneKey, laneKeys};
 
 // The keys of the lanes stand so far apart.
 const KEY_STEP: u64 = 950;
 
 pub fn put_heading(out: &mut [u8], at: usize, title: u64, moment: u64) -> usize
-    ensures { λ r. ⌜ Written (now (out .entry)) at (headingText title moment) (now (out .exit)) r ⌝ }
+    ensures { λ r. ⌜ Written (now (out .entry)) at (boxHeading title moment) (now (out .exit)) r ⌝ }
 {
     let a = put_label(out, at, b"head", PLOT_LEFT, 360);
     let b = put(out, a, b"Title ");

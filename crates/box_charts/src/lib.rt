@@ -22,7 +22,7 @@ ghost use Prim.Native.Nat.{_≤_};
 ghost use lib.ListN.{length, getD};
 ghost use Rattle.rules.specs.Limits.{planPlaces, askedMax, lengthMax, countMax};
 ghost use Rattle.text.specs.Output.{Written};
-ghost use Rattle.box_charts.specs.Picture.{frameText, drawnText, pictureText};
+ghost use Rattle.box_charts.specs.Picture.{boxFrame, drawnText, boxDrawing};
 
 const CHART_WIDTH: u64 = 13_600;
 
@@ -39,7 +39,7 @@ pub struct Begun {
 // What stands above the plots, and their frames.
 fn put_frame(out: &mut [u8], at: usize, begun: Begun, cells: u64) -> usize
     requires { ⌜ (begun .moment ≤ askedMax) × (begun .tick ≤ lengthMax) × (begun .lanes ≤ countMax) × (cells ≤ planPlaces) ⌝ }
-    ensures { λ r. ⌜ Written (now (out .entry)) at (frameText begun cells) (now (out .exit)) r ⌝ }
+    ensures { λ r. ⌜ Written (now (out .entry)) at (boxFrame begun cells) (now (out .exit)) r ⌝ }
 {
     let title = begun.title;
     let moment = begun.moment;
@@ -69,7 +69,7 @@ fn put_drawn(out: &mut [u8], at: usize, taken: &[u16]) -> usize
 pub fn put_picture(out: &mut [u8], at: usize, begun: Begun, taken: &[u16]) -> usize
     requires { ⌜ (begun .moment ≤ askedMax) × (begun .tick ≤ lengthMax) × (begun .lanes ≤ countMax) ⌝ }
     requires { ⌜ length (now taken) ≤ planPlaces ⌝ }
-    ensures { λ r. ⌜ Written (now (out .entry)) at (pictureText begun (λ c. getD (now (taken .entry)) c 0) (length (now (taken .entry)))) (now (out .exit)) r ⌝ }
+    ensures { λ r. ⌜ Written (now (out .entry)) at (boxDrawing begun (λ c. getD (now (taken .entry)) c 0) (length (now (taken .entry)))) (now (out .exit)) r ⌝ }
 {
     let a = put_frame(out, at, begun, taken.len() as u64);
     let b = put_drawn(out, a, taken);

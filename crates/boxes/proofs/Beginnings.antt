@@ -1,6 +1,6 @@
 -- What is told of a moment: the report of one arrival as a beginning, and that the admission told of is at the very moment exactly where a
 -- box begins then. Rests on an arrival's next admission being the first that lets it in.
-use mathlib.Core.Path.{_≡_, refl, sym, ap, _∙_}
+use mathlib.Core.Path.{_≡_, refl, sym, subst, _∙_}
 use mathlib.Core.Bool.{Bool, true, false, false≢true}
 use mathlib.Core.Logic.{⊎-elim}
 use mathlib.Core.List.{List, [], _∷_}
@@ -96,25 +96,25 @@ module _ (L : Life) (some : 0 < tickLength L) where
         let w = lets (both-l (r .follows) _ h) in
         let moment : momentOf L (w .0) ≡ x = omega (arith, w .2) in
         let tick : tickIn L x ≡ w .0 = tick-begins (w .0) x moment in
-        both-in (letsIn L x (tickIn L x)) (eqb (momentOf L (tickIn L x)) x) (rw (tick, ← here) (w .1 .lets-in))
+        both-in (letsIn L x (tickIn L x)) (eqb (momentOf L (tickIn L x)) x) (rw tick (subst (λ y. letsIn L y (w .0) ≡ true) here (w .1 .lets-in)))
         (rw tick (eq-eqb _ _ moment))
 
     begins-now : isBeginning L x ≡ true → isNow r x ≡ true
     unfolding isNow isBeginning
     begins-now h =
         let t : ℕ = tickIn L x in
-        let open : letsIn L x t ≡ true = both-l (letsIn L x t) _ h in
+        let lets-x : letsIn L x t ≡ true = both-l (letsIn L x t) _ h in
         let moment : momentOf L t ≡ x = eqb-true (momentOf L t) x (both-r (letsIn L x t) _ h) in
-        let since = let-in L x t open .not-early in
+        let since = let-in L x t lets-x .not-early in
         let here : r .from ≡ x = omega (arith, is) in
         ⊎-elim
         (λ f.
         let w = lets f in
-        let first : w .0 ≤ t = ⊎-elim (λ z. absurd (false≢true (sym (w .1 .none-before t (ltb-true t (w .0) z)) ∙ rw here open))) (λ z. ltb-false t (w .0) z) (decide (ltb t (w .0))) in
+        let first : w .0 ≤ t = ⊎-elim (λ z. absurd (false≢true (sym (w .1 .none-before t (ltb-true t (w .0) z)) ∙ rw here lets-x))) (λ z. ltb-false t (w .0) z) (decide (ltb t (w .0))) in
         let early : w .0 * tickLength L ≤ t * tickLength L = mul-le-mul-right (tickLength L) first in
         let none : r .wait ≡ 0 = omega (arith, w .2) in
         rw f (both-in (eqb (r .from) x) (eqb (r .wait) 0) (eq-eqb _ _ here) (eq-eqb _ _ none)))
-        (λ f. absurd (false≢true (sym (turned f t) ∙ rw here open)))
+        (λ f. absurd (false≢true (sym (turned f t) ∙ rw here lets-x)))
         (decide (r .follows))
 
     pub now-exactly : isNow r x ≡ isBeginning L x

@@ -15,16 +15,16 @@ use Rattle.scheme.specs.Scheme.{filmIn}
 use Rattle.plans.specs.Row.{written}
 use Rattle.plans.proofs.Row.{written-first, written-length}
 use Rattle.takings.specs.declared.Peak.{Peak}
-use Rattle.takings.specs.Takings.{placeOf, isKept, keptAt, peakTo}
+use Rattle.takings.specs.Takings.{takingPlace, isKept, keptAt, peakTo}
 use Rattle.box_charts.specs.declared.Begun.{Begun}
 use Rattle.box_charts.specs.Marks.{markIf, marksTo}
-use Rattle.box_charts.specs.Curve.{curveTo, curveText, peakText}
-use Rattle.box_charts.specs.Picture.{drawnText, pictureText}
+use Rattle.box_charts.specs.Curve.{curveTo, keptCurve, peakText}
+use Rattle.box_charts.specs.Picture.{drawnText, boxDrawing}
 
 -- ---- places from numbers
 
-place-alike : (D tick : ℕ) (f g : ℕ → ℕ) (m : ℕ) → ((j : ℕ) → j < m → f j ≡ g j) → (c : ℕ) → placeOf D tick f m c ≡ placeOf D tick g m c
-unfolding placeOf
+place-alike : (D tick : ℕ) (f g : ℕ → ℕ) (m : ℕ) → ((j : ℕ) → j < m → f j ≡ g j) → (c : ℕ) → takingPlace D tick f m c ≡ takingPlace D tick g m c
+unfolding takingPlace
 place-alike D tick f g m e c =
     ap (λ n. pick (filmIn D tick c) n m) (first-ext (λ j. eqb (f j) c) (λ j. eqb (g j) c) m (λ j lt. ap (λ n. eqb n c) (e j lt)))
 
@@ -35,8 +35,8 @@ written-ext f g row e (suc n) = rw (written-ext f g row e n, e n) refl
 
 -- the places over numbers that were written are those over the numbers
 pub taken-from : (D tick : ℕ) (f : ℕ → ℕ) (numbers row : List ℕ) (n : ℕ) →
-    written (placeOf D tick (λ j. getD (written f numbers (length numbers)) j 0) (length (written f numbers (length numbers)))) row n
-    ≡ written (placeOf D tick f (length numbers)) row n
+    written (takingPlace D tick (λ j. getD (written f numbers (length numbers)) j 0) (length (written f numbers (length numbers)))) row n
+    ≡ written (takingPlace D tick f (length numbers)) row n
 taken-from D tick f numbers row n =
     rw (written-length f numbers (length numbers))
     (written-ext _ _ row (place-alike D tick _ f (length numbers) (λ j lt. written-first f numbers (length numbers) j (omega arith) lt)) n)
@@ -63,6 +63,6 @@ module _ (place other : ℕ → ℕ) (n : ℕ) (alike : (c : ℕ) → c < n → 
   curve-alike most zero = refl
   curve-alike most (suc m) = rw (curve-alike most m, kept-alike m) refl
 
-  pub picture-alike : (b : Begun) → pictureText b other n ≡ pictureText b place n
-  unfolding pictureText drawnText curveText
+  pub picture-alike : (b : Begun) → boxDrawing b other n ≡ boxDrawing b place n
+  unfolding boxDrawing drawnText keptCurve
   picture-alike b = rw (marks-alike n (omega arith), peak-alike n, curve-alike (peakTo (keptAt place n) n .many) n) refl

@@ -16,9 +16,9 @@ use Rattle.admissions.specs.Waits.{letsIn, Next, TurnedAway}
 use Rattle.airing.specs.Air.{inLimits}
 use Rattle.playouts.specs.Playout.{wasOpened, isAskable, lastOf, playoutNumber}
 use Rattle.playouts.specs.Lines.{refusedLine}
-use Rattle.takings.specs.Takings.{placeOf}
+use Rattle.takings.specs.Takings.{takingPlace}
 use Rattle.box_charts.specs.declared.Begun.{Begun}
-use Rattle.box_charts.specs.Picture.{pictureText}
+use Rattle.box_charts.specs.Picture.{boxDrawing}
 use Rattle.boxes.specs.declared.Beginning.{Beginning}
 
 -- the box's ticks: as many as the title has cells, from the tick that holds the moment on
@@ -46,7 +46,7 @@ isBeginning L x = both (letsIn L x (tickIn L x)) (eqb (momentOf L (tickIn L x)) 
 -- the place at which the box takes a cell, by the numbers of the title's lanes from its start on
 unfoldable pub boxPlace : ℕ → List ℕ → ℕ → ℕ → ℕ → ℕ
 boxPlace pool log title x c =
-    placeOf (lifeIn pool log title .film .length) (tickLength (lifeIn pool log title))
+    takingPlace (lifeIn pool log title .film .length) (tickLength (lifeIn pool log title))
     (playoutNumber pool log title (tickIn (lifeIn pool log title) x)) (boxTicks (lifeIn pool log title) * lanePlaces) c
 
 abbrev pub begunOf : Life → ℕ → ℕ → Begun
@@ -54,7 +54,7 @@ begunOf L title x = record { title = title; moment = x; tick = tickLength L; lan
 
 abbrev pub boxPicture : ℕ → List ℕ → ℕ → ℕ → List ℕ
 boxPicture pool log title x =
-    pictureText (begunOf (lifeIn pool log title) title x) (boxPlace pool log title x) (boxTicks (lifeIn pool log title))
+    boxDrawing (begunOf (lifeIn pool log title) title x) (boxPlace pool log title x) (boxTicks (lifeIn pool log title))
 
 -- what is written: the picture at an admission, nothing at another moment, or the refusal
 unfoldable pub boxText : ℕ → List ℕ → ℕ → ℕ → List ℕ

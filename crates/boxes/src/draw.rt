@@ -52,14 +52,7 @@ fn take_places(
 {
     let film = t.film;
     let tick = scheme::tick(film.kind, film.length, film.floor, film.cap);
-    fill(
-        pool,
-        log,
-        title,
-        tick_at(t, time),
-        pow2(film.cap),
-        numbers,
-    );
+    fill(pool, log, title, tick_at(t, time), pow2(film.cap), numbers);
     take_all(numbers, film.length, tick, places);
 }
 

@@ -44,10 +44,7 @@ pub fn beginning_of(pool: u64, log: &[u8], title: u64, time: u64) -> Beginning
 pub fn is_now(found: Beginning, time: u64) -> bool
     ensures { λ r. ⌜ r ≡ isNow found time ⌝ }
 {
-    also(
-        found.follows,
-        also(found.from == time, found.wait == 0),
-    )
+    also(found.follows, also(found.from == time, found.wait == 0))
 }
 
 // The picture of the box, nothing at a moment that is no admission, or the refusal's line.

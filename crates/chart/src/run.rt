@@ -2,8 +2,6 @@
 // in `complaints`; these functions are safe and end.
 
 use crate::complaints::put_beginning;
-use crate::input::Log;
-use crate::input::read_log;
 use crate::input::time_given;
 use boxes::beginning_of;
 use boxes::put_box;
@@ -12,6 +10,7 @@ use files::arguments::are_right;
 use files::arguments::number_named;
 use files::complaints::write_complaints;
 use files::loading::LOG_ROOM;
+use files::loading::load_input;
 use files::pages::write_page;
 use unheard_io::put_unheard;
 
@@ -44,20 +43,18 @@ fn complain_beside(asked: Asked, log: &[u8]) {
     write_complaints(&out, size);
 }
 
-fn with_rooms(asked: Asked, log: &[u8], out: &mut [u8]) {
-    show(asked, log, out);
-    complain_beside(asked, log);
+fn with_rooms(asked: Asked, log: &mut [u8], out: &mut [u8]) {
+    let read = load_input(log);
+    let size = read.size;
+    if read.ok {
+        show(asked, &log[..size], out);
+        complain_beside(asked, &log[..size]);
+    }
 }
 
 // The rooms are lent as arrays first, whose lengths then need no proof.
 fn lend(asked: Asked, log: &mut [u8; LOG_ROOM], out: &mut [u8; PICTURE_ROOM]) {
-    let read = read_log(log);
-    let Log::Bytes(size) = read else {
-        return;
-    };
-    if size <= log.len() {
-        with_rooms(asked, &log[..size], out);
-    }
+    with_rooms(asked, log, out);
 }
 
 // The numbers are tested in their order.

@@ -1,6 +1,7 @@
 // Files that arguments name, each whole in a lent room.
 
 use crate::complaints::complain;
+use libc::STDIN_FILENO;
 ghost use mathlib.Core.Path.{_≡_};
 ghost use Prim.Native.Nat.{_≤_};
 ghost use lib.ListN.{length};
@@ -127,6 +128,29 @@ pub fn load_log(log: &mut [u8]) -> Log
         };
     }
     complain_of(b"LOG", first);
+    Log { size: 0, ok: false }
+}
+
+// The log on standard input; what is wrong with it is said on standard error.
+pub fn load_input(log: &mut [u8]) -> Log
+    ensures { λ r. ⌜ r .size ≤ length (now (log .entry)) ⌝ }
+{
+    let all = read_all(STDIN_FILENO, log);
+    let size = all.size;
+    if all.ok {
+        return Log {
+            size: size,
+            ok: true,
+        };
+    }
+    if all.long {
+        complain(
+            b"LOG",
+            b" is too long: give its notices in parts of 1 MiB at most",
+        );
+    } else {
+        os::fail(b"standard input");
+    }
     Log { size: 0, ok: false }
 }
 

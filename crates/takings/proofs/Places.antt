@@ -14,7 +14,7 @@ use Rattle.rules.specs.Search.{first, howMany}
 use Rattle.rules.proofs.Tests.{decide}
 use Rattle.rules.proofs.Search.{first-le, first-hit, first-before, first-least}
 use Rattle.scheme.specs.Scheme.{filmIn}
-use Rattle.takings.specs.Takings.{placeOf, isKept, keptAt}
+use Rattle.takings.specs.Takings.{takingPlace, isKept, keptAt}
 
 module _ (p : ℕ → Bool) where
   pub first-none : first p 0 ≡ 0
@@ -45,16 +45,16 @@ module _ (p : ℕ → Bool) where
 
 -- the two ways of a cell
 module _ (D tick : ℕ) (f : ℕ → ℕ) (m c : ℕ) where
-  pub place-film : c * tick < D → first (λ j. eqb (f j) c) m ≡ placeOf D tick f m c
-  unfolding placeOf filmIn
+  pub place-film : c * tick < D → first (λ j. eqb (f j) c) m ≡ takingPlace D tick f m c
+  unfolding takingPlace filmIn
   place-film h = rw (lt-ltb _ _ h) refl
 
-  pub place-padding : D ≤ c * tick → m ≡ placeOf D tick f m c
-  unfolding placeOf filmIn
+  pub place-padding : D ≤ c * tick → m ≡ takingPlace D tick f m c
+  unfolding takingPlace filmIn
   place-padding h = rw (le-ltb _ _ h) refl
 
-  pub place-high : placeOf D tick f m c ≤ m
-  unfolding placeOf
+  pub place-high : takingPlace D tick f m c ≤ m
+  unfolding takingPlace
   place-high = go (filmIn D tick c)
     where
       go : (b : Bool) → pick b (first (λ j. eqb (f j) c) m) m ≤ m

@@ -11,8 +11,8 @@ use Rattle.takings.specs.declared.Peak.{Peak}
 
 -- the place among the first m numbers at which cell c is taken: the first that shows it, which is the lowest lane of the first tick; m where
 -- none does, and for padding, which is never taken
-unfoldable pub placeOf : ℕ → ℕ → (ℕ → ℕ) → ℕ → ℕ → ℕ
-placeOf D tick f m c = pick (filmIn D tick c) (first (λ j. eqb (f j) c) m) m
+unfoldable pub takingPlace : ℕ → ℕ → (ℕ → ℕ) → ℕ → ℕ → ℕ
+takingPlace D tick f m c = pick (filmIn D tick c) (first (λ j. eqb (f j) c) m) m
 
 -- the tick and the lane of a place
 abbrev pub tickOf : ℕ → ℕ

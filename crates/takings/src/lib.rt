@@ -11,7 +11,7 @@ ghost use lib.ListN.{length as places, getD};
 ghost use Rattle.rules.specs.Limits.{planPlaces, lanePlaces, lengthMax};
 ghost use Rattle.rules.specs.Search.{first};
 ghost use Rattle.plans.specs.Row.{written};
-ghost use Rattle.takings.specs.Takings.{placeOf, isKept, keptAt, peakTo};
+ghost use Rattle.takings.specs.Takings.{takingPlace, isKept, keptAt, peakTo};
 
 // The most cells that are kept in any tick, and the first tick in which they are.
 pub struct Peak {
@@ -37,7 +37,7 @@ fn find(numbers: &[u16], cell: u16) -> usize
 fn place_of(numbers: &[u16], length: u64, tick: u64, cell: u16) -> u16
     requires { ⌜ places (now numbers) ≤ planPlaces * lanePlaces ⌝ }
     requires { ⌜ tick ≤ lengthMax ⌝ }
-    ensures { λ r. ⌜ r ≡ placeOf length tick (λ j. getD (now (numbers .entry)) j 0) (places (now (numbers .entry))) cell ⌝ }
+    ensures { λ r. ⌜ r ≡ takingPlace length tick (λ j. getD (now (numbers .entry)) j 0) (places (now (numbers .entry))) cell ⌝ }
 {
     if cell as u64 * tick < length {
         return find(numbers, cell) as u16;
@@ -50,7 +50,7 @@ pub fn take_all(numbers: &[u16], length: u64, tick: u64, taken: &mut [u16])
     requires { ⌜ places (now numbers) ≤ planPlaces * lanePlaces ⌝ }
     requires { ⌜ tick ≤ lengthMax ⌝ }
     requires { ⌜ places (now taken) ≤ planPlaces ⌝ }
-    ensures { λ _. ⌜ now (taken .exit) ≡ written (placeOf length tick (λ j. getD (now (numbers .entry)) j 0) (places (now (numbers .entry)))) (now (taken .entry)) (places (now (taken .entry))) ⌝ }
+    ensures { λ _. ⌜ now (taken .exit) ≡ written (takingPlace length tick (λ j. getD (now (numbers .entry)) j 0) (places (now (numbers .entry)))) (now (taken .entry)) (places (now (taken .entry))) ⌝ }
 {
     let mut cell: usize = 0;
     while cell < taken.len() {

@@ -1,12 +1,12 @@
 -- `box_charts::put_frame` meets its contract: its parts are written one behind the other.
 use Rattle.text.proofs.Pages.{puts-then}
-use Rattle.box_charts.specs.Picture.{frameText}
+use Rattle.box_charts.specs.Picture.{boxFrame}
 use borrow.Author.Needs.{needs}
 use Rattle.box_charts.proofs.put_frame.Statement.{statement}
 use Rattle.box_charts.proofs.put_frame.Tie as tie
 
 returns : tie.Need-returns
-unfolding frameText
+unfolding boxFrame
 returns c =
     let at-6 = c .before .before in
     let at-5 = at-6 .before .before .before .before in

@@ -1,12 +1,12 @@
 -- `box_charts::put_picture` meets its contract: its parts are written one behind the other.
 use Rattle.text.proofs.Pages.{puts-then}
-use Rattle.box_charts.specs.Picture.{pictureText}
+use Rattle.box_charts.specs.Picture.{boxDrawing}
 use borrow.Author.Needs.{needs}
 use Rattle.box_charts.proofs.put_picture.Statement.{statement}
 use Rattle.box_charts.proofs.put_picture.Tie as tie
 
 returns : tie.Need-returns
-unfolding pictureText
+unfolding boxDrawing
 returns c =
     let at-3 = c .before .before in
     let at-2 = at-3 .before .before .before .before in

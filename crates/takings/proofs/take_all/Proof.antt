@@ -6,14 +6,14 @@ use native.Mathlib.Nat.{le-antisymm}
 use lib.ListN.{length, getD, length-set}
 use Rattle.plans.specs.Row.{written}
 use Rattle.plans.proofs.Row.{written-next}
-use Rattle.takings.specs.Takings.{placeOf}
+use Rattle.takings.specs.Takings.{takingPlace}
 use borrow.Author.Needs.{needs}
 use Rattle.takings.proofs.take_all.Statement.{statement}
 use Rattle.takings.proofs.take_all.Tie as tie
 
 abbrev Inv-loop : tie.InvT-loop
 Inv-loop numbers size tick taken₀ cell₀ taken cell =
-    (cell ≤ length taken₀) × ((taken ≡ written (placeOf size tick (λ j. getD numbers j 0) (length numbers)) taken₀ cell) × (length taken ≡ length taken₀))
+    (cell ≤ length taken₀) × ((taken ≡ written (takingPlace size tick (λ j. getD numbers j 0) (length numbers)) taken₀ cell) × (length taken ≡ length taken₀))
 
 abbrev μ-loop : tie.MeasureT-loop
 μ-loop numbers size tick taken₀ cell₀ taken cell = length taken₀ - cell

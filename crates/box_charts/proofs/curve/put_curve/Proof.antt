@@ -1,13 +1,13 @@
 -- `box_charts::curve::put_curve` meets its contract: its parts are written one behind the other.
 use Rattle.text.proofs.Pages.{puts-then}
 use Rattle.text.specs.Texts.{text}
-use Rattle.box_charts.specs.Curve.{curveText}
+use Rattle.box_charts.specs.Curve.{keptCurve}
 use borrow.Author.Needs.{needs}
 use Rattle.box_charts.proofs.curve.put_curve.Statement.{statement}
 use Rattle.box_charts.proofs.curve.put_curve.Tie as tie
 
 returns : tie.Need-returns
-unfolding text curveText
+unfolding text keptCurve
 returns c =
     let at-5 = c .before .before in
     let at-4 = at-5 .before .before .before .before in

@@ -1,13 +1,13 @@
 -- `box_charts::heading::put_heading` meets its contract: its parts are written one behind the other.
 use Rattle.text.proofs.Pages.{puts-then}
 use Rattle.text.specs.Texts.{text}
-use Rattle.box_charts.specs.Heading.{headingText}
+use Rattle.box_charts.specs.Heading.{boxHeading}
 use borrow.Author.Needs.{needs}
 use Rattle.box_charts.proofs.heading.put_heading.Statement.{statement}
 use Rattle.box_charts.proofs.heading.put_heading.Tie as tie
 
 returns : tie.Need-returns
-unfolding text headingText
+unfolding text boxHeading
 returns c =
     let at-6 = c .before .before in
     let at-5 = at-6 .before .before .before .before in
