@@ -32,14 +32,14 @@ use Rattle.boxes.specs.Box.{boxAnswer, isBeginning, isNow, askedFrom, Be
 -- one arrival gets in at its next admission, or is turned away
 pub data Told (L : Life) (x : ℕ) (w : Waits) : Type 0 where
   admits : (a : ℕ) → Next L x a → momentOf L a ≡ x + w .longest → ltb 0 (w .admitted) ≡ true → Told L x w
-  away : TurnedAway L x → ltb 0 (w .admitted) ≡ false → Told L x w
+  away : TurnedAway L x → w .longest ≡ 0 → ltb 0 (w .admitted) ≡ false → Told L x w
 
 pub one-told : (L : Life) (xs : List ℕ) (w : Waits) → Tallied L xs 1 w → Told L (getD xs 0 0) w
 unfolding waited
 one-told L xs w (gets-in {a = a} p none) =
     let after = let-in L (getD xs 0 0) a (p .lets-in) .in-time in
     admits a p (omega (arith, after)) refl
-one-told L xs w (turned-away p none) = away p refl
+one-told L xs w (turned-away p none) = away p refl refl
 
 module _ (pool : ℕ) (log : List ℕ) (title from : ℕ) (limits : inLimits pool title ≡ true) (soon : from ≤ askedMax) (whole : isWholeLog log ≡ true) where
   reported : reportAnswer pool log title (from ∷ []) ≡ done
@@ -67,12 +67,12 @@ begins-told pool log title x from w ok is (admits a p m f) =
       turned-away = λ d e. absurd (false≢true (sym e ∙ f));
       refuses = λ off. absurd (off refl);
     }
-begins-told pool log title x from w ok is (away p f) =
+begins-told pool log title x from w ok is (away p z f) =
     record {
       answers = sym ok;
       waits-from = λ d. is;
       lets-in = λ d e. absurd (false≢true (sym f ∙ e));
-      turned-away = λ d e. p;
+      turned-away = λ d e. (p, z);
       refuses = λ off. absurd (off refl);
     }
 

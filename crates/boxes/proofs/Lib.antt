@@ -4,3 +4,4 @@ pub mod Standing
 pub mod Beginnings
 pub mod Texts
 pub mod InTime
+pub mod Unique

@@ -21,7 +21,7 @@ module _ (pool : ℕ) (log : List ℕ) (title x : ℕ) where
 
     exactly : isNow r x ≡ isBeginning (lifeIn pool log title) x
     exactly =
-        now-exactly (lifeIn pool log title) (tick-some pool log title x small granted-too) x r (w .waits-from ok) (w .lets-in ok) (w .turned-away ok)
+        now-exactly (lifeIn pool log title) (tick-some pool log title x small granted-too) x r (w .waits-from ok) (w .lets-in ok) (λ h. w .turned-away ok h .0)
 
     pub begins-text : isNow r x ≡ true → boxPicture pool log title x ≡ boxText pool log title x
     unfolding boxText

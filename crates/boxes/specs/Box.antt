@@ -77,7 +77,7 @@ pub record BeginsAt (pool : ℕ) (log : List ℕ) (title x : ℕ) (r : Beginning
   pub waits-from : r .answer ≡ done → r .from ≡ askedFrom (lifeIn pool log title) x
   pub lets-in : r .answer ≡ done → r .follows ≡ true →
       (a : ℕ) × Next (lifeIn pool log title) (r .from) a × (momentOf (lifeIn pool log title) a ≡ r .from + r .wait)
-  pub turned-away : r .answer ≡ done → r .follows ≡ false → TurnedAway (lifeIn pool log title) (r .from)
+  pub turned-away : r .answer ≡ done → r .follows ≡ false → TurnedAway (lifeIn pool log title) (r .from) × (r .wait ≡ 0)
   pub refuses : (r .answer ≡ done → ⊥) → r ≡ refusedBeginning (r .answer)
 
 -- the admission that is told of is at the very moment
