@@ -8,8 +8,8 @@ use Rattle.text.specs.Texts.{text}
 use Rattle.text.specs.Digits.{decimal}
 use Rattle.clocks.specs.Clocks.{clockText}
 use Rattle.admissions.specs.Waits.{waitMax}
-use Rattle.boxes.specs.declared.Beginning.{Beginning}
-use Rattle.boxes.specs.Box.{isNow}
+use Rattle.log_boxes.specs.declared.Beginning.{Beginning}
+use Rattle.log_boxes.specs.Box.{isNow}
 
 -- the next admission: no moment that is told of is later than the last that may be asked about, and no wait is longer than the longest
 unfoldable pub nextMoment : Beginning → ℕ

@@ -1,8 +1,8 @@
 // What the program says on standard error beside the picture of a box. Lines are written into a lent row; what has no room is left out.
 
-use boxes::Beginning;
-use boxes::is_now;
 use clocks::put_clock;
+use log_boxes::Beginning;
+use log_boxes::is_now;
 use rules::ASKED_MAX;
 use rules::DONE;
 use rules::NOT_THERE;

@@ -1,10 +1,8 @@
-// The program: arguments POOL ID TIME, the log on standard input. No contract can say what is read and written: the work is in `boxes` and
+// The program: arguments POOL ID TIME, the log on standard input. No contract can say what is read and written: the work is in `log_boxes` and
 // in `complaints`; these functions are safe and end.
 
 use crate::complaints::put_beginning;
 use crate::input::time_given;
-use boxes::beginning_of;
-use boxes::put_box;
 use files::arguments::Given;
 use files::arguments::are_right;
 use files::arguments::number_named;
@@ -12,6 +10,8 @@ use files::complaints::write_complaints;
 use files::loading::LOG_ROOM;
 use files::loading::load_input;
 use files::pages::write_page;
+use log_boxes::beginning_of;
+use log_boxes::put_box;
 use unheard_io::put_unheard;
 
 // No picture is longer.
