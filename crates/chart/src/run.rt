@@ -14,7 +14,7 @@ use log_boxes::beginning_of;
 use log_boxes::put_box;
 use unheard_io::put_unheard;
 
-// No picture is longer.
+// No picture is longer: proofs/Fits.
 const PICTURE_ROOM: usize = 4_999_999;
 
 // The box that was asked for.
