@@ -59,7 +59,7 @@ fn lanes_release(t: Title, time: u64, soonest: u64) -> u64
 }
 
 // The same of a slot, which may have no title.
-fn title_release(t: Title, time: u64, soonest: u64) -> u64
+pub fn title_release(t: Title, time: u64, soonest: u64) -> u64
     requires { ⌜ ((t .mode ≡ absentMode → ⊥) → Timed t) ⌝ }
     ensures { λ r. ⌜ r ≡ titleRelease t time soonest ⌝ }
 {
