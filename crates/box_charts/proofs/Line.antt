@@ -5,14 +5,14 @@ use Prim.Native.Nat.{ℕ, _+_, _-_, _*_, _/_, _≤_, _<_, min, max}
 use mathlib.Core.Path.{_≡_}
 use native.Mathlib.Omega.{arith}
 use native.Mathlib.Nat.{mul-le-mul-right, le-div-iff-mul-le, div-mul-le-self}
-use Rattle.drawing.specs.Axis.{spanHeld, partOf, plotWidth, plotLeft, xOf}
+use Rattle.drawing.specs.Axis.{spanHeld, partAcross, plotWidth, plotLeft, xOf}
 use Rattle.box_charts.specs.Marks.{markWidth, markArea}
 
 quotient-grows : (s a b : ℕ) → 0 < s → a ≤ b → a / s ≤ b / s
 quotient-grows s a b some h = le-div-iff-mul-le some .1 (omega (arith, div-mul-le-self a s))
 
-part-grows : (w span m n : ℕ) → m ≤ n → partOf w span m ≤ partOf w span n
-unfolding partOf
+part-grows : (w span m n : ℕ) → m ≤ n → partAcross w span m ≤ partAcross w span n
+unfolding partAcross
 part-grows w span m n h =
     let s : ℕ = spanHeld span in
     let low : min m s ≤ min n s = omega arith in

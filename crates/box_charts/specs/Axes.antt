@@ -4,7 +4,7 @@ use mathlib.Core.List.{List, [], _++_}
 use Rattle.text.specs.Texts.{text}
 use Rattle.text.specs.Digits.{decimal}
 use Rattle.drawing.specs.Pieces.{labelText, labelEnd, pathText, pointText, stepText, pathEnd}
-use Rattle.drawing.specs.Axis.{partOf, plotLeft, plotWidth, xOf, timeMarkText}
+use Rattle.drawing.specs.Axis.{partAcross, plotLeft, plotWidth, xOf, timeMarkText}
 
 -- the plot of cells taken, and below it that of cells kept
 abbrev pub takenTop : ℕ
@@ -30,7 +30,7 @@ plotRight = plotLeft + plotWidth
 
 -- how high the first c of n cells reach
 unfoldable pub yOf : ℕ → ℕ → ℕ
-yOf n c = takenBottom - partOf takenHeight n c
+yOf n c = takenBottom - partAcross takenHeight n c
 
 -- both frames, left and below, and what is counted upwards
 unfoldable pub framesText : List ℕ

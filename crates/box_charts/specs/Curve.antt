@@ -4,13 +4,13 @@ use mathlib.Core.List.{List, [], _++_}
 use Rattle.text.specs.Texts.{text}
 use Rattle.text.specs.Digits.{decimal}
 use Rattle.drawing.specs.Pieces.{labelText, labelEnd, pathText, pointText, stepText, pathEnd}
-use Rattle.drawing.specs.Axis.{partOf, plotLeft, xOf}
+use Rattle.drawing.specs.Axis.{partAcross, plotLeft, xOf}
 use Rattle.takings.specs.declared.Peak.{Peak}
 use Rattle.box_charts.specs.Axes.{keptTop, keptHeight, keptBottom, plotRight}
 
 -- how high so many kept cells reach, where the most fill the plot
 unfoldable pub keptY : ℕ → ℕ → ℕ
-keptY most many = keptBottom - partOf keptHeight most many
+keptY most many = keptBottom - partAcross keptHeight most many
 
 -- the first t of n ticks, by the number kept in each
 unfoldable pub curveTo : ℕ → ℕ → (ℕ → ℕ) → ℕ → List ℕ

@@ -9,7 +9,7 @@ use Rattle.text.specs.Digits.{decimal}
 use Rattle.drawing.specs.declared.pieces.Area.{Area}
 use Rattle.drawing.specs.Pieces.{rectText, rectEnd, pathText, pointText, stepText, pathEnd}
 use Rattle.drawing.specs.Axis.{plotLeft, xOf}
-use Rattle.takings.specs.Takings.{tickOf, laneOf}
+use Rattle.takings.specs.Takings.{placeTick, placeLane}
 use Rattle.box_charts.specs.Axes.{takenBottom, yOf}
 
 -- the line: the first c of n cells have played at the end of their ticks
@@ -38,11 +38,11 @@ markArea n tick c =
 -- what hovering tells of cell c, taken at a place
 unfoldable pub takenLine : ℕ → ℕ → List ℕ
 takenLine place c =
-    text "cell " ++ decimal c ++ text ": taken in tick " ++ decimal (tickOf place) ++ text " from lane " ++ decimal (laneOf place)
+    text "cell " ++ decimal c ++ text ": taken in tick " ++ decimal (placeTick place) ++ text " from lane " ++ decimal (placeLane place)
     ++ text ", plays in tick " ++ decimal c
 
 unfoldable pub markText : ℕ → ℕ → ℕ → List ℕ
-markText n place c = rectText (text "l") (laneOf place) (markArea n (tickOf place) c) ++ takenLine place c ++ rectEnd
+markText n place c = rectText (text "l") (placeLane place) (markArea n (placeTick place) c) ++ takenLine place c ++ rectEnd
 
 -- a cell that is never taken has none
 unfoldable pub markIf : ℕ → ℕ → ℕ → List ℕ

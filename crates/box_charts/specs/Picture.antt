@@ -2,7 +2,7 @@
 -- place.
 use Prim.Native.Nat.{ℕ}
 use mathlib.Core.List.{List, _++_}
-use Rattle.drawing.specs.Document.{headText, footText}
+use Rattle.drawing.specs.Document.{svgHead, footText}
 use Rattle.takings.specs.Takings.{keptAt, peakTo}
 use Rattle.box_charts.specs.declared.Begun.{Begun}
 use Rattle.box_charts.specs.Heading.{boxHeading, meaningLine, laneKeys}
@@ -19,7 +19,7 @@ chartHeight = 9_300
 -- what stands above the plots, and their frames
 unfoldable pub boxFrame : Begun → ℕ → List ℕ
 boxFrame b n =
-    headText chartWidth chartHeight
+    svgHead chartWidth chartHeight
     ++ boxHeading (b .title) (b .moment)
     ++ meaningLine n (b .tick)
     ++ laneKeys (b .lanes)

@@ -13,10 +13,10 @@ use Rattle.text.proofs.Printing.{decimal-short}
 use Rattle.drawing.specs.declared.pieces.Area.{Area}
 use Rattle.clocks.specs.Clocks.{hourMs, secondMs, thousandthsText, clockText}
 use Rattle.drawing.specs.Pieces.{tenthsText, fieldText, rectText, labelText, pathText, stepText, pointText}
-use Rattle.drawing.specs.Document.{sheet, hatchText, hatchesText, headText}
+use Rattle.drawing.specs.Document.{sheet, hatchText, hatchesText, svgHead}
 use Rattle.drawing.specs.Axis.{plotLeft, xOf, timeMarkText}
 use Rattle.takings.specs.declared.Peak.{Peak}
-use Rattle.takings.specs.Takings.{tickOf, laneOf, keptAt, peakTo}
+use Rattle.takings.specs.Takings.{placeTick, placeLane, keptAt, peakTo}
 use Rattle.box_charts.specs.declared.Begun.{Begun}
 use Rattle.box_charts.specs.Heading.{boxHeading, meaningLine, laneName, keyStep, laneKey, laneKeys}
 use Rattle.box_charts.specs.Axes.{takenTop, takenBottom, keptTop, keptBottom, plotRight, yOf, quartersOf}
@@ -46,12 +46,12 @@ rect-length class n a =
 
 line-length : (place c : ℕ) → length (takenLine place c) ≤ 150
 unfolding takenLine text
-line-length place c = simp length-append (omega (arith, decimal-short c, decimal-short (tickOf place), decimal-short (laneOf place)))
+line-length place c = simp length-append (omega (arith, decimal-short c, decimal-short (placeTick place), decimal-short (placeLane place)))
 
 mark-length : (n place c : ℕ) → length (markText n place c) ≤ 500
 unfolding markText text
 mark-length n place c =
-    simp length-append (omega (arith, rect-length (text "l") (laneOf place) (markArea n (tickOf place) c), line-length place c))
+    simp length-append (omega (arith, rect-length (text "l") (placeLane place) (markArea n (placeTick place) c), line-length place c))
 
 mark-if-length : (n place c : ℕ) → length (markIf n place c) ≤ 500
 unfolding markIf
@@ -120,8 +120,8 @@ sheet-length : length sheet ≤ 6000
 unfolding sheet text
 sheet-length = omega arith
 
-head-length : (w h : ℕ) → length (headText w h) ≤ 12_000
-unfolding headText text
+head-length : (w h : ℕ) → length (svgHead w h) ≤ 12_000
+unfolding svgHead text
 head-length w h =
     simp length-append
     (omega (

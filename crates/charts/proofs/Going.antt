@@ -20,7 +20,7 @@ use Rattle.strips.specs.Kept.{keptLength}
 use Rattle.frames.specs.declared.bands.View.{View}
 use Rattle.charts.specs.declared.playing.Drawing.{Drawing}
 use Rattle.charts.specs.Hearing.{noticeMarks, noticeKept, Takes}
-use Rattle.charts.specs.Played.{Drawn, undrawn, heardMarks, foundMarks, foundKept, DrawsStep, DrawsAll}
+use Rattle.charts.specs.Played.{Drawn, undrawn, heardDrawn, foundMarks, foundKept, DrawsStep, DrawsAll}
 
 -- ---- one read, as the code meets its cases
 
@@ -61,7 +61,7 @@ module _ (v : View) (log r : List ℕ) (place : ℕ) (out : List ℕ) (at : ℕ)
 module _ (v : View) (pool : ℕ) (log out : List ℕ) (at : ℕ) (kept : List ℕ) where
   pub record Going (r : List ℕ) (d : Drawing) (out′ kept′ : List ℕ) : Type 0 where
     pub drawn : Drawn
-    pub played : PlayedTo (heardMarks v) pool log (undrawn kept) r (d .played) drawn
+    pub played : PlayedTo (heardDrawn v) pool log (undrawn kept) r (d .played) drawn
     pub written : Written out at (drawn .text) out′ (d .at)
     pub kept-is : kept′ ≡ drawn .kept
     pub long : length kept′ ≡ keptLength
@@ -72,14 +72,14 @@ module _ (v : View) (pool : ℕ) (log out : List ℕ) (at : ℕ) (kept : List �
       record { drawn = undrawn kept; played = not-begun _ pool log _ r p _ none refl; written = refl; kept-is = refl; long = long }
 
   -- what a read adds
-  added : (g : List ℕ) (d : Drawn) (f : Found) → keptRead (heardMarks v) (unpacked g) d f .text ≡ d .text ++ foundMarks v (unpacked g) f (d .kept)
-  unfolding keptRead heardMarks foundMarks
+  added : (g : List ℕ) (d : Drawn) (f : Found) → keptRead (heardDrawn v) (unpacked g) d f .text ≡ d .text ++ foundMarks v (unpacked g) f (d .kept)
+  unfolding keptRead heardDrawn foundMarks
   added g d (found.At n e) = refl
   added g d found.End = sym (append-nil (d .text))
   added g d found.Malformed = sym (append-nil (d .text))
 
-  kept-on : (g : List ℕ) (d : Drawn) (f : Found) → keptRead (heardMarks v) (unpacked g) d f .kept ≡ foundKept v (unpacked g) f (d .kept)
-  unfolding keptRead heardMarks foundKept
+  kept-on : (g : List ℕ) (d : Drawn) (f : Found) → keptRead (heardDrawn v) (unpacked g) d f .kept ≡ foundKept v (unpacked g) f (d .kept)
+  unfolding keptRead heardDrawn foundKept
   kept-on g d (found.At n e) = refl
   kept-on g d found.End = refl
   kept-on g d found.Malformed = refl
@@ -90,7 +90,7 @@ module _ (v : View) (pool : ℕ) (log out : List ℕ) (at : ℕ) (kept : List �
         Going s e out″ kept″
     goes-on s e out″ kept″ one long =
         let f : Found = readAt log (d .played .place) in
-        let z : Drawn = keptRead (heardMarks v) (unpacked r) (w .drawn) f in
+        let z : Drawn = keptRead (heardDrawn v) (unpacked r) (w .drawn) f in
         record {
           drawn = z;
           played = played-on _ pool log _ r s (d .played) (e .played) (w .drawn) z

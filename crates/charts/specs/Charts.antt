@@ -11,7 +11,7 @@ use Rattle.story.specs.declared.State.{State}
 use Rattle.words.specs.Words.{refusalText}
 use Rattle.agent.specs.Played.{agentPlayed}
 use Rattle.drawing.specs.Axis.{plotLeft, plotWidth}
-use Rattle.drawing.specs.Document.{headText, footText}
+use Rattle.drawing.specs.Document.{svgHead, footText}
 use Rattle.spans.specs.declared.Outline.{Outline}
 use Rattle.spans.specs.Extents.{measureOf}
 use Rattle.strips.specs.declared.scale.Scale.{Scale}
@@ -49,7 +49,7 @@ viewOf m pool columns grain = viewAt m pool columns grain (baseOf m pool columns
 -- what stands in every picture
 unfoldable pub stillText : Outline → View → List ℕ
 stillText m v =
-    headText (plotLeft + plotWidth + 800) (v .curve .base + 350) ++ headingText (v .curve .pool) (m .extent .first) (m .end) ++ legendText
+    svgHead (plotLeft + plotWidth + 800) (v .curve .base + 350) ++ headingText (v .curve .pool) (m .extent .first) (m .end) ++ legendText
     ++ bandsText v titlesMax ++ timesText (v .curve .scale) (v .curve .base) timesMost ++ poolLines (v .curve)
 
 -- the marks of the log's notices

@@ -11,8 +11,8 @@ use Rattle.story.specs.Kept.{absentMode, openMode, titleAt, ruling}
 use Rattle.drawing.specs.Axis.{plotLeft}
 use Rattle.spans.specs.Extents.{titleUntil}
 use Rattle.strips.specs.declared.scale.Band.{Band}
-use Rattle.strips.specs.Lanes.{lanesText, lanesKept}
-use Rattle.strips.specs.Marks.{doorsText, doorsKept, brokenMark, refusedKept, refusedLabel, refusedLabelKept}
+use Rattle.strips.specs.Lanes.{lanesMarks, lanesKept}
+use Rattle.strips.specs.Marks.{doorsMark, doorsKept, brokenMark, refusedKept, refusedLabel, refusedLabelKept}
 use Rattle.frames.specs.declared.bands.View.{View}
 use Rattle.frames.specs.Bands.{bandOf}
 use Rattle.charts.specs.Hearing.{lifeMarks, lifeMarksKept}
@@ -29,8 +29,8 @@ unfoldable pub leftMarks : Band → List ℕ → Title → ℕ → List ℕ
 leftMarks b kept t end =
     pick (eqb (t .mode) absentMode) []
     (lifeMarks b kept t (leftUntil t end)
-    ++ lanesText b (lifeMarksKept b kept t (leftUntil t end)) t (ruling t) true end countMax
-    ++ doorsText b (leftLanes b kept t end) t false end)
+    ++ lanesMarks b (lifeMarksKept b kept t (leftUntil t end)) t (ruling t) true end countMax
+    ++ doorsMark b (leftLanes b kept t end) t false end)
 
 unfoldable pub leftKept : Band → List ℕ → Title → ℕ → List ℕ
 leftKept b kept t end = pick (eqb (t .mode) absentMode) kept (doorsKept b (leftLanes b kept t end) t false end)

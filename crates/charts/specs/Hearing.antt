@@ -17,8 +17,8 @@ use Rattle.agent_rows.specs.Packed.{unpacked}
 use Rattle.row_calls.specs.inner.Steps.{AgentRow}
 use Rattle.spans.specs.Extents.{titleUntil}
 use Rattle.strips.specs.declared.scale.Band.{Band}
-use Rattle.strips.specs.Lanes.{lanesText, lanesKept}
-use Rattle.strips.specs.Marks.{doorsText, doorsKept, tickText, tickKept, tickLabelText, tickLabelKept, lifeText, lifeKept}
+use Rattle.strips.specs.Lanes.{lanesMarks, lanesKept}
+use Rattle.strips.specs.Marks.{doorsMark, doorsKept, tickText, tickKept, tickLabelText, tickLabelKept, lifeText, lifeKept}
 use Rattle.strips.specs.Marks.{lifeLabelText, lifeLabelKept, refusedPlace, refusedMark, refusedKept, refusedLabel, refusedLabelKept}
 use Rattle.curves.specs.Curves.{curveText, curveKept}
 use Rattle.frames.specs.declared.bands.View.{View}
@@ -46,8 +46,8 @@ turnedLanes b kept t u τ = lanesKept b (pastKept b kept t) t (ruling u) (not (e
 
 unfoldable pub turnMarks : Band → List ℕ → Title → Title → ℕ → List ℕ
 turnMarks b kept t u τ =
-    pastMarks b kept t ++ lanesText b (pastKept b kept t) t (ruling u) (not (eqb (t .mode) openMode)) τ countMax
-    ++ doorsText b (turnedLanes b kept t u τ) t (isShut u) τ
+    pastMarks b kept t ++ lanesMarks b (pastKept b kept t) t (ruling u) (not (eqb (t .mode) openMode)) τ countMax
+    ++ doorsMark b (turnedLanes b kept t u τ) t (isShut u) τ
 
 unfoldable pub turnKept : Band → List ℕ → Title → Title → ℕ → List ℕ
 turnKept b kept t u τ = doorsKept b (turnedLanes b kept t u τ) t (isShut u) τ

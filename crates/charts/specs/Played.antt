@@ -28,12 +28,12 @@ abbrev pub undrawn : List ℕ → Drawn
 undrawn kept = record { text = []; kept = kept }
 
 -- one notice more
-unfoldable pub heardMarks : View → Agent → Notice → Drawn → Drawn
-heardMarks v g n d = record { text = d .text ++ noticeMarks v g n (d .kept); kept = noticeKept v g n (d .kept) }
+unfoldable pub heardDrawn : View → Agent → Notice → Drawn → Drawn
+heardDrawn v g n d = record { text = d .text ++ noticeMarks v g n (d .kept); kept = noticeKept v g n (d .kept) }
 
 -- those of a log
 abbrev pub drawnOf : View → ℕ → List ℕ → List ℕ → Drawn
-drawnOf v pool log kept = keptTold (heardMarks v) (freshAgent pool) (undrawn kept) (noticesOf log)
+drawnOf v pool log kept = keptTold (heardDrawn v) (freshAgent pool) (undrawn kept) (noticesOf log)
 
 -- ---- how the code goes through it
 

@@ -15,14 +15,14 @@ use Rattle.moments.specs.Searched.{Timed}
 use Rattle.moments.proofs.Due.{timed}
 use Rattle.agent_rows.specs.Packed.{unpacked}
 use Rattle.row_calls.specs.inner.Steps.{Tested}
-use Rattle.drawing.specs.Axis.{partOf}
+use Rattle.drawing.specs.Axis.{partAcross}
 use Rattle.text.specs.Output.{Page, puts}
 use Rattle.text.proofs.Pages.{puts-then}
 use Rattle.strips.specs.Kept.{keptLength}
 use Rattle.curves.specs.declared.Curve.{Curve}
 use Rattle.curves.specs.Curves.{heightOf, levelText, levelKept, nextStep, Walk, walkedOn, walked, curveText, curveKept}
 
-pub height-is : (c : Curve) (n p r : ℕ) → p ≡ partOf 1_000 (c .pool) n → r ≡ c .base - p → r ≡ heightOf c n
+pub height-is : (c : Curve) (n p r : ℕ) → p ≡ partAcross 1_000 (c .pool) n → r ≡ c .base - p → r ≡ heightOf c n
 unfolding heightOf
 height-is c n p r e f = f ∙ ap (λ x. c .base - x) e
 

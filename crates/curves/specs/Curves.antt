@@ -10,25 +10,25 @@ use Rattle.story.specs.declared.State.{State}
 use Rattle.story.specs.Kept.{lanesHeld}
 use Rattle.moments.specs.inner.Steps.{releaseIn}
 use Rattle.text.specs.Texts.{text}
-use Rattle.drawing.specs.Axis.{partOf}
+use Rattle.drawing.specs.Axis.{partAcross}
 use Rattle.drawing.specs.Pieces.{pathText, pointText, stepText, pathEnd}
-use Rattle.strips.specs.Scale.{placeOf}
+use Rattle.strips.specs.Scale.{placeAcross}
 use Rattle.strips.specs.Kept.{levelAt}
 use Rattle.curves.specs.declared.Curve.{Curve}
 
 -- where a number of lanes is drawn: the pool's line lies 100 pixels above none
 unfoldable pub heightOf : Curve → ℕ → ℕ
-heightOf c n = c .base - partOf 1_000 (c .pool) n
+heightOf c n = c .base - partAcross 1_000 (c .pool) n
 
 -- a step is drawn where it is a column wide at least, from the height of the step before it
 abbrev pub isStep : Curve → ℕ → ℕ → Bool
-isStep c from to = ltb (placeOf (c .scale) from) (placeOf (c .scale) to)
+isStep c from to = ltb (placeAcross (c .scale) from) (placeAcross (c .scale) to)
 
 unfoldable pub levelText : Curve → List ℕ → ℕ → ℕ → ℕ → List ℕ
 levelText c kept from to n =
     pick (isStep c from to)
-    (pathText (text "curve") ++ pointText 77 (placeOf (c .scale) from) (heightOf c (getD kept levelAt 0)) ++ stepText 86 (heightOf c n)
-    ++ stepText 72 (placeOf (c .scale) to) ++ pathEnd)
+    (pathText (text "curve") ++ pointText 77 (placeAcross (c .scale) from) (heightOf c (getD kept levelAt 0)) ++ stepText 86 (heightOf c n)
+    ++ stepText 72 (placeAcross (c .scale) to) ++ pathEnd)
     []
 
 unfoldable pub levelKept : Curve → List ℕ → ℕ → ℕ → ℕ → List ℕ

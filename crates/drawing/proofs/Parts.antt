@@ -3,7 +3,7 @@ use Prim.Native.Nat.{ℕ, _*_, _/_, _^_, _≤_, _<_, min}
 use mathlib.Core.Path.{_≡_}
 use native.Mathlib.Omega.{arith}
 use native.Mathlib.Nat.{mul-le-mul, mul-le-mul-right, div-le-of-le-mul}
-use Rattle.drawing.specs.Axis.{spanMost, spanHeld, partOf}
+use Rattle.drawing.specs.Axis.{spanMost, spanHeld, partAcross}
 
 module _ (w n s m : ℕ) (e : m ≡ min n s) where
   pub product-fits : s ≤ spanMost → w < 2 ^ 16 → m * w < 2 ^ 64
@@ -15,6 +15,6 @@ module _ (w n s m : ℕ) (e : m ≡ min n s) where
   pub part-within : m * w / s ≤ w
   part-within = div-le-of-le-mul s (mul-le-mul-right w (omega arith))
 
-pub part-is : (w span n s m : ℕ) → s ≡ spanHeld span → m ≡ min n s → m * w / s ≡ partOf w span n
-unfolding partOf
+pub part-is : (w span n s m : ℕ) → s ≡ spanHeld span → m ≡ min n s → m * w / s ≡ partAcross w span n
+unfolding partAcross
 part-is w span n s m e f = rw (f, e)

@@ -13,8 +13,8 @@ abbrev pub spanHeld : ℕ → ℕ
 spanHeld span = max 1 (min span spanMost)
 
 -- the part of a whole that n of a span make, rounded down; all of it from the span's end on
-unfoldable pub partOf : ℕ → ℕ → ℕ → ℕ
-partOf whole span n = min n (spanHeld span) * whole / spanHeld span
+unfoldable pub partAcross : ℕ → ℕ → ℕ → ℕ
+partAcross whole span n = min n (spanHeld span) * whole / spanHeld span
 
 -- the plot's left edge and width, the same in every picture
 abbrev pub plotLeft : ℕ
@@ -25,7 +25,7 @@ plotWidth = 12_000
 
 -- where n of a span lie
 unfoldable pub xOf : ℕ → ℕ → ℕ
-xOf span n = plotLeft + partOf plotWidth span n
+xOf span n = plotLeft + partAcross plotWidth span n
 
 -- a mark down from a place, and below it a time in hours, minutes and seconds
 unfoldable pub timeMarkText : ℕ → ℕ → ℕ → List ℕ

@@ -73,8 +73,8 @@ hatchesText zero = []
 hatchesText (suc id) = hatchesText id ++ hatchText id
 
 -- the head of a picture of a width and a height
-unfoldable pub headText : ℕ → ℕ → List ℕ
-headText w h =
+unfoldable pub svgHead : ℕ → ℕ → List ℕ
+svgHead w h =
     fieldText (text "<svg xmlns='http://www.w3.org/2000/svg' viewBox='0 0 ") w
     ++ fieldText (text " ") h
     ++ fieldText (text "' width='") w

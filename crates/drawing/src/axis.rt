@@ -11,7 +11,7 @@ use rules::truth::smaller;
 ghost use Prim.Native.Nat.{_+_, _≤_, _<_};
 ghost use mathlib.Core.Path.{_≡_};
 ghost use Rattle.text.specs.Output.{Written};
-ghost use Rattle.drawing.specs.Axis.{spanMost, spanHeld, partOf, plotLeft, plotWidth, xOf, timeMarkText};
+ghost use Rattle.drawing.specs.Axis.{spanMost, spanHeld, partAcross, plotLeft, plotWidth, xOf, timeMarkText};
 
 // The plot's left edge and width, the same in every picture.
 pub const PLOT_LEFT: u64 = 900;
@@ -33,7 +33,7 @@ fn held_span(span: u64) -> u64
 
 // The part of a whole that n of a span make, rounded down.
 pub fn part(whole: u16, span: u64, n: u64) -> u64
-    ensures { λ r. ⌜ (r ≡ partOf whole span n) × (r ≤ whole) ⌝ }
+    ensures { λ r. ⌜ (r ≡ partAcross whole span n) × (r ≤ whole) ⌝ }
 {
     let most = held_span(span);
     smaller(n, most) * whole as u64 / most

@@ -13,7 +13,7 @@ ghost use Rattle.drawing.specs.Document.{
   sheet,
   hatchText,
   hatchesText,
-  headText,
+  svgHead,
   footText,
 };
 ghost use Prim.Native.Nat.{_+_};
@@ -135,7 +135,7 @@ fn put_hatches(out: &mut [u8], at: usize) -> usize
 
 // The head of a picture of a width and a height.
 pub fn put_head(out: &mut [u8], at: usize, width: u64, height: u64) -> usize
-    ensures { λ r. ⌜ Written (now (out .entry)) at (headText width height) (now (out .exit)) r ⌝ }
+    ensures { λ r. ⌜ Written (now (out .entry)) at (svgHead width height) (now (out .exit)) r ⌝ }
 {
     let a = put_field(
         out,

@@ -146,7 +146,7 @@ pub fn load_input(log: &mut [u8]) -> Log
     if all.long {
         complain(
             b"LOG",
-            b" is too long: give its notices in parts of 1 MiB at most",
+            b" is too long: give its first 1 MiB, as head -c 1048576 does",
         );
     } else {
         os::fail(b"standard input");

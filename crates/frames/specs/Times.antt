@@ -8,7 +8,7 @@ use Rattle.text.specs.Texts.{text}
 use Rattle.drawing.specs.Axis.{timeMarkText}
 use Rattle.drawing.specs.Pieces.{pathText, pointText, stepText, pathEnd}
 use Rattle.strips.specs.declared.scale.Scale.{Scale}
-use Rattle.strips.specs.Scale.{placeOf}
+use Rattle.strips.specs.Scale.{placeAcross}
 
 abbrev pub stepMost : ℕ
 stepMost = 1_099_511_627_776
@@ -29,7 +29,7 @@ roundStep span =
 -- a line through the picture at a time, and the time below it
 unfoldable pub timeAcross : Scale → ℕ → ℕ → List ℕ
 timeAcross s base τ =
-    pathText (text "grid") ++ pointText 77 (placeOf s τ) 780 ++ stepText 86 base ++ pathEnd ++ timeMarkText (placeOf s τ) base τ
+    pathText (text "grid") ++ pointText 77 (placeAcross s τ) 780 ++ stepText 86 base ++ pathEnd ++ timeMarkText (placeAcross s τ) base τ
 
 -- where it lies in what is drawn
 unfoldable pub timeText : Scale → ℕ → ℕ → List ℕ

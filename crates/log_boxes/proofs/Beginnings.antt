@@ -25,7 +25,7 @@ use Rattle.waiting.specs.declared.Report.{Report}
 use Rattle.waiting.specs.Report.{reportAnswer, rowInLimits, Reports}
 use Rattle.airing.specs.Air.{inLimits}
 use Rattle.log_boxes.specs.declared.Beginning.{Beginning}
-use Rattle.log_boxes.specs.Box.{boxAnswer, isBeginning, isNow, askedFrom, BeginsAt}
+use Rattle.log_boxes.specs.Box.{boxAnswer, isBoxStart, isNow, askedFrom, BeginsAt}
 
 -- ---- the report of one arrival
 
@@ -87,8 +87,8 @@ module _ (L : Life) (some : 0 < tickLength L) where
   module _ (x : ℕ) (r : Beginning) (is : r .from ≡ askedFrom L x)
       (lets : r .follows ≡ true → (a : ℕ) × Next L (r .from) a × (momentOf L a ≡ r .from + r .wait))
       (turned : r .follows ≡ false → TurnedAway L (r .from)) where
-    now-begins : isNow r x ≡ true → isBeginning L x ≡ true
-    unfolding isNow isBeginning
+    now-begins : isNow r x ≡ true → isBoxStart L x ≡ true
+    unfolding isNow isBoxStart
     now-begins h =
         let rest = both-r (r .follows) _ h in
         let here : r .from ≡ x = eqb-true (r .from) x (both-l (eqb (r .from) x) _ rest) in
@@ -99,8 +99,8 @@ module _ (L : Life) (some : 0 < tickLength L) where
         both-in (letsIn L x (tickIn L x)) (eqb (momentOf L (tickIn L x)) x) (rw tick (subst (λ y. letsIn L y (w .0) ≡ true) here (w .1 .lets-in)))
         (rw tick (eq-eqb _ _ moment))
 
-    begins-now : isBeginning L x ≡ true → isNow r x ≡ true
-    unfolding isNow isBeginning
+    begins-now : isBoxStart L x ≡ true → isNow r x ≡ true
+    unfolding isNow isBoxStart
     begins-now h =
         let t : ℕ = tickIn L x in
         let lets-x : letsIn L x t ≡ true = both-l (letsIn L x t) _ h in
@@ -117,5 +117,5 @@ module _ (L : Life) (some : 0 < tickLength L) where
         (λ f. absurd (false≢true (sym (turned f t) ∙ rw here lets-x)))
         (decide (r .follows))
 
-    pub now-exactly : isNow r x ≡ isBeginning L x
-    now-exactly = same (isNow r x) (isBeginning L x) now-begins begins-now
+    pub now-exactly : isNow r x ≡ isBoxStart L x
+    now-exactly = same (isNow r x) (isBoxStart L x) now-begins begins-now

@@ -35,8 +35,8 @@ use Rattle.airing.proofs.OwnAnswers.{numbers, begins}
 use Rattle.playouts.specs.Playout.{wasOpened, isAskable, lastOf, playoutNumber}
 use Rattle.playouts.specs.inner.Steps.{airNumber}
 use Rattle.playouts.proofs.OwnNumbers.{own-is}
-use Rattle.takings.specs.Takings.{takingPlace, tickOf}
-use Rattle.log_boxes.specs.Box.{boxTicks, boxAnswer, isBeginning, boxPlace}
+use Rattle.takings.specs.Takings.{takingPlace, placeTick}
+use Rattle.log_boxes.specs.Box.{boxTicks, boxAnswer, isBoxStart, boxPlace}
 use Rattle.log_boxes.specs.InTime.{TakenInTime, EveryCellInTime}
 use Rattle.log_boxes.proofs.Standing.{given-in, granted}
 
@@ -45,7 +45,7 @@ abbrev placeIn : ℕ → ℕ → ℕ
 placeIn t l = t * lanePlaces + l
 
 module _ (pool : ℕ) (log : List ℕ) (title x c : ℕ) (small : Bytes log) (ok : boxAnswer pool log title x ≡ done)
-    (here : isBeginning (lifeIn pool log title) x ≡ true) (low : c < boxTicks (lifeIn pool log title)) (film : isFilm (lifeIn pool log title) c ≡ true) where
+    (here : isBoxStart (lifeIn pool log title) x ≡ true) (low : c < boxTicks (lifeIn pool log title)) (film : isFilm (lifeIn pool log title) c ≡ true) where
   abbrev L : Life
   L = lifeIn pool log title
 
@@ -69,7 +69,7 @@ module _ (pool : ℕ) (log : List ℕ) (title x c : ℕ) (small : Bytes log) (ok
   pos = numbers pool es (agentPlayed pool log .state) run title (omega (arith, id)) some .tick-some
 
   admission : isAdmission L a ≡ true
-  unfolding isBeginning
+  unfolding isBoxStart
   admission = let-in L x a (both-l (letsIn L x a) (eqb (momentOf L a) x) here) .admission
 
   -- every tick of the box may be asked about

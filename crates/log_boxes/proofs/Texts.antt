@@ -10,7 +10,7 @@ use Rattle.agent.specs.Played.{lifeIn}
 use Rattle.text.specs.Output.{Page, puts}
 use Rattle.playouts.specs.Lines.{refusedLine}
 use Rattle.log_boxes.specs.declared.Beginning.{Beginning}
-use Rattle.log_boxes.specs.Box.{boxAnswer, isBeginning, boxPicture, boxText, isNow, BeginsAt}
+use Rattle.log_boxes.specs.Box.{boxAnswer, isBoxStart, boxPicture, boxText, isNow, BeginsAt}
 use Rattle.log_boxes.proofs.Standing.{tick-some}
 use Rattle.log_boxes.proofs.Beginnings.{now-exactly}
 
@@ -19,7 +19,7 @@ module _ (pool : ℕ) (log : List ℕ) (title x : ℕ) where
     granted-too : boxAnswer pool log title x ≡ done
     granted-too = sym (w .answers) ∙ ok
 
-    exactly : isNow r x ≡ isBeginning (lifeIn pool log title) x
+    exactly : isNow r x ≡ isBoxStart (lifeIn pool log title) x
     exactly =
         now-exactly (lifeIn pool log title) (tick-some pool log title x small granted-too) x r (w .waits-from ok) (w .lets-in ok) (λ h. w .turned-away ok h .0)
 

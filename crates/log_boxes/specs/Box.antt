@@ -40,8 +40,8 @@ unfoldable pub boxAnswer : ℕ → List ℕ → ℕ → ℕ → ℕ
 boxAnswer pool log title x = firstHit (boxRules pool log title x)
 
 -- the moment is the start of a tick that is an admission
-unfoldable pub isBeginning : Life → ℕ → Bool
-isBeginning L x = both (letsIn L x (tickIn L x)) (eqb (momentOf L (tickIn L x)) x)
+unfoldable pub isBoxStart : Life → ℕ → Bool
+isBoxStart L x = both (letsIn L x (tickIn L x)) (eqb (momentOf L (tickIn L x)) x)
 
 -- the place at which the box takes a cell, by the numbers of the title's lanes from its start on
 unfoldable pub boxPlace : ℕ → List ℕ → ℕ → ℕ → ℕ → ℕ
@@ -60,7 +60,7 @@ boxPicture pool log title x =
 unfoldable pub boxText : ℕ → List ℕ → ℕ → ℕ → List ℕ
 boxText pool log title x =
     pick (eqb (boxAnswer pool log title x) done)
-    (pick (isBeginning (lifeIn pool log title) x) (boxPicture pool log title x) [])
+    (pick (isBoxStart (lifeIn pool log title) x) (boxPicture pool log title x) [])
     (refusedLine (boxAnswer pool log title x))
 
 -- beside a refusal nothing else is told

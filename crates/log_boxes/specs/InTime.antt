@@ -8,17 +8,17 @@ use Rattle.rules.specs.Refusals.{done}
 use Rattle.notice.specs.Log.{Bytes}
 use Rattle.story.specs.Life.{isFilm}
 use Rattle.agent.specs.Played.{lifeIn}
-use Rattle.takings.specs.Takings.{tickOf}
-use Rattle.log_boxes.specs.Box.{boxTicks, boxAnswer, isBeginning, boxPlace}
+use Rattle.takings.specs.Takings.{placeTick}
+use Rattle.log_boxes.specs.Box.{boxTicks, boxAnswer, isBoxStart, boxPlace}
 
 -- a cell has a mark, and in a tick no later than its turn
 pub record TakenInTime (pool : ℕ) (log : List ℕ) (title x c : ℕ) : Type 0 where
   pub is-taken : boxPlace pool log title x c < boxTicks (lifeIn pool log title) * lanePlaces
-  pub in-time : tickOf (boxPlace pool log title x c) ≤ c
+  pub in-time : placeTick (boxPlace pool log title x c) ≤ c
 
 -- so it is of every cell that holds film, of every box that is drawn
 abbrev pub EveryCellInTime : Type 0
 EveryCellInTime =
     (pool : ℕ) (log : List ℕ) (title x c : ℕ) → Bytes log → boxAnswer pool log title x ≡ done →
-    isBeginning (lifeIn pool log title) x ≡ true → c < boxTicks (lifeIn pool log title) → isFilm (lifeIn pool log title) c ≡ true →
+    isBoxStart (lifeIn pool log title) x ≡ true → c < boxTicks (lifeIn pool log title) → isFilm (lifeIn pool log title) c ≡ true →
     TakenInTime pool log title x c

@@ -8,12 +8,12 @@ use Rattle.story.specs.declared.Title.{Title}
 use Rattle.text.specs.Output.{Page, puts}
 use Rattle.text.proofs.Pages.{puts-then}
 use Rattle.strips.specs.declared.scale.Band.{Band}
-use Rattle.strips.specs.Lanes.{laneText, laneKept, lanesText, lanesKept}
+use Rattle.strips.specs.Lanes.{laneMark, laneKept, lanesMarks, lanesKept}
 
 pub lanes-next : (b : Band) (kept : List ℕ) (t : Title) (k : ℕ) (over : Bool) (τ l : ℕ) (p q r : Page) (K K′ : List ℕ) →
-    q ≡ puts p (lanesText b kept t k over τ l) → K ≡ lanesKept b kept t k over τ l → r ≡ puts q (laneText b K t k over τ l) →
+    q ≡ puts p (lanesMarks b kept t k over τ l) → K ≡ lanesKept b kept t k over τ l → r ≡ puts q (laneMark b K t k over τ l) →
     K′ ≡ laneKept b K t k over τ l →
-    (r ≡ puts p (lanesText b kept t k over τ (l + 1))) × (K′ ≡ lanesKept b kept t k over τ (l + 1))
-unfolding lanesText lanesKept
+    (r ≡ puts p (lanesMarks b kept t k over τ (l + 1))) × (K′ ≡ lanesKept b kept t k over τ (l + 1))
+unfolding lanesMarks lanesKept
 lanes-next b kept t k over τ l p q r K K′ e same w e′ =
-    rw (add-one l) (puts-then p (lanesText b kept t k over τ l) _ e (rw same at w), rw same at e′)
+    rw (add-one l) (puts-then p (lanesMarks b kept t k over τ l) _ e (rw same at w), rw same at e′)

@@ -13,9 +13,9 @@ use Rattle.drawing.specs.declared.pieces.Area.{Area}
 use Rattle.drawing.specs.Pieces.{rectText, rectEnd, pathText, pointText, stepText, pathEnd}
 use Rattle.strips.specs.declared.scale.Band.{Band}
 use Rattle.strips.specs.declared.states.Stretch.{Stretch}
-use Rattle.strips.specs.Scale.{placeOf, endOf}
+use Rattle.strips.specs.Scale.{placeAcross, endAcross}
 use Rattle.strips.specs.Kept.{sinceAt, lanesAt, isNew}
-use Rattle.strips.specs.States.{stretchOf, switches}
+use Rattle.strips.specs.States.{stretchSince, switches}
 
 -- the top of a lane's row in a band, and its height
 unfoldable pub laneTop : ℕ → ℕ → ℕ
@@ -25,8 +25,8 @@ abbrev pub laneHeight : ℕ
 laneHeight = 76
 
 -- what hovering over a stretch tells: the lane, from when to when, active or sending so many cells
-unfoldable pub toldText : ℕ → Stretch → List ℕ
-toldText l S =
+unfoldable pub hoverText : ℕ → Stretch → List ℕ
+hoverText l S =
     text "lane " ++ decimal l ++ text ", " ++ clockText (S .from) ++ text " to " ++ clockText (S .to)
     ++ pick (S .active) (text ", active") (text ", sending " ++ decimal (S .cells) ++ text " cells")
 
@@ -40,15 +40,15 @@ laneArea b l x end = record { x = x; y = laneTop (b .top) l; width = end - x; he
 -- a stretch of lane l, from one place of its row to another
 unfoldable pub stripText : Band → ℕ → ℕ → ℕ → Stretch → List ℕ
 stripText b l x end S =
-    pick (S .active) (rectText (text "t") (b .id) (laneArea b l x end) ++ toldText l S ++ rectEnd)
-    (rectText (text "s") (b .id) (laneArea b l x end) ++ toldText l S ++ rectEnd ++ tailText end (laneTop (b .top) l))
+    pick (S .active) (rectText (text "t") (b .id) (laneArea b l x end) ++ hoverText l S ++ rectEnd)
+    (rectText (text "s") (b .id) (laneArea b l x end) ++ hoverText l S ++ rectEnd ++ tailText end (laneTop (b .top) l))
 
 -- its left end, which is no further left than what was drawn last, and its right one
 abbrev pub leftOf : Band → List ℕ → ℕ → Stretch → ℕ
-leftOf b kept l S = max (placeOf (b .scale) (S .from)) (getD kept (lanesAt (b .id) l) 0)
+leftOf b kept l S = max (placeAcross (b .scale) (S .from)) (getD kept (lanesAt (b .id) l) 0)
 
 abbrev pub rightOf : Band → Stretch → ℕ
-rightOf b S = endOf (b .scale) (S .from) (S .to)
+rightOf b S = endAcross (b .scale) (S .from) (S .to)
 
 -- a stretch that ends is drawn where it is new in its row
 abbrev pub isDrawn : Band → List ℕ → ℕ → Stretch → Bool
@@ -62,11 +62,11 @@ endedKept b kept l S = pick (isDrawn b kept l S) (set kept (lanesAt (b .id) l) (
 
 -- the stretch that lane l is in, as far as τ
 abbrev pub laneStretch : Band → List ℕ → Title → ℕ → ℕ → Stretch
-laneStretch b kept t τ l = stretchOf t l (getD kept (sinceAt (b .id) l) 0) τ
+laneStretch b kept t τ l = stretchSince t l (getD kept (sinceAt (b .id) l) 0) τ
 
 -- at τ count k rules from now on: a lane's stretch ends where the lane switches, or where all stretches are over
-unfoldable pub laneText : Band → List ℕ → Title → ℕ → Bool → ℕ → ℕ → List ℕ
-laneText b kept t k over τ l = pick (either (switches t k l) over) (endedText b kept l (laneStretch b kept t τ l)) []
+unfoldable pub laneMark : Band → List ℕ → Title → ℕ → Bool → ℕ → ℕ → List ℕ
+laneMark b kept t k over τ l = pick (either (switches t k l) over) (endedText b kept l (laneStretch b kept t τ l)) []
 
 unfoldable pub laneKept : Band → List ℕ → Title → ℕ → Bool → ℕ → ℕ → List ℕ
 laneKept b kept t k over τ l =
@@ -78,7 +78,7 @@ unfoldable pub lanesKept : Band → List ℕ → Title → ℕ → Bool → ℕ 
 lanesKept b kept t k over τ zero = kept
 lanesKept b kept t k over τ (suc l) = laneKept b (lanesKept b kept t k over τ l) t k over τ l
 
-unfoldable pub lanesText : Band → List ℕ → Title → ℕ → Bool → ℕ → ℕ → List ℕ
-lanesText b kept t k over τ zero = []
-lanesText b kept t k over τ (suc l) =
-    lanesText b kept t k over τ l ++ laneText b (lanesKept b kept t k over τ l) t k over τ l
+unfoldable pub lanesMarks : Band → List ℕ → Title → ℕ → Bool → ℕ → ℕ → List ℕ
+lanesMarks b kept t k over τ zero = []
+lanesMarks b kept t k over τ (suc l) =
+    lanesMarks b kept t k over τ l ++ laneMark b (lanesKept b kept t k over τ l) t k over τ l

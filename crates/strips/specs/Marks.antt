@@ -20,11 +20,11 @@ use Rattle.drawing.specs.declared.pieces.Area.{Area}
 use Rattle.drawing.specs.Pieces.{rectText, rectEnd, labelText, labelEnd, pathText, pointText, stepText, pathEnd}
 use Rattle.strips.specs.declared.scale.Scale.{Scale}
 use Rattle.strips.specs.declared.scale.Band.{Band}
-use Rattle.strips.specs.Scale.{placeOf, endOf}
+use Rattle.strips.specs.Scale.{placeAcross, endAcross}
 use Rattle.strips.specs.Kept.{doorsSinceAt, doorsAt, eventsAt, eventLabelsAt, livesAt, lifeLabelsAt, refusalsAt, refusalLabelsAt}
 use Rattle.strips.specs.Kept.{isNew, drawnTo}
 use Rattle.strips.specs.Lanes.{laneTop}
-use Rattle.strips.specs.Notices.{kindText, noticeText}
+use Rattle.strips.specs.Notices.{actLabel, noticeHover}
 
 -- ---- doors
 
@@ -34,17 +34,17 @@ doorsArea b x end = record { x = x; y = b .top + 300; width = end - x; height = 
 -- doors that were held from one moment to another
 unfoldable pub heldText : Band → List ℕ → ℕ → ℕ → List ℕ
 heldText b kept from τ =
-    pick (isNew kept (doorsAt (b .id)) (endOf (b .scale) from τ))
-    (rectText (text "d") 0 (doorsArea b (placeOf (b .scale) from) (endOf (b .scale) from τ))
+    pick (isNew kept (doorsAt (b .id)) (endAcross (b .scale) from τ))
+    (rectText (text "d") 0 (doorsArea b (placeAcross (b .scale) from) (endAcross (b .scale) from τ))
     ++ text "doors held, " ++ clockText from ++ text " to " ++ clockText τ ++ rectEnd)
     []
 
 abbrev pub heldKept : Band → List ℕ → ℕ → ℕ → List ℕ
-heldKept b kept from τ = drawnTo kept (doorsAt (b .id)) (endOf (b .scale) from τ) (endOf (b .scale) from τ)
+heldKept b kept from τ = drawnTo kept (doorsAt (b .id)) (endAcross (b .scale) from τ) (endAcross (b .scale) from τ)
 
 -- at τ the doors are held from now on, or not
-unfoldable pub doorsText : Band → List ℕ → Title → Bool → ℕ → List ℕ
-doorsText b kept t held τ =
+unfoldable pub doorsMark : Band → List ℕ → Title → Bool → ℕ → List ℕ
+doorsMark b kept t held τ =
     pick (both (isShut t) (not held)) (heldText b kept (getD kept (doorsSinceAt (b .id)) 0) τ) []
 
 unfoldable pub doorsKept : Band → List ℕ → Title → Bool → ℕ → List ℕ
@@ -60,21 +60,21 @@ eventArea b x = record { x = x; y = b .top + 170; width = 14; height = 120 }
 -- the tick mark of an accepted notice, and what it does where that has room
 unfoldable pub tickText : Band → List ℕ → Notice → List ℕ
 tickText b kept n =
-    pick (isNew kept (eventsAt (b .id)) (endOf (b .scale) (n .time) (n .time)))
-    (rectText (text "e") (kindOf (n .kind)) (eventArea b (placeOf (b .scale) (n .time))) ++ noticeText n done ++ rectEnd) []
+    pick (isNew kept (eventsAt (b .id)) (endAcross (b .scale) (n .time) (n .time)))
+    (rectText (text "e") (kindOf (n .kind)) (eventArea b (placeAcross (b .scale) (n .time))) ++ noticeHover n done ++ rectEnd) []
 
 abbrev pub tickKept : Band → List ℕ → Notice → List ℕ
 tickKept b kept n =
-    drawnTo kept (eventsAt (b .id)) (endOf (b .scale) (n .time) (n .time)) (endOf (b .scale) (n .time) (n .time))
+    drawnTo kept (eventsAt (b .id)) (endAcross (b .scale) (n .time) (n .time)) (endAcross (b .scale) (n .time) (n .time))
 
 unfoldable pub tickLabelText : Band → List ℕ → Notice → List ℕ
 tickLabelText b kept n =
-    pick (isNew kept (eventLabelsAt (b .id)) (placeOf (b .scale) (n .time)))
-    (labelText (text "small") (placeOf (b .scale) (n .time) + 35) (b .top + 270) ++ kindText (n .kind) ++ labelEnd) []
+    pick (isNew kept (eventLabelsAt (b .id)) (placeAcross (b .scale) (n .time)))
+    (labelText (text "small") (placeAcross (b .scale) (n .time) + 35) (b .top + 270) ++ actLabel (n .kind) ++ labelEnd) []
 
 abbrev pub tickLabelKept : Band → List ℕ → Notice → List ℕ
 tickLabelKept b kept n =
-    drawnTo kept (eventLabelsAt (b .id)) (placeOf (b .scale) (n .time)) (placeOf (b .scale) (n .time) + 700)
+    drawnTo kept (eventLabelsAt (b .id)) (placeAcross (b .scale) (n .time)) (placeAcross (b .scale) (n .time) + 700)
 
 -- ---- the life of a title, from its opening to its end
 
@@ -94,25 +94,25 @@ filmLabel b t x =
 -- a life that ended at τ: its frame where that is new, and its label where that has room
 unfoldable pub lifeText : Band → List ℕ → Title → ℕ → List ℕ
 lifeText b kept t τ =
-    pick (isNew kept (livesAt (b .id)) (endOf (b .scale) (t .opened) τ))
-    (frameText b t (placeOf (b .scale) (t .opened)) (endOf (b .scale) (t .opened) τ)) []
+    pick (isNew kept (livesAt (b .id)) (endAcross (b .scale) (t .opened) τ))
+    (frameText b t (placeAcross (b .scale) (t .opened)) (endAcross (b .scale) (t .opened) τ)) []
 
 abbrev pub lifeKept : Band → List ℕ → Title → ℕ → List ℕ
-lifeKept b kept t τ = drawnTo kept (livesAt (b .id)) (endOf (b .scale) (t .opened) τ) (endOf (b .scale) (t .opened) τ)
+lifeKept b kept t τ = drawnTo kept (livesAt (b .id)) (endAcross (b .scale) (t .opened) τ) (endAcross (b .scale) (t .opened) τ)
 
 unfoldable pub lifeLabelText : Band → List ℕ → Title → List ℕ
 lifeLabelText b kept t =
-    pick (isNew kept (lifeLabelsAt (b .id)) (placeOf (b .scale) (t .opened))) (filmLabel b t (placeOf (b .scale) (t .opened))) []
+    pick (isNew kept (lifeLabelsAt (b .id)) (placeAcross (b .scale) (t .opened))) (filmLabel b t (placeAcross (b .scale) (t .opened))) []
 
 abbrev pub lifeLabelKept : Band → List ℕ → Title → List ℕ
 lifeLabelKept b kept t =
-    drawnTo kept (lifeLabelsAt (b .id)) (placeOf (b .scale) (t .opened)) (placeOf (b .scale) (t .opened) + 2200)
+    drawnTo kept (lifeLabelsAt (b .id)) (placeAcross (b .scale) (t .opened)) (placeAcross (b .scale) (t .opened) + 2200)
 
 -- ---- refusals, in a row of their own
 
 -- where a time is drawn: at the left edge where it lies outside what is drawn
 unfoldable pub refusedPlace : Scale → ℕ → ℕ
-refusedPlace s τ = pick (both (leb (s .first) τ) (leb (τ - s .first) (s .span))) (placeOf s τ) plotLeft
+refusedPlace s τ = pick (both (leb (s .first) τ) (leb (τ - s .first) (s .span))) (placeAcross s τ) plotLeft
 
 abbrev pub refusalArea : ℕ → Area
 refusalArea x = record { x = x; y = 560; width = 14; height = 120 }
@@ -120,7 +120,7 @@ refusalArea x = record { x = x; y = 560; width = 14; height = 120 }
 -- a refused notice
 unfoldable pub refusedMark : ℕ → List ℕ → Notice → ℕ → List ℕ
 refusedMark x kept n answer =
-    pick (isNew kept refusalsAt (x + 1)) (rectText (text "r") answer (refusalArea x) ++ noticeText n answer ++ rectEnd) []
+    pick (isNew kept refusalsAt (x + 1)) (rectText (text "r") answer (refusalArea x) ++ noticeHover n answer ++ rectEnd) []
 
 -- bytes that are no notice
 unfoldable pub brokenMark : List ℕ → List ℕ

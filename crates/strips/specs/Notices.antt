@@ -9,15 +9,15 @@ use Rattle.text.specs.Digits.{decimal}
 use Rattle.clocks.specs.Clocks.{clockText}
 use Rattle.words.specs.Words.{meaningText}
 
-unfoldable pub kindText : Kind → List ℕ
-kindText (Open d a k n) = text "open with " ++ decimal n
-kindText (Change n) = text "change to " ++ decimal n
-kindText Close = text "close"
-kindText Hold = text "hold"
-kindText Lift = text "lift"
-kindText (Skip d n) = text "skip with " ++ decimal n
+unfoldable pub actLabel : Kind → List ℕ
+actLabel (Open d a k n) = text "open with " ++ decimal n
+actLabel (Change n) = text "change to " ++ decimal n
+actLabel Close = text "close"
+actLabel Hold = text "hold"
+actLabel Lift = text "lift"
+actLabel (Skip d n) = text "skip with " ++ decimal n
 
-unfoldable pub noticeText : Notice → ℕ → List ℕ
-noticeText n answer =
-    text "sequence " ++ decimal (n .sequence) ++ text ", title " ++ decimal (n .title) ++ text ", " ++ kindText (n .kind)
+unfoldable pub noticeHover : Notice → ℕ → List ℕ
+noticeHover n answer =
+    text "sequence " ++ decimal (n .sequence) ++ text ", title " ++ decimal (n .title) ++ text ", " ++ actLabel (n .kind)
     ++ text " at " ++ clockText (n .time) ++ text ": " ++ meaningText answer

@@ -19,8 +19,8 @@ sendingStretch t l since τ =
     (record { some = true; active = false; from = since; to = min (releaseMoment t l) τ; cells = getD (t .owed) l 0 })
 
 -- lane l, as it is since a moment
-unfoldable pub stretchOf : Title → ℕ → ℕ → ℕ → Stretch
-stretchOf t l since τ =
+unfoldable pub stretchSince : Title → ℕ → ℕ → ℕ → Stretch
+stretchSince t l since τ =
     pick (eqb (t .mode) absentMode) noStretch
     (pick (ltb l (ruling t)) (record { some = true; active = true; from = since; to = τ; cells = 0 }) (sendingStretch t l since τ))
 

@@ -21,7 +21,7 @@ ghost use lib.ListN.{length};
 ghost use Rattle.rules.specs.Limits.{idMax};
 ghost use Rattle.text.specs.Output.{Written};
 ghost use Rattle.strips.specs.Kept.{keptLength};
-ghost use Rattle.strips.specs.Marks.{heldText, heldKept, doorsText, doorsKept};
+ghost use Rattle.strips.specs.Marks.{heldText, heldKept, doorsMark, doorsKept};
 
 // The strip's top, from the band's, and its height.
 const DOORS_DOWN: u64 = 300;
@@ -66,7 +66,7 @@ pub fn put_doors(
     time: u64,
 ) -> usize
     requires { ⌜ (length (now kept) ≡ keptLength) × (band .id ≤ idMax) ⌝ }
-    ensures { λ r. ⌜ Written (now (out .entry)) at (doorsText band (now (kept .entry)) t held time) (now (out .exit)) r ⌝ }
+    ensures { λ r. ⌜ Written (now (out .entry)) at (doorsMark band (now (kept .entry)) t held time) (now (out .exit)) r ⌝ }
     ensures { λ _. ⌜ now (kept .exit) ≡ doorsKept band (now (kept .entry)) t held time ⌝ }
 {
     let j = kept_in(band.id, DOORS_SINCE);

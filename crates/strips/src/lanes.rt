@@ -34,14 +34,14 @@ ghost use Rattle.text.specs.Output.{Written};
 ghost use Rattle.strips.specs.Kept.{keptLength};
 ghost use Rattle.strips.specs.Lanes.{
   laneTop,
-  toldText,
+  hoverText,
   tailText,
   stripText,
   endedText,
   endedKept,
-  laneText,
+  laneMark,
   laneKept,
-  lanesText,
+  lanesMarks,
   lanesKept,
 };
 
@@ -62,7 +62,7 @@ fn lane_top(top: u32, lane: u64) -> u64
 
 // What hovering over a stretch tells.
 fn put_told(out: &mut [u8], at: usize, lane: u64, s: Stretch) -> usize
-    ensures { λ r. ⌜ Written (now (out .entry)) at (toldText lane s) (now (out .exit)) r ⌝ }
+    ensures { λ r. ⌜ Written (now (out .entry)) at (hoverText lane s) (now (out .exit)) r ⌝ }
 {
     let a = put(out, at, b"lane ");
     let b = put_number(out, a, lane);
@@ -159,7 +159,7 @@ fn put_lane(
 ) -> usize
     requires { ⌜ ((t .mode ≡ absentMode → ⊥) → Timed t) ⌝ }
     requires { ⌜ (length (now kept) ≡ keptLength) × ((band .id ≤ idMax) × (lane < countMax)) ⌝ }
-    ensures { λ r. ⌜ Written (now (out .entry)) at (laneText band (now (kept .entry)) t count over time lane) (now (out .exit)) r ⌝ }
+    ensures { λ r. ⌜ Written (now (out .entry)) at (laneMark band (now (kept .entry)) t count over time lane) (now (out .exit)) r ⌝ }
     ensures { λ _. ⌜ now (kept .exit) ≡ laneKept band (now (kept .entry)) t count over time lane ⌝ }
 {
     let j = kept_in(band.id, SINCE + lane);
@@ -188,7 +188,7 @@ pub fn put_lanes(
 ) -> usize
     requires { ⌜ ((t .mode ≡ absentMode → ⊥) → Timed t) ⌝ }
     requires { ⌜ (length (now kept) ≡ keptLength) × (band .id ≤ idMax) ⌝ }
-    ensures { λ r. ⌜ Written (now (out .entry)) at (lanesText band (now (kept .entry)) t count over time countMax) (now (out .exit)) r ⌝ }
+    ensures { λ r. ⌜ Written (now (out .entry)) at (lanesMarks band (now (kept .entry)) t count over time countMax) (now (out .exit)) r ⌝ }
     ensures { λ _. ⌜ now (kept .exit) ≡ lanesKept band (now (kept .entry)) t count over time countMax ⌝ }
 {
     let mut place = at;

@@ -7,10 +7,10 @@ use text::digits::put_number;
 use text::output::put;
 use words::put_meaning;
 ghost use Rattle.text.specs.Output.{Written};
-ghost use Rattle.strips.specs.Notices.{kindText, noticeText};
+ghost use Rattle.strips.specs.Notices.{actLabel, noticeHover};
 
 pub fn put_kind(out: &mut [u8], at: usize, kind: Kind) -> usize
-    ensures { λ r. ⌜ Written (now (out .entry)) at (kindText kind) (now (out .exit)) r ⌝ }
+    ensures { λ r. ⌜ Written (now (out .entry)) at (actLabel kind) (now (out .exit)) r ⌝ }
 {
     match kind {
         Kind::Open {
@@ -37,7 +37,7 @@ pub fn put_kind(out: &mut [u8], at: usize, kind: Kind) -> usize
 }
 
 pub fn put_notice(out: &mut [u8], at: usize, n: Notice, answer: u8) -> usize
-    ensures { λ r. ⌜ Written (now (out .entry)) at (noticeText n answer) (now (out .exit)) r ⌝ }
+    ensures { λ r. ⌜ Written (now (out .entry)) at (noticeHover n answer) (now (out .exit)) r ⌝ }
 {
     let kind = n.kind;
     let a = put(out, at, b"sequence ");

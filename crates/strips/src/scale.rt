@@ -8,7 +8,7 @@ ghost use Prim.Native.Nat.{_^_};
 ghost use mathlib.Core.Path.{_≡_};
 ghost use Rattle.drawing.specs.Axis.{plotLeft};
 ghost use Rattle.grid.specs.Bounds.{Exactly};
-ghost use Rattle.strips.specs.Scale.{placeOf, endOf};
+ghost use Rattle.strips.specs.Scale.{placeAcross, endAcross};
 
 // The first moment that is drawn, how many follow it, the plot's columns, and how many tenths of a pixel each has.
 pub struct Scale {
@@ -26,14 +26,14 @@ pub struct Band {
 }
 
 pub fn place(s: Scale, time: u64) -> u64
-    ensures { λ r. ⌜ Exactly (placeOf s time) plotLeft (2 ^ 33) r ⌝ }
+    ensures { λ r. ⌜ Exactly (placeAcross s time) plotLeft (2 ^ 33) r ⌝ }
 {
     PLOT_LEFT + part(s.columns, s.span, since(s.first, time)) * s.grain as u64
 }
 
 // The right end of what lasts from one moment to another.
 pub fn end(s: Scale, from: u64, to: u64) -> u64
-    ensures { λ r. ⌜ Exactly (endOf s from to) plotLeft (2 ^ 34) r ⌝ }
+    ensures { λ r. ⌜ Exactly (endAcross s from to) plotLeft (2 ^ 34) r ⌝ }
 {
     larger(place(s, to), place(s, from) + s.grain as u64)
 }

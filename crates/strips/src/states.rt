@@ -10,7 +10,7 @@ ghost use mathlib.Core.Path.{_≡_};
 ghost use Rattle.rules.specs.Limits.{countMax};
 ghost use Rattle.story.specs.Kept.{absentMode};
 ghost use Rattle.moments.specs.Searched.{Timed};
-ghost use Rattle.strips.specs.States.{noStretch, sendingStretch, stretchOf, switches as switchesOf};
+ghost use Rattle.strips.specs.States.{noStretch, sendingStretch, stretchSince, switches as switchesOf};
 
 // Whether there is one, whether the lane is active in it, from when to when, and of a sending lane how many cells it owed.
 pub struct Stretch {
@@ -57,7 +57,7 @@ fn sending(t: Title, lane: u64, since: u64, time: u64) -> Stretch
 pub fn stretch_of(t: Title, lane: u64, since: u64, time: u64) -> Stretch
     requires { ⌜ ((t .mode ≡ absentMode → ⊥) → Timed t) ⌝ }
     requires { ⌜ lane < countMax ⌝ }
-    ensures { λ r. ⌜ r ≡ stretchOf t lane since time ⌝ }
+    ensures { λ r. ⌜ r ≡ stretchSince t lane since time ⌝ }
 {
     if t.mode == ABSENT {
         return none();

@@ -15,15 +15,15 @@ unfoldable pub takingPlace : ℕ → ℕ → (ℕ → ℕ) → ℕ → ℕ → �
 takingPlace D tick f m c = pick (filmIn D tick c) (first (λ j. eqb (f j) c) m) m
 
 -- the tick and the lane of a place
-abbrev pub tickOf : ℕ → ℕ
-tickOf place = place / lanePlaces
+abbrev pub placeTick : ℕ → ℕ
+placeTick place = place / lanePlaces
 
-abbrev pub laneOf : ℕ → ℕ
-laneOf place = place % lanePlaces
+abbrev pub placeLane : ℕ → ℕ
+placeLane place = place % lanePlaces
 
 -- in tick t cell c is kept: it is taken by then, and plays later
 unfoldable pub isKept : (ℕ → ℕ) → ℕ → ℕ → Bool
-isKept place t c = both (leb (tickOf (place c)) t) (ltb t c)
+isKept place t c = both (leb (placeTick (place c)) t) (ltb t c)
 
 -- how many of n cells are
 unfoldable pub keptAt : (ℕ → ℕ) → ℕ → ℕ → ℕ

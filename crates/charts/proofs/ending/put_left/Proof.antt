@@ -6,8 +6,8 @@ use mathlib.Core.Bool.{true, false}
 use borrow.Author.Tests.{eq-eqb, ne-eqb}
 use Rattle.rules.specs.Limits.{countMax}
 use Rattle.text.specs.Output.{puts}
-use Rattle.strips.specs.Lanes.{lanesText, lanesKept}
-use Rattle.strips.specs.Marks.{doorsText, doorsKept}
+use Rattle.strips.specs.Lanes.{lanesMarks, lanesKept}
+use Rattle.strips.specs.Marks.{doorsMark, doorsKept}
 use Rattle.charts.specs.Ending.{leftMarks, leftKept}
 use Rattle.charts.proofs.Threaded.{then-text, then-kept}
 use mathlib.Core.Path.{_∙_}
@@ -57,8 +57,8 @@ returns-2 c =
     let life = at-put-ended .put-ended .ensures in
     let lanes = then-kept (λ (k : List ℕ). lanesKept (x .band) k (x .t) (at-ruling .ruling .result) true (x .end) countMax) (life .1) (at-put-lanes .put-lanes .ensures .1) in
     rw (ne-eqb _ _ (at-if1 .if1 .left), ← at-left-until .left-until .ensures, ← at-ruling .ruling .ensures) (
-      then-text (λ (k : List ℕ). doorsText (x .band) k (x .t) false (x .end)) _ _
-          (then-text (λ (k : List ℕ). lanesText (x .band) k (x .t) (at-ruling .ruling .result) true (x .end) countMax) _ _ (life .0) (life .1) (at-put-lanes .put-lanes .ensures .0))
+      then-text (λ (k : List ℕ). doorsMark (x .band) k (x .t) false (x .end)) _ _
+          (then-text (λ (k : List ℕ). lanesMarks (x .band) k (x .t) (at-ruling .ruling .result) true (x .end) countMax) _ _ (life .0) (life .1) (at-put-lanes .put-lanes .ensures .0))
           lanes (at-put-doors .put-doors .ensures .0),
       then-kept (λ (k : List ℕ). doorsKept (x .band) k (x .t) false (x .end)) lanes (at-put-doors .put-doors .ensures .1),
     )

@@ -5,8 +5,8 @@ use mathlib.Core.Bool.{not}
 use lib.Dec.{eqb}
 use Rattle.rules.specs.Limits.{countMax}
 use Rattle.story.specs.Kept.{openMode, isShut}
-use Rattle.strips.specs.Lanes.{lanesText, lanesKept}
-use Rattle.strips.specs.Marks.{doorsText, doorsKept}
+use Rattle.strips.specs.Lanes.{lanesMarks, lanesKept}
+use Rattle.strips.specs.Marks.{doorsMark, doorsKept}
 use Rattle.charts.specs.Hearing.{turnMarks, turnKept}
 use Rattle.charts.proofs.Threaded.{then-text, then-kept}
 use mathlib.Core.Path.{_∙_}
@@ -38,8 +38,8 @@ returns c =
     let past = at-put-past .put-past .ensures in
     let lanes = then-kept (λ (k : List ℕ). lanesKept (x .band) k (x .t) (at-ruling .ruling .result) (not (eqb (x .t .mode) openMode)) (x .time) countMax) (past .1) (at-put-lanes .put-lanes .ensures .1) in
     rw (← at-ruling .ruling .ensures) (
-      then-text (λ (k : List ℕ). doorsText (x .band) k (x .t) (isShut (x .after)) (x .time)) _ _
-          (then-text (λ (k : List ℕ). lanesText (x .band) k (x .t) (at-ruling .ruling .result) (not (eqb (x .t .mode) openMode)) (x .time) countMax) _ _ (past .0) (past .1) (at-put-lanes .put-lanes .ensures .0))
+      then-text (λ (k : List ℕ). doorsMark (x .band) k (x .t) (isShut (x .after)) (x .time)) _ _
+          (then-text (λ (k : List ℕ). lanesMarks (x .band) k (x .t) (at-ruling .ruling .result) (not (eqb (x .t .mode) openMode)) (x .time) countMax) _ _ (past .0) (past .1) (at-put-lanes .put-lanes .ensures .0))
           lanes (at-put-doors .put-doors .ensures .0),
       then-kept (λ (k : List ℕ). doorsKept (x .band) k (x .t) (isShut (x .after)) (x .time)) lanes (at-put-doors .put-doors .ensures .1),
     )

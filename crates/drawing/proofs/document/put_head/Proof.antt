@@ -1,13 +1,13 @@
 -- `drawing::document::put_head` meets its contract: its parts are written one behind the other.
 use Rattle.text.proofs.Pages.{puts-then}
 use Rattle.text.specs.Texts.{text}
-use Rattle.drawing.specs.Document.{headText}
+use Rattle.drawing.specs.Document.{svgHead}
 use borrow.Author.Needs.{needs}
 use Rattle.drawing.proofs.document.put_head.Statement.{statement}
 use Rattle.drawing.proofs.document.put_head.Tie as tie
 
 returns : tie.Need-returns
-unfolding text headText
+unfolding text svgHead
 returns c =
     let at-7 = c .before .before in
     let at-6 = at-7 .before .before .before .before in

@@ -4,13 +4,13 @@ use mathlib.Core.List.{List}
 use Prim.Native.Nat.{ℕ}
 use lib.ListN.{set}
 use Rattle.text.specs.Output.{puts}
-use Rattle.strips.specs.Lanes.{laneText, laneKept}
+use Rattle.strips.specs.Lanes.{laneMark, laneKept}
 use borrow.Author.Needs.{needs}
 use Rattle.strips.proofs.lanes.put_lane.Statement.{statement}
 use Rattle.strips.proofs.lanes.put_lane.Tie as tie
 
 returns : tie.Need-returns
-unfolding laneText laneKept
+unfolding laneMark laneKept
 returns c =
     let at-put-ended = c .before .before .before .before in
     let at-if1 = at-put-ended .before .before .before in
@@ -22,7 +22,7 @@ returns c =
     (at-put-ended .put-ended .ensures .0, ap (λ (k : List ℕ). set k (at-kept-in .kept-in .result) (at-start .args .time)) (at-put-ended .put-ended .ensures .1))
 
 returns-2 : tie.Need-returns-2
-unfolding laneText laneKept
+unfolding laneMark laneKept
 returns-2 c =
     let at-put-ended2 = c .before .before .before .before in
     let at-if2 = at-put-ended2 .before .before .before in
@@ -33,7 +33,7 @@ returns-2 c =
     rw (sym (at-switches .switches .ensures) ∙ at-if1 .if1 .left, at-if2 .if2 .taken, ← at-kept-in .kept-in .ensures .is, ← at-stretch-of .stretch-of .ensures) (at-put-ended2 .put-ended2 .ensures)
 
 returns-3 : tie.Need-returns-3
-unfolding laneText laneKept puts
+unfolding laneMark laneKept puts
 returns-3 c =
     let at-if1 = c .before in
     let at-switches = at-if1 .before in

@@ -8,7 +8,7 @@ use Rattle.rules.specs.Limits.{countMax}
 use Rattle.text.specs.Output.{page, puts}
 use Rattle.text.proofs.Pages.{same-room}
 use Rattle.strips.specs.Kept.{keptLength}
-use Rattle.strips.specs.Lanes.{lanesText, lanesKept}
+use Rattle.strips.specs.Lanes.{lanesMarks, lanesKept}
 use Rattle.strips.proofs.Laned.{lanes-next}
 use borrow.Author.Needs.{needs}
 use Rattle.strips.proofs.lanes.put_lanes.Statement.{statement}
@@ -16,14 +16,14 @@ use Rattle.strips.proofs.lanes.put_lanes.Tie as tie
 
 abbrev Inv-loop : tie.InvT-loop
 Inv-loop out₀ at kept₀ band t count over time place₀ lane₀ out kept place lane =
-    (lane ≤ countMax) × (page out place ≡ puts (page out₀ at) (lanesText band kept₀ t count over time lane))
+    (lane ≤ countMax) × (page out place ≡ puts (page out₀ at) (lanesMarks band kept₀ t count over time lane))
     × (kept ≡ lanesKept band kept₀ t count over time lane) × (length kept ≡ keptLength)
 
 abbrev μ-loop : tie.MeasureT-loop
 μ-loop out₀ at kept₀ band t count over time place₀ lane₀ out kept place lane = countMax - lane
 
 loop-holds : tie.Need-loop-holds Inv-loop μ-loop
-unfolding lanesText lanesKept puts
+unfolding lanesMarks lanesKept puts
 loop-holds c =
     let at-start = c .before .before in
     (omega arith, refl, refl, at-start .pre .1 .0)
@@ -57,7 +57,7 @@ returns c =
     let at-start = at-loop .before .before .before in
     let all = le-antisymm (at-loop .loop .inv .0) (c .loop-test .left) in
     let x = at-start .args in (
-      at-loop .loop .inv .1 ∙ ap (λ n. puts (page (x .out .now) (x .at)) (lanesText (x .band) (x .kept .now) (x .t) (x .count) (x .over) (x .time) n)) all,
+      at-loop .loop .inv .1 ∙ ap (λ n. puts (page (x .out .now) (x .at)) (lanesMarks (x .band) (x .kept .now) (x .t) (x .count) (x .over) (x .time) n)) all,
       at-loop .loop .inv .2 ∙ ap (lanesKept (x .band) (x .kept .now) (x .t) (x .count) (x .over) (x .time)) all,
     )
 

@@ -2,13 +2,13 @@
 use Rattle.text.specs.Texts.{text}
 use mathlib.Core.Path.{refl}
 use Rattle.text.proofs.Pages.{puts-then, same-room}
-use Rattle.strips.specs.Lanes.{toldText}
+use Rattle.strips.specs.Lanes.{hoverText}
 use borrow.Author.Needs.{needs}
 use Rattle.strips.proofs.lanes.put_told.Statement.{statement}
 use Rattle.strips.proofs.lanes.put_told.Tie as tie
 
 returns-2 : tie.Need-returns-2
-unfolding text toldText
+unfolding text hoverText
 returns-2 c =
     let at-put6 = c .before .before in
     let at-put-number2 = at-put6 .before .before .before .before .before in
@@ -32,7 +32,7 @@ returns-2 c =
     (at-put6 .put6 .ensures)))
 
 returns : tie.Need-returns
-unfolding text toldText
+unfolding text hoverText
 returns c =
     let at-put4 = c .before .before in
     let at-if1 = at-put4 .before .before .before in

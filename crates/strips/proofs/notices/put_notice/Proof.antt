@@ -2,13 +2,13 @@
 use Rattle.text.specs.Texts.{text}
 use mathlib.Core.Path.{refl}
 use Rattle.text.proofs.Pages.{puts-then, same-room}
-use Rattle.strips.specs.Notices.{noticeText}
+use Rattle.strips.specs.Notices.{noticeHover}
 use borrow.Author.Needs.{needs}
 use Rattle.strips.proofs.notices.put_notice.Statement.{statement}
 use Rattle.strips.proofs.notices.put_notice.Tie as tie
 
 returns : tie.Need-returns
-unfolding text noticeText
+unfolding text noticeHover
 returns c =
     let at-put-meaning = c .before .before in
     let at-put5 = at-put-meaning .before .before .before .before in

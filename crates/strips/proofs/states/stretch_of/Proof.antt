@@ -1,19 +1,19 @@
 -- `strips::states::stretch_of` meets its contract: by whether the title is there, and the lane active.
 use mathlib.Core.Path.{refl}
 use borrow.Author.Tests.{eq-eqb, ne-eqb, lt-ltb, le-ltb}
-use Rattle.strips.specs.States.{stretchOf}
+use Rattle.strips.specs.States.{stretchSince}
 use borrow.Author.Needs.{needs}
 use Rattle.strips.proofs.states.stretch_of.Statement.{statement}
 use Rattle.strips.proofs.states.stretch_of.Tie as tie
 
 returns : tie.Need-returns
-unfolding stretchOf
+unfolding stretchSince
 returns c =
     let at-if1 = c .before in
     rw (eq-eqb _ _ (at-if1 .if1 .taken)) (c .none .ensures)
 
 returns-2 : tie.Need-returns-2
-unfolding stretchOf
+unfolding stretchSince
 returns-2 c =
     let at-ruling = c .before in
     let at-if1 = at-ruling .before in
@@ -26,7 +26,7 @@ sending-requires c κs =
     (at-start .pre .0 (at-if1 .if1 .left), at-start .pre .1)
 
 returns-3 : tie.Need-returns-3
-unfolding stretchOf
+unfolding stretchSince
 returns-3 c =
     let at-if2 = c .before in
     let at-ruling = at-if2 .before in

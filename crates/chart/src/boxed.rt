@@ -1,5 +1,5 @@
-// The program: arguments POOL ID TIME, the log on standard input. No contract can say what is read and written: the work is in `log_boxes` and
-// in `complaints`; these functions are safe and end.
+// The box that begins at an admission: arguments POOL ID TIME, the log on standard input. No contract can say what is read and written: the
+// work is in `log_boxes` and in `complaints`; these functions are safe and end.
 
 use crate::complaints::put_beginning;
 use crate::input::time_given;
@@ -14,8 +14,8 @@ use log_boxes::beginning_of;
 use log_boxes::put_box;
 use unheard_io::put_unheard;
 
-// No picture is longer: proofs/Fits.
-const PICTURE_ROOM: usize = 4_999_999;
+// No picture is longer: that of a box by proofs/Fits, that of a log by how it is drawn.
+pub const PICTURE_ROOM: usize = 4_999_999;
 
 // The box that was asked for.
 struct Asked {
@@ -76,8 +76,8 @@ fn box_given() -> Box {
 }
 
 // How many arguments there are is tested first, then the numbers, then the log.
-pub fn run() {
-    if are_right(1, 4, 4, b"chart POOL ID TIME < LOG") {
+pub fn draw(usage: &[u8]) {
+    if are_right(1, 4, 4, usage) {
         let Box::Of(asked) = box_given() else {
             return;
         };
