@@ -1,0 +1,400 @@
+//! What came of a run: a table of the boxes, and of each thing that has to hold whether it did.
+
+use crate::follower::LEAD;
+use crate::grid::Grid;
+use crate::library::{self, Kind, Notice, LANES, NOTHING, OUT_OF_TURN};
+use crate::modulator::CAROUSEL;
+use crate::programs::Papers;
+use crate::random::Digest;
+use crate::runner::{Given, Guest};
+use crate::scale::Scale;
+use crate::words::Words;
+
+pub struct Process {
+    pub guest: Guest,
+    pub hung: bool,
+}
+
+/// How a run ended.
+pub struct Outcome {
+    pub given: Given,
+    pub scale: Scale,
+    pub root: String,
+    /// Raises that were overtaken, and when.
+    pub swaps: Vec<(u64, u64)>,
+    pub kills: u64,
+    pub refusals: u64,
+    /// Whether they ended by themselves, without a complaint.
+    pub modulator: bool,
+    pub receiver: bool,
+    pub boxes: Vec<Process>,
+}
+
+/// A notice that a box refused, with its answer and what it did: nothing yet, or after how many ms it had taken it, and from where.
+#[derive(Clone, Debug, PartialEq, Eq)]
+pub struct Refusal {
+    pub sequence: u64,
+    pub answer: u8,
+    pub mended: Option<(u64, String)>,
+}
+
+/// What a box said, and whether its film is the film.
+pub struct Tale {
+    pub guest: Guest,
+    pub hung: bool,
+    pub title: u64,
+    pub start: u64,
+    pub admitted: u64,
+    pub ready: u64,
+    pub passed: u64,
+    pub slot: u64,
+    pub count: u64,
+    pub most: u64,
+    /// Cells that came too late or never, rising.
+    pub missed: Vec<u64>,
+    pub foreign: u64,
+    pub refused: Vec<Refusal>,
+    pub lost: u64,
+    /// After how many ms it had caught up, and the last sequence that it heard.
+    pub caught_up: u64,
+    pub sequence: u64,
+    pub same: bool,
+    pub digest: String,
+    pub cpu_us: u64,
+    pub memory_kb: u64,
+}
+
+fn refusal_of(text: &str) -> Option<Refusal> {
+    let mut parts = text.split(':');
+    let (sequence, answer) = (parts.next()?.parse().ok()?, parts.next()?.parse().ok()?);
+    let mended = parts.next()?.parse().ok().zip(parts.next().map(str::to_string));
+    Some(Refusal { sequence, answer, mended })
+}
+
+/// Reads what a box has left, and compares what it played with the film.
+fn tale(process: &Process, papers: &Papers, film: &[u8]) -> Result<Tale, String> {
+    let name = papers.path(&format!("box-{}", process.guest.number));
+    let report = std::fs::read_to_string(format!("{name}.report")).map_err(|why| format!("{name}.report: {why}"))?;
+    let words = Words::of(report.lines());
+    let title = words.get("title").map_err(|_| format!("box {} was not admitted", process.guest.number))?;
+    let (count, tick): (u64, u64) = (words.get("count")?, words.get("tick")?);
+    let opening = papers.opening(title).ok_or("a box plays a title that nobody opened")?;
+    let mut missed: Vec<u64> = [words.list("late")?, words.list("missing")?].concat();
+    missed.extend(words.get::<u64>("turn")?..words.get("film")?);
+    missed.sort_unstable();
+    let began = words.list("began")?;
+    let refused: String = words.get("refused")?;
+    let played = std::fs::read(format!("{name}.film")).map_err(|why| format!("{name}.film: {why}"))?;
+    std::fs::remove_file(format!("{name}.film")).map_err(|why| format!("{name}.film: {why}"))?;
+    Ok(Tale {
+        guest: process.guest.clone(),
+        hung: process.hung,
+        title,
+        start: words.get("start")?,
+        admitted: words.get("admitted")?,
+        ready: words.get("ready")?,
+        passed: words.get("passed")?,
+        slot: tick * Grid::of(opening, film.len() as u64).slot(opening, count.min(opening.cap.max(count))),
+        count,
+        most: words.get("most")?,
+        missed,
+        foreign: words.get("foreign")?,
+        refused: refused.split(',').filter_map(refusal_of).collect(),
+        lost: words.get::<String>("lost")?.split(',').filter(|lost| !lost.is_empty()).count() as u64,
+        caught_up: began.get(1).map_or(0, |at| at.saturating_sub(process.guest.on)),
+        sequence: words.get("sequence")?,
+        same: played == film,
+        digest: words.get("digest")?,
+        cpu_us: words.get("cpu_us")?,
+        memory_kb: words.get("memory_kb")?,
+    })
+}
+
+// --- the table ---
+
+fn told_missed(missed: &[u64]) -> String {
+    match missed {
+        [] => "none".into(),
+        [first] => format!("{first}"),
+        [first, rest @ ..] => format!("{first} and {} more", rest.len()),
+    }
+}
+
+fn row(tale: &Tale) -> String {
+    let wait = tale.admitted - tale.guest.ask;
+    let mended = tale.refused.iter().filter(|refusal| refusal.mended.is_some()).count();
+    let on = if tale.guest.on == 0 { "-".into() } else { tale.caught_up.to_string() };
+    format!(
+        "{:>4} {:>5} {:>6} {:>6} {:>5} {:>5} {:>6} {:>5} {:>7} {:>6} {:16} {:16} {}",
+        tale.guest.number, tale.title, tale.guest.ask, on, wait, tale.slot, tale.count, tale.most,
+        tale.refused.len() as u64 + tale.lost, mended, told_missed(&tale.missed), tale.digest,
+        if tale.same { "the film" } else { "not the film" }
+    )
+}
+
+fn table(tales: &[Tale]) -> String {
+    let head = " box title  asked caught  wait  slot  lanes  kept refused mended missed           digest           played";
+    let rows: Vec<String> = tales.iter().map(row).collect();
+    format!("{head}\n{}\n", rows.join("\n"))
+}
+
+// --- what has to hold ---
+
+/// Lines of what held and what did not.
+#[derive(Default)]
+struct Ledger {
+    failed: u64,
+}
+
+impl Ledger {
+    fn note(&mut self, held: bool, what: String) {
+        self.failed += u64::from(!held);
+        println!("{} {what}", if held { "holds:" } else { "FAILS:" });
+    }
+
+    fn try_note(&mut self, outcome: Result<(bool, String), String>) {
+        match outcome {
+            Ok((held, what)) => self.note(held, what),
+            Err(why) => self.note(false, why),
+        }
+    }
+}
+
+/// Every cell that a box missed by `air`'s own judgement of what it received: the lowest, that one filled in, the next, and so on.
+fn missed_by_air(papers: &Papers, journal: &[u8], tale: &Tale) -> Result<Vec<u64>, String> {
+    let name = papers.path(&format!("box-{}.record", tale.guest.number));
+    let text = std::fs::read_to_string(&name).map_err(|why| format!("{name}: {why}"))?;
+    let mut record: Vec<[u16; LANES]> = text.lines().map(record_row).collect();
+    let mut missed = Vec::new();
+    loop {
+        let row = library::air(papers.pool, tale.title, journal, &record);
+        let row = row.map_err(|refusal| format!("air refuses the record of box {}: {refusal}", tale.guest.number))?;
+        let Some(cell) = row.last().copied().filter(|cell| *cell != NOTHING) else {
+            return Ok(missed);
+        };
+        missed.push(u64::from(cell));
+        let turn = &mut record[tale.start as usize + usize::from(cell)];
+        let free = turn.iter_mut().find(|shown| **shown == NOTHING).ok_or("a tick has twelve lanes in use")?;
+        *free = cell;
+    }
+}
+
+fn record_row(line: &str) -> [u16; LANES] {
+    let mut row = [NOTHING; LANES];
+    row.iter_mut().zip(line.split(' ')).for_each(|(cell, word)| *cell = word.parse().unwrap_or(NOTHING));
+    row
+}
+
+/// Each box missed what `air` says over the record of its own reception.
+fn losses(papers: &Papers, journal: &[u8], tales: &[&Tale], ledger: &mut Ledger) {
+    let (mut cells, mut checked, mut wrong) = (0, 0, Vec::new());
+    let padded = |tale: &&&Tale| papers.opening(tale.title).is_some_and(|opening| opening.kind == Kind::Opens);
+    for tale in tales.iter().filter(padded) {
+        checked += 1;
+        cells += tale.missed.len();
+        match missed_by_air(papers, journal, tale) {
+            Ok(missed) if missed == tale.missed => {}
+            other => wrong.push(format!("box {}: {:?} by itself, {other:?} by air", tale.guest.number, tale.missed)),
+        }
+    }
+    ledger.note(wrong.is_empty(), format!("air over each box's own reception says the cells that it missed: {cells} cells in {checked} boxes"));
+    wrong.iter().for_each(|line| println!("       {line}"));
+    if let Some(tale) = tales.iter().filter(padded).find(|tale| !tale.missed.is_empty()) {
+        let record = papers.path(&format!("box-{}.record", tale.guest.number));
+        ledger.try_note(papers.air_of(tale.title, &record, tale.start).map(|cell| {
+            let what = format!("the program air says of box {}, which began at tick {}: {cell:?}", tale.guest.number, tale.start);
+            (cell == tale.missed.first().copied(), what)
+        }));
+    }
+}
+
+/// Every box played the film.
+fn plays(tales: &[&Tale], ledger: &mut Ledger) {
+    let good = tales.iter().filter(|tale| tale.same && tale.missed.is_empty()).count();
+    ledger.note(good == tales.len(), format!("{good} of {} boxes played the film, byte for byte and in time", tales.len()));
+    for tale in tales.iter().filter(|tale| !tale.same || !tale.missed.is_empty()) {
+        println!("       box {}: missed {:?}", tale.guest.number, tale.missed);
+    }
+}
+
+/// Boxes that do not mind the order: some froze.
+fn freezes(tales: &[&Tale], ledger: &mut Ledger) {
+    let frozen: Vec<&&Tale> = tales.iter().filter(|tale| !tale.missed.is_empty()).collect();
+    ledger.note(!frozen.is_empty(), format!("without the order {} of {} boxes froze", frozen.len(), tales.len()));
+    for tale in frozen {
+        println!(
+            "       box {}: title {}, began at {} ms believing in {} lanes, froze at cell {} ({} cells never came, {} datagrams on its lanes were another film's)",
+            tale.guest.number, tale.title, tale.admitted, tale.count, tale.missed[0], tale.missed.len(), tale.foreign
+        );
+    }
+}
+
+/// Each box that listened while a notice was overtaken refused the one that came first, and took both from the carousel.
+fn overtakings(outcome: &Outcome, tales: &[&Tale], ledger: &mut Ledger) {
+    for (raise, at) in &outcome.swaps {
+        let there = |tale: &&&Tale| tale.guest.on + tale.caught_up + CAROUSEL < *at && tale.sequence > *raise;
+        let drop = raise + 1;
+        let mended = |tale: &&&Tale| {
+            let of_drop = tale.refused.iter().filter(|refusal| refusal.sequence == drop && refusal.answer == OUT_OF_TURN);
+            of_drop.clone().count() > 0 && of_drop.into_iter().all(|refusal| refusal.mended.is_some())
+        };
+        let (all, good) = (tales.iter().filter(there).count(), tales.iter().filter(there).filter(mended).count());
+        ledger.note(all == good, format!("notice {drop} overtook {raise}: {good} of {all} boxes answered 12, waited, and took both from the carousel"));
+    }
+    ledger.note(!outcome.swaps.is_empty(), format!("{} times a drop overtook its raise", outcome.swaps.len()));
+}
+
+/// Every box began at an admission, and waited as long as `waits` says.
+fn waiting(papers: &Papers, journal: &[u8], tales: &[Tale], ledger: &mut Ledger) {
+    let begins = |tale: &&Tale| {
+        let marks = library::admissions(papers.pool, tale.title, journal, tale.start as usize + 1);
+        // each tick of a skip-forward title is one, and `waits` below says so
+        let steady = papers.opening(tale.title).is_some_and(|opening| opening.kind == Kind::OpensSkip);
+        steady || marks.is_ok_and(|marks| marks.last() == Some(&true))
+    };
+    let good = tales.iter().filter(begins).count();
+    ledger.note(good == tales.len(), format!("{good} of {} boxes began at an admission of the journal", tales.len()));
+    for tale in tales.iter().filter(|tale| !begins(tale)) {
+        println!("       box {}: at tick {} of title {}", tale.guest.number, tale.start, tale.title);
+    }
+    for title in papers.titles() {
+        let of_it: Vec<&Tale> = tales.iter().filter(|tale| tale.title == title).collect();
+        let arrivals: Vec<u64> = of_it.iter().map(|tale| tale.ready).collect();
+        let waited: u64 = of_it.iter().map(|tale| tale.admitted - tale.ready).sum();
+        let passed: u64 = of_it.iter().map(|tale| tale.passed).sum();
+        if of_it.is_empty() {
+            continue;
+        }
+        ledger.try_note(papers.waits(title, &arrivals).map(|(admitted, sum)| {
+            let what = format!("title {title}: {} boxes waited {waited} ms in all behind tuning in, and waits says {admitted} and {sum}", of_it.len());
+            (admitted == of_it.len() as u64 && (sum == waited || passed > 0), what)
+        }));
+    }
+}
+
+/// The journal is good, the air carried what it says, and nobody starved by the record.
+fn records(papers: &Papers, ledger: &mut Ledger) {
+    ledger.try_note(papers.is_listed().map(|listed| {
+        (listed, format!("listing answers 0 to each of the journal's {} notices", papers.notices.len()))
+    }));
+    for title in papers.titles() {
+        ledger.try_note(papers.differing(title).map(|(ticks, differ)| {
+            (differ == 0, format!("title {title}: of {ticks} recorded ticks {differ} differ from playout"))
+        }));
+        if papers.opening(title).is_some_and(|opening| opening.kind == Kind::Opens) {
+            let record = papers.path(&format!("air-{title}.txt"));
+            ledger.try_note(papers.air(title, &record).map(|(played, starved)| {
+                (starved == 0, format!("title {title}: air says played through {played}, starved {starved}"))
+            }));
+        }
+    }
+}
+
+/// What the modulator and the receiver say of themselves.
+fn parts(outcome: &Outcome, papers: &Papers, ledger: &mut Ledger) -> Result<(), String> {
+    let read = |name: &str| std::fs::read_to_string(papers.path(name)).map_err(|why| format!("{name}: {why}"));
+    let (sent, seen) = (read("modulator.txt")?, read("receiver.txt")?);
+    let (sent, seen) = (Words::of(sent.lines()), Words::of(seen.lines()));
+    ledger.note(outcome.modulator && outcome.receiver, "modulator and receiver ended by themselves".into());
+    let get = |name: &str| sent.get::<u64>(name);
+    let seconds = outcome.scale.seconds;
+    println!(
+        "       sends: {} datagrams, {} bytes a second; half went out within {} us of their time, 999 of 1000 within {} us, the last {} us late",
+        get("datagrams")?, get("bytes")? / seconds, get("late_half")?, get("late_most")?, get("late_worst")?
+    );
+    println!(
+        "       notices: {} of {} bytes in all, the carousel {} bytes a second, snapshots {} bytes a second",
+        get("notices")?, get("notice_bytes")?, get("carousel_bytes")? / seconds, get("snapshot_bytes")? / seconds
+    );
+    let lead = get("least_lead")?;
+    ledger.note(lead >= LEAD, format!("every notice was out {lead} ms or more before its time, and {LEAD} are promised"));
+    let (datagrams, wrong): (u64, u64) = (seen.get("datagrams")?, seen.get("wrong")?);
+    ledger.note(
+        datagrams == get("datagrams")? && wrong == 0,
+        format!("the receiver saw {datagrams} datagrams, {wrong} of them wrong"),
+    );
+    Ok(())
+}
+
+/// What the boxes cost.
+fn tell_costs(tales: &[&Tale]) {
+    let mean = |of: &dyn Fn(&Tale) -> u64| tales.iter().map(|tale| of(tale)).sum::<u64>() / tales.len().max(1) as u64;
+    let late: Vec<u64> = tales.iter().filter(|tale| tale.guest.on > 0).map(|tale| tale.caught_up).collect();
+    println!(
+        "       a box: {} ms of processor time, {} KB of memory at most, {} cells kept at most; {} boxes came late and had caught up after {} ms at most",
+        mean(&|tale| tale.cpu_us) / 1_000,
+        mean(&|tale| tale.memory_kb),
+        tales.iter().map(|tale| tale.most).max().unwrap_or(0),
+        late.len(),
+        late.iter().max().unwrap_or(&0)
+    );
+}
+
+fn tales(outcome: &Outcome, papers: &Papers, film: &[u8], ledger: &mut Ledger) -> Vec<Tale> {
+    let mut tales = Vec::new();
+    for process in &outcome.boxes {
+        match tale(process, papers, film) {
+            Ok(tale) => tales.push(tale),
+            Err(why) => ledger.note(false, why),
+        }
+    }
+    tales
+}
+
+/// The table and what held; whether all did.
+pub fn judge(outcome: &Outcome) -> Result<bool, String> {
+    let given = &outcome.given;
+    let film = std::fs::read(&given.film).map_err(|why| format!("{}: {why}", given.film))?;
+    let name = format!("{}/journal", given.folder);
+    let journal = std::fs::read(&name).map_err(|why| format!("{name}: {why}"))?;
+    let notices = Notice::all(&journal);
+    let pool = outcome.scale.pool();
+    let papers =
+        Papers { root: outcome.root.clone(), folder: given.folder.clone(), pool, notices, size: film.len() as u64 };
+    let mut ledger = Ledger::default();
+    let tales = tales(outcome, &papers, &film, &mut ledger);
+    let text = table(&tales);
+    print!("{text}");
+    std::fs::write(papers.path("table.txt"), text).map_err(|why| format!("table.txt: {why}"))?;
+    let mut digest = Digest::new();
+    digest.add(&film);
+    println!("the film's digest is {:016x}", digest.0);
+    let (stopped, playing): (Vec<&Tale>, Vec<&Tale>) = tales.iter().partition(|tale| tale.guest.stopped.is_some());
+    match (given.old, given.loss > 0.0) {
+        (true, _) => freezes(&playing, &mut ledger),
+        (false, true) => losses(&papers, &journal, &playing, &mut ledger),
+        (false, false) => plays(&playing, &mut ledger),
+    }
+    if given.swap && !given.old {
+        overtakings(outcome, &playing, &mut ledger);
+    }
+    for tale in stopped {
+        let what = format!("box {}, stopped for a while, says what it missed: {}", tale.guest.number, told_missed(&tale.missed));
+        ledger.note(!tale.missed.is_empty(), what);
+    }
+    if !given.old {
+        waiting(&papers, &journal, &tales, &mut ledger);
+    }
+    records(&papers, &mut ledger);
+    parts(outcome, &papers, &mut ledger)?;
+    let hung = tales.iter().filter(|tale| tale.hung).count();
+    ledger.note(hung == 0, format!("{} boxes ended by themselves", tales.len() - hung));
+    let what = format!("the head-end was killed {} times and went on with its journal; {} lines were refused", outcome.kills, outcome.refusals);
+    ledger.note(outcome.kills > 0, what);
+    tell_costs(&playing);
+    println!("the journal is {0}/journal, for listing, waits and chart {pool}; the air is {0}/air-ID.txt; the operator's lines are {0}/lines.txt", given.folder);
+    Ok(ledger.failed == 0)
+}
+
+#[cfg(test)]
+mod tests {
+    use super::*;
+
+    #[test]
+    fn refusals_are_read() {
+        let mended = Some((87, "carousel".to_string()));
+        assert_eq!(refusal_of("15:12:87:carousel"), Some(Refusal { sequence: 15, answer: 12, mended }));
+        assert_eq!(refusal_of("15:12:-"), Some(Refusal { sequence: 15, answer: 12, mended: None }));
+        assert_eq!(record_row("3 - 7 - - - - - - - - -")[..3], [3, NOTHING, 7]);
+    }
+}
