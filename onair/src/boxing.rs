@@ -145,7 +145,8 @@ fn told(settop: &SetTop, screen: &Screen) -> Words {
 
 /// The record of what it received, as `air` reads it.
 fn write_record(play: &Play, name: &str) -> Result<(), String> {
-    let line = |row: &[u16; LANES]| row.map(|cell| if cell == NOTHING { "-".into() } else { cell.to_string() }).join(" ");
+    let line =
+        |row: &[u16; LANES]| row.map(|cell| if cell == NOTHING { "-".into() } else { cell.to_string() }).join(" ");
     let text: String = play.record.iter().map(|row| line(row) + "\n").collect();
     std::fs::write(name, text).map_err(|why| format!("{name}: {why}"))
 }

@@ -1,7 +1,8 @@
 //! What this machine carries: a trial of a moment on the loopback, before a run begins.
 
 use crate::modulator::PART;
-use crate::scale::Scale;
+use crate::play::SLACK;
+use crate::scale::{Scale, SECONDS_MAX};
 use crate::system::{self, Tuner, DATAGRAM_MAX};
 use std::time::Duration;
 
@@ -9,6 +10,10 @@ use std::time::Duration;
 const EARS: usize = 4;
 const DATAGRAMS: usize = 300;
 const NAPS: usize = 60;
+/// A sleeper that wakes later than this, in microseconds, leaves boxes too little of the time that a datagram may be late.
+const LATE_MAX: u64 = SLACK * 1_000 / 3;
+/// The least room for datagrams that a receiver needs, in bytes.
+const ROOM_MIN: usize = 1 << 20;
 /// The share of the processors that a run may need, and what a box costs a second besides its bytes, in seconds of one.
 const SHARE: f64 = 0.5;
 const BOX: f64 = 0.002;
@@ -39,6 +44,12 @@ fn naps() -> u64 {
 pub fn trial(port: u16) -> Result<Trial, String> {
     let failed = |why: std::io::Error| format!("port {port}: {why}");
     let tuners = (0..EARS).map(|_| Tuner::on(port, 4 << 20).map_err(failed)).collect::<Result<Vec<Tuner>, String>>()?;
+    let room = tuners[0].room().map_err(failed)?;
+    if room < ROOM_MIN {
+        return Err(format!(
+            "a receiver gets room for {room} bytes here: sysctl net.core.rmem_max=4194304 gives it enough"
+        ));
+    }
     let socket = system::sender().map_err(failed)?;
     let (bytes, mut buffer) = (vec![7; PART as usize], vec![0; DATAGRAM_MAX]);
     let (mut sending, mut receiving) = (0, 0);
@@ -75,6 +86,12 @@ impl Trial {
 
     /// Why a run is refused, in a line that says what would be carried; nothing where it is.
     pub fn refusal(&self, scale: &Scale, boxes: u64) -> Option<String> {
+        if self.late > LATE_MAX {
+            return Some(format!(
+                "a sleeper wakes {} us late on this machine: a run needs {LATE_MAX} us or less",
+                self.late
+            ));
+        }
         let load = self.load(scale, boxes);
         if load <= 1.0 {
             return None;
@@ -86,12 +103,14 @@ impl Trial {
             return Some(format!("{boxes} boxes are not carried by this machine: it carries {most}"));
         }
         let share = (1.0 - idle) / (load - idle);
+        let seconds = (scale.seconds as f64 / share).ceil() as u64;
+        let longer =
+            if seconds <= SECONDS_MAX { format!(", or this film in {seconds} seconds") } else { String::new() };
         Some(format!(
-            "a film of {} bytes in {} seconds with {boxes} boxes is not carried by this machine: it carries {} bytes in that time, or this film in {} seconds",
+            "a film of {} bytes in {} seconds is not carried by this machine with {boxes} boxes: {} bytes are{longer}",
             scale.size,
             scale.seconds,
-            (scale.size as f64 * share) as u64,
-            (scale.seconds as f64 / share).ceil()
+            (scale.size as f64 * share) as u64
         ))
     }
 }
@@ -108,7 +127,7 @@ mod tests {
         assert_eq!(trial.refusal(&small, 100), None);
         let large = Scale { size: 200_000_000_000, ..small };
         let told = trial.refusal(&large, 100).expect("refused");
-        assert!(told.contains("is not carried by this machine: it carries "), "{told}");
+        assert!(told.contains("is not carried by this machine with 100 boxes: "), "{told}");
         assert!(trial.refusal(&small, 100_000).expect("refused").contains("100000 boxes"));
     }
 }

@@ -1,9 +1,10 @@
 //! Follows the notices: what modulator, receiver and boxes have in common.
 //!
-//! Notices are sent out before their time. One agent has *heard*: it takes each notice as it comes, and answers 12 to one that is out of turn.
-//! A second agent is the one that is *asked*: it takes the same notices in the same order, each when its time has come, since an agent is not
-//! asked about times before its last event. A beat says up to which sequence notices were sent out: whoever has heard that far knows every event up
-//! to LEAD ms behind the beat's clock, for the head-end's operator enters no event later than that before its time. Up to there it is *covered*.
+//! Notices are sent out before their time. One agent has *heard*: it takes each notice as it comes, and answers 12 to
+//! one that is out of turn. A second agent is the one that is *asked*: it takes the same notices in the same order, each
+//! when its time has come, since an agent is not asked about times before its last event. A beat says up to which
+//! sequence notices were sent out: whoever has heard that far knows every event up to LEAD ms behind the beat's clock, for
+//! the operator enters no event later than that before its time. Up to there it is *covered*.
 
 use crate::lanes::Lanes;
 use crate::library::{Agent, Notice, TITLES};

@@ -1,8 +1,9 @@
 //! Which lane of the pool each lane of a title is sent on: one rule, over the notices alone, for modulator, boxes and receiver.
 //!
-//! At each notice, in the order of their sequences: first every lane of the pool whose title's lane is no longer held at the notice's time
-//! is free; then the event is done; then each lane that its title holds at that time, and has no lane of the pool yet, gets the lowest free
-//! one, from the title's lane 0 on. A lane keeps its lane of the pool until it is released. Since lanes held never exceed the pool, one is free.
+//! At each notice, in the order of their sequences: first every lane of the pool whose title's lane is no longer held at
+//! the notice's time is free; then the event is done; then each lane that its title holds at that time, and has no lane
+//! of the pool yet, gets the lowest free one, from the title's lane 0 on. A lane keeps its lane of the pool until it is
+//! released. Since lanes held never exceed the pool, one is free.
 
 use crate::library::{Agent, LANES};
 

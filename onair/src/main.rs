@@ -6,6 +6,7 @@
 mod boxing;
 mod carry;
 mod follower;
+mod given;
 mod grid;
 mod headend;
 mod lanes;
@@ -20,8 +21,10 @@ mod receiver;
 mod report;
 mod runner;
 mod scale;
+mod seats;
 mod settop;
 mod system;
+mod tale;
 mod wire;
 mod words;
 
@@ -32,11 +35,11 @@ fn main() -> ExitCode {
     let words: Vec<String> = std::env::args().skip(1).collect();
     let told = Words::of(words.iter().map(String::as_str));
     let done = match words.first().map(String::as_str) {
-        Some("run") => runner::Given::of(&words[1..]).and_then(runner::run),
+        Some("run") => given::Given::of(&words[1..]).and_then(runner::run),
         Some("modulator") => modulating::run(&told).map(|()| true),
         Some("receiver") => receiver::run(&told).map(|()| true),
         Some("box") => boxing::run(&told).map(|()| true),
-        _ => Err(runner::USAGE.into()),
+        _ => Err(given::USAGE.into()),
     };
     match done {
         Ok(true) => ExitCode::SUCCESS,

@@ -157,7 +157,8 @@ mod tests {
     fn played(notices: &[Notice], titles: &[u64], ask: u64, until: u64) -> (SetTop, Vec<u8>) {
         let film: Vec<u8> = (0..SIZE).map(|place| (place * 7 % 251) as u8).collect();
         let wish = Wish { pool: 12, ask, titles: titles.to_vec(), size: SIZE, loss: 0.0, seed: 1, old: false };
-        let (mut modulator, mut settop) = (Modulator::new(12, SIZE).expect("a pool"), SetTop::new(wish).expect("a pool"));
+        let (mut modulator, mut settop) =
+            (Modulator::new(12, SIZE).expect("a pool"), SetTop::new(wish).expect("a pool"));
         let mut shown = Vec::new();
         for clock in 0..until {
             let due: Vec<Notice> = notices.iter().filter(|notice| notice.time == clock + LEAD).cloned().collect();

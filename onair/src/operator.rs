@@ -31,7 +31,7 @@ pub enum Deed {
     /// A title opens, once there is room for it.
     Open(u64),
     Close(u64),
-    /// The head-end is killed while it is asked to hold the main title's doors, and started again on its journal.
+    /// The head-end is killed while it is asked to hold a title's doors, and started again on its journal.
     Kill,
     /// A lane of the main title is raised and dropped; the drop's notice overtakes the raise's.
     Flutter,
@@ -58,8 +58,8 @@ pub struct Operator {
     last: u64,
     pub sequence: u64,
     lines: VecDeque<Line>,
-    /// Until when other deeds wait for a flutter, until when nothing at all is done, and until when lanes are left free for an opening.
-    busy_until: u64,
+    /// Until when the main title is left as it is, until when nothing at all is done, and until when lanes are left free for an opening.
+    window_until: u64,
     quiet_until: u64,
     room_until: u64,
     padded: Vec<u64>,
@@ -99,7 +99,7 @@ fn agenda(scale: &Scale, swaps: bool) -> Vec<(u64, Deed)> {
         (at(70), Deed::Open(4)),
     ]);
     if swaps {
-        deeds.extend([10, 36, 62].map(|percent| (at(percent), Deed::Flutter)));
+        deeds.extend([10, 36, 58].map(|percent| (at(percent), Deed::Flutter)));
     }
     deeds.sort_by_key(|(time, _)| *time);
     deeds
@@ -123,7 +123,7 @@ impl Operator {
             last: 0,
             sequence: 0,
             lines: VecDeque::new(),
-            busy_until: 0,
+            window_until: 0,
             quiet_until: 0,
             room_until: 0,
             padded: Vec::new(),
@@ -293,19 +293,19 @@ impl Operator {
 
     /// The head-end dies with a line on its way; what its journal has is what was accepted.
     fn kill(&mut self) -> Result<(), String> {
-        let from = self.from();
-        let Some(time) = self.when(MAIN, from, "hold")? else {
+        let (from, title) = (self.from(), self.padded.last().copied().unwrap_or(MAIN));
+        let Some(time) = self.when(title, from, "hold")? else {
             self.later(Deed::Kill, LATER);
             return Ok(());
         };
         self.lines.clear();
-        let line = format!("hold {MAIN} {time}");
+        let line = format!("hold {title} {time}");
         self.headend.enter(&line)?;
         self.headend.kill_and_start()?;
         self.kills += 1;
         self.transcript.push(format!("{:>6} > {line}\n         # killed, and started again", self.clock.ms()));
         // its first answer comes behind the journal's replay
-        self.ask(&format!("status {} {MAIN}", self.last))?;
+        self.ask(&format!("status {} {title}", self.last))?;
         let journal = std::fs::read(&self.journal).map_err(|why| format!("{}: {why}", self.journal))?;
         let sequence = Notice::all(&journal).last().map_or(0, |notice| notice.sequence);
         if sequence > self.sequence {
@@ -314,7 +314,7 @@ impl Operator {
         } else {
             self.enter_and_tell(&line, time)?;
         }
-        self.later(Deed::Lift(MAIN), 1_000);
+        self.later(Deed::Lift(title), 1_000);
         Ok(())
     }
 
@@ -333,7 +333,6 @@ impl Operator {
             self.later(Deed::Flutter, LATER);
             return Ok(());
         };
-        self.busy_until = time + TOO_FAR;
         let text = format!("change {MAIN} {time} {}", count + 1);
         self.lines.push_back(Line { time, text, back_to: Some(count) });
         Ok(())
@@ -359,7 +358,7 @@ impl Operator {
             self.command(&format!("swap {raise}"))?;
         }
         self.tell()?;
-        (self.busy_until, self.quiet_until) = (self.last + WINDOW, self.clock.ms() + LATER);
+        (self.window_until, self.quiet_until) = (self.last + WINDOW, self.clock.ms() + LATER);
         self.later(Deed::Pass, LATER);
         Ok(())
     }
@@ -374,23 +373,28 @@ impl Operator {
         Ok(())
     }
 
+    /// What may be done now; the rest waits, and rates are left out.
     fn does(&mut self, deed: Deed) -> Result<(), String> {
-        let (busy, opening) = (self.clock.ms() < self.busy_until, self.clock.ms() < self.room_until);
+        let clock = self.clock.ms();
+        let raising = self.lines.iter().any(|line| line.back_to.is_some());
+        let waits = match deed {
+            Deed::Rates | Deed::Flutter => raising || clock < self.window_until || clock < self.room_until,
+            Deed::Open(_) | Deed::Close(_) => raising || clock < self.window_until,
+            Deed::Hold(_) | Deed::Lift(_) | Deed::Kill | Deed::Pass => raising,
+        };
         match deed {
-            Deed::Rates if busy || opening => Ok(()),
-            Deed::Flutter if opening => Ok(self.later(deed, LATER)),
-            Deed::Hold(_) | Deed::Open(_) | Deed::Close(_) | Deed::Kill | Deed::Flutter if busy => {
-                Ok(self.later(deed, LATER))
-            }
-            Deed::Rates => self.rates(),
-            Deed::Hold(title) => self.doors(title, "hold"),
-            Deed::Lift(title) => self.doors(title, "lift"),
-            Deed::Open(title) => self.open(title),
-            Deed::Close(title) => self.close(title),
-            Deed::Kill => self.kill(),
-            Deed::Flutter => self.flutter(),
-            Deed::Pass => self.pass(),
+            Deed::Rates if waits => {}
+            _ if waits => self.later(deed, LATER),
+            Deed::Rates => self.rates()?,
+            Deed::Hold(title) => self.doors(title, "hold")?,
+            Deed::Lift(title) => self.doors(title, "lift")?,
+            Deed::Open(title) => self.open(title)?,
+            Deed::Close(title) => self.close(title)?,
+            Deed::Kill => self.kill()?,
+            Deed::Flutter => self.flutter()?,
+            Deed::Pass => self.pass()?,
         }
+        Ok(())
     }
 
     // --- the run ---

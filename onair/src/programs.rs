@@ -24,7 +24,8 @@ impl Papers {
 
     /// The titles that were opened, by id.
     pub fn titles(&self) -> Vec<u64> {
-        let mut titles: Vec<u64> = self.notices.iter().filter(|notice| notice.opens()).map(|notice| notice.title).collect();
+        let mut titles: Vec<u64> =
+            self.notices.iter().filter(|notice| notice.opens()).map(|notice| notice.title).collect();
         titles.sort_unstable();
         titles.dedup();
         titles

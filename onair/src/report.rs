@@ -1,144 +1,30 @@
-//! What came of a run: a table of the boxes, and of each thing that has to hold whether it did.
+//! What came of a run: the table of its boxes, and of each thing that has to hold whether it did.
 
 use crate::follower::LEAD;
-use crate::grid::Grid;
+use crate::given::Given;
 use crate::library::{self, Kind, Notice, LANES, NOTHING, OUT_OF_TURN};
 use crate::modulator::CAROUSEL;
 use crate::programs::Papers;
 use crate::random::Digest;
-use crate::runner::{Given, Guest};
 use crate::scale::Scale;
+use crate::seats::Seats;
+use crate::tale::{table, tale, told_missed, Tale};
 use crate::words::Words;
-
-pub struct Process {
-    pub guest: Guest,
-    pub hung: bool,
-}
 
 /// How a run ended.
 pub struct Outcome {
     pub given: Given,
+    pub film: Vec<u8>,
     pub scale: Scale,
     pub root: String,
     /// Raises that were overtaken, and when.
     pub swaps: Vec<(u64, u64)>,
     pub kills: u64,
     pub refusals: u64,
-    /// Whether they ended by themselves, without a complaint.
-    pub modulator: bool,
-    pub receiver: bool,
-    pub boxes: Vec<Process>,
+    /// Whether modulator and receiver ended by themselves, without a complaint.
+    pub ended: bool,
+    pub seats: Seats,
 }
-
-/// A notice that a box refused, with its answer and what it did: nothing yet, or after how many ms it had taken it, and from where.
-#[derive(Clone, Debug, PartialEq, Eq)]
-pub struct Refusal {
-    pub sequence: u64,
-    pub answer: u8,
-    pub mended: Option<(u64, String)>,
-}
-
-/// What a box said, and whether its film is the film.
-pub struct Tale {
-    pub guest: Guest,
-    pub hung: bool,
-    pub title: u64,
-    pub start: u64,
-    pub admitted: u64,
-    pub ready: u64,
-    pub passed: u64,
-    pub slot: u64,
-    pub count: u64,
-    pub most: u64,
-    /// Cells that came too late or never, rising.
-    pub missed: Vec<u64>,
-    pub foreign: u64,
-    pub refused: Vec<Refusal>,
-    pub lost: u64,
-    /// After how many ms it had caught up, and the last sequence that it heard.
-    pub caught_up: u64,
-    pub sequence: u64,
-    pub same: bool,
-    pub digest: String,
-    pub cpu_us: u64,
-    pub memory_kb: u64,
-}
-
-fn refusal_of(text: &str) -> Option<Refusal> {
-    let mut parts = text.split(':');
-    let (sequence, answer) = (parts.next()?.parse().ok()?, parts.next()?.parse().ok()?);
-    let mended = parts.next()?.parse().ok().zip(parts.next().map(str::to_string));
-    Some(Refusal { sequence, answer, mended })
-}
-
-/// Reads what a box has left, and compares what it played with the film.
-fn tale(process: &Process, papers: &Papers, film: &[u8]) -> Result<Tale, String> {
-    let name = papers.path(&format!("box-{}", process.guest.number));
-    let report = std::fs::read_to_string(format!("{name}.report")).map_err(|why| format!("{name}.report: {why}"))?;
-    let words = Words::of(report.lines());
-    let title = words.get("title").map_err(|_| format!("box {} was not admitted", process.guest.number))?;
-    let (count, tick): (u64, u64) = (words.get("count")?, words.get("tick")?);
-    let opening = papers.opening(title).ok_or("a box plays a title that nobody opened")?;
-    let mut missed: Vec<u64> = [words.list("late")?, words.list("missing")?].concat();
-    missed.extend(words.get::<u64>("turn")?..words.get("film")?);
-    missed.sort_unstable();
-    let began = words.list("began")?;
-    let refused: String = words.get("refused")?;
-    let played = std::fs::read(format!("{name}.film")).map_err(|why| format!("{name}.film: {why}"))?;
-    std::fs::remove_file(format!("{name}.film")).map_err(|why| format!("{name}.film: {why}"))?;
-    Ok(Tale {
-        guest: process.guest.clone(),
-        hung: process.hung,
-        title,
-        start: words.get("start")?,
-        admitted: words.get("admitted")?,
-        ready: words.get("ready")?,
-        passed: words.get("passed")?,
-        slot: tick * Grid::of(opening, film.len() as u64).slot(opening, count.min(opening.cap.max(count))),
-        count,
-        most: words.get("most")?,
-        missed,
-        foreign: words.get("foreign")?,
-        refused: refused.split(',').filter_map(refusal_of).collect(),
-        lost: words.get::<String>("lost")?.split(',').filter(|lost| !lost.is_empty()).count() as u64,
-        caught_up: began.get(1).map_or(0, |at| at.saturating_sub(process.guest.on)),
-        sequence: words.get("sequence")?,
-        same: played == film,
-        digest: words.get("digest")?,
-        cpu_us: words.get("cpu_us")?,
-        memory_kb: words.get("memory_kb")?,
-    })
-}
-
-// --- the table ---
-
-fn told_missed(missed: &[u64]) -> String {
-    match missed {
-        [] => "none".into(),
-        [first] => format!("{first}"),
-        [first, rest @ ..] => format!("{first} and {} more", rest.len()),
-    }
-}
-
-fn row(tale: &Tale) -> String {
-    let wait = tale.admitted - tale.guest.ask;
-    let mended = tale.refused.iter().filter(|refusal| refusal.mended.is_some()).count();
-    let on = if tale.guest.on == 0 { "-".into() } else { tale.caught_up.to_string() };
-    format!(
-        "{:>4} {:>5} {:>6} {:>6} {:>5} {:>5} {:>6} {:>5} {:>7} {:>6} {:16} {:16} {}",
-        tale.guest.number, tale.title, tale.guest.ask, on, wait, tale.slot, tale.count, tale.most,
-        tale.refused.len() as u64 + tale.lost, mended, told_missed(&tale.missed), tale.digest,
-        if tale.same { "the film" } else { "not the film" }
-    )
-}
-
-fn table(tales: &[Tale]) -> String {
-    let head = " box title  asked caught  wait  slot  lanes  kept refused mended missed           digest           played";
-    let rows: Vec<String> = tales.iter().map(row).collect();
-    format!("{head}\n{}\n", rows.join("\n"))
-}
-
-// --- what has to hold ---
 
 /// Lines of what held and what did not.
 #[derive(Default)]
@@ -197,12 +83,18 @@ fn losses(papers: &Papers, journal: &[u8], tales: &[&Tale], ledger: &mut Ledger)
             other => wrong.push(format!("box {}: {:?} by itself, {other:?} by air", tale.guest.number, tale.missed)),
         }
     }
-    ledger.note(wrong.is_empty(), format!("air over each box's own reception says the cells that it missed: {cells} cells in {checked} boxes"));
+    ledger.note(
+        wrong.is_empty(),
+        format!("air over each box's own reception says the cells that it missed: {cells} cells in {checked} boxes"),
+    );
     wrong.iter().for_each(|line| println!("       {line}"));
     if let Some(tale) = tales.iter().filter(padded).find(|tale| !tale.missed.is_empty()) {
         let record = papers.path(&format!("box-{}.record", tale.guest.number));
         ledger.try_note(papers.air_of(tale.title, &record, tale.start).map(|cell| {
-            let what = format!("the program air says of box {}, which began at tick {}: {cell:?}", tale.guest.number, tale.start);
+            let what = format!(
+                "the program air says of box {}, which began at tick {}: {cell:?}",
+                tale.guest.number, tale.start
+            );
             (cell == tale.missed.first().copied(), what)
         }));
     }
@@ -211,7 +103,10 @@ fn losses(papers: &Papers, journal: &[u8], tales: &[&Tale], ledger: &mut Ledger)
 /// Every box played the film.
 fn plays(tales: &[&Tale], ledger: &mut Ledger) {
     let good = tales.iter().filter(|tale| tale.same && tale.missed.is_empty()).count();
-    ledger.note(good == tales.len(), format!("{good} of {} boxes played the film, byte for byte and in time", tales.len()));
+    ledger.note(
+        good == tales.len(),
+        format!("{good} of {} boxes played the film, byte for byte and in time", tales.len()),
+    );
     for tale in tales.iter().filter(|tale| !tale.same || !tale.missed.is_empty()) {
         println!("       box {}: missed {:?}", tale.guest.number, tale.missed);
     }
@@ -223,7 +118,7 @@ fn freezes(tales: &[&Tale], ledger: &mut Ledger) {
     ledger.note(!frozen.is_empty(), format!("without the order {} of {} boxes froze", frozen.len(), tales.len()));
     for tale in frozen {
         println!(
-            "       box {}: title {}, began at {} ms believing in {} lanes, froze at cell {} ({} cells never came, {} datagrams on its lanes were another film's)",
+            "       box {}: title {}, began at {} ms believing in {} lanes, froze at cell {}; {} cells never came, {} datagrams were another title's",
             tale.guest.number, tale.title, tale.admitted, tale.count, tale.missed[0], tale.missed.len(), tale.foreign
         );
     }
@@ -235,7 +130,8 @@ fn overtakings(outcome: &Outcome, tales: &[&Tale], ledger: &mut Ledger) {
         let there = |tale: &&&Tale| tale.guest.on + tale.caught_up + CAROUSEL < *at && tale.sequence > *raise;
         let drop = raise + 1;
         let mended = |tale: &&&Tale| {
-            let of_drop = tale.refused.iter().filter(|refusal| refusal.sequence == drop && refusal.answer == OUT_OF_TURN);
+            let of_drop =
+                tale.refused.iter().filter(|refusal| refusal.sequence == drop && refusal.answer == OUT_OF_TURN);
             of_drop.clone().count() > 0 && of_drop.into_iter().all(|refusal| refusal.mended.is_some())
         };
         let (all, good) = (tales.iter().filter(there).count(), tales.iter().filter(there).filter(mended).count());
@@ -295,19 +191,23 @@ fn parts(outcome: &Outcome, papers: &Papers, ledger: &mut Ledger) -> Result<(), 
     let read = |name: &str| std::fs::read_to_string(papers.path(name)).map_err(|why| format!("{name}: {why}"));
     let (sent, seen) = (read("modulator.txt")?, read("receiver.txt")?);
     let (sent, seen) = (Words::of(sent.lines()), Words::of(seen.lines()));
-    ledger.note(outcome.modulator && outcome.receiver, "modulator and receiver ended by themselves".into());
+    ledger.note(outcome.ended, "modulator and receiver ended by themselves".into());
     let get = |name: &str| sent.get::<u64>(name);
     let seconds = outcome.scale.seconds;
     println!(
-        "       sends: {} datagrams, {} bytes a second; half went out within {} us of their time, 999 of 1000 within {} us, the last {} us late",
+        "       sends: {} datagrams, {} bytes a second; half within {} us of their time, 999 of 1000 within {} us, the last {} us late",
         get("datagrams")?, get("bytes")? / seconds, get("late_half")?, get("late_most")?, get("late_worst")?
     );
     println!(
         "       notices: {} of {} bytes in all, the carousel {} bytes a second, snapshots {} bytes a second",
-        get("notices")?, get("notice_bytes")?, get("carousel_bytes")? / seconds, get("snapshot_bytes")? / seconds
+        get("notices")?,
+        get("notice_bytes")?,
+        get("carousel_bytes")? / seconds,
+        get("snapshot_bytes")? / seconds
     );
     let lead = get("least_lead")?;
-    ledger.note(lead >= LEAD, format!("every notice was out {lead} ms or more before its time, and {LEAD} are promised"));
+    ledger
+        .note(lead >= LEAD, format!("every notice was out {lead} ms or more before its time, and {LEAD} are promised"));
     let (datagrams, wrong): (u64, u64) = (seen.get("datagrams")?, seen.get("wrong")?);
     ledger.note(
         datagrams == get("datagrams")? && wrong == 0,
@@ -321,7 +221,7 @@ fn tell_costs(tales: &[&Tale]) {
     let mean = |of: &dyn Fn(&Tale) -> u64| tales.iter().map(|tale| of(tale)).sum::<u64>() / tales.len().max(1) as u64;
     let late: Vec<u64> = tales.iter().filter(|tale| tale.guest.on > 0).map(|tale| tale.caught_up).collect();
     println!(
-        "       a box: {} ms of processor time, {} KB of memory at most, {} cells kept at most; {} boxes came late and had caught up after {} ms at most",
+        "       a box: {} ms of processor time, {} KB of memory, {} cells kept at most; {} boxes came late, and had caught up after {} ms at most",
         mean(&|tale| tale.cpu_us) / 1_000,
         mean(&|tale| tale.memory_kb),
         tales.iter().map(|tale| tale.most).max().unwrap_or(0),
@@ -330,10 +230,11 @@ fn tell_costs(tales: &[&Tale]) {
     );
 }
 
-fn tales(outcome: &Outcome, papers: &Papers, film: &[u8], ledger: &mut Ledger) -> Vec<Tale> {
+/// What the boxes said, one behind the other; one that said nothing does not hold.
+fn tales(outcome: &Outcome, papers: &Papers, ledger: &mut Ledger) -> Vec<Tale> {
     let mut tales = Vec::new();
-    for process in &outcome.boxes {
-        match tale(process, papers, film) {
+    for seat in &outcome.seats.seats {
+        match tale(seat, papers) {
             Ok(tale) => tales.push(tale),
             Err(why) => ledger.note(false, why),
         }
@@ -341,48 +242,62 @@ fn tales(outcome: &Outcome, papers: &Papers, film: &[u8], ledger: &mut Ledger) -
     tales
 }
 
+/// The boxes that were to play, and those that were stopped.
+fn judge_boxes(outcome: &Outcome, papers: &Papers, journal: &[u8], tales: &[Tale], ledger: &mut Ledger) {
+    let given = &outcome.given;
+    let (stopped, playing): (Vec<&Tale>, Vec<&Tale>) = tales.iter().partition(|tale| tale.guest.stopped.is_some());
+    match (given.old, given.loss > 0.0) {
+        (true, _) => freezes(&playing, ledger),
+        (false, true) => losses(papers, journal, &playing, ledger),
+        (false, false) => plays(&playing, ledger),
+    }
+    if given.swap && !given.old {
+        overtakings(outcome, &playing, ledger);
+    }
+    for tale in stopped {
+        let (number, missed) = (tale.guest.number, told_missed(&tale.missed));
+        ledger
+            .note(!tale.missed.is_empty(), format!("box {number}, stopped for a while, says what it missed: {missed}"));
+    }
+    if !given.old {
+        waiting(papers, journal, tales, ledger);
+    }
+    let hung = tales.iter().filter(|tale| tale.hung).count();
+    ledger.note(hung == 0, format!("{} boxes ended by themselves", tales.len() - hung));
+    tell_costs(&playing);
+}
+
 /// The table and what held; whether all did.
 pub fn judge(outcome: &Outcome) -> Result<bool, String> {
-    let given = &outcome.given;
-    let film = std::fs::read(&given.film).map_err(|why| format!("{}: {why}", given.film))?;
-    let name = format!("{}/journal", given.folder);
-    let journal = std::fs::read(&name).map_err(|why| format!("{name}: {why}"))?;
-    let notices = Notice::all(&journal);
-    let pool = outcome.scale.pool();
-    let papers =
-        Papers { root: outcome.root.clone(), folder: given.folder.clone(), pool, notices, size: film.len() as u64 };
+    let folder = &outcome.given.folder;
+    let journal = std::fs::read(format!("{folder}/journal")).map_err(|why| format!("{folder}/journal: {why}"))?;
+    let papers = Papers {
+        root: outcome.root.clone(),
+        folder: folder.clone(),
+        pool: outcome.scale.pool(),
+        notices: Notice::all(&journal),
+        size: outcome.film.len() as u64,
+    };
     let mut ledger = Ledger::default();
-    let tales = tales(outcome, &papers, &film, &mut ledger);
+    let tales = tales(outcome, &papers, &mut ledger);
     let text = table(&tales);
     print!("{text}");
     std::fs::write(papers.path("table.txt"), text).map_err(|why| format!("table.txt: {why}"))?;
     let mut digest = Digest::new();
-    digest.add(&film);
+    digest.add(&outcome.film);
     println!("the film's digest is {:016x}", digest.0);
-    let (stopped, playing): (Vec<&Tale>, Vec<&Tale>) = tales.iter().partition(|tale| tale.guest.stopped.is_some());
-    match (given.old, given.loss > 0.0) {
-        (true, _) => freezes(&playing, &mut ledger),
-        (false, true) => losses(&papers, &journal, &playing, &mut ledger),
-        (false, false) => plays(&playing, &mut ledger),
-    }
-    if given.swap && !given.old {
-        overtakings(outcome, &playing, &mut ledger);
-    }
-    for tale in stopped {
-        let what = format!("box {}, stopped for a while, says what it missed: {}", tale.guest.number, told_missed(&tale.missed));
-        ledger.note(!tale.missed.is_empty(), what);
-    }
-    if !given.old {
-        waiting(&papers, &journal, &tales, &mut ledger);
-    }
+    judge_boxes(outcome, &papers, &journal, &tales, &mut ledger);
     records(&papers, &mut ledger);
     parts(outcome, &papers, &mut ledger)?;
-    let hung = tales.iter().filter(|tale| tale.hung).count();
-    ledger.note(hung == 0, format!("{} boxes ended by themselves", tales.len() - hung));
-    let what = format!("the head-end was killed {} times and went on with its journal; {} lines were refused", outcome.kills, outcome.refusals);
-    ledger.note(outcome.kills > 0, what);
-    tell_costs(&playing);
-    println!("the journal is {0}/journal, for listing, waits and chart {pool}; the air is {0}/air-ID.txt; the operator's lines are {0}/lines.txt", given.folder);
+    let (kills, refusals) = (outcome.kills, outcome.refusals);
+    ledger.note(
+        kills > 0,
+        format!("the head-end was killed {kills} times, and went on with its journal; {refusals} lines were refused"),
+    );
+    println!(
+        "journal, for listing, waits and chart with {} lanes: {folder}/journal; the air: {folder}/air-ID.txt",
+        papers.pool
+    );
     Ok(ledger.failed == 0)
 }
 
@@ -391,10 +306,7 @@ mod tests {
     use super::*;
 
     #[test]
-    fn refusals_are_read() {
-        let mended = Some((87, "carousel".to_string()));
-        assert_eq!(refusal_of("15:12:87:carousel"), Some(Refusal { sequence: 15, answer: 12, mended }));
-        assert_eq!(refusal_of("15:12:-"), Some(Refusal { sequence: 15, answer: 12, mended: None }));
+    fn a_record_is_read() {
         assert_eq!(record_row("3 - 7 - - - - - - - - -")[..3], [3, NOTHING, 7]);
     }
 }

@@ -34,15 +34,16 @@ pub struct Scale {
 }
 
 impl Scale {
-    /// The longest title that leaves room for several plays one behind the other, with the shortest tick from a given one on.
+    /// The longest title that leaves room for several plays one behind the other, with the shortest tick from a given one
+    /// on, or the longest there is.
     pub fn of(seconds: u64, size: u64, shortest: u64) -> Option<Scale> {
         let fits = |tick: u64, cap: u64| {
             let ticks = seconds * 1_000 / tick + (1 << cap);
             film_ms(cap, tick) * 100 <= seconds * 1_000 * 28 && ticks <= TICKS_MAX as u64
         };
-        let ticks = TICKS.into_iter().filter(|tick| *tick >= shortest);
-        let both = ticks.flat_map(|tick| CAPS.into_iter().rev().map(move |cap| (tick, cap)));
-        let (tick, cap) = both.into_iter().find(|(tick, cap)| fits(*tick, *cap))?;
+        let both = TICKS.into_iter().flat_map(|tick| CAPS.into_iter().rev().map(move |cap| (tick, cap)));
+        let fitting: Vec<(u64, u64)> = both.filter(|(tick, cap)| fits(*tick, *cap)).collect();
+        let (tick, cap) = *fitting.iter().find(|(tick, _)| *tick >= shortest).or(fitting.last())?;
         Some(Scale { tick, cap, seconds, size })
     }
 

@@ -1,4 +1,5 @@
-//! A box: follows the notices, begins at the next admission, plays, and says how it went. It sees no clock and no socket: both are handed to it.
+//! A box: follows the notices, begins at the next admission, plays, and says how it went. It sees no clock and no socket:
+//! both are handed to it.
 
 use crate::follower::{Follower, Heard};
 use crate::grid::Grid;

@@ -50,6 +50,7 @@ struct TimeSpec {
 extern "C" {
     fn socket(domain: c_int, kind: c_int, protocol: c_int) -> c_int;
     fn setsockopt(fd: c_int, level: c_int, name: c_int, value: *const c_void, len: c_uint) -> c_int;
+    fn getsockopt(fd: c_int, level: c_int, name: c_int, value: *mut c_void, len: *mut c_uint) -> c_int;
     fn bind(fd: c_int, address: *const SockAddrIn, len: c_uint) -> c_int;
     fn recv(fd: c_int, buffer: *mut c_void, len: usize, flags: c_int) -> isize;
     fn poll(fds: *mut PollFd, count: c_ulong, timeout: c_int) -> c_int;
@@ -129,6 +130,15 @@ impl Tuner {
         // SAFETY: the value lives while the call reads it, and the length is its own
         checked(unsafe { setsockopt(self.0.as_raw_fd(), SOL_SOCKET, name, place, size_of::<c_int>() as c_uint) })?;
         Ok(())
+    }
+
+    /// Bytes that may wait for it.
+    pub fn room(&self) -> io::Result<usize> {
+        let (mut value, mut len): (c_int, c_uint) = (0, size_of::<c_int>() as c_uint);
+        let place = (&raw mut value).cast();
+        // SAFETY: the value lives while the call writes it, and the length is its own
+        checked(unsafe { getsockopt(self.0.as_raw_fd(), SOL_SOCKET, SO_RCVBUF, place, &mut len) })?;
+        Ok(value as usize)
     }
 
     fn receive(&self, buffer: &mut [u8], flags: c_int) -> Option<usize> {

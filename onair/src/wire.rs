@@ -1,10 +1,10 @@
 //! What goes over the air: datagrams of the lanes, and those of the notices' port. All numbers are big-endian.
 //!
-//! A lane's datagram is a part of a cell: 'L', title, lane, a zero, the tick (8 bytes), the place of its first byte in the film (8 bytes),
-//! and the bytes. One of the notices' port begins with what it is ('N' notices, 'S' a snapshot), three zeros, the last sequence that was
-//! sent out (4 bytes) and the sender's clock in ms (8 bytes): every one of them is a beat. Behind that 'N' has notices back to back, and 'S'
-//! the agent's 6,052 bytes, for each lane of the pool the title and the lane that have it (255 255 where none has), and back to back
-//! the notices that opened the titles of that moment.
+//! A lane's datagram is a part of a cell: 'L', title, lane, a zero, the tick (8 bytes), the place of its first byte in the
+//! film (8 bytes), and the bytes. One of the notices' port begins with what it is ('N' notices, 'S' a snapshot), three
+//! zeros, the last sequence that was sent out (4 bytes) and the sender's clock in ms (8 bytes): every one of them is a
+//! beat. Behind that 'N' has notices back to back, and 'S' the agent's 6,052 bytes, for each lane of the pool the title and
+//! the lane that have it (255 255 where none has), and back to back the notices that opened the titles of that moment.
 
 use crate::lanes::Lanes;
 use crate::library::{Notice, SNAPSHOT_BYTES};
