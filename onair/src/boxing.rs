@@ -15,7 +15,7 @@ use std::io::{self, BufWriter, Write};
 /// Bytes that wait for the box on a lane.
 const ROOM: usize = 4 << 20;
 /// How long it waits for a datagram, in ms.
-const NAP: u64 = 10;
+const NAP: u64 = 20;
 
 /// Where the film is played to, and its digest.
 struct Screen {

@@ -5,6 +5,8 @@
 
 mod boxing;
 mod carry;
+#[cfg(test)]
+mod evening;
 mod follower;
 mod given;
 mod grid;
