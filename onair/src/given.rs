@@ -64,6 +64,9 @@ impl Given {
         if !(0.0..=50.0).contains(&self.loss) {
             return Err("--loss is 0 to 50 of a hundred".into());
         }
+        if self.old && self.loss > 0.0 {
+            return Err("--old shows what the order is for, and is run without --loss".into());
+        }
         Ok(())
     }
 }
@@ -84,6 +87,7 @@ mod tests {
         assert!(
             given("").is_err() && given("a b").is_err() && given("a --boxes").is_err() && given("a --fast").is_err()
         );
+        assert!(given("a --old --loss 1").is_err());
         assert!(given("a --seconds 5").is_err() && given("a --boxes 0").is_err() && given("a --loss 51").is_err());
     }
 }

@@ -251,7 +251,7 @@ fn judge_boxes(outcome: &Outcome, papers: &Papers, journal: &[u8], tales: &[Tale
         (false, true) => losses(papers, journal, &playing, ledger),
         (false, false) => plays(&playing, ledger),
     }
-    if given.swap && !given.old {
+    if given.swap && !given.old && given.loss == 0.0 {
         overtakings(outcome, &playing, ledger);
     }
     for tale in stopped {

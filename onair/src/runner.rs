@@ -11,6 +11,7 @@ use crate::seats::{guests, Guest, Seats};
 use crate::system::{self, Clock};
 use crate::words::{listed, Words};
 use std::fs::{self, File};
+use std::io;
 use std::process::{Child, ChildStdin, Command, Stdio};
 use std::time::Duration;
 
@@ -206,8 +207,9 @@ fn measured(given: &Given, size: u64, port: u16) -> Result<Scale, String> {
 /// Runs, and says whether all held.
 pub fn run(given: Given) -> Result<bool, String> {
     let port = 20_000 + (std::process::id() % 240) as u16 * 50; // below those that the system gives out
-    let film = fs::read(&given.film).map_err(|why| format!("{}: {why}", given.film))?;
-    let scale = measured(&given, film.len() as u64, port)?;
+    let failed = |why: io::Error| format!("{}: {why}", given.film);
+    let scale = measured(&given, fs::metadata(&given.film).map_err(failed)?.len(), port)?;
+    let film = fs::read(&given.film).map_err(failed)?;
     make_folder(&given.folder)?;
     let clock = Clock { start: system::micros() + 500_000 + given.boxes * 10_000 };
     let run = Run { given, film, scale, clock, port, root: root() };
