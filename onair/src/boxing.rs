@@ -4,7 +4,7 @@ use crate::grid::Grid;
 use crate::library::{LANES, NOTHING};
 use crate::play::Play;
 use crate::random::Digest;
-use crate::settop::{SetTop, Wish};
+use crate::settop::{Refused, SetTop, Wish};
 use crate::system::{self, Clock, Tuner, DATAGRAM_MAX};
 use crate::wire::LANE_HEAD;
 use crate::words::{listed, Words};
@@ -112,6 +112,7 @@ fn told_of(play: &Play, words: Words) -> Words {
         .with("turn", play.turn)
         .with("late", listed(&play.late))
         .with("missing", listed(&play.missing))
+        .with("stalled", listed(&play.stalled))
         .with("most", play.most)
         .with("foreign", play.foreign)
 }
@@ -141,6 +142,38 @@ fn told(settop: &SetTop, screen: &Screen) -> Words {
         Some(play) => told_of(play, words),
         None => words,
     }
+}
+
+/// The same for people, on standard error.
+fn say(settop: &SetTop, screen: &Screen) {
+    let Some(play) = &settop.play else {
+        eprintln!("not admitted");
+        return;
+    };
+    let all = |cells: &[u64]| if cells.is_empty() { "none".into() } else { listed(cells) };
+    eprintln!(
+        "title {} from {} ms on: {} cells, {} kept at most",
+        play.title,
+        play.grid.time(play.start),
+        play.turn,
+        play.most
+    );
+    eprintln!(
+        "cells late: {}; missing: {}; shown too late: {}",
+        all(&play.late),
+        all(&play.missing),
+        all(&play.stalled)
+    );
+    for Refused { sequence, answer, at, mended } in &settop.refused {
+        let did = mended.map_or("waits for what is missing".into(), |(when, snapshot)| {
+            format!("taken {} ms later, by {}", when - at, if snapshot { "a snapshot" } else { "the carousel" })
+        });
+        eprintln!("notice {sequence} refused at {at} ms with {answer}: {did}");
+    }
+    for (sequence, answer) in settop.lost() {
+        eprintln!("notice {sequence} refused with {answer}, and forgotten");
+    }
+    eprintln!("digest {:016x}", screen.digest.0);
 }
 
 /// The record of what it received, as `air` reads it.
@@ -188,6 +221,7 @@ pub fn run(words: &Words) -> Result<(), String> {
     if let (Some(play), Ok(record)) = (&settop.play, words.get::<String>("record")) {
         write_record(play, &record)?;
     }
+    say(&settop, &screen);
     let report: String = words.get("report")?;
     let text: String = told(&settop, &screen).lines().map(|line| line + "\n").collect();
     std::fs::write(&report, text).map_err(|why| format!("{report}: {why}"))

@@ -89,7 +89,7 @@ fn agenda(scale: &Scale, swaps: bool) -> Vec<(u64, Deed)> {
     let at = |percent: u64| scale.end() * percent / 100;
     let mut deeds: Vec<(u64, Deed)> = (2..scale.seconds).map(|second| (second * 1_000, Deed::Rates)).collect();
     deeds.extend([
-        (at(12), Deed::Hold(1)),
+        (at(20), Deed::Hold(1)),
         (at(25), Deed::Open(SKIP)),
         (at(38), Deed::Close(1)),
         (at(40), Deed::Open(3)),

@@ -49,6 +49,8 @@ pub struct Play {
     pub turn: u64,
     pub late: Vec<u64>,
     pub missing: Vec<u64>,
+    /// Cells that were whole in time, and shown more than SLACK behind it.
+    pub stalled: Vec<u64>,
     pub most: usize,
     pub foreign: u64,
     /// Of each tick from the opening on what was received whole, as `air` reads it.
@@ -71,6 +73,7 @@ impl Play {
             turn: 0,
             late: Vec::new(),
             missing: Vec::new(),
+            stalled: Vec::new(),
             most: 0,
             foreign: 0,
             record: vec![[NOTHING; LANES]; (start + grid.cells) as usize],
@@ -185,6 +188,8 @@ impl Play {
             Some(Kept { bytes, whole: Some(whole) }) => {
                 if whole > due {
                     self.late.push(cell);
+                } else if clock > due + SLACK {
+                    self.stalled.push(cell);
                 }
                 bytes
             }

@@ -1,7 +1,7 @@
 //! What the product's own programs say of a run: `listing`, `air`, `playout` and `waits` over its journal.
 
 use crate::grid::Grid;
-use crate::library::Notice;
+use crate::library::{Agent, Notice};
 use std::process::Command;
 
 /// Where the programs are, and what they are to read.
@@ -29,6 +29,16 @@ impl Papers {
         titles.sort_unstable();
         titles.dedup();
         titles
+    }
+
+    /// The count that ruled a title at a time, by the journal.
+    pub fn count(&self, title: u64, time: u64) -> u64 {
+        let Ok(mut agent) = Agent::fresh(self.pool) else {
+            return 0;
+        };
+        let taken = self.notices.iter().take_while(|notice| notice.time <= time);
+        taken.for_each(|notice| agent.take(&notice.bytes).unwrap_or(()));
+        agent.status(title, time).map_or(0, |standing| standing.count)
     }
 
     /// The lines that a program writes on the journal.

@@ -102,23 +102,32 @@ fn losses(papers: &Papers, journal: &[u8], tales: &[&Tale], ledger: &mut Ledger)
 
 /// Every box played the film.
 fn plays(tales: &[&Tale], ledger: &mut Ledger) {
-    let good = tales.iter().filter(|tale| tale.same && tale.missed.is_empty()).count();
+    let good = tales.iter().filter(|tale| tale.is_good()).count();
     ledger.note(
         good == tales.len(),
         format!("{good} of {} boxes played the film, byte for byte and in time", tales.len()),
     );
-    for tale in tales.iter().filter(|tale| !tale.same || !tale.missed.is_empty()) {
-        println!("       box {}: missed {:?}", tale.guest.number, tale.missed);
+    for tale in tales.iter().filter(|tale| !tale.is_good()) {
+        println!("       box {}: missed {:?}, showed too late {:?}", tale.guest.number, tale.missed, tale.stalled);
     }
 }
 
-/// Boxes that do not mind the order: some froze.
-fn freezes(tales: &[&Tale], ledger: &mut Ledger) {
-    let frozen: Vec<&&Tale> = tales.iter().filter(|tale| !tale.missed.is_empty()).collect();
-    ledger.note(!frozen.is_empty(), format!("without the order {} of {} boxes froze", frozen.len(), tales.len()));
-    for tale in frozen {
+/// Boxes that do not mind the order: some froze that believed in another count than the journal has.
+fn freezes(papers: &Papers, tales: &[&Tale], ledger: &mut Ledger) {
+    let frozen: Vec<(&Tale, u64)> = tales
+        .iter()
+        .filter(|tale| !tale.missed.is_empty())
+        .map(|tale| (*tale, papers.count(tale.title, tale.admitted)))
+        .collect();
+    let misled = frozen.iter().filter(|(tale, count)| tale.count != *count).count();
+    let (froze, all) = (frozen.len(), tales.len());
+    ledger.note(
+        misled > 0,
+        format!("without the order {froze} of {all} boxes froze, {misled} of them under a count that did not rule"),
+    );
+    for (tale, count) in frozen {
         println!(
-            "       box {}: title {}, began at {} ms believing in {} lanes, froze at cell {}; {} cells never came, {} datagrams were another title's",
+            "       box {}: title {}, from {} ms under {} lanes of {count}, froze at cell {}; {} cells missed, {} datagrams of another title",
             tale.guest.number, tale.title, tale.admitted, tale.count, tale.missed[0], tale.missed.len(), tale.foreign
         );
     }
@@ -135,7 +144,9 @@ fn overtakings(outcome: &Outcome, tales: &[&Tale], ledger: &mut Ledger) {
             of_drop.clone().count() > 0 && of_drop.into_iter().all(|refusal| refusal.mended.is_some())
         };
         let (all, good) = (tales.iter().filter(there).count(), tales.iter().filter(there).filter(mended).count());
-        ledger.note(all == good, format!("notice {drop} overtook {raise}: {good} of {all} boxes answered 12, waited, and took both from the carousel"));
+        let what =
+            format!("notice {drop} overtook {raise}: {good} of {all} boxes answered 12, waited, and took both later");
+        ledger.note(all == good, what);
     }
     ledger.note(!outcome.swaps.is_empty(), format!("{} times a drop overtook its raise", outcome.swaps.len()));
 }
@@ -154,18 +165,28 @@ fn waiting(papers: &Papers, journal: &[u8], tales: &[Tale], ledger: &mut Ledger)
         println!("       box {}: at tick {} of title {}", tale.guest.number, tale.start, tale.title);
     }
     for title in papers.titles() {
-        let of_it: Vec<&Tale> = tales.iter().filter(|tale| tale.title == title).collect();
+        let of_it: Vec<&Tale> = tales.iter().filter(|tale| tale.title == title && tale.passed == 0).collect();
         let arrivals: Vec<u64> = of_it.iter().map(|tale| tale.ready).collect();
-        let waited: u64 = of_it.iter().map(|tale| tale.admitted - tale.ready).sum();
-        let passed: u64 = of_it.iter().map(|tale| tale.passed).sum();
-        if of_it.is_empty() {
-            continue;
+        let (boxes, waited) = (arrivals.len() as u64, of_it.iter().map(|tale| tale.admitted - tale.ready).sum::<u64>());
+        if boxes > 0 {
+            ledger.try_note(papers.waits(title, &arrivals).map(|(admitted, sum)| {
+                let what = format!(
+                    "title {title}: {boxes} boxes, once tuned, waited {waited} ms; waits says {admitted} and {sum} ms"
+                );
+                (admitted == boxes && sum == waited, what)
+            }));
         }
-        ledger.try_note(papers.waits(title, &arrivals).map(|(admitted, sum)| {
-            let what = format!("title {title}: {} boxes waited {waited} ms in all behind tuning in, and waits says {admitted} and {sum}", of_it.len());
-            (admitted == of_it.len() as u64 && (sum == waited || passed > 0), what)
-        }));
     }
+}
+
+/// Every box began at the first admission behind its question; where datagrams are lost it may not know that one is.
+fn next_admissions(given: &Given, tales: &[Tale], ledger: &mut Ledger) {
+    let passed = tales.iter().filter(|tale| tale.passed > 0).count();
+    let what = format!("{} of {} boxes began at the next admission", tales.len() - passed, tales.len());
+    ledger.note(passed == 0 || given.loss > 0.0, what);
+    let refusals = tales.iter().flat_map(|tale| &tale.refused);
+    let other = refusals.filter(|refusal| refusal.answer != OUT_OF_TURN).count();
+    ledger.note(other == 0, format!("{other} notices were refused for another reason than their turn"));
 }
 
 /// The journal is good, the air carried what it says, and nobody starved by the record.
@@ -247,7 +268,7 @@ fn judge_boxes(outcome: &Outcome, papers: &Papers, journal: &[u8], tales: &[Tale
     let given = &outcome.given;
     let (stopped, playing): (Vec<&Tale>, Vec<&Tale>) = tales.iter().partition(|tale| tale.guest.stopped.is_some());
     match (given.old, given.loss > 0.0) {
-        (true, _) => freezes(&playing, ledger),
+        (true, _) => freezes(papers, &playing, ledger),
         (false, true) => losses(papers, journal, &playing, ledger),
         (false, false) => plays(&playing, ledger),
     }
@@ -255,12 +276,13 @@ fn judge_boxes(outcome: &Outcome, papers: &Papers, journal: &[u8], tales: &[Tale
         overtakings(outcome, &playing, ledger);
     }
     for tale in stopped {
-        let (number, missed) = (tale.guest.number, told_missed(&tale.missed));
-        ledger
-            .note(!tale.missed.is_empty(), format!("box {number}, stopped for a while, says what it missed: {missed}"));
+        let (number, missed, stalled) = (tale.guest.number, told_missed(&tale.missed), told_missed(&tale.stalled));
+        let what = format!("box {number} was stopped, and says so: cells missed {missed}, shown too late {stalled}");
+        ledger.note(!tale.missed.is_empty() || !tale.stalled.is_empty(), what);
     }
     if !given.old {
         waiting(papers, journal, tales, ledger);
+        next_admissions(given, tales, ledger);
     }
     let hung = tales.iter().filter(|tale| tale.hung).count();
     ledger.note(hung == 0, format!("{} boxes ended by themselves", tales.len() - hung));

@@ -27,6 +27,8 @@ pub struct Tale {
     pub most: u64,
     /// Cells that came too late or never, rising.
     pub missed: Vec<u64>,
+    /// Cells that had come and were shown too late.
+    pub stalled: Vec<u64>,
     pub foreign: u64,
     pub refused: Vec<Refusal>,
     pub lost: u64,
@@ -72,6 +74,7 @@ pub fn tale(seat: &Seat, papers: &Papers) -> Result<Tale, String> {
         count,
         most: words.get("most")?,
         missed,
+        stalled: words.list("stalled")?,
         foreign: words.get("foreign")?,
         refused: refused.split(',').filter_map(refusal_of).collect(),
         lost: words.get::<String>("lost")?.split(',').filter(|lost| !lost.is_empty()).count() as u64,
@@ -82,6 +85,13 @@ pub fn tale(seat: &Seat, papers: &Papers) -> Result<Tale, String> {
         cpu_us: words.get("cpu_us")?,
         memory_kb: words.get("memory_kb")?,
     })
+}
+
+impl Tale {
+    /// Whether it played the film, each cell in its turn.
+    pub fn is_good(&self) -> bool {
+        self.same && self.missed.is_empty() && self.stalled.is_empty()
+    }
 }
 
 pub fn told_missed(missed: &[u64]) -> String {
