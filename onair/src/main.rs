@@ -36,11 +36,15 @@ use words::Words;
 fn main() -> ExitCode {
     let words: Vec<String> = std::env::args().skip(1).collect();
     let told = Words::of(words.iter().map(String::as_str));
+    let part = |run: fn(&Words) -> Result<(), String>| {
+        system::end_with_parent();
+        run(&told).map(|()| true)
+    };
     let done = match words.first().map(String::as_str) {
         Some("run") => given::Given::of(&words[1..]).and_then(runner::run),
-        Some("modulator") => modulating::run(&told).map(|()| true),
-        Some("receiver") => receiver::run(&told).map(|()| true),
-        Some("box") => boxing::run(&told).map(|()| true),
+        Some("modulator") => part(modulating::run),
+        Some("receiver") => part(receiver::run),
+        Some("box") => part(boxing::run),
         _ => Err(given::USAGE.into()),
     };
     match done {

@@ -144,8 +144,8 @@ fn overtakings(outcome: &Outcome, tales: &[&Tale], ledger: &mut Ledger) {
             of_drop.clone().count() > 0 && of_drop.into_iter().all(|refusal| refusal.mended.is_some())
         };
         let (all, good) = (tales.iter().filter(there).count(), tales.iter().filter(there).filter(mended).count());
-        let what =
-            format!("notice {drop} overtook {raise}: {good} of {all} boxes answered 12, waited, and took both later");
+        let did = "answered 12, waited, and took both from the carousel";
+        let what = format!("notice {drop} overtook {raise}: {good} of {all} boxes {did}");
         ledger.note(all == good, what);
     }
     ledger.note(!outcome.swaps.is_empty(), format!("{} times a drop overtook its raise", outcome.swaps.len()));

@@ -23,6 +23,8 @@ const MSG_PEEK: c_int = 2;
 const MSG_DONTWAIT: c_int = 64;
 const POLLIN: c_short = 1;
 const CLOCK_MONOTONIC: c_int = 1;
+const PR_SET_PDEATHSIG: c_int = 1;
+const SIGKILL: c_ulong = 9;
 const SIGCONT: c_int = 18;
 const SIGSTOP: c_int = 19;
 
@@ -56,6 +58,7 @@ extern "C" {
     fn poll(fds: *mut PollFd, count: c_ulong, timeout: c_int) -> c_int;
     fn clock_gettime(clock: c_int, time: *mut TimeSpec) -> c_int;
     fn kill(process: c_int, signal: c_int) -> c_int;
+    fn prctl(option: c_int, value: c_ulong) -> c_int;
 }
 
 /// Microseconds of the clock that only runs forward, one for all processes of the machine.
@@ -170,6 +173,12 @@ pub fn wait_for<'a>(tuners: impl Iterator<Item = &'a Tuner>, ms: u64) -> Vec<boo
     // SAFETY: the row is lent with its own length
     unsafe { poll(places.as_mut_ptr(), places.len() as c_ulong, ms.min(1_000) as c_int) };
     places.iter().map(|place| place.revents != 0).collect()
+}
+
+/// This process ends with the one that has started it, stopped or not.
+pub fn end_with_parent() {
+    // SAFETY: the call takes two numbers
+    unsafe { prctl(PR_SET_PDEATHSIG, SIGKILL) };
 }
 
 /// Stops a process for a while, or lets it go on.
