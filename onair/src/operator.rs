@@ -4,12 +4,14 @@ use crate::follower::LEAD;
 use crate::headend::HeadEnd;
 use crate::library::{Notice, TITLES};
 use crate::random::Random;
-use crate::scale::{Scale, ENTER, MAIN, SKIP};
+use crate::scale::{Scale, MAIN, OPENED, SKIP};
 use crate::system::Clock;
 use std::collections::VecDeque;
 use std::io::Write;
 use std::process::ChildStdin;
 
+/// How long before its time, in ms, an event is entered: longer than LEAD by what a busy disk may hold up the head-end's answer.
+const ENTER: u64 = 2_500;
 /// How long a postponed deed waits, in ms.
 const LATER: u64 = 400;
 /// An event whose time is further off than this, in ms, is not waited for.
@@ -402,8 +404,8 @@ impl Operator {
     /// The titles that are there from the first: entered before the clock runs.
     pub fn begin(&mut self) -> Result<(), String> {
         for title in [MAIN, 1] {
-            let line = self.scale.opening(title, ENTER);
-            if !self.enter_and_tell(&line, ENTER)? {
+            let line = self.scale.opening(title, OPENED);
+            if !self.enter_and_tell(&line, OPENED)? {
                 return Err(format!("the head-end refuses: {line}"));
             }
             self.opened(title);
@@ -428,7 +430,7 @@ impl Operator {
         }
         while let Some(place) = self.agenda.iter().position(|(time, _)| *time <= clock) {
             let (_, deed) = self.agenda.remove(place);
-            if clock + 2 * ENTER < self.scale.end() {
+            if clock + ENTER < self.scale.end() {
                 self.does(deed)?;
             }
         }

@@ -22,8 +22,10 @@ pub const SECONDS_MAX: u64 = 300;
 pub const FILM_MIN: u64 = 1 << 20;
 pub const MAIN: u64 = 0;
 pub const SKIP: u64 = 2;
-/// How long before its time, in ms, the operator enters an event: longer than what others rely on.
-pub const ENTER: u64 = 1_500;
+/// When the first titles open, in ms.
+pub const OPENED: u64 = 1_500;
+/// How long doors may be held, and a box that comes late may have to catch up, in ms.
+const PATIENCE: u64 = 3_000;
 
 #[derive(Clone, Copy, Debug, PartialEq, Eq)]
 pub struct Scale {
@@ -63,12 +65,12 @@ impl Scale {
     /// When the last viewer asks: a slot of the lowest floor, held doors and the film fit behind it.
     pub fn last_ask(&self) -> u64 {
         let slot = (1 << (self.cap - 3)) * 2 * self.tick;
-        self.end() - self.film_ms() - slot - 2 * ENTER - SLACK
+        self.end() - self.film_ms() - slot - PATIENCE - SLACK
     }
 
     /// When the first viewer asks.
     pub fn first_ask(&self) -> u64 {
-        ENTER
+        OPENED
     }
 
     /// Bytes a second of one lane.
