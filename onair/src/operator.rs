@@ -16,6 +16,8 @@ const ENTER: u64 = 2_500;
 const LATER: u64 = 400;
 /// An event whose time is further off than this, in ms, is not waited for.
 const TOO_FAR: u64 = 4_000;
+/// How many ticks a lane that was raised for one slot of the floor may send behind its drop.
+const OWED: u64 = 32;
 /// How long the main title is left as it is behind a drop that overtook, in ms.
 const WINDOW: u64 = 2_000;
 /// How many rates are tried in one second.
@@ -275,6 +277,10 @@ impl Operator {
     /// A change at the earliest time, if that is near.
     fn change(&mut self, title: u64, count: u64) -> Result<(), String> {
         let from = self.from();
+        self.change_from(from, title, count)
+    }
+
+    fn change_from(&mut self, from: u64, title: u64, count: u64) -> Result<(), String> {
         if let Some(time) = self.when(title, from, &count.to_string())? {
             self.enter_and_tell(&format!("change {title} {time} {count}"), time)?;
         }
@@ -365,11 +371,13 @@ impl Operator {
         Ok(())
     }
 
+    /// Another title gets a lane more, once the dropped one has sent what it owes.
     fn pass(&mut self) -> Result<(), String> {
+        let from = self.from().max(self.last + OWED * self.scale.tick);
         for title in self.padded.clone().into_iter().filter(|title| *title != MAIN) {
             let count = self.count(title)?;
             if count > 0 && count < self.scale.limits(title).1 {
-                return self.change(title, count + 1);
+                return self.change_from(from, title, count + 1);
             }
         }
         Ok(())
