@@ -18,7 +18,7 @@ const LATER: u64 = 400;
 const TOO_FAR: u64 = 4_000;
 /// How many ticks a lane that was raised for one slot of the floor may send behind its drop.
 const OWED: u64 = 32;
-/// How long the main title is left as it is behind a drop that overtook, in ms.
+/// How long behind a drop that overtook, in ms, no further change of the main title comes.
 const WINDOW: u64 = 2_000;
 /// How many rates are tried in one second.
 const TRIES: usize = 8;
@@ -62,7 +62,7 @@ pub struct Operator {
     last: u64,
     pub sequence: u64,
     lines: VecDeque<Line>,
-    /// Until when the main title is left as it is, until when nothing at all is done, and until when lanes are left free for an opening.
+    /// Until when no change of the main title is entered, until when nothing at all, and until when lanes are left free for an opening.
     window_until: u64,
     quiet_until: u64,
     room_until: u64,
@@ -366,7 +366,7 @@ impl Operator {
             self.command(&format!("swap {raise}"))?;
         }
         self.tell()?;
-        (self.window_until, self.quiet_until) = (self.last + WINDOW, self.clock.ms() + LATER);
+        (self.window_until, self.quiet_until) = (self.last + WINDOW - ENTER, self.clock.ms() + LATER);
         self.later(Deed::Pass, LATER);
         Ok(())
     }

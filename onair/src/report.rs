@@ -189,8 +189,22 @@ fn next_admissions(given: &Given, tales: &[Tale], ledger: &mut Ledger) {
     ledger.note(other == 0, format!("{other} notices were refused for another reason than their turn"));
 }
 
+/// How many of the journal's notices there are of each kind.
+fn tell_kinds(papers: &Papers) {
+    let of = |kinds: &[Kind]| papers.notices.iter().filter(|notice| kinds.contains(&notice.kind)).count();
+    println!(
+        "       {} titles opened and {} closed, {} changes of a count, {} holds and {} lifts of doors",
+        of(&[Kind::Opens, Kind::OpensSkip]),
+        of(&[Kind::Closes]),
+        of(&[Kind::Changes]),
+        of(&[Kind::Holds]),
+        of(&[Kind::Lifts])
+    );
+}
+
 /// The journal is good, the air carried what it says, and nobody starved by the record.
 fn records(papers: &Papers, ledger: &mut Ledger) {
+    tell_kinds(papers);
     ledger.try_note(papers.is_listed().map(|listed| {
         (listed, format!("listing answers 0 to each of the journal's {} notices", papers.notices.len()))
     }));
