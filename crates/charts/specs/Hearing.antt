@@ -14,7 +14,7 @@ use Rattle.story.specs.Kept.{openMode, closingMode, titleAt, ruling, isShut}
 use Rattle.agent.specs.declared.Agent.{Agent}
 use Rattle.agent.specs.Turns.{noticeAnswer, noticed}
 use Rattle.agent_rows.specs.Packed.{unpacked}
-use Rattle.row_calls.specs.inner.Steps.{AgentRow}
+use Rattle.row_calls.specs.inner.Steps.{SoundAgentRow}
 use Rattle.spans.specs.Extents.{titleUntil}
 use Rattle.strips.specs.declared.scale.Band.{Band}
 use Rattle.strips.specs.Lanes.{lanesMarks, lanesKept}
@@ -99,4 +99,4 @@ noticeKept v g n kept =
 -- the row of the agent that took the notice
 pub record Takes (r : List ℕ) (n : Notice) (x : List ℕ) : Type 0 where
   pub agent-is : unpacked x ≡ noticed (unpacked r) (reading.Whole n)
-  pub is-row : AgentRow x
+  pub is-row : SoundAgentRow x

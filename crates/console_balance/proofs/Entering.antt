@@ -18,7 +18,7 @@ use Rattle.console_commands.specs.Letters.{lowerOf, lowered}
 use Rattle.console_commands.specs.Commands.{commandTable, commandOf, nameOf, seek, verbOf, leastOf, mostOf, enough, takesHex, takesKind}
 use Rattle.console_commands.specs.Commands.{takesAct, limitOf, doChange, unread}
 use Rattle.console_lines.specs.declared.lines.Line.{Line}
-use Rattle.console_lines.specs.Lines.{numbersMost, withFault, lineEnded, goOn, wordAt, endsAt, step, withVerb, longest, begun, readOn, meaning}
+use Rattle.console_lines.specs.Lines.{numbersMost, withFault, lineEnded, goOn, wordAt, lineEndsAt, step, withVerb, longest, begun, readOn, meaning}
 use Rattle.console_lines.proofs.Reading.{read-on, read-stop}
 use Rattle.console_answers.specs.Entries.{entry}
 use Rattle.console_acts.specs.Events.{actBy, eventIn}
@@ -55,7 +55,7 @@ abbrev worded : Line
 worded = record { command = doChange; fault = unread; place = 6; count = 0; numbers = replicate numbersMost 0 }
 
 begins : (m : Move) → begun (spelled m) ≡ worded
-unfolding begun runEnd run isSort endsAt wordAt withVerb verbOf seek commandTable nameOf same text lowered lowerOf
+unfolding begun runEnd run isSort lineEndsAt wordAt withVerb verbOf seek commandTable nameOf same text lowered lowerOf
 begins m =
     let some : 0 < length (spelled m) = omega arith in
     rw (le-ltb longest (length (spelled m)) (short m), lt-ltb 0 (length (spelled m)) some) refl
@@ -99,8 +99,8 @@ module _ (m : Move) (ok : Spelt m) where
   unfolding goOn
   at-last = rest (spelled m) (two m) (m .count) [] at-third at-end (ok .count) takes-count
 
-  ended : endsAt (spelled m) (runEnd Separator (spelled m) (three m .place)) ≡ true
-  unfolding endsAt runEnd run
+  ended : lineEndsAt (spelled m) (runEnd Separator (spelled m) (three m .place)) ≡ true
+  unfolding lineEndsAt runEnd run
   ended =
       let none : length (spelled m) - three m .place ≡ 0 = sym (length-drop (three m .place) (spelled m)) ∙ ap length at-last in
       let past : length (spelled m) ≤ three m .place + 0 = omega arith in

@@ -16,7 +16,7 @@ use Rattle.text.specs.Numbers.{top, amount, tooLarge}
 use Rattle.text.specs.Digits.{decimal}
 use Rattle.console_commands.specs.Commands
 use Rattle.console_lines.specs.declared.lines.Line.{Line}
-use Rattle.console_lines.specs.Lines.{goOn, withAmount, withDigits, wordAt, withNumber, withWord, hash, endsAt, step}
+use Rattle.console_lines.specs.Lines.{goOn, withAmount, withDigits, wordAt, withNumber, withWord, hash, lineEndsAt, step}
 use Rattle.console_balance.proofs.Printed.{word-over, digits-over, no-separator, no-colon, first-byte, amount-there}
 use Rattle.clocks.proofs.Hours.{decimal-some}
 
@@ -82,8 +82,8 @@ module _ (s : List ℕ) (l : Line) (n : ℕ) (t : List ℕ) (here : drop (l .pla
       rw (word-end, e, behind) (take-append-seam (decimal n) t)
 
   -- and no remark
-  not-ended : endsAt s a ≡ false
-  unfolding endsAt
+  not-ended : lineEndsAt s a ≡ false
+  unfolding lineEndsAt
   not-ended =
       let first : getD s a 0 ≡ hash → ⊥ = first-byte n t (getD s a 0) (drop (suc a) s) (sym behind ∙ drop-cons s a 0 within) in
       rw (lt-ltb _ _ within, ne-eqb _ _ first) refl

@@ -18,11 +18,11 @@ use Rattle.words.specs.Words.{refusalText}
 use Rattle.console_answers.specs.Entries.{entry, each}
 use Rattle.console_balance.specs.Rates.{pairsIn, pairId, ratesBy}
 
-abbrev pub moveOf : ℕ → ℕ → ℕ → Move
-moveOf i τ k = record { title = i; time = τ; count = k }
+abbrev pub moveTo : ℕ → ℕ → ℕ → Move
+moveTo i τ k = record { title = i; time = τ; count = k }
 
 abbrev pub noMove : Move
-noMove = moveOf 0 0 0
+noMove = moveTo 0 0 0
 
 -- a change as it is entered
 unfoldable pub changeText : Move → List ℕ
@@ -42,7 +42,7 @@ changesText ms = manyText (length ms) ++ each (λ (j : ℕ). changeLine (getD ms
 
 -- the same of changes whose numbers stand in the first n places of three rows
 abbrev pub rowLines : List ℕ → List ℕ → List ℕ → ℕ → List ℕ
-rowLines is ts ks n = each (λ (j : ℕ). changeLine (moveOf (getD is j 0) (getD ts j 0) (getD ks j 0))) n
+rowLines is ts ks n = each (λ (j : ℕ). changeLine (moveTo (getD is j 0) (getD ts j 0) (getD ks j 0))) n
 
 unfoldable pub rowsText : List ℕ → List ℕ → List ℕ → ℕ → List ℕ
 rowsText is ts ks n = manyText n ++ rowLines is ts ks n

@@ -6,11 +6,11 @@ use text::output;
 ghost use Prim.Native.Nat.{_≤_};
 ghost use lib.ListN.{length};
 ghost use Rattle.text.specs.Output.{Written};
-ghost use Rattle.console_balance.specs.Balance.{moveOf, changeLine, manyText, rowLines, rowsText};
+ghost use Rattle.console_balance.specs.Balance.{moveTo, changeLine, manyText, rowLines, rowsText};
 
 // One change, on a line of its own.
 fn put_change(out: &mut [u8], at: usize, id: u64, time: u64, count: u64) -> usize
-    ensures { λ r. ⌜ Written (now (out .entry)) at (changeLine (moveOf id time count)) (now (out .exit)) r ⌝ }
+    ensures { λ r. ⌜ Written (now (out .entry)) at (changeLine (moveTo id time count)) (now (out .exit)) r ⌝ }
 {
     let a = output::put(out, at, b"\nchange");
     let b = put_entry(out, a, id);

@@ -49,7 +49,7 @@ unfoldable pub skipPlanText : ℕ → ℕ → List ℕ → List ℕ
 skipPlanText k a row = withText (skipAnswer k a (length row)) 0 (cellsText (skipRow k a row) (blocks k))
 
 -- what a plan's call leaves: its answer, and behind it the first cells of the row, as many as it has
-pub record Filled (text : List ℕ) (answer : ℕ) (t : Told) (row : List ℕ) : Type 0 where
+pub record PlanFilled (text : List ℕ) (answer : ℕ) (t : Told) (row : List ℕ) : Type 0 where
   pub answered : t .answer ≡ answer
   pub told : doneText (t .answer) (t .named) ++ cellsText row (t .cells) ≡ text
   pub room : t .cells ≤ length row

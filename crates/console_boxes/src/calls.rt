@@ -13,7 +13,7 @@ ghost use Rattle.rules.specs.Refusals.{pick, done};
 ghost use Rattle.plans.specs.Padded.{planAnswer};
 ghost use Rattle.plans.specs.Forward.{skipAnswer};
 ghost use Rattle.rom.specs.Plan.{romPlanAnswer};
-ghost use Rattle.console_boxes.specs.Plan.{Filled, planText, romPlanText, skipPlanText, planOver, answerOver};
+ghost use Rattle.console_boxes.specs.Plan.{PlanFilled, planText, romPlanText, skipPlanText, planOver, answerOver};
 
 // The answer, the number that the words of a refusal name, and how many cells were written into the row.
 pub struct Told {
@@ -34,7 +34,7 @@ fn cells_of(answer: u8, cap: u64) -> usize
 }
 
 fn padded(floor: u64, cap: u64, count: u64, arrival: u64, row: &mut [u16]) -> Told
-    ensures { λ r. ⌜ Filled (planText floor cap count arrival (now (row .entry)))
+    ensures { λ r. ⌜ PlanFilled (planText floor cap count arrival (now (row .entry)))
         (planAnswer floor cap count arrival (length (now (row .entry)))) r (now (row .exit)) ⌝ }
 {
     let answer = plans::plan(floor, cap, count, arrival, row);
@@ -48,7 +48,7 @@ fn padded(floor: u64, cap: u64, count: u64, arrival: u64, row: &mut [u16]) -> To
 }
 
 fn small(floor: u64, cap: u64, count: u64, arrival: u64, row: &mut [u16]) -> Told
-    ensures { λ r. ⌜ Filled (romPlanText floor cap count arrival (now (row .entry)))
+    ensures { λ r. ⌜ PlanFilled (romPlanText floor cap count arrival (now (row .entry)))
         (romPlanAnswer floor cap count arrival (length (now (row .entry)))) r (now (row .exit)) ⌝ }
 {
     let table = table();
@@ -73,7 +73,7 @@ fn one_less(count: u64) -> u64
 
 // A skip-forward title of a count has 2^(count-1) blocks.
 fn forward(count: u64, arrival: u64, row: &mut [u16]) -> Told
-    ensures { λ r. ⌜ Filled (skipPlanText count arrival (now (row .entry)))
+    ensures { λ r. ⌜ PlanFilled (skipPlanText count arrival (now (row .entry)))
         (skipAnswer count arrival (length (now (row .entry)))) r (now (row .exit)) ⌝ }
 {
     let answer = plans::skip_plan(count, arrival, row);
@@ -87,7 +87,7 @@ fn forward(count: u64, arrival: u64, row: &mut [u16]) -> Told
 
 // By the line's command, into a row that is lent.
 pub fn fill(line: Line, row: &mut [u16]) -> Told
-    ensures { λ r. ⌜ Filled (planOver line (now (row .entry))) (answerOver line (length (now (row .entry)))) r
+    ensures { λ r. ⌜ PlanFilled (planOver line (now (row .entry))) (answerOver line (length (now (row .entry)))) r
         (now (row .exit)) ⌝ }
 {
     let command = line.command;

@@ -42,7 +42,7 @@ use Rattle.console_lines.specs.Lines.{
   withKind,
   withHex,
   withWord,
-  endsAt,
+  lineEndsAt,
   step,
   withVerb,
   begun,
@@ -55,7 +55,7 @@ told l = l .command ∷ l .fault ∷ l .place ∷ take (l .count) (l .numbers)
 
 unfoldable pub each : List String → List (List ℕ)
 unfolding told isSort run runEnd amount tooLarge text same lowerOf lowered hasColon isPart isThousandths isTail isClock pairAt tailMs clockMs commandTable commandOf nameOf seek verbOf leastOf mostOf enough takesHex takesKind takesAct isTimed asksPlan
-    limitOf crowded oversized blank withFault lineEnded goOn withAmount withDigits withClock withNumber withAct withKind withHex wordAt withWord endsAt step withVerb begun
+    limitOf crowded oversized blank withFault lineEnded goOn withAmount withDigits withClock withNumber withAct withKind withHex wordAt withWord lineEndsAt step withVerb begun
     readOn meaning
 each [] = []
 each (s ∷ rest) = told (meaning (text s)) ∷ each rest
@@ -165,6 +165,6 @@ meanings =
 -- the lines above, one after the other, mean what the list says
 pub shown : each lines ≡ meanings
 unfolding told each isSort run runEnd amount tooLarge text same lowerOf lowered hasColon isPart isThousandths isTail isClock pairAt tailMs clockMs commandTable commandOf nameOf seek verbOf leastOf mostOf enough takesHex takesKind takesAct isTimed asksPlan
-    limitOf crowded oversized blank withFault lineEnded goOn withAmount withDigits withClock withNumber withAct withKind withHex wordAt withWord endsAt step withVerb begun
+    limitOf crowded oversized blank withFault lineEnded goOn withAmount withDigits withClock withNumber withAct withKind withHex wordAt withWord lineEndsAt step withVerb begun
     readOn meaning
 shown = refl

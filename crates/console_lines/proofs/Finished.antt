@@ -31,7 +31,7 @@ use Rattle.console_lines.specs.Lines.{
   withKind,
   withHex,
   withWord,
-  endsAt,
+  lineEndsAt,
   step,
   begun,
   readOn,
@@ -189,7 +189,7 @@ word-falls s l a =
 step-falls : (s : List ℕ) (l : Line) → Falls l (step s l)
 unfolding step lineEnded
 step-falls s l =
-    pick-case (Falls l) (endsAt s (runEnd Separator s (l .place))) _ _
+    pick-case (Falls l) (lineEndsAt s (runEnd Separator s (l .place))) _ _
     (λ t. stops l _ (runEnd Separator s (l .place))
     (pick-case known (Commands.enough (l .command) (l .count)) _ _ (λ q u. omega arith) (λ q u. omega arith)))
     (λ t. word-falls s l (runEnd Separator s (l .place)))

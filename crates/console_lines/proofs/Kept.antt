@@ -28,7 +28,7 @@ use Rattle.console_lines.specs.Lines.{
   withKind,
   withHex,
   withWord,
-  endsAt,
+  lineEndsAt,
   step,
   begun,
   readOn,
@@ -94,7 +94,7 @@ module _ (P : ℕ → Type 0)
   step-keeps : (s : List ℕ) (l : Line) → Of l → Of (step s l)
   unfolding step lineEnded withFault
   step-keeps s l h =
-      pick-case Of (endsAt s (runEnd Separator s (l .place))) _ _ (λ t. h)
+      pick-case Of (lineEndsAt s (runEnd Separator s (l .place))) _ _ (λ t. h)
       (λ t. word-keeps s l (runEnd Separator s (l .place)) h)
 
   read-keeps : (n : ℕ) (s : List ℕ) (l : Line) → Of l → Of (readOn n s l)

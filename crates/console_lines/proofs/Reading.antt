@@ -53,7 +53,7 @@ use Rattle.console_lines.specs.Lines.{
   withHex,
   withWord,
   hash,
-  endsAt,
+  lineEndsAt,
   step,
   withVerb,
   longest,
@@ -210,15 +210,15 @@ module _ (s : List ℕ) (l : Line) (a m : ℕ) (q : m ≡ mostOf (l .command)) w
 -- ---- the next word, or the line's end
 
 -- where the words do not end, there is a word
-pub word-there : (s : List ℕ) (a : ℕ) → endsAt s a ≡ false → a < length s
-unfolding endsAt
+pub word-there : (s : List ℕ) (a : ℕ) → lineEndsAt s a ≡ false → a < length s
+unfolding lineEndsAt
 word-there s a = go (ltb a (length s)) refl
   where
     go : (t : Bool) → ltb a (length s) ≡ t → pick t (eqb (getD s a 0) hash) true ≡ false → a < length s
     go true e h = ltb-true _ _ e
     go false e h = let z : _≡_ {A = ℕ} 0 1 = cc in omega arith
 
-module _ (s : List ℕ) (l : Line) (a : ℕ) (q : a ≡ runEnd Separator s (l .place)) (t : Bool) (f : t ≡ endsAt s a) where
+module _ (s : List ℕ) (l : Line) (a : ℕ) (q : a ≡ runEnd Separator s (l .place)) (t : Bool) (f : t ≡ lineEndsAt s a) where
   pub step-end : t ≡ true → lineEnded l a ≡ step s l
   unfolding step
   step-end y = rw (← q, ← f, y)
@@ -234,7 +234,7 @@ module _ (s : List ℕ) where
   unfolding begun
   begun-long h = rw (lt-ltb _ _ h)
 
-  module _ (h : length s ≤ longest) (a : ℕ) (q : a ≡ runEnd Separator s 0) (t : Bool) (f : t ≡ endsAt s a) where
+  module _ (h : length s ≤ longest) (a : ℕ) (q : a ≡ runEnd Separator s 0) (t : Bool) (f : t ≡ lineEndsAt s a) where
     pub begun-blank : t ≡ true → blank ≡ begun s
     unfolding begun
     begun-blank y = rw (le-ltb _ _ h, ← q, ← f, y)

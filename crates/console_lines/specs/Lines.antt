@@ -129,13 +129,13 @@ abbrev pub hash : ℕ
 hash = 35
 
 -- a word that begins with # stands at a, or nothing does: there a line's words end
-unfoldable pub endsAt : List ℕ → ℕ → Bool
-endsAt s a = pick (ltb a (length s)) (eqb (getD s a 0) hash) true
+unfoldable pub lineEndsAt : List ℕ → ℕ → Bool
+lineEndsAt s a = pick (ltb a (length s)) (eqb (getD s a 0) hash) true
 
 -- the next word of the line, or its end
 unfoldable pub step : List ℕ → Line → Line
 step s l =
-    pick (endsAt s (runEnd Separator s (l .place))) (lineEnded l (runEnd Separator s (l .place)))
+    pick (lineEndsAt s (runEnd Separator s (l .place))) (lineEnded l (runEnd Separator s (l .place)))
     (withWord s l (runEnd Separator s (l .place)))
 
 -- the first word, at a, is the command v
@@ -152,7 +152,7 @@ longest = 4095
 unfoldable pub begun : List ℕ → Line
 begun s =
     pick (ltb longest (length s)) (withFault blank Commands.tooLong longest)
-    (pick (endsAt s (runEnd Separator s 0)) blank
+    (pick (lineEndsAt s (runEnd Separator s 0)) blank
     (withVerb (Commands.verbOf (wordAt s (runEnd Separator s 0))) (runEnd Separator s 0)
     (runEnd Word s (runEnd Separator s 0))))
 

@@ -21,7 +21,7 @@ ghost use Rattle.console_lines.specs.Lines.{
   withKind,
   withHex,
   withWord,
-  endsAt,
+  lineEndsAt,
   step as stepped,
   withVerb,
   begun,
@@ -211,7 +211,7 @@ fn take_word(s: &[u8], line: Line, a: usize) -> Line
 
 // Whether a word that begins with # stands at a place, or nothing.
 fn ends_at(s: &[u8], a: usize) -> bool
-    ensures { λ r. ⌜ r ≡ endsAt (now (s .entry)) a ⌝ }
+    ensures { λ r. ⌜ r ≡ lineEndsAt (now (s .entry)) a ⌝ }
 {
     if a < s.len() {
         return s[a] == b'#';

@@ -34,12 +34,12 @@ unfoldable pub shownText : State → ℕ → ℕ → ℕ → List ℕ
 shownText s i l τ = pick (eqb (laneAnswer s i l τ) done) (entry (laneShows s i l τ)) (text " .")
 
 -- the same in n ticks of p ms, from τ on
-abbrev pub laneRow : State → ℕ → ℕ → ℕ → ℕ → ℕ → List ℕ
-laneRow s i l τ p n = each (λ (j : ℕ). shownText s i l (τ + j * p)) n
+abbrev pub laneCells : State → ℕ → ℕ → ℕ → ℕ → ℕ → List ℕ
+laneCells s i l τ p n = each (λ (j : ℕ). shownText s i l (τ + j * p)) n
 
 -- the line of lane l
 unfoldable pub laneLine : State → ℕ → ℕ → ℕ → ℕ → ℕ → List ℕ
-laneLine s i τ p n l = ((text "\nlane " ++ decimal l) ++ text ":") ++ laneRow s i l τ p n
+laneLine s i τ p n l = ((text "\nlane " ++ decimal l) ++ text ":") ++ laneCells s i l τ p n
 
 -- the tick that holds τ, and a line for each lane below the cap
 unfoldable pub laneLines : State → ℕ → ℕ → ℕ → List ℕ

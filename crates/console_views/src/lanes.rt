@@ -34,7 +34,7 @@ ghost use Rattle.console_reasons.specs.Quantities.{ticksMin, ticksMost};
 ghost use Rattle.console_views.specs.Lanes.{
   lanesAnswer,
   shownText,
-  laneRow,
+  laneCells,
   laneLine,
   laneLines,
   lanesTold,
@@ -96,7 +96,7 @@ fn put_row(
     ticks: u64,
 ) -> usize
     requires { ⌜ (time ≤ askedMax) × ((tick ≤ lengthMax) × (ticks ≤ ticksMost)) ⌝ }
-    ensures { λ r. ⌜ Written (now (out .entry)) at (laneRow s id lane time tick ticks) (now (out .exit)) r ⌝ }
+    ensures { λ r. ⌜ Written (now (out .entry)) at (laneCells s id lane time tick ticks) (now (out .exit)) r ⌝ }
 {
     let mut place = at;
     let mut j = 0;

@@ -41,7 +41,7 @@ use Rattle.console_lines.specs.Lines.{
   withKind,
   withHex,
   withWord,
-  endsAt,
+  lineEndsAt,
   step,
   withVerb,
   begun,
@@ -58,7 +58,7 @@ pub record Sorted : Type 0 where
 unfoldable pub sorted : List String → List Sorted
 unfolding isSort run runEnd amount tooLarge text same lowerOf lowered hasColon isPart isThousandths isTail isClock pairAt tailMs clockMs
     commandTable commandOf nameOf seek verbOf leastOf mostOf enough takesHex takesKind takesAct isTimed asksPlan limitOf crowded oversized blank
-    withFault lineEnded goOn withAmount withDigits withClock withNumber withAct withKind withHex wordAt withWord endsAt step withVerb begun
+    withFault lineEnded goOn withAmount withDigits withClock withNumber withAct withKind withHex wordAt withWord lineEndsAt step withVerb begun
     readOn meaning
 sorted [] = []
 sorted (s ∷ rest) = record { apart = startsApart (text s); event = isEventLine (text s) } ∷ sorted rest
@@ -85,6 +85,6 @@ kinds =
 pub shown : sorted lines ≡ kinds
 unfolding sorted isSort run runEnd amount tooLarge text same lowerOf lowered hasColon isPart isThousandths isTail isClock pairAt tailMs clockMs
     commandTable commandOf nameOf seek verbOf leastOf mostOf enough takesHex takesKind takesAct isTimed asksPlan limitOf crowded oversized blank
-    withFault lineEnded goOn withAmount withDigits withClock withNumber withAct withKind withHex wordAt withWord endsAt step withVerb begun
+    withFault lineEnded goOn withAmount withDigits withClock withNumber withAct withKind withHex wordAt withWord lineEndsAt step withVerb begun
     readOn meaning
 shown = refl

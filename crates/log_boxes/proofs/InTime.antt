@@ -32,7 +32,7 @@ use Rattle.admissions.proofs.GetsIn.{let-in}
 use Rattle.airing.specs.Air.{inLimits}
 use Rattle.airing.specs.Own.{ownNumber}
 use Rattle.airing.proofs.OwnAnswers.{numbers, begins}
-use Rattle.playouts.specs.Playout.{wasOpened, isAskable, lastOf, playoutNumber}
+use Rattle.playouts.specs.Playout.{wasOpened, isAskable, lastTickOf, playoutNumber}
 use Rattle.playouts.specs.inner.Steps.{airNumber}
 use Rattle.playouts.proofs.OwnNumbers.{own-is}
 use Rattle.takings.specs.Takings.{takingPlace, placeTick}
@@ -76,8 +76,8 @@ module _ (pool : ℕ) (log : List ℕ) (title x c : ℕ) (small : Bytes log) (ok
   asked : (t : ℕ) → t ≤ a + c → momentOf L t ≤ askedMax
   unfolding isAskable
   asked t h =
-      let last = leb-true (momentOf L (lastOf a (boxTicks L))) askedMax (granted pool log title x ok .asked) in
-      let early : t * tickLength L ≤ lastOf a (boxTicks L) * tickLength L = mul-le-mul-right (tickLength L) (omega (arith, low)) in
+      let last = leb-true (momentOf L (lastTickOf a (boxTicks L))) askedMax (granted pool log title x ok .asked) in
+      let early : t * tickLength L ≤ lastTickOf a (boxTicks L) * tickLength L = mul-le-mul-right (tickLength L) (omega (arith, low)) in
       omega arith
 
   received : Received es title (lifeAt es title (momentOf L a)) a c

@@ -29,7 +29,7 @@ use Rattle.airing.specs.Air.{inLimits}
 use Rattle.measures.specs.Readable.{Filmed}
 use Rattle.plans.specs.Row.{written}
 use Rattle.plans.proofs.Row.{written-first, written-length}
-use Rattle.playouts.specs.Playout.{wasOpened, isAskable, lastOf, playoutNumber}
+use Rattle.playouts.specs.Playout.{wasOpened, isAskable, lastTickOf, playoutNumber}
 use Rattle.playouts.specs.declared.follow.Standing.{Standing}
 use Rattle.playouts.specs.inner.Steps.{windowAnswer, StandsAt, Carries}
 use Rattle.playouts.proofs.Answers.{id-low, alike}
@@ -58,18 +58,18 @@ module _ (pool : ℕ) (log : List ℕ) (title x : ℕ) where
     pub limits : boxLimits pool title x ≡ true
     pub whole : isWholeLog log ≡ true
     pub opened : wasOpened (lifeIn pool log title) ≡ true
-    pub asked : isAskable (lifeIn pool log title) (lastOf (tickIn (lifeIn pool log title) x) (boxTicks (lifeIn pool log title))) ≡ true
+    pub asked : isAskable (lifeIn pool log title) (lastTickOf (tickIn (lifeIn pool log title) x) (boxTicks (lifeIn pool log title))) ≡ true
 
   pub granted : boxAnswer pool log title x ≡ done → Granted
   unfolding boxAnswer firstHit
   granted ok =
-      go (boxLimits pool title x) refl (isWholeLog log) refl (wasOpened L) refl (isAskable L (lastOf (tickIn L x) (boxTicks L))) refl ok
+      go (boxLimits pool title x) refl (isWholeLog log) refl (wasOpened L) refl (isAskable L (lastTickOf (tickIn L x) (boxTicks L))) refl ok
     where
       L : Life
       L = lifeIn pool log title
 
       go : (a : Bool) → boxLimits pool title x ≡ a → (b : Bool) → isWholeLog log ≡ b → (c : Bool) → wasOpened (lifeIn pool log title) ≡ c →
-          (d : Bool) → isAskable (lifeIn pool log title) (lastOf (tickIn (lifeIn pool log title) x) (boxTicks (lifeIn pool log title))) ≡ d →
+          (d : Bool) → isAskable (lifeIn pool log title) (lastTickOf (tickIn (lifeIn pool log title) x) (boxTicks (lifeIn pool log title))) ≡ d →
           pick (not a) outsideLimits (pick (not b) malformed (pick (not c) notThere (pick (not d) outsideLimits done))) ≡ done → Granted
       go true e true f true g true h k = record { limits = e; whole = f; opened = g; asked = h }
       go true e true f true g false h k = absurd (omega arith)
@@ -106,7 +106,7 @@ module _ (pool : ℕ) (log : List ℕ) (title x : ℕ) where
         (λ z. ap (λ t. pick (not (isWholeLog log)) malformed (pick (not (ltb 0 (lifeIn pool log title .film .cap))) notThere (pick (not (isAskable (lifeIn pool log title) t)) outsideLimits done))) (last z))
         (decide (eqb (standing .film .cap) 0)))
       where
-        last : eqb (standing .film .cap) 0 ≡ false → lastTick standing x ≡ lastOf (tickIn (lifeIn pool log title) x) (boxTicks (lifeIn pool log title))
+        last : eqb (standing .film .cap) 0 ≡ false → lastTick standing x ≡ lastTickOf (tickIn (lifeIn pool log title) x) (boxTicks (lifeIn pool log title))
         last z =
             let some : 0 < standing .film .cap = ne-zero-pos (standing .film .cap) (eqb-false (standing .film .cap) 0 z) in
             let same = alike pool title (given-in pool title x fits) log small in
@@ -164,10 +164,10 @@ module _ (pool : ℕ) (log : List ℕ) (title x : ℕ) (small : Bytes log) (ok :
     start-is r e = e ∙ ap (λ z. tickAt z x) (w .title-is) ∙ same-tick pool log title x fits small opened-some
 
     -- the window of its ticks is not refused
-    pub window-done : (start n : ℕ) → start ≡ tickAt t x → n ≡ cells (t .film .cap) → windowAnswer pool log title (lastOf start n) ≡ done
+    pub window-done : (start n : ℕ) → start ≡ tickAt t x → n ≡ cells (t .film .cap) → windowAnswer pool log title (lastTickOf start n) ≡ done
     unfolding lastTick
     window-done start n e f =
-        let at : lastTick t x ≡ lastOf start n = rw (ne-eqb (t .film .cap) 0 (λ z. omega (arith, some-cap)), e, f) refl in
+        let at : lastTick t x ≡ lastTickOf start n = rw (ne-eqb (t .film .cap) 0 (λ z. omega (arith, some-cap)), e, f) refl in
         ap (windowAnswer pool log title) (sym at)
         ∙ ap (λ z. windowAnswer pool log title (lastTick z x)) (w .title-is)
         ∙ inside pool log title x fits small

@@ -14,7 +14,7 @@ use Rattle.story.specs.Story.{momentOf, tickIn, tickLength}
 use Rattle.agent.specs.Played.{lifeIn}
 use Rattle.admissions.specs.Waits.{letsIn, Next, TurnedAway}
 use Rattle.airing.specs.Air.{inLimits}
-use Rattle.playouts.specs.Playout.{wasOpened, isAskable, lastOf, playoutNumber}
+use Rattle.playouts.specs.Playout.{wasOpened, isAskable, lastTickOf, playoutNumber}
 use Rattle.playouts.specs.Lines.{refusedLine}
 use Rattle.takings.specs.Takings.{takingPlace}
 use Rattle.box_charts.specs.declared.Begun.{Begun}
@@ -33,7 +33,7 @@ boxRules pool log title x =
     refuse outsideLimits (not (boxLimits pool title x))
     ∷ refuse malformed (not (isWholeLog log))
     ∷ refuse notThere (not (wasOpened (lifeIn pool log title)))
-    ∷ refuse outsideLimits (not (isAskable (lifeIn pool log title) (lastOf (tickIn (lifeIn pool log title) x) (boxTicks (lifeIn pool log title)))))
+    ∷ refuse outsideLimits (not (isAskable (lifeIn pool log title) (lastTickOf (tickIn (lifeIn pool log title) x) (boxTicks (lifeIn pool log title)))))
     ∷ []
 
 unfoldable pub boxAnswer : ℕ → List ℕ → ℕ → ℕ → ℕ

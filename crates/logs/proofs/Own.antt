@@ -34,7 +34,7 @@ use Rattle.row_calls.proofs.Whole.{agent-after-fresh}
 use Rattle.logs.specs.declared.ReadOn.{ReadOn}
 use Rattle.logs.specs.declared.OwnRead.{OwnRead}
 use Rattle.logs.specs.Reading.{playedOf, Unplayed, noneRead, stepped, agentRead, RowRead, keptRead, readNext}
-use Rattle.logs.specs.Reading.{heardOwn, ownRead, PlayedStep, Reads, Meets}
+use Rattle.logs.specs.Reading.{heardOwn, ownRead, PlayedStep, ReadsLog, Meets}
 
 -- ---- nothing is played
 
@@ -51,7 +51,7 @@ begins r pool s long fits is same =
 
 module _ (log r : List ℕ) (at : ℕ) where
   pub reads-notice : (n : Notice) (e a : ℕ) (s : List ℕ) → readAt log at ≡ found.At n e → TakesNotice r n a s →
-      Reads r at (readAt log at) (record { played = playedOf e true; answer = a; title = n .title; time = n .time }) s
+      ReadsLog r at (readAt log at) (record { played = playedOf e true; answer = a; title = n .title; time = n .time }) s
   unfolding readNext agentRead
   reads-notice n e a s is told =
       rw (is, told .answers) (record { is = refl; row-read = record { is-row = told .is-row; agent-is = told .agent-is } })
@@ -60,11 +60,11 @@ module _ (log r : List ℕ) (at : ℕ) where
   stays : Tested r → (f : Found) → agentRead (unpacked r) f ≡ unpacked r → RowRead r f r
   stays tested f same = record { is-row = record { long = tested .long; sound = tested .sound }; agent-is = sym same }
 
-  pub reads-end : Tested r → (o : ReadOn) → readAt log at ≡ found.End → o ≡ noneRead at → Reads r at (readAt log at) o r
+  pub reads-end : Tested r → (o : ReadOn) → readAt log at ≡ found.End → o ≡ noneRead at → ReadsLog r at (readAt log at) o r
   unfolding readNext agentRead
   reads-end tested o is e = rw is (record { is = e; row-read = stays tested found.End refl })
 
-  pub reads-none : Tested r → (o : ReadOn) → readAt log at ≡ found.Malformed → o ≡ noneRead at → Reads r at (readAt log at) o r
+  pub reads-none : Tested r → (o : ReadOn) → readAt log at ≡ found.Malformed → o ≡ noneRead at → ReadsLog r at (readAt log at) o r
   unfolding readNext agentRead
   reads-none tested o is e = rw is (record { is = e; row-read = stays tested found.Malformed refl })
 
@@ -94,7 +94,7 @@ module _ (r : List ℕ) (at i : ℕ) where
   own-early t found.End own = omega arith
   own-early t found.Malformed own = omega arith
 
-  pub meets : (f : Found) (t : Title) (o : ReadOn) (s : List ℕ) (b : Bool) → t ≡ titleAt (unpacked r .state) i → Reads r at f o s →
+  pub meets : (f : Found) (t : Title) (o : ReadOn) (s : List ℕ) (b : Bool) → t ≡ titleAt (unpacked r .state) i → ReadsLog r at f o s →
       b ≡ both (eqb (o .answer) done) (eqb (o .title) i) →
       Meets r at i f (record { played = o .played; own = b; before = t; time = o .time }) s
   meets f t o s b here read own =
@@ -115,7 +115,7 @@ read-played g at found.End = refl
 read-played g at found.Malformed = refl
 
 -- by what each notice is answered
-module _ {A : Type 0} (turn : ℕ → A → A) (r : List ℕ) (at : ℕ) (x : A) (f : Found) (o : ReadOn) (s : List ℕ) (read : Reads r at f o s) where
+module _ {A : Type 0} (turn : ℕ → A → A) (r : List ℕ) (at : ℕ) (x : A) (f : Found) (o : ReadOn) (s : List ℕ) (read : ReadsLog r at f o s) where
   abbrev hear : Agent → Notice → A → A
   hear g n = turn (noticeAnswer g (reading.Whole n))
 

@@ -22,7 +22,7 @@ use Rattle.agent.specs.Turns.{freshAgent, noticed}
 use Rattle.agent.specs.Played.{agentTold}
 use Rattle.agent.proofs.Played.{log-series}
 use Rattle.agent_rows.specs.Packed.{unpacked}
-use Rattle.row_calls.specs.inner.Steps.{Tested, AgentRow}
+use Rattle.row_calls.specs.inner.Steps.{Tested, SoundAgentRow}
 use Rattle.logs.specs.declared.PlayedLog.{PlayedLog}
 use Rattle.logs.specs.Reading.{playedOf, Unplayed, keptTold, stepped, agentRead, RowRead, keptRead, PlayedStep, Plays}
 use Rattle.logs.proofs.Lives.{told-ok}
@@ -31,7 +31,7 @@ module _ {A : Type 0} (hear : Agent → Notice → A → A) (pool : ℕ) (log : 
   -- so many reads were played
   pub record PlayedTo (r : List ℕ) (p : PlayedLog) (y : A) : Type 0 where
     pub reads : ℕ
-    pub is-row : AgentRow r
+    pub is-row : SoundAgentRow r
     pub agent-is : unpacked r ≡ agentTold (freshAgent pool) (noticesTo log reads)
     pub place-is : p .place ≡ placeTo log reads
     pub kept-is : y ≡ keptTold hear (freshAgent pool) x (noticesTo log reads)
@@ -52,7 +52,7 @@ module _ {A : Type 0} (hear : Agent → Notice → A → A) (pool : ℕ) (log : 
 
   -- one read more that finds no notice
   no-more : (r : List ℕ) (p : PlayedLog) (y : A) (s : List ℕ) (f : Found) → readAt log (p .place) ≡ f → isNotice f ≡ false →
-      AgentRow s → unpacked s ≡ unpacked r → PlayedTo r p y → PlayedTo s (playedOf (p .place) false) y
+      SoundAgentRow s → unpacked s ≡ unpacked r → PlayedTo r p y → PlayedTo s (playedOf (p .place) false) y
   no-more r p y s f is none own same w =
       record {
         reads = w .reads;

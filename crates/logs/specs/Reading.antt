@@ -18,7 +18,7 @@ use Rattle.agent.specs.declared.Agent.{Agent}
 use Rattle.agent.specs.Turns.{freshAgent, noticeAnswer, noticed}
 use Rattle.agent.specs.Played.{agentTold, agentPlayed}
 use Rattle.agent_rows.specs.Packed.{unpacked}
-use Rattle.row_calls.specs.inner.Steps.{AgentRow}
+use Rattle.row_calls.specs.inner.Steps.{SoundAgentRow}
 use Rattle.logs.specs.declared.PlayedLog.{PlayedLog}
 use Rattle.logs.specs.declared.ReadOn.{ReadOn}
 use Rattle.logs.specs.declared.OwnRead.{OwnRead}
@@ -35,7 +35,7 @@ playedOf e b = record { place = e; more = b }
 
 -- nothing is played, and the row is a fresh agent's
 pub record Unplayed (pool : ℕ) (r : List ℕ) (p : PlayedLog) : Type 0 where
-  pub is-row : AgentRow r
+  pub is-row : SoundAgentRow r
   pub agent-is : unpacked r ≡ freshAgent pool
   pub played-is : p ≡ playedOf 0 true
 
@@ -53,7 +53,7 @@ agentRead g found.Malformed = g
 
 -- of the row r that the agent is kept in,
 pub record RowRead (r : List ℕ) (f : Found) (s : List ℕ) : Type 0 where
-  pub is-row : AgentRow s
+  pub is-row : SoundAgentRow s
   pub agent-is : unpacked s ≡ agentRead (unpacked r) f
 
 -- and of what is kept beside it
@@ -84,7 +84,7 @@ readNext g at (found.At n e) =
 readNext g at found.End = noneRead at
 readNext g at found.Malformed = noneRead at
 
-pub record Reads (r : List ℕ) (at : ℕ) (f : Found) (o : ReadOn) (s : List ℕ) : Type 0 where
+pub record ReadsLog (r : List ℕ) (at : ℕ) (f : Found) (o : ReadOn) (s : List ℕ) : Type 0 where
   pub is : o ≡ readNext (unpacked r) at f
   pub row-read : RowRead r f s
 

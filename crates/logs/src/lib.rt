@@ -18,7 +18,7 @@ ghost use Rattle.rules.specs.Limits.{within, poolMin, poolMax, idMax};
 ghost use Rattle.notice.specs.Decode.{readAt};
 ghost use Rattle.agent_rows.specs.Layout.{rowLength};
 ghost use Rattle.row_calls.specs.inner.Steps.{Tested};
-ghost use Rattle.logs.specs.Reading.{Unplayed, noneRead, Reads, Meets};
+ghost use Rattle.logs.specs.Reading.{Unplayed, noneRead, ReadsLog, Meets};
 
 // A log as far as it was played into the agent of a row: the place of the next notice, and whether one may follow.
 pub struct PlayedLog {
@@ -74,7 +74,7 @@ fn nothing_read(place: usize) -> ReadOn
 // Past the notice at a place, and no further at the log's end or where bytes are no notice.
 pub fn read_on(row: &mut [u64], place: usize, log: &[u8]) -> ReadOn
     requires { ⌜ Tested (now row) ⌝ }
-    ensures { λ r. ⌜ Reads (now (row .entry)) place (readAt (now (log .entry)) place) r (now (row .exit)) ⌝ }
+    ensures { λ r. ⌜ ReadsLog (now (row .entry)) place (readAt (now (log .entry)) place) r (now (row .exit)) ⌝ }
 {
     let found = next_in(log, place);
     match found {

@@ -30,7 +30,7 @@ use Rattle.airing.specs.Air.{inLimits, isFilmTitle, isCellOf}
 use Rattle.airing.specs.Own.{ownNumber, ownRecord}
 use Rattle.airing.proofs.OwnCells.{answer-number}
 use Rattle.airing.proofs.Starves.{film-numbers, own-record-starves-none}
-use Rattle.playouts.specs.Playout.{playoutLimits, wasOpened, lastOf, isAskable, playoutAnswer, playoutNumber}
+use Rattle.playouts.specs.Playout.{playoutLimits, wasOpened, lastTickOf, isAskable, playoutAnswer, playoutNumber}
 use Rattle.playouts.specs.Lines.{numberLines, playoutText}
 use Rattle.playouts.specs.Reads.{ReadByAir, AirReads}
 use Rattle.playouts.proofs.Answers.{grants}
@@ -72,12 +72,12 @@ module _ (pool : ℕ) (log : List ℕ) (title n : ℕ) (small : Bytes log) (limi
   low-id : title < titlesMax
   low-id = omega (arith, leb-true title idMax (both-r (within poolMin poolMax pool) (leb title idMax) limits))
 
-  askable : isAskable L (lastOf 0 n) ≡ true
+  askable : isAskable L (lastTickOf 0 n) ≡ true
   unfolding isAskable
   askable =
       let z = film-numbers pool log title small limits film in
-      let m : lastOf 0 n * tickLength L ≤ ticksMax * lengthMax = mul-le-mul {n₁ = lastOf 0 n} {m₁ = tickLength L} {n₂ = ticksMax} {m₂ = lengthMax} (omega arith) (z .tick-low) in
-      le-leb (momentOf L (lastOf 0 n)) askedMax (omega (arith, z .opened-high))
+      let m : lastTickOf 0 n * tickLength L ≤ ticksMax * lengthMax = mul-le-mul {n₁ = lastTickOf 0 n} {m₁ = tickLength L} {n₂ = ticksMax} {m₂ = lengthMax} (omega arith) (z .tick-low) in
+      le-leb (momentOf L (lastTickOf 0 n)) askedMax (omega (arith, z .opened-high))
 
   inside : playoutLimits pool title 0 n ≡ true
   unfolding playoutLimits

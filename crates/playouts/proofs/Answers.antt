@@ -34,9 +34,9 @@ use Rattle.logs.proofs.Lives.{told-title}
 use Rattle.judging.specs.Record.{ticksMax}
 use Rattle.airing.specs.Air.{inLimits}
 use Rattle.playouts.specs.declared.follow.Standing.{Standing}
-use Rattle.playouts.specs.Playout.{isWindow, playoutLimits, wasOpened, lastOf, isAskable, playoutAnswer, playoutNumber}
+use Rattle.playouts.specs.Playout.{isWindow, playoutLimits, wasOpened, lastTickOf, isAskable, playoutAnswer, playoutNumber}
 use Rattle.playouts.specs.Lines.{numberLines, refusedLine, playoutText}
-use Rattle.playouts.specs.inner.Steps.{toldText, filledTo, heardNumbers, toldNumbers, Fillable, StandsAt, FillsOn, standingAnswer, windowAnswer, WholeTicks, Carries}
+use Rattle.playouts.specs.inner.Steps.{printedText, filledTo, heardNumbers, toldNumbers, RowToFill, StandsAt, FillsOn, titleAnswer, windowAnswer, WholeTicks, Carries}
 use Rattle.playouts.proofs.Laid.{to-length}
 use Rattle.playouts.proofs.Filling.{told-length, told-all, told-opened}
 use Rattle.playouts.proofs.OwnNumbers.{own-is}
@@ -104,16 +104,16 @@ module _ (pool : ℕ) (log : List ℕ) (title from ticks : ℕ) where
     pub limits : playoutLimits pool title from ticks ≡ true
     pub whole : isWholeLog log ≡ true
     pub opened : wasOpened (lifeIn pool log title) ≡ true
-    pub asked : isAskable (lifeIn pool log title) (lastOf from ticks) ≡ true
+    pub asked : isAskable (lifeIn pool log title) (lastTickOf from ticks) ≡ true
 
   pub granted : playoutAnswer pool log title from ticks ≡ done → Granted
   unfolding playoutAnswer firstHit
   granted ok =
       go (playoutLimits pool title from ticks) refl (isWholeLog log) refl (wasOpened (lifeIn pool log title)) refl
-      (isAskable (lifeIn pool log title) (lastOf from ticks)) refl ok
+      (isAskable (lifeIn pool log title) (lastTickOf from ticks)) refl ok
     where
       go : (a : Bool) → playoutLimits pool title from ticks ≡ a → (b : Bool) → isWholeLog log ≡ b → (c : Bool) →
-          wasOpened (lifeIn pool log title) ≡ c → (d : Bool) → isAskable (lifeIn pool log title) (lastOf from ticks) ≡ d →
+          wasOpened (lifeIn pool log title) ≡ c → (d : Bool) → isAskable (lifeIn pool log title) (lastTickOf from ticks) ≡ d →
           pick (not a) outsideLimits (pick (not b) malformed (pick (not c) notThere (pick (not d) outsideLimits done))) ≡ done → Granted
       go true e true f true g true h k = record { limits = e; whole = f; opened = g; asked = h }
       go true e true f true g false h k = absurd (omega arith)
@@ -125,7 +125,7 @@ module _ (pool : ℕ) (log : List ℕ) (title from ticks : ℕ) where
   unfolding playoutAnswer firstHit
   grants w = rw (w .limits, w .whole, w .opened, w .asked) refl
 
-  pub answer-inside : playoutLimits pool title from ticks ≡ true → windowAnswer pool log title (lastOf from ticks) ≡ playoutAnswer pool log title from ticks
+  pub answer-inside : playoutLimits pool title from ticks ≡ true → windowAnswer pool log title (lastTickOf from ticks) ≡ playoutAnswer pool log title from ticks
   unfolding playoutAnswer windowAnswer firstHit
   answer-inside fits = rw fits refl
 
@@ -141,8 +141,8 @@ module _ (pool : ℕ) (log : List ℕ) (title from ticks : ℕ) where
 
   module _ (fits : playoutLimits pool title from ticks ≡ true) (row : List ℕ) (long : length row ≡ ticks * lanePlaces) (a : ℕ) (after : List ℕ)
       (w : Carries pool log title from ticks row a after) where
-    pub text-inside : toldText a after ≡ playoutText pool log title from ticks
-    unfolding playoutText toldText
+    pub text-inside : printedText a after ≡ playoutText pool log title from ticks
+    unfolding playoutText printedText
     text-inside =
         let is : a ≡ playoutAnswer pool log title from ticks = w .answer-is ∙ answer-inside fits in
         rw (← is)
@@ -163,7 +163,7 @@ module _ (pool : ℕ) (log : List ℕ) (title from ticks : ℕ) where
 -- ---- a row that was filled on
 
 pub fills-fillable : (pool : ℕ) (log : List ℕ) (i opening from : ℕ) (row : List ℕ) (r : Standing) (m : List ℕ) →
-    FillsOn pool log i opening from row r m → Fillable from row → Fillable from m
+    FillsOn pool log i opening from row r m → RowToFill from row → RowToFill from m
 fills-fillable pool log i opening from row r m w f =
     let same : length m ≡ length row = ap length (w .numbers-are) ∙ told-length opening from pool i row (noticesOf log) in
     record { soon = f .soon; short = omega (arith, f .short) }
@@ -252,9 +252,9 @@ module _ (pool i : ℕ) (fits : inLimits pool i ≡ true) (log : List ℕ) (smal
           (decide (leb (b + tick * p) askedMax))
 
   -- so the code's answer is the log's
-  pub answers : (r : Standing) → StandsAt pool log i r → (tick a : ℕ) → a ≡ standingAnswer (r .place) (length log) (r .title) tick →
+  pub answers : (r : Standing) → StandsAt pool log i r → (tick a : ℕ) → a ≡ titleAnswer (r .place) (length log) (r .title) tick →
       a ≡ windowAnswer pool log i tick
-  unfolding standingAnswer windowAnswer firstHit wasOpened
+  unfolding titleAnswer windowAnswer firstHit wasOpened
   answers r w tick a is =
       is
       ∙ rw (w .place-is, w .title-is, stops-short (stopOf log) (length log))
@@ -262,7 +262,7 @@ module _ (pool i : ℕ) (fits : inLimits pool i ≡ true) (log : List ℕ) (smal
 
   -- ---- what is filled in where the answer is done
 
-  module _ (from ticks : ℕ) (row : List ℕ) (fill : Fillable from row) (long : WholeTicks ticks row) (ok : windowAnswer pool log i (lastOf from ticks) ≡ done) where
+  module _ (from ticks : ℕ) (row : List ℕ) (fill : RowToFill from row) (long : WholeTicks ticks row) (ok : windowAnswer pool log i (lastTickOf from ticks) ≡ done) where
     abbrev L : Life
     L = lifeIn pool log i
 
@@ -272,21 +272,21 @@ module _ (pool i : ℕ) (fits : inLimits pool i ≡ true) (log : List ℕ) (smal
         omega (
           arith,
           alike .cap,
-          ltb-true 0 (L .film .cap) (opened-done (isWholeLog log) (ltb 0 (L .film .cap)) (isAskable L (lastOf from ticks)) ok),
+          ltb-true 0 (L .film .cap) (opened-done (isWholeLog log) (ltb 0 (L .film .cap)) (isAskable L (lastTickOf from ticks)) ok),
         )
 
-    last-asked : momentOf L (lastOf from ticks) ≤ askedMax
+    last-asked : momentOf L (lastTickOf from ticks) ≤ askedMax
     unfolding windowAnswer firstHit isAskable
     last-asked =
-        leb-true (momentOf L (lastOf from ticks)) askedMax
-        (asked-done (isWholeLog log) (wasOpened L) (leb (momentOf L (lastOf from ticks)) askedMax) ok)
+        leb-true (momentOf L (lastTickOf from ticks)) askedMax
+        (asked-done (isWholeLog log) (wasOpened L) (leb (momentOf L (lastTickOf from ticks)) askedMax) ok)
 
     -- the start of every tick of the window may be asked about
     asked : (j : ℕ) → j < length row → momentOf L (from + j / lanePlaces) ≤ askedMax
     asked j room =
         let n : ℕ = from + j / lanePlaces in
-        let early : n ≤ lastOf from ticks = omega (arith, long .long, long .some) in
-        let m : n * tickLength L ≤ lastOf from ticks * tickLength L = mul-le-mul-right (tickLength L) early in
+        let early : n ≤ lastTickOf from ticks = omega (arith, long .long, long .some) in
+        let m : n * tickLength L ≤ lastTickOf from ticks * tickLength L = mul-le-mul-right (tickLength L) early in
         omega (arith, last-asked)
 
     pub filled-in : (m after : List ℕ) → m ≡ toldNumbers pool i (standing .opened) from row (noticesOf log) →
@@ -309,15 +309,15 @@ module _ (pool i : ℕ) (fits : inLimits pool i ≡ true) (log : List ℕ) (smal
   -- ---- the two ways of a window
 
   module _ (from ticks : ℕ) (row : List ℕ) (long : WholeTicks ticks row) (r : Standing) (w : StandsAt pool log i r) (a : ℕ)
-      (is : a ≡ standingAnswer (r .place) (length log) (r .title) (lastOf from ticks)) where
-    by-log : a ≡ windowAnswer pool log i (lastOf from ticks)
-    by-log = answers r w (lastOf from ticks) a is
+      (is : a ≡ titleAnswer (r .place) (length log) (r .title) (lastTickOf from ticks)) where
+    by-log : a ≡ windowAnswer pool log i (lastTickOf from ticks)
+    by-log = answers r w (lastTickOf from ticks) a is
 
     pub carries-refused : (a ≡ done → ⊥) → Carries pool log i from ticks row a row
     carries-refused off = record { answer-is = by-log; numbers-are = λ ok. absurd (off ok) }
 
-    module _ (fill : Fillable from row) (ok : a ≡ done) where
-      ok-log : windowAnswer pool log i (lastOf from ticks) ≡ done
+    module _ (fill : RowToFill from row) (ok : a ≡ done) where
+      ok-log : windowAnswer pool log i (lastTickOf from ticks) ≡ done
       ok-log = sym by-log ∙ ok
 
       pub stands-sending : Sending (r .title)

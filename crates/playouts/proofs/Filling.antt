@@ -34,7 +34,7 @@ use Rattle.agent.specs.Played.{agentTold, heardOf, ReadAs}
 use Rattle.logs.specs.Reading.{keptTold, heardOwn}
 use Rattle.logs.proofs.Lives.{FollowsLife, told-kept, told-title, told-ok}
 use Rattle.judging.specs.Record.{nothingSeen, ticksMax}
-use Rattle.playouts.specs.inner.Steps.{airNumber, numberIn, filledTo, heardNumbers, toldNumbers, ReadyToFill, Opened}
+use Rattle.playouts.specs.inner.Steps.{airNumber, standingNumber, filledTo, heardNumbers, toldNumbers, ReadyToFill, Opened}
 use Rattle.playouts.proofs.Laid.{to-length, to-before, to-at}
 
 -- ---- a title as it stands
@@ -59,8 +59,8 @@ module _ (t : Title) (r : Course) (here : Present t r) where
       (decide (ltb l (t .film .cap)))
 
   -- from its latest event on its numbers are those of its life
-  number-stands : (l u : ℕ) → tickAt t (t .last) ≤ u → numberIn t l u ≡ airNumber (onAir (lifeIn t r) l u)
-  unfolding numberIn
+  number-stands : (l u : ℕ) → tickAt t (t .last) ≤ u → standingNumber t l u ≡ airNumber (onAir (lifeIn t r) l u)
+  unfolding standingNumber
   number-stands l u le =
       let kept : Bool = both (ltb l (t .film .cap)) (keptHeld t l u) in
       ⊎-elim

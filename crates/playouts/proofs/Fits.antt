@@ -21,7 +21,7 @@ use Rattle.words.specs.Words.{refusalText, meaningText, namingWords, refusalWor
 use Rattle.notice.specs.Log.{isWholeLog}
 use Rattle.agent.specs.Played.{lifeIn}
 use Rattle.judging.specs.Record.{nothingSeen}
-use Rattle.playouts.specs.Playout.{playoutLimits, wasOpened, lastOf, isAskable, playoutAnswer, playoutNumber}
+use Rattle.playouts.specs.Playout.{playoutLimits, wasOpened, lastTickOf, isAskable, playoutAnswer, playoutNumber}
 use Rattle.playouts.specs.Lines.{carriedText, behindPlace, placeLine, numberLines, refusedLine, playoutText, playoutRoom}
 use Rattle.playouts.proofs.Answers.{ticks-high, granted}
 
@@ -59,7 +59,7 @@ module _ (pool : ℕ) (log : List ℕ) (title from ticks : ℕ) where
   unfolding refusedLine playoutAnswer firstHit refusalText meaningText namingWords refusalWords decimal digits text
   refused-length =
       go (not (playoutLimits pool title from ticks)) (not (isWholeLog log)) (not (wasOpened (lifeIn pool log title)))
-      (not (isAskable (lifeIn pool log title) (lastOf from ticks)))
+      (not (isAskable (lifeIn pool log title) (lastTickOf from ticks)))
     where
       go : (a b c d : Bool) →
           length (refusedLine (pick a outsideLimits (pick b malformed (pick c notThere (pick d outsideLimits done))))) ≤ 120

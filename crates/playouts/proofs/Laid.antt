@@ -11,7 +11,7 @@ use Rattle.rules.proofs.Search.{below-suc}
 use Rattle.story.specs.declared.Title.{Title}
 use Rattle.story.specs.Kept.{tickAt}
 use Rattle.judging.specs.Record.{ticksMax}
-use Rattle.playouts.specs.inner.Steps.{numberAt, placeFrom, laidFrom, filledTo}
+use Rattle.playouts.specs.inner.Steps.{standingNumberAt, placeFrom, laidFrom, filledTo}
 
 pub sub-zero : (n m : ℕ) → n ≡ m → n - m ≡ 0
 sub-zero n m e = omega arith
@@ -62,12 +62,12 @@ module _ (t : Title) (from v : ℕ) (row : List ℕ) where
   pub to-length : length (filledTo t from v row) ≡ length row
   unfolding filledTo
   to-length =
-      laid-length (numberAt t from) (placeFrom from (tickAt t (t .last))) row
+      laid-length (standingNumberAt t from) (placeFrom from (tickAt t (t .last))) row
       (min (placeFrom from v) (length row) - placeFrom from (tickAt t (t .last)))
 
   -- as the code comes to them: from a first place up to an end
   pub to-end : (a tick e p n : ℕ) (m : List ℕ) → a ≡ placeFrom from tick → tick ≡ tickAt t (t .last) → e ≡ min p (length row) →
-      p ≡ placeFrom from v → n ≡ e - a → m ≡ laidFrom (numberAt t from) a row n → m ≡ filledTo t from v row
+      p ≡ placeFrom from v → n ≡ e - a → m ≡ laidFrom (standingNumberAt t from) a row n → m ≡ filledTo t from v row
   unfolding filledTo
   to-end a tick e p n m is-a is-tick is-e is-p is-n is =
       is ∙ rw (is-n, is-e, is-p, is-a, is-tick) refl
@@ -76,14 +76,14 @@ module _ (t : Title) (from v : ℕ) (row : List ℕ) where
     pub to-before : from + j / lanePlaces < tickAt t (t .last) → getD (filledTo t from v row) j 0 ≡ getD row j 0
     unfolding filledTo
     to-before lt =
-        laid-before (numberAt t from) (placeFrom from (tickAt t (t .last))) row
+        laid-before (standingNumberAt t from) (placeFrom from (tickAt t (t .last))) row
         (min (placeFrom from v) (length row) - placeFrom from (tickAt t (t .last))) j
         (place-since from (tickAt t (t .last)) j (omega arith) lt)
 
-    pub to-at : tickAt t (t .last) ≤ from + j / lanePlaces → from + j / lanePlaces < v → getD (filledTo t from v row) j 0 ≡ numberAt t from j
+    pub to-at : tickAt t (t .last) ≤ from + j / lanePlaces → from + j / lanePlaces < v → getD (filledTo t from v row) j 0 ≡ standingNumberAt t from j
     unfolding filledTo
     to-at le lt =
         let a : ℕ = placeFrom from (tickAt t (t .last)) in
         let late : a ≤ j = place-late from (tickAt t (t .last)) j le in
         let here : j < placeFrom from v = place-since from v j (omega arith) lt in
-        laid-at (numberAt t from) a row (min (placeFrom from v) (length row) - a) j late (omega arith) room
+        laid-at (standingNumberAt t from) a row (min (placeFrom from v) (length row) - a) j late (omega arith) room

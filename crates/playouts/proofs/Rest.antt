@@ -16,7 +16,7 @@ use Rattle.story.specs.Kept.{titleAt}
 use Rattle.agent.specs.Played.{agentPlayed, lifeIn}
 use Rattle.judging.specs.Record.{ticksMax}
 use Rattle.airing.specs.Air.{inLimits}
-use Rattle.playouts.specs.Playout.{playoutLimits, wasOpened, lastOf, isAskable, playoutAnswer, playoutNumber}
+use Rattle.playouts.specs.Playout.{playoutLimits, wasOpened, lastTickOf, isAskable, playoutAnswer, playoutNumber}
 use Rattle.playouts.specs.Lines.{behindPlace, placeLine, numberLines, playoutText}
 use Rattle.playouts.proofs.Answers.{Granted, granted, grants, limits-in, from-high, ticks-high, alike}
 
@@ -59,22 +59,22 @@ module _ (pool : ℕ) (log : List ℕ) (title from k n : ℕ) where
         let some : 0 < titleAt (agentPlayed pool log .state) title .film .cap = omega (arith, same .cap, ltb-true 0 (L .film .cap) (all .opened)) in
         rw (same .tick some) (same .some some)
 
-    last-asked : momentOf L (lastOf from (k + n)) ≤ askedMax
+    last-asked : momentOf L (lastTickOf from (k + n)) ≤ askedMax
     unfolding isAskable
-    last-asked = leb-true (momentOf L (lastOf from (k + n))) askedMax (all .asked)
+    last-asked = leb-true (momentOf L (lastTickOf from (k + n))) askedMax (all .asked)
 
     few : k + n ≤ ticksMax
     few = ticks-high pool title from (k + n) (all .limits)
 
-    early : (u : ℕ) → u ≤ lastOf from (k + n) → isAskable L u ≡ true
+    early : (u : ℕ) → u ≤ lastTickOf from (k + n) → isAskable L u ≡ true
     unfolding isAskable
     early u le =
-        let m : u * tickLength L ≤ lastOf from (k + n) * tickLength L = mul-le-mul-right (tickLength L) le in
+        let m : u * tickLength L ≤ lastTickOf from (k + n) * tickLength L = mul-le-mul-right (tickLength L) le in
         le-leb (momentOf L u) askedMax (omega (arith, last-asked))
 
     from-low : from + k ≤ askedMax
     from-low =
-        let u : ℕ = lastOf from (k + n) in
+        let u : ℕ = lastTickOf from (k + n) in
         let m : u * 1 ≤ u * tickLength L = mul-le-mul-left u tick-some in
         omega (arith, last-asked)
 
@@ -89,7 +89,7 @@ module _ (pool : ℕ) (log : List ℕ) (title from k n : ℕ) where
           limits = window from k (from-high pool title from (k + n) (all .limits)) some-k (omega (arith, few));
           whole = all .whole;
           opened = all .opened;
-          asked = early (lastOf from k) (omega arith);
+          asked = early (lastTickOf from k) (omega arith);
         })
 
     then-granted : playoutAnswer pool log title (from + k) n ≡ done
@@ -99,7 +99,7 @@ module _ (pool : ℕ) (log : List ℕ) (title from k n : ℕ) where
           limits = window (from + k) n from-low some-n (omega (arith, few));
           whole = all .whole;
           opened = all .opened;
-          asked = early (lastOf (from + k) n) (omega arith);
+          asked = early (lastTickOf (from + k) n) (omega arith);
         })
 
     pub rest : playoutText pool log title from (k + n) ≡ playoutText pool log title from k ++ playoutText pool log title (from + k) n

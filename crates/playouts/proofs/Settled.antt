@@ -15,7 +15,7 @@ use Rattle.agent.specs.declared.Agent.{Agent}
 use Rattle.agent.proofs.Played.{log-series}
 use Rattle.agent_rows.specs.Packed.{unpacked}
 use Rattle.logs.proofs.Reading.{PlayedTo}
-use Rattle.playouts.specs.inner.Steps.{filledTo, eventNumbers, heardNumbers, Fillable, ReadyToFill}
+use Rattle.playouts.specs.inner.Steps.{filledTo, eventNumbers, heardNumbers, RowToFill, ReadyToFill}
 use Rattle.playouts.proofs.Filling.{told-length, told-ready}
 
 module _ (opening from : ℕ) (t : Title) (τ : ℕ) (row : List ℕ) where
@@ -38,5 +38,5 @@ module _ (pool : ℕ) (log : List ℕ) (i opening from : ℕ) (row r : List ℕ)
   pub kept-length : length m ≡ length row
   kept-length = rw (w .kept-is) (told-length opening from pool i row (noticesTo log (w .reads)))
 
-  pub still-fillable : Fillable from row → Fillable from m
+  pub still-fillable : RowToFill from row → RowToFill from m
   still-fillable f = record { soon = f .soon; short = omega (arith, f .short, kept-length) }

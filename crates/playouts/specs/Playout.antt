@@ -27,8 +27,8 @@ unfoldable pub wasOpened : Life → Bool
 wasOpened L = ltb 0 (L .film .cap)
 
 -- the last tick of a window, whose start is a moment that may be asked about
-abbrev pub lastOf : ℕ → ℕ → ℕ
-lastOf from ticks = from + ticks - 1
+abbrev pub lastTickOf : ℕ → ℕ → ℕ
+lastTickOf from ticks = from + ticks - 1
 
 unfoldable pub isAskable : Life → ℕ → Bool
 isAskable L tick = leb (momentOf L tick) askedMax
@@ -38,7 +38,7 @@ playoutRules pool log title from ticks =
     refuse outsideLimits (not (playoutLimits pool title from ticks))
     ∷ refuse malformed (not (isWholeLog log))
     ∷ refuse notThere (not (wasOpened (lifeIn pool log title)))
-    ∷ refuse outsideLimits (not (isAskable (lifeIn pool log title) (lastOf from ticks)))
+    ∷ refuse outsideLimits (not (isAskable (lifeIn pool log title) (lastTickOf from ticks)))
     ∷ []
 
 unfoldable pub playoutAnswer : ℕ → List ℕ → ℕ → ℕ → ℕ → ℕ

@@ -16,13 +16,13 @@ ghost use Rattle.rules.specs.Limits.{lanePlaces};
 ghost use Rattle.grid.specs.Bounds.{Exactly, tickMax};
 ghost use Rattle.measures.specs.Readable.{Sending};
 ghost use Rattle.judging.specs.Record.{ticksMax};
-ghost use Rattle.playouts.specs.inner.Steps.{numberIn, placeFrom, filledTo, Fillable};
+ghost use Rattle.playouts.specs.inner.Steps.{standingNumber, placeFrom, filledTo, RowToFill};
 
 // The cell of a lane at a tick, or nothing where it is not held.
 fn number_in(t: Title, lane: u64, tick: u64) -> u16
     requires { ⌜ Sending t ⌝ }
     requires { ⌜ tick ≤ tickMax ⌝ }
-    ensures { λ r. ⌜ r ≡ numberIn t lane tick ⌝ }
+    ensures { λ r. ⌜ r ≡ standingNumber t lane tick ⌝ }
 {
     let film = t.film;
     if lane < film.cap {
@@ -44,7 +44,7 @@ fn place_from(from: u64, tick: u64) -> u64
 // Fills in the ticks from a title's latest event up to `upto`, as far as the row goes, as the title stands.
 pub fn fill_to(t: Title, from: u64, upto: u64, numbers: &mut [u16])
     requires { ⌜ Sending t ⌝ }
-    requires { ⌜ Fillable from (now numbers) ⌝ }
+    requires { ⌜ RowToFill from (now numbers) ⌝ }
     ensures { λ _. ⌜ now (numbers .exit) ≡ filledTo t from upto (now (numbers .entry)) ⌝ }
 {
     let lanes = LANE_PLACES as u64;

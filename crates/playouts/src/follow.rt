@@ -19,7 +19,7 @@ ghost use Rattle.row_calls.specs.inner.Steps.{Tested};
 ghost use Rattle.measures.specs.Readable.{Sending};
 ghost use Rattle.logs.specs.Reading.{PlayedStep, Plays};
 ghost use Rattle.airing.specs.Air.{inLimits};
-ghost use Rattle.playouts.specs.inner.Steps.{eventNumbers, heardNumbers, Fillable, ReadyToFill, StandsAt, FillsOn};
+ghost use Rattle.playouts.specs.inner.Steps.{eventNumbers, heardNumbers, RowToFill, ReadyToFill, StandsAt, FillsOn};
 
 // Where the reading of a log stopped, and the title as it stands then.
 pub struct Standing {
@@ -31,7 +31,7 @@ pub struct Standing {
 // opening asked for; any other is an opening, with which ticks begin anew.
 fn settle(t: Title, time: u64, opening: u64, from: u64, numbers: &mut [u16])
     requires { ⌜ (t .mode ≡ 1 → Sending t) ⌝ }
-    requires { ⌜ Fillable from (now numbers) ⌝ }
+    requires { ⌜ RowToFill from (now numbers) ⌝ }
     ensures { λ _. ⌜ now (numbers .exit) ≡ eventNumbers opening from t time (now (numbers .entry)) ⌝ }
 {
     let mode = t.mode;
@@ -55,7 +55,7 @@ fn step(
 ) -> PlayedLog
     requires { ⌜ Tested (now row) ⌝ }
     requires { ⌜ ReadyToFill (unpacked (now row)) title ⌝ }
-    requires { ⌜ Fillable from (now numbers) ⌝ }
+    requires { ⌜ RowToFill from (now numbers) ⌝ }
     ensures { λ r. ⌜ PlayedStep (heardNumbers title opening from) (now (row .entry)) place (now (numbers .entry))
         (readAt (now (log .entry)) place) (now (row .exit)) r (now (numbers .exit)) ⌝ }
 {
@@ -81,7 +81,7 @@ fn play(
 ) -> PlayedLog
     requires { ⌜ length (now row) ≡ rowLength ⌝ }
     requires { ⌜ inLimits pool title ≡ true ⌝ }
-    requires { ⌜ Fillable from (now numbers) ⌝ }
+    requires { ⌜ RowToFill from (now numbers) ⌝ }
     ensures { λ r. ⌜ Plays (heardNumbers title opening from) pool (now (log .entry)) (now (numbers .entry))
         (now (row .exit)) r (now (numbers .exit)) ⌝ }
 {
@@ -102,7 +102,7 @@ pub fn follow(
     numbers: &mut [u16],
 ) -> Standing
     requires { ⌜ inLimits pool title ≡ true ⌝ }
-    requires { ⌜ Fillable from (now numbers) ⌝ }
+    requires { ⌜ RowToFill from (now numbers) ⌝ }
     ensures { λ r. ⌜ FillsOn pool (now (log .entry)) title opening from (now (numbers .entry)) r (now (numbers .exit)) ⌝ }
 {
     let mut row = [0; ROW_LENGTH];

@@ -18,12 +18,12 @@ ghost use Rattle.text.specs.Output.{Written};
 ghost use Rattle.airing.specs.Air.{inLimits};
 ghost use Rattle.playouts.specs.Playout.{playoutLimits};
 ghost use Rattle.playouts.specs.Lines.{playoutText};
-ghost use Rattle.playouts.specs.inner.Steps.{Opened, Fillable, WholeTicks, Carries, standingAnswer, windowAnswer, toldText};
+ghost use Rattle.playouts.specs.inner.Steps.{Opened, RowToFill, WholeTicks, Carries, titleAnswer, windowAnswer, printedText};
 
 // What a log answers of a title as it stands at the log's end, and of a last tick.
 fn standing_answer(place: usize, size: usize, t: Title, tick: u64) -> u8
     requires { ⌜ Opened t ⌝ }
-    ensures { λ r. ⌜ r ≡ standingAnswer place size t tick ⌝ }
+    ensures { λ r. ⌜ r ≡ titleAnswer place size t tick ⌝ }
 {
     let cap = t.film.cap;
     if place < size {
@@ -52,7 +52,7 @@ pub fn window_answer(pool: u64, log: &[u8], title: u64, tick: u64) -> u8
 // stands at its end.
 pub fn fill(pool: u64, log: &[u8], title: u64, from: u64, ticks: u64, numbers: &mut [u16]) -> u8
     requires { ⌜ inLimits pool title ≡ true ⌝ }
-    requires { ⌜ Fillable from (now numbers) ⌝ }
+    requires { ⌜ RowToFill from (now numbers) ⌝ }
     requires { ⌜ WholeTicks ticks (now numbers) ⌝ }
     ensures { λ r. ⌜ Carries pool (now (log .entry)) title from ticks (now (numbers .entry)) r (now (numbers .exit)) ⌝ }
 {
@@ -68,7 +68,7 @@ pub fn fill(pool: u64, log: &[u8], title: u64, from: u64, ticks: u64, numbers: &
 
 // The text of an answer and of numbers.
 fn put_told(out: &mut [u8], answer: u8, numbers: &[u16]) -> usize
-    ensures { λ r. ⌜ Written (now (out .entry)) 0 (toldText answer (now (numbers .entry))) (now (out .exit)) r ⌝ }
+    ensures { λ r. ⌜ Written (now (out .entry)) 0 (printedText answer (now (numbers .entry))) (now (out .exit)) r ⌝ }
 {
     if answer == DONE {
         return put_numbers(out, numbers);

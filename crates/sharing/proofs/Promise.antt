@@ -12,7 +12,7 @@ use lib.Seq.{drop-at, take-at}
 use Rattle.rules.specs.Refusals.{done}
 use Rattle.sharing_titles.specs.declared.titles.Rated.{Rated}
 use Rattle.sharing_titles.specs.Titles.{titles}
-use Rattle.sharing_choice.specs.Choice.{Choice, Shared, prefers, sumOf, atLeast, shared}
+use Rattle.sharing_choice.specs.Choice.{Choice, Shared, prefers, waitSum, atLeast, shared}
 use Rattle.sharing.specs.Verdict.{verdictOf, rowAfter}
 use Rattle.sharing_choice.proofs.Order.{or-view}
 use Rattle.sharing_choice.proofs.Search.{search-finds, only-one}
@@ -20,11 +20,11 @@ use Rattle.sharing_titles.proofs.titles.Laws.{titles-length, titles-floors}
 use Rattle.sharing.proofs.verdict.Laws.{ready, row-done, row-refused}
 
 -- the least sum, as 01 says it
-pub least : (pool : ℕ) (ts : List Rated) (x y : List ℕ) → Shared pool ts x → Choice pool ts y → sumOf ts x ≤ sumOf ts y
+pub least : (pool : ℕ) (ts : List Rated) (x y : List ℕ) → Shared pool ts x → Choice pool ts y → waitSum ts x ≤ waitSum ts y
 unfolding prefers
-least pool ts x y s c = go (or-view (sumOf ts x) (sumOf ts y) (atLeast x y) (s .best y c))
+least pool ts x y s c = go (or-view (waitSum ts x) (waitSum ts y) (atLeast x y) (s .best y c))
   where
-    go : (sumOf ts x < sumOf ts y) ⊎ ((sumOf ts x ≡ sumOf ts y) × (atLeast x y ≡ true)) → sumOf ts x ≤ sumOf ts y
+    go : (waitSum ts x < waitSum ts y) ⊎ ((waitSum ts x ≡ waitSum ts y) × (atLeast x y ≡ true)) → waitSum ts x ≤ waitSum ts y
     go (inl l) = omega arith
     go (inr e) = omega arith
 

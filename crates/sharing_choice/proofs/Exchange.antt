@@ -13,7 +13,7 @@ use lib.Seq.{getD-set-same, getD-set-other, ext-getD}
 use Rattle.sharing_titles.specs.declared.titles.Rated.{Rated}
 use Rattle.sharing_titles.specs.Titles.{ratedTitle, rowTotal}
 use Rattle.sharing_titles.specs.Term.{fall}
-use Rattle.sharing_choice.specs.Choice.{sumOf, atLeast, prefers, Way, Choice, Shared}
+use Rattle.sharing_choice.specs.Choice.{waitSum, atLeast, prefers, Way, Choice, Shared}
 use Rattle.sharing_titles.specs.inner.Weighing.{AllWeighable}
 use Rattle.sharing_choice.proofs.Order.{side, Trio, less, same, more, trio, or-view}
 use Rattle.sharing_choice.proofs.Sums.{total-set, sum-set, raised, way-set, ranks}
@@ -68,19 +68,19 @@ gap (suc n) p q = go (gap n p q) (side (getD p n 0) (getD q n 0))
 module _ (pool : ℕ) (ts : List Rated) (ok : AllWeighable ts) (c x : List ℕ)
     (s : Settled pool ts c) (h : Shared pool ts x) where
   -- no choice has a lesser sum, nor the same sum and a better rank
-  no-lesser : (y : List ℕ) → Choice pool ts y → sumOf ts y < sumOf ts x → ⊥
+  no-lesser : (y : List ℕ) → Choice pool ts y → waitSum ts y < waitSum ts x → ⊥
   unfolding prefers
-  no-lesser y k l = go (or-view (sumOf ts x) (sumOf ts y) (atLeast x y) (h .best y k))
+  no-lesser y k l = go (or-view (waitSum ts x) (waitSum ts y) (atLeast x y) (h .best y k))
     where
-      go : (sumOf ts x < sumOf ts y) ⊎ ((sumOf ts x ≡ sumOf ts y) × (atLeast x y ≡ true)) → ⊥
+      go : (waitSum ts x < waitSum ts y) ⊎ ((waitSum ts x ≡ waitSum ts y) × (atLeast x y ≡ true)) → ⊥
       go (inl m) = omega arith
       go (inr m) = omega arith
 
-  no-better : (y : List ℕ) → Choice pool ts y → sumOf ts y ≡ sumOf ts x → atLeast x y ≡ false → ⊥
+  no-better : (y : List ℕ) → Choice pool ts y → waitSum ts y ≡ waitSum ts x → atLeast x y ≡ false → ⊥
   unfolding prefers
-  no-better y k e r = go (or-view (sumOf ts x) (sumOf ts y) (atLeast x y) (h .best y k))
+  no-better y k e r = go (or-view (waitSum ts x) (waitSum ts y) (atLeast x y) (h .best y k))
     where
-      go : (sumOf ts x < sumOf ts y) ⊎ ((sumOf ts x ≡ sumOf ts y) × (atLeast x y ≡ true)) → ⊥
+      go : (waitSum ts x < waitSum ts y) ⊎ ((waitSum ts x ≡ waitSum ts y) × (atLeast x y ≡ true)) → ⊥
       go (inl m) = omega arith
       go (inr m) = true≢false (sym (m .1) ∙ r)
 
@@ -113,7 +113,7 @@ module _ (pool : ℕ) (ts : List Rated) (ok : AllWeighable ts) (c x : List ℕ)
       under : rowTotal y ≤ rowTotal c
       under = raised (length ts) x c (h .choice .way .places) (s .choice .way .places) j l g up
 
-      lesser : sumOf ts y < sumOf ts x
+      lesser : waitSum ts y < waitSum ts x
       lesser =
           omega (
             arith,
@@ -169,7 +169,7 @@ module _ (pool : ℕ) (ts : List Rated) (ok : AllWeighable ts) (c x : List ℕ)
             );
           }
 
-      sums : sumOf ts y + fall (ratedTitle ts j) (getD x j 0) ≡ sumOf ts x + fall (ratedTitle ts i) p
+      sums : waitSum ts y + fall (ratedTitle ts j) (getD x j 0) ≡ waitSum ts x + fall (ratedTitle ts i) p
       sums =
           omega (
             arith,
@@ -195,7 +195,7 @@ module _ (pool : ℕ) (ts : List Rated) (ok : AllWeighable ts) (c x : List ℕ)
           (λ n m. sym (getD-set-other z j n _ 0 (omega arith) ∙ getD-set-other x i n p 0 (omega arith)))
           (omega (arith, getD-set-same z j (suc (getD x j 0)) 0 (omega (arith, z-way .places))))
 
-      equal : j < i → (sumOf ts y < sumOf ts x) ⊎ (sumOf ts x ≤ sumOf ts y) → ⊥
+      equal : j < i → (waitSum ts y < waitSum ts x) ⊎ (waitSum ts x ≤ waitSum ts y) → ⊥
       equal b (inl m) = no-lesser y y-choice m
       equal b (inr m) = no-better y y-choice (omega (arith, sums, worth-it)) (earlier b)
 
@@ -209,7 +209,7 @@ module _ (pool : ℕ) (ts : List Rated) (ok : AllWeighable ts) (c x : List ℕ)
                 (omega (arith, h .choice .way .high i li)),
           ))
       go (same e) = apart (sym e)
-      go (more b) = equal b (side (sumOf ts y) (sumOf ts x))
+      go (more b) = equal b (side (waitSum ts y) (waitSum ts x))
 
   pub settled-is-shared : x ≡ c
   settled-is-shared = go (gap (length ts) c x) (gap (length ts) x c)

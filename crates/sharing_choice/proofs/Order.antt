@@ -10,7 +10,7 @@ use native.Mathlib.Decide.{decLt}
 use lib.ListN.{length}
 use borrow.Author.Tests.{lt-ltb, le-ltb, eq-eqb, ne-eqb}
 use Rattle.sharing_titles.specs.declared.titles.Rated.{Rated}
-use Rattle.sharing_choice.specs.Choice.{lessOr, atLeast, prefers, sumOf}
+use Rattle.sharing_choice.specs.Choice.{lessOr, atLeast, prefers, waitSum}
 
 -- of two numbers the first is less, or it is not
 pub side : (m n : ℕ) → (m < n) ⊎ (n ≤ m)
@@ -115,19 +115,19 @@ least-antisym (a ∷ x) (b ∷ y) p h k =
 module _ (ts : List Rated) (x y : List ℕ) where
   pub prefers-total : (prefers ts x y ≡ true) ⊎ (prefers ts y x ≡ true)
   unfolding prefers
-  prefers-total = or-total (sumOf ts x) (sumOf ts y) (atLeast x y) (atLeast y x) (least-total x y)
+  prefers-total = or-total (waitSum ts x) (waitSum ts y) (atLeast x y) (atLeast y x) (least-total x y)
 
   pub prefers-antisym : length x ≡ length y → prefers ts x y ≡ true → prefers ts y x ≡ true → x ≡ y
   unfolding prefers
   prefers-antisym p h k =
-      let e = or-antisym (sumOf ts x) (sumOf ts y) (atLeast x y) (atLeast y x) h k in
+      let e = or-antisym (waitSum ts x) (waitSum ts y) (atLeast x y) (atLeast y x) h k in
       least-antisym x y p (e .1) (e .2)
 
   pub prefers-trans : (z : List ℕ) → length x ≡ length y → length y ≡ length z → prefers ts x y ≡ true
       → prefers ts y z ≡ true
       → prefers ts x z ≡ true
   unfolding prefers
-  prefers-trans z p q h k = or-trans (sumOf ts x) (sumOf ts y) (sumOf ts z) (λ r s. least-trans x y z p q r s) h k
+  prefers-trans z p q h k = or-trans (waitSum ts x) (waitSum ts y) (waitSum ts z) (λ r s. least-trans x y z p q r s) h k
 
 pub prefers-self : (ts : List Rated) (x : List ℕ) → prefers ts x x ≡ true
 prefers-self ts x = go (prefers-total ts x x)

@@ -10,7 +10,7 @@ use lib.Seq.{getD-set-same, getD-set-other}
 use Rattle.sharing_titles.specs.declared.titles.Rated.{Rated}
 use Rattle.sharing_titles.specs.Titles.{ratedTitle, rowTotal}
 use Rattle.sharing_titles.specs.Term.{term}
-use Rattle.sharing_choice.specs.Choice.{sumOf, atLeast, Way}
+use Rattle.sharing_choice.specs.Choice.{waitSum, atLeast, Way}
 use Rattle.sharing_choice.proofs.Order.{Trio, less, same, more, trio, or-is, or-more}
 
 pub total-set : (x : List ℕ) (i v : ℕ) → i < length x → rowTotal (set x i v) + getD x i 0 ≡ rowTotal x + v
@@ -28,8 +28,8 @@ total-mono (k ∷ x) (l ∷ y) e h =
     omega (arith, h 0 (omega arith), total-mono x y (omega arith) (λ i g. h (suc i) (omega arith)))
 
 pub sum-set : (ts : List Rated) (x : List ℕ) (i v : ℕ) → i < length ts → length x ≡ length ts
-    → sumOf ts (set x i v) + term (ratedTitle ts i) (getD x i 0) ≡ sumOf ts x + term (ratedTitle ts i) v
-unfolding sumOf
+    → waitSum ts (set x i v) + term (ratedTitle ts i) (getD x i 0) ≡ waitSum ts x + term (ratedTitle ts i) v
+unfolding waitSum
 sum-set [] x i v h e = absurd (omega arith)
 sum-set (t ∷ ts) [] i v h e = absurd (omega arith)
 sum-set (t ∷ ts) (k ∷ x) zero v h e = omega arith

@@ -12,10 +12,10 @@ use Rattle.sharing_titles.specs.Titles.{ratedTitle, rowTotal}
 use Rattle.sharing_titles.specs.Term.{term}
 
 -- the sum that is to be least (01, "Sharing"), over all titles, one count to a title
-unfoldable pub sumOf : List Rated → List ℕ → ℕ
-sumOf [] ks = 0
-sumOf (t ∷ ts) [] = 0
-sumOf (t ∷ ts) (k ∷ ks) = term t k + sumOf ts ks
+unfoldable pub waitSum : List Rated → List ℕ → ℕ
+waitSum [] ks = 0
+waitSum (t ∷ ts) [] = 0
+waitSum (t ∷ ts) (k ∷ ks) = term t k + waitSum ts ks
 
 -- a is less than b, or they are equal and r holds
 unfoldable pub lessOr : ℕ → ℕ → Bool → Bool
@@ -30,7 +30,7 @@ atLeast (x ∷ xs) (y ∷ ys) = lessOr y x (atLeast xs ys)
 -- the first choice is to be taken rather than the second, or is the second: a lesser sum, or among equals more for
 -- earlier titles
 unfoldable pub prefers : List Rated → List ℕ → List ℕ → Bool
-prefers ts x y = lessOr (sumOf ts x) (sumOf ts y) (atLeast x y)
+prefers ts x y = lessOr (waitSum ts x) (waitSum ts y) (atLeast x y)
 
 -- a count for each title, from its floor to its cap
 pub record Way (ts : List Rated) (x : List ℕ) : Type 0 where

@@ -28,7 +28,7 @@ use Rattle.moments.proofs.Due.{timed}
 use Rattle.text.specs.Numbers.{byteMost}
 use Rattle.logs.specs.declared.ReadOn.{ReadOn}
 use Rattle.logs.specs.declared.PlayedLog.{PlayedLog}
-use Rattle.logs.specs.Reading.{stepped, agentRead, RowRead, keptRead, readNext, PlayedStep, Reads, Plays}
+use Rattle.logs.specs.Reading.{stepped, agentRead, RowRead, keptRead, readNext, PlayedStep, ReadsLog, Plays}
 use Rattle.spans.specs.declared.Extent.{Extent}
 use Rattle.spans.specs.Extents.{noExtent, widened, heardExtent, latestOver, measureOf}
 
@@ -56,7 +56,7 @@ pub title-low : (o : ReadOn) (a b : Bool) → a ≡ both (eqb (o .answer) done) 
 title-low o a b e f h =
     leb-true (o .title) idMax (both-r (eqb (o .answer) done) (leb (o .title) idMax) (sym e ∙ both-r (o .played .more) a (sym f ∙ h)))
 
-module _ (r : List ℕ) (at : ℕ) (x : Extent) (f : Found) (o : ReadOn) (s : List ℕ) (read : Reads r at f o s) where
+module _ (r : List ℕ) (at : ℕ) (x : Extent) (f : Found) (o : ReadOn) (s : List ℕ) (read : ReadsLog r at f o s) where
   read-played : (f : Found) → readNext (unpacked r) at f .played ≡ stepped at f
   unfolding readNext stepped
   read-played (found.At n e) = refl

@@ -17,7 +17,7 @@ use Rattle.notice.proofs.NoticePlaces.{inside}
 use Rattle.logs.specs.declared.PlayedLog.{PlayedLog}
 use Rattle.logs.specs.declared.ReadOn.{ReadOn}
 use Rattle.agent_rows.specs.Packed.{unpacked}
-use Rattle.logs.specs.Reading.{readNext, Reads, Plays}
+use Rattle.logs.specs.Reading.{readNext, ReadsLog, Plays}
 use Rattle.unheard.specs.declared.MissedTally.{MissedTally}
 use Rattle.unheard.specs.declared.Unheard.{Unheard}
 use Rattle.unheard.specs.Unheard.{noneTold, refusedUnheard, unheardAnswer, unheardIn}
@@ -42,7 +42,7 @@ module _ (t : MissedTally) (a : ℕ) where
 
 -- a notice that a log has at a place leaves room to count it
 pub roomy : (log row : List ℕ) (place : ℕ) (t : MissedTally) (o : ReadOn) (left : List ℕ) → Small place t →
-    Reads row place (readAt log place) o left → o .played .more ≡ true → o .played .place < 2 ^ 64 → RoomToCount t
+    ReadsLog row place (readAt log place) o left → o .played .more ≡ true → o .played .place < 2 ^ 64 → RoomToCount t
 unfolding readNext
 roomy log row place t o left s read more typed =
     go (readAt log place) refl (ap (λ (z : ReadOn). z .played .more) (sym (read .is)) ∙ more) (rw (read .is) at typed)

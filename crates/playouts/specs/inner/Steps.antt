@@ -21,7 +21,7 @@ use Rattle.agent.specs.Played.{agentPlayed, lifeIn}
 use Rattle.logs.specs.Reading.{keptTold, heardOwn, byMode}
 use Rattle.judging.specs.Record.{nothingSeen, ticksMax}
 use Rattle.playouts.specs.declared.follow.Standing.{Standing}
-use Rattle.playouts.specs.Playout.{wasOpened, isAskable, lastOf, playoutNumber}
+use Rattle.playouts.specs.Playout.{wasOpened, isAskable, lastTickOf, playoutNumber}
 use Rattle.playouts.specs.Lines.{numberLines, refusedLine}
 
 -- the number of what is on air
@@ -30,11 +30,11 @@ airNumber nothing = nothingSeen
 airNumber (cell c) = c
 
 -- the number of lane l at tick u while a title stays as it stands, and that of a place of the row
-unfoldable pub numberIn : Title → ℕ → ℕ → ℕ
-numberIn t l u = pick (both (ltb l (t .film .cap)) (keptHeld t l u)) (shows t l u) nothingSeen
+unfoldable pub standingNumber : Title → ℕ → ℕ → ℕ
+standingNumber t l u = pick (both (ltb l (t .film .cap)) (keptHeld t l u)) (shows t l u) nothingSeen
 
-abbrev pub numberAt : Title → ℕ → ℕ → ℕ
-numberAt t from j = numberIn t (j % lanePlaces) (from + j / lanePlaces)
+abbrev pub standingNumberAt : Title → ℕ → ℕ → ℕ
+standingNumberAt t from j = standingNumber t (j % lanePlaces) (from + j / lanePlaces)
 
 -- the place of lane 0 at a tick: the row's start for an earlier one, and no row's end for a late one
 unfoldable pub placeFrom : ℕ → ℕ → ℕ
@@ -48,7 +48,7 @@ laidFrom f a row (suc n) = set (laidFrom f a row n) (a + n) (f (a + n))
 -- the ticks from a title's latest event up to tick v filled in, as far as the row goes
 unfoldable pub filledTo : Title → ℕ → ℕ → List ℕ → List ℕ
 filledTo t from v row =
-    laidFrom (numberAt t from) (placeFrom from (tickAt t (t .last))) row
+    laidFrom (standingNumberAt t from) (placeFrom from (tickAt t (t .last))) row
     (min (placeFrom from v) (length row) - placeFrom from (tickAt t (t .last)))
 
 -- an accepted event of an open title settles its ticks up to the event; those of another opening than the one asked for are left
@@ -65,7 +65,7 @@ abbrev pub toldNumbers : ℕ → ℕ → ℕ → ℕ → List ℕ → List Notic
 toldNumbers pool i opening from row ns = keptTold (heardNumbers i opening from) (freshAgent pool) row ns
 
 -- a row that is no longer than a record may be, from a tick on that may be given
-pub record Fillable (from : ℕ) (row : List ℕ) : Type 0 where
+pub record RowToFill (from : ℕ) (row : List ℕ) : Type 0 where
   pub soon : from ≤ askedMax
   pub short : length row ≤ ticksMax * lanePlaces
 
@@ -90,8 +90,8 @@ pub record FillsOn (pool : ℕ) (log : List ℕ) (i opening from : ℕ) (row : L
   pub numbers-are : after ≡ toldNumbers pool i opening from row (noticesOf log)
 
 -- what the code answers of a title as it stands, where the reading of a log of some size stopped at a place, and a last tick
-unfoldable pub standingAnswer : ℕ → ℕ → Title → ℕ → ℕ
-standingAnswer place size t tick =
+unfoldable pub titleAnswer : ℕ → ℕ → Title → ℕ → ℕ
+titleAnswer place size t tick =
     pick (ltb place size) malformed
     (pick (eqb (t .film .cap) 0) notThere (pick (ltb (tickAt t askedMax) tick) outsideLimits done))
 
@@ -112,9 +112,9 @@ pub record WholeTicks (ticks : ℕ) (row : List ℕ) : Type 0 where
 
 -- what is answered of a window, and the row where that is done
 pub record Carries (pool : ℕ) (log : List ℕ) (title from ticks : ℕ) (row : List ℕ) (answer : ℕ) (after : List ℕ) : Type 0 where
-  pub answer-is : answer ≡ windowAnswer pool log title (lastOf from ticks)
+  pub answer-is : answer ≡ windowAnswer pool log title (lastTickOf from ticks)
   pub numbers-are : answer ≡ done → after ≡ written (playoutNumber pool log title from) row (length row)
 
 -- what is printed of an answer and a row of numbers
-unfoldable pub toldText : ℕ → List ℕ → List ℕ
-toldText answer row = pick (eqb answer done) (numberLines (λ j. getD row j 0) (length row)) (refusedLine answer)
+unfoldable pub printedText : ℕ → List ℕ → List ℕ
+printedText answer row = pick (eqb answer done) (numberLines (λ j. getD row j 0) (length row)) (refusedLine answer)

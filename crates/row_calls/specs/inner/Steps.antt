@@ -28,7 +28,7 @@ pub record Tested (r : List ℕ) : Type 0 where
   pub ok : stateOk (unpacked r .state) ≡ true
 
 -- a row that an agent has: of the right length, and sound
-pub record AgentRow (r : List ℕ) : Type 0 where
+pub record SoundAgentRow (r : List ℕ) : Type 0 where
   pub long : length r ≡ rowLength
   pub sound : rowSound r ≡ true
 
@@ -36,7 +36,7 @@ pub record AgentRow (r : List ℕ) : Type 0 where
 pub record TakesNotice (r : List ℕ) (n : Notice) (a : ℕ) (x : List ℕ) : Type 0 where
   pub answers : a ≡ noticeAnswer (unpacked r) (reading.Whole n)
   pub agent-is : unpacked x ≡ noticed (unpacked r) (reading.Whole n)
-  pub is-row : AgentRow x
+  pub is-row : SoundAgentRow x
 
 -- an event whose numbers are within their limits, and which comes no earlier than the last
 pub record Timely (r : List ℕ) (i τ : ℕ) (a : Act) : Type 0 where

@@ -1,6 +1,6 @@
 -- `spans::step` meets its contract: by whether an event was accepted.
 use Rattle.spans.proofs.Widened.{steps-widened, steps-still, title-low}
-use Rattle.row_calls.specs.inner.Steps.{AgentRow}
+use Rattle.row_calls.specs.inner.Steps.{SoundAgentRow}
 use borrow.Author.Needs.{needs}
 use Rattle.spans.proofs.step.Statement.{statement}
 use Rattle.spans.proofs.step.Tie as tie

@@ -4,14 +4,14 @@ use native.Mathlib.Omega.{arith}
 use lib.ListN.{getD}
 use Rattle.text.specs.Output.{page}
 use Rattle.console_answers.proofs.Rows.{Passed, passed-none, passed-on, passed-all}
-use Rattle.console_balance.specs.Balance.{moveOf, changeLine}
+use Rattle.console_balance.specs.Balance.{moveTo, changeLine}
 use borrow.Author.Needs.{needs}
 use Rattle.console_balance.proofs.changes.put_each.Statement.{statement}
 use Rattle.console_balance.proofs.changes.put_each.Tie as tie
 
 abbrev Inv-loop : tie.InvT-loop
 Inv-loop out₀ at ids times counts many place₀ i₀ out place i =
-    Passed (λ (j : ℕ). changeLine (moveOf (getD ids j 0) (getD times j 0) (getD counts j 0))) many (page out₀ at) i (page out place)
+    Passed (λ (j : ℕ). changeLine (moveTo (getD ids j 0) (getD times j 0) (getD counts j 0))) many (page out₀ at) i (page out place)
 
 abbrev μ-loop : tie.MeasureT-loop
 μ-loop out₀ at ids times counts many place₀ i₀ out place i = many - i

@@ -4,7 +4,7 @@ use Prim.Native.Nat.{_-_, _≤_}
 use native.Mathlib.Nat.{le-antisymm}
 use native.Mathlib.Omega.{arith}
 use lib.ListN.{length, length-set}
-use Rattle.playouts.specs.inner.Steps.{numberAt, laidFrom}
+use Rattle.playouts.specs.inner.Steps.{standingNumberAt, laidFrom}
 use Rattle.playouts.proofs.Laid.{laid-next, sub-zero, to-end}
 use borrow.Author.Needs.{needs}
 use Rattle.playouts.proofs.cells.fill_to.Statement.{statement}
@@ -12,7 +12,7 @@ use Rattle.playouts.proofs.cells.fill_to.Tie as tie
 
 abbrev Inv-loop : tie.InvT-loop
 Inv-loop t from upto numbers₀ lanes end j₀ numbers j =
-    (j₀ ≤ j) × (j - j₀ ≤ end - j₀) × (numbers ≡ laidFrom (numberAt t from) j₀ numbers₀ (j - j₀)) × (length numbers ≡ length numbers₀)
+    (j₀ ≤ j) × (j - j₀ ≤ end - j₀) × (numbers ≡ laidFrom (standingNumberAt t from) j₀ numbers₀ (j - j₀)) × (length numbers ≡ length numbers₀)
 
 abbrev μ-loop : tie.MeasureT-loop
 μ-loop t from upto numbers₀ lanes end j₀ numbers j = end - j
