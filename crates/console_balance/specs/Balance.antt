@@ -13,7 +13,7 @@ use Rattle.planner.specs.Outcome.{plannerAnswer, given}
 use Rattle.text.specs.Texts.{text}
 use Rattle.text.specs.Digits.{decimal}
 use Rattle.console_commands.specs.Commands.{doBalance}
-use Rattle.console_reasons.specs.Asked.{askedReason}
+use Rattle.console_limits.specs.Asked.{askedReason}
 use Rattle.words.specs.Words.{refusalText}
 use Rattle.console_answers.specs.Entries.{entry, each}
 use Rattle.console_balance.specs.Rates.{pairsIn, pairId, ratesBy}

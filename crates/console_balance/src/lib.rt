@@ -5,8 +5,8 @@ mod changes;
 mod rates;
 
 use console_commands::commands;
+use console_limits::asked::put_asked;
 use console_lines::lines::NUMBERS_MOST;
-use console_reasons::asked::put_asked;
 use rules::DONE;
 use rules::OUTSIDE_LIMITS;
 use rules::TITLES_MAX;

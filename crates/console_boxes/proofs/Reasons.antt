@@ -1,6 +1,6 @@
 -- What 1 says of a plan and of the small box is so: the number that is named is out of its limits, and none before it. No state is asked for a plan, so
--- that a number is always named; the small box names its floor and cap where these are what it misses. Rests on `console_reasons`
--- proofs/Naming.
+-- that a number is always named; the small box names its floor and cap where these are what it misses. Rests on `console_limits`
+-- and `console_reasons` proofs/Naming.
 use Prim.Native.Nat.{ℕ}
 use mathlib.Core.Path.{_≡_, refl, sym, _∙_}
 use mathlib.Core.Bool.{true, false}
@@ -20,9 +20,10 @@ use Rattle.rom.specs.Lanes.{romLaneAnswer}
 use Rattle.rom.specs.Plan.{romPlanAnswer}
 use Rattle.rom_table.specs.Table.{isOther}
 use Rattle.console_commands.specs.Commands.{doLane, doPlan, doRomPlan, doSkipPlan}
-use Rattle.console_reasons.specs.Quantities.{boundsOf, boundsTable, quantityAt, columnOf, rowOf, quantityTable}
-use Rattle.console_reasons.specs.Outside.{SaysOut}
-use Rattle.console_reasons.proofs.Naming.{within-all, by-limits, lane-out}
+use Rattle.console_limits.specs.Quantities.{boundsOf, boundsTable, quantityAt, columnOf, rowOf, quantityTable}
+use Rattle.console_limits.specs.Outside.{SaysOut}
+use Rattle.console_limits.proofs.Naming.{within-all, by-limits}
+use Rattle.console_reasons.proofs.Naming.{lane-out}
 use Rattle.console_boxes.specs.Lanes.{isForeignAt}
 
 module _ (A K k a n : ℕ) where

@@ -21,7 +21,7 @@ use Rattle.console_lines.specs.Lines.{numberIn}
 use Rattle.words.specs.Words.{missed}
 use Rattle.console_answers.specs.Entries.{entry, each}
 use Rattle.console_answers.specs.Outcomes.{doneText, withText}
-use Rattle.console_reasons.specs.Asked.{limitReason}
+use Rattle.console_limits.specs.Asked.{limitReason}
 use Rattle.console_boxes.specs.Small.{smallText}
 use Rattle.console_boxes.specs.declared.calls.Told.{Told}
 

@@ -6,8 +6,8 @@ use crate::small::put_small;
 use console_answers::outcomes;
 use console_commands::commands;
 use console_commands::commands::PLACES_MOST;
+use console_limits::asked::put_limits;
 use console_lines::lines::Line;
-use console_reasons::asked::put_limits;
 use rom_table::is_other;
 use rules::OUTSIDE_LIMITS;
 ghost use mathlib.Core.Path.{_≡_};
@@ -15,7 +15,7 @@ ghost use Prim.Native.Nat.{_<_, _≤_};
 ghost use lib.ListN.{length};
 ghost use Rattle.text.specs.Output.{Written};
 ghost use Rattle.console_commands.specs.Commands.{placesMost};
-ghost use Rattle.console_reasons.specs.Asked.{limitReason};
+ghost use Rattle.console_limits.specs.Asked.{limitReason};
 ghost use Rattle.console_lines.specs.Lines.{numbersMost};
 ghost use Rattle.console_boxes.specs.Plan.{
   isOtherPlan,

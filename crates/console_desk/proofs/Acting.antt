@@ -12,7 +12,7 @@ use Rattle.console_lines.specs.declared.lines.Line.{Line}
 use Rattle.console_answers.specs.Outcomes.{doneText}
 use Rattle.console_acts.specs.Acts.{answerAfter, agentActed}
 use Rattle.console_acts.specs.Named.{namedIn}
-use Rattle.console_reasons.specs.Behind.{behindIn}
+use Rattle.console_desk.specs.Behind.{behindIn}
 use Rattle.console_desk.specs.Desk.{followedText, toldText, actText}
 
 module _ (l : Line) (s : List ℕ) (p q : Page) (g next : Agent) (n : ℕ) where

@@ -15,7 +15,7 @@ use Rattle.console_lines.specs.Lines.{meaning}
 use Rattle.text.specs.Output.{Page, puts}
 use Rattle.text.proofs.Pages.{puts-append}
 use Rattle.console_acts.specs.Acts.{agentActed}
-use Rattle.console_asks.specs.Asks.{askText}
+use Rattle.console_desk.specs.Asks.{askText}
 use Rattle.console_desk.specs.Desk.{isSilent, mayChange, actText, lineEnd, wholeText, afterWhole, faultLine, lineText, afterLine, Left}
 
 -- what a line leaves, over a page before and a page after

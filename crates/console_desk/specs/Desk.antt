@@ -16,8 +16,8 @@ use Rattle.console_answers.specs.Faults.{faultText}
 use Rattle.console_answers.specs.Outcomes.{doneText, valueText}
 use Rattle.console_acts.specs.Acts.{answerAfter, agentActed}
 use Rattle.console_acts.specs.Named.{namedIn}
-use Rattle.console_reasons.specs.Behind.{behindIn}
-use Rattle.console_asks.specs.Asks.{askText}
+use Rattle.console_desk.specs.Behind.{behindIn}
+use Rattle.console_desk.specs.Asks.{askText}
 
 -- the commands that have no answer: none is asked, or the session is to end
 abbrev pub isSilent : ℕ → Bool

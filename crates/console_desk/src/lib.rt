@@ -1,18 +1,24 @@
 // The operator's desk: one line of the console, answered over an agent. `answer` takes the agent, the line's bytes, a
 // lent row and a place in it, and gives back the agent after the line and the place behind its answer, as
 // specs/Desk.antt defines them. It has no `requires`: any agent and any bytes have an answer, and no answer goes past
-// the row's end. `reply`, `ends`, `put_followed` and `put_fault_line` are for the head-end's desk, which reads lines alike.
+// the row's end. `reply`, `ends`, `put_followed` and `put_fault_line` are for the head-end's desk, which reads lines alike,
+// and so is `behind`, what stands behind the refusal of a line that would change the agent.
 
+mod asks;
+pub mod behind;
+mod telling;
+mod viewing;
+mod whens;
+
+use crate::asks::ask;
 use agent::Agent;
 use console_acts::acts;
 use console_acts::named;
 use console_answers::faults;
 use console_answers::outcomes;
-use console_asks::ask;
 use console_commands::commands;
 use console_lines::lines;
 use console_lines::lines::Line;
-use console_reasons::behind;
 use text::output;
 ghost use mathlib.Core.Path.{_≡_};
 ghost use Prim.Native.Nat.{_≤_};

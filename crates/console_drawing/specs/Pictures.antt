@@ -11,7 +11,7 @@ use Rattle.story.specs.Kept.{absentMode, titleAt, stateOk, tickAt, ruling, kept
 use Rattle.text.specs.Texts.{text}
 use Rattle.text.specs.Digits.{decimal}
 use Rattle.console_answers.specs.Entries.{each}
-use Rattle.console_reasons.specs.Quantities.{ticksMost}
+use Rattle.console_limits.specs.Quantities.{ticksMost}
 
 -- the signs, as UTF-8 has them: full U+2588, hatched U+2592, and a point in the middle, U+00B7
 abbrev pub activeSign : List ℕ

@@ -1,6 +1,6 @@
 // The lanes of a title as a small picture: a line for each lane, a sign for each tick.
 
-use console_reasons::quantities::TICKS_MOST;
+use console_limits::quantities::TICKS_MOST;
 use limits::state_ok;
 use measures::lanes::is_held;
 use measures::lanes::ruling;

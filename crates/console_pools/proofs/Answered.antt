@@ -15,8 +15,8 @@ use Rattle.console_answers.specs.Entries.{numbersText}
 use Rattle.console_answers.specs.Outcomes.{doneText}
 use Rattle.console_answers.proofs.Answered.{told-plain, refused-for}
 use Rattle.console_commands.specs.Commands.{doStatus, doShare}
-use Rattle.console_reasons.specs.Asked.{limitReason, askedReason}
-use Rattle.console_reasons.proofs.Silent.{done-limits, done-asked}
+use Rattle.console_limits.specs.Asked.{limitReason, askedReason}
+use Rattle.console_limits.proofs.Silent.{done-limits, done-asked}
 use Rattle.console_pools.specs.Beside.{beside}
 use Rattle.console_pools.specs.Titles.{statusText}
 use Rattle.console_pools.specs.Shares.{shareText}

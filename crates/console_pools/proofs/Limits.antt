@@ -1,5 +1,5 @@
 -- What 1 says of the planner and of a sharing is so: the number that is named is out of its limits, and none before it; where none is named, the state is out of
--- its own. Rests on `console_reasons` proofs/Naming and on the laws of columns.
+-- its own. Rests on `console_limits` proofs/Naming and on the laws of columns.
 use Prim.Native.Nat.{ℕ, zero, suc, _+_, _-_, _*_, _%_, _<_, _≤_, min}
 use mathlib.Core.Path.{_≡_, refl, _∙_}
 use mathlib.Core.Bool.{true, not}
@@ -29,9 +29,9 @@ use Rattle.planner.specs.Outcome.{moves, plannerAnswer}
 use Rattle.text.specs.Numbers.{fourBytesMost}
 use Rattle.console_commands.specs.Commands.{titlesMost, titleNumbers, doPlanner, doShare}
 use Rattle.console_lines.specs.Lines.{numbersMost}
-use Rattle.console_reasons.specs.Quantities.{boundsOf, boundsTable, ofRate, ofLength, ofFloor, ofCap, repeated, quantityAt, columnOf, rowOf, quantityTable}
-use Rattle.console_reasons.specs.Outside.{firstOut, SaysOut}
-use Rattle.console_reasons.proofs.Naming.{within-all, by-limits}
+use Rattle.console_limits.specs.Quantities.{boundsOf, boundsTable, ofRate, ofLength, ofFloor, ofCap, repeated, quantityAt, columnOf, rowOf, quantityTable}
+use Rattle.console_limits.specs.Outside.{firstOut, SaysOut}
+use Rattle.console_limits.proofs.Naming.{within-all, by-limits}
 use Rattle.console_pools.specs.Shares.{column, titlesIn, columnIn, sharedIn}
 use Rattle.console_pools.specs.Moves.{ratesOf, ratesIn}
 use Rattle.console_pools.proofs.Numbers.{column-length}

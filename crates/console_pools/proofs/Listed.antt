@@ -17,8 +17,8 @@ use Rattle.console_pools.specs.Moves.{listText, plannerText}
 use Rattle.console_answers.proofs.Rows.{each-same, counted}
 use Rattle.console_answers.proofs.Answered.{told-plain, refused-for}
 use Rattle.console_commands.specs.Commands.{doPlanner}
-use Rattle.console_reasons.specs.Asked.{askedReason}
-use Rattle.console_reasons.proofs.Silent.{done-asked}
+use Rattle.console_limits.specs.Asked.{askedReason}
+use Rattle.console_limits.proofs.Silent.{done-asked}
 
 -- so many places of a row are lent three times: that is the room
 pub lent : (n m : ℕ) (row : List ℕ) → length row ≡ m → n ≤ m → roomOf (take n row) (take n row) (take n row) ≡ n

@@ -7,7 +7,7 @@ use Rattle.planner.specs.Moves.{Move}
 use Rattle.planner.specs.Outcome.{plannerAnswer, given}
 use Rattle.console_commands.specs.Commands.{titlesMost, roomMost, doPlanner}
 use Rattle.console_answers.specs.Outcomes.{withText}
-use Rattle.console_reasons.specs.Asked.{askedReason}
+use Rattle.console_limits.specs.Asked.{askedReason}
 use Rattle.console_pools.specs.Beside.{beside}
 use Rattle.console_pools.specs.Shares.{column}
 

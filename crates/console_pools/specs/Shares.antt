@@ -7,7 +7,7 @@ use Rattle.text.specs.Numbers.{fourBytesMost}
 use Rattle.console_commands.specs.Commands.{titlesMost, titleNumbers, doShare}
 use Rattle.console_answers.specs.Entries.{numbersText}
 use Rattle.console_answers.specs.Outcomes.{withText}
-use Rattle.console_reasons.specs.Asked.{limitReason}
+use Rattle.console_limits.specs.Asked.{limitReason}
 
 -- the counts of a sharing, over rows that are lent, for a line of the numbers ns; a refusal says why
 unfoldable pub shareText : List ℕ → ℕ → List ℕ → List ℕ → List ℕ → List ℕ → List ℕ → List ℕ

@@ -6,7 +6,7 @@ use Rattle.story.specs.declared.State.{State}
 use Rattle.story.specs.Calls.{statusAnswer, statusCount, statusHeld, statusMark}
 use Rattle.console_commands.specs.Commands.{idsMost, doStatus}
 use Rattle.console_answers.specs.Outcomes.{withText}
-use Rattle.console_reasons.specs.Asked.{askedReason}
+use Rattle.console_limits.specs.Asked.{askedReason}
 use Rattle.console_pools.specs.Beside.{beside}
 
 -- what status answers over the ids of a line

@@ -1,7 +1,4 @@
--- Laws of what stands behind refusals, and that it is so.
-pub mod Tables
+-- That what stands behind refusals is so.
 pub mod Naming
 pub mod Spelling
-pub mod Silent
 pub mod Promise
-pub mod Examples

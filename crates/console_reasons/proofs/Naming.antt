@@ -1,50 +1,28 @@
--- What 1 says is so: the number that is named is out of its limits, and none before it; where none is named, the state is out of
--- its own. Shown of fresh, of a lane question and of status; of events in proofs/Spelling. Rests on the laws of `first` and of an answer by
--- listed refusals.
+-- What 1 says is so of fresh, of a lane question and of status; of events in proofs/Spelling. Rests on `console_limits` proofs/Naming and on the
+-- laws of an answer by listed refusals.
 use Prim.Native.Nat.{ℕ, suc, _+_, _-_, _%_, _<_, _≤_}
-use mathlib.Core.Path.{_≡_, refl, sym, _∙_}
-use mathlib.Core.Bool.{Bool, true, false, not, false≢true}
+use mathlib.Core.Path.{_≡_, refl}
+use mathlib.Core.Bool.{true, not}
 use mathlib.Core.List.{List, [], _∷_}
 use native.Mathlib.Omega.{arith}
 use native.Mathlib.Nat.{mod-lt}
-use borrow.Author.Tests.{le-ltb, not-true}
+use borrow.Author.Tests.{le-ltb}
 use lib.Dec.{leb}
 use lib.ListN.{length, getD}
 use Rattle.rules.specs.Limits.{both, within, poolMin, poolMax, idMax, laneMax, askedMax}
 use Rattle.rules.specs.Refusals.{outsideLimits, refuse}
 use Rattle.rules.specs.Search.{every}
-use Rattle.rules.proofs.Tests.{both-r, both-in, fails}
-use Rattle.rules.proofs.Search.{first-hit, first-before, every-in}
+use Rattle.rules.proofs.Tests.{both-r, both-in}
+use Rattle.rules.proofs.Search.{every-in}
 use Rattle.rules.proofs.Refusals as refusals
 use Rattle.rules.proofs.Refusals.{hitsOf, distinct, isListed}
 use Rattle.story.specs.declared.State.{State}
 use Rattle.story.specs.Kept.{stateOk}
 use Rattle.story.specs.Calls.{freshAnswer, laneRules, laneAnswer, statusRules, statusAnswer}
 use Rattle.console_commands.specs.Commands.{doFresh, doLane, doStatus}
-use Rattle.console_reasons.specs.Quantities.{boundsOf, boundsTable, ofId, repeated, quantityAt, columnOf, rowOf, quantityTable, isOut}
-use Rattle.console_reasons.specs.Outside.{isOutAt, firstOut, SaysOut}
-
--- a number that is not out of its limits is within them
-pub not-out : (b : Bool) → not b ≡ false → b ≡ true
-not-out true h = refl
-not-out false h = sym h
-
-module _ (c : ℕ) (ns : List ℕ) where
-  -- where no number is named each is within its limits
-  pub within-all : length ns ≤ firstOut c ns → (p : ℕ) → p < length ns
-      → within (boundsOf (quantityAt c p) .low) (boundsOf (quantityAt c p) .high) (getD ns p 0) ≡ true
-  unfolding firstOut isOut
-  within-all none p l = not-out _ (first-before (isOutAt c ns) (length ns) p (omega arith))
-
-  -- a question that asks whether the state is within its limits and the rest of its numbers are
-  pub by-limits : (ok rest : Bool) → not (both ok rest) ≡ true → (length ns ≤ firstOut c ns → rest ≡ true) → SaysOut ok c ns
-  unfolding firstOut
-  by-limits ok rest hit inside =
-      record {
-        named = λ l. first-hit (isOutAt c ns) (length ns) l;
-        earlier = λ p l. first-before (isOutAt c ns) (length ns) p l;
-        state = λ none. fails ok (λ t. false≢true (sym (not-true (both ok rest) hit) ∙ both-in ok rest t (inside none)));
-      }
+use Rattle.console_limits.specs.Quantities.{boundsOf, boundsTable, ofId, repeated, quantityAt, columnOf, rowOf, quantityTable}
+use Rattle.console_limits.specs.Outside.{firstOut, SaysOut}
+use Rattle.console_limits.proofs.Naming.{within-all, by-limits}
 
 -- of a fresh pool, where a number is always named: no state is asked
 pub fresh-out : (n : ℕ) → freshAnswer n ≡ outsideLimits → SaysOut true doFresh (n ∷ [])

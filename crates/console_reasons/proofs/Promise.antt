@@ -1,6 +1,5 @@
--- What is promised of the words behind a refusal (specs/Promise), of every state: `event-promise` of an event that can be spelt,
--- `line-promise` and `notice-promise` of those that lines and notices spell, `lane-promise` of a lane question. Rests on proofs/Naming and
--- Spelling for 1, and on what the outlook foresees for 4, 8 and 9 (`outlook` proofs/Foreseen).
+-- What is promised of the words behind a refusal (specs/Promise), of every state: `event-promise` of an event that can be spelt, `lane-promise`
+-- of a lane question. Rests on proofs/Naming and Spelling for 1, and on what the outlook foresees for 4, 8 and 9 (`outlook` proofs/Foreseen).
 use Prim.Native.Nat.{ℕ, _<_}
 use mathlib.Core.Path.{_≡_, refl, sym, _∙_}
 use mathlib.Core.Bool.{Bool, true, false, not, false≢true}
@@ -18,22 +17,14 @@ use Rattle.story.specs.declared.Act.the-variants.{Opens, Changes, Closes, Doors
 use Rattle.story.specs.declared.Event.{Event}
 use Rattle.story.specs.Kept.{stateOk, absentMode, titleAt, titleHeld, isThere}
 use Rattle.story.specs.Orders.{openOrder, changeOrder, closeOrder, doorsOrder}
-use Rattle.story.specs.Story.{opens, skips, holds, lifts}
 use Rattle.story.specs.Calls.{testsIn, callAnswer, laneHeld, laneRules, laneAnswer}
-use Rattle.notice.specs.declared.Notice.{Notice}
-use Rattle.notice.specs.declared.Kind.{Kind}
-use Rattle.notice.specs.declared.Kind.the-variants.{Open, Change, Close, Hold, Lift, Skip}
-use Rattle.agent.specs.Turns.{actOf, eventOf}
 use Rattle.outlook.specs.Outlook.{isPresent, isGone, neverOpened, presenceOf}
 use Rattle.outlook.proofs.Foreseen.{foreseen}
-use Rattle.console_commands.specs.Commands
-use Rattle.console_lines.specs.declared.lines.Line.{Line}
-use Rattle.console_lines.specs.Lines.{numberIn}
-use Rattle.console_acts.specs.Events.{wordOf, actBy, eventIn}
 use Rattle.console_reasons.specs.Lanes.{lastIn}
 use Rattle.console_reasons.specs.Events.{isSpelt}
 use Rattle.console_reasons.specs.Promise.{EventReasons, LaneReasons}
-use Rattle.console_reasons.proofs.Naming.{not-out, lane-out}
+use Rattle.console_limits.proofs.Naming.{not-out}
+use Rattle.console_reasons.proofs.Naming.{lane-out}
 use Rattle.console_reasons.proofs.Spelling.{event-out}
 
 -- ---- what a presence says
@@ -91,41 +82,6 @@ event-promise s e spelt =
   where
     away : callAnswer s (e .title) (e .time) (e .act) ≡ notThere → isThere (titleAt s (e .title)) (e .time) ≡ false
     away h = not-true _ (away-hit s (e .title) (e .time) (e .act) h)
-
--- ---- what lines and notices spell
-
-skip-spelt : (d k : ℕ) → isSpelt (skips d k) ≡ true
-skip-spelt d k = rw (eq-eqb k k refl) refl
-
-act-spelt : (c w x y z : ℕ) → isSpelt (actBy c w x y z) ≡ true
-unfolding actBy
-act-spelt c w x y z =
-    go (eqb c Commands.doOpen) (eqb c Commands.doChange) (eqb c Commands.doHold) (eqb c Commands.doLift) (eqb c Commands.doSkip)
-  where
-    go : (a b d e f : Bool)
-        → isSpelt (pick a (opens w x y z) (pick b (Changes w) (pick d holds (pick e lifts (pick f (skips w x) Closes))))) ≡ true
-    go true b d e f = refl
-    go false true d e f = refl
-    go false false true e f = refl
-    go false false false true f = refl
-    go false false false false true = skip-spelt w x
-    go false false false false false = refl
-
-kind-spelt : (k : Kind) → isSpelt (actOf k) ≡ true
-kind-spelt (Open d a k n) = refl
-kind-spelt (Change n) = refl
-kind-spelt Close = refl
-kind-spelt Hold = refl
-kind-spelt Lift = refl
-kind-spelt (Skip d n) = skip-spelt d n
-
-pub line-promise : (s : State) (l : Line) → EventReasons s (eventIn l)
-unfolding eventIn
-line-promise s l =
-    event-promise s (eventIn l) (act-spelt (wordOf (l .command)) (numberIn l 2) (numberIn l 3) (numberIn l 4) (numberIn l 5))
-
-pub notice-promise : (s : State) (n : Notice) → EventReasons s (eventOf n)
-notice-promise s n = event-promise s (eventOf n) (kind-spelt (n .kind))
 
 -- ---- lane questions
 

@@ -1,5 +1,5 @@
 -- What 1 says of an event is so, where a line or a notice spelt it: the number that is named is out of its limits, and none before it;
--- where none is named, the state is out of its own. And what lines and notices spell is so spelt. Rests on proofs/Naming.
+-- where none is named, the state is out of its own. Rests on `console_limits` proofs/Naming.
 use Prim.Native.Nat.{ℕ}
 use mathlib.Core.Path.{_≡_, refl, sym, _∙_}
 use mathlib.Core.Bool.{Bool, true, false, not, false≢true}
@@ -25,10 +25,10 @@ use Rattle.story.specs.Story.{actLimits, steadyLimits, paddedLimits}
 use Rattle.story.specs.Calls.{eventOk, testsIn, callAnswer}
 use Rattle.story.specs.Runs.{answered}
 use Rattle.console_commands.specs.Commands.{doOpen, doChange, doClose, doSkip}
-use Rattle.console_reasons.specs.Quantities.{boundsOf, boundsTable, quantityAt, columnOf, rowOf, quantityTable}
-use Rattle.console_reasons.specs.Outside.{SaysOut}
+use Rattle.console_limits.specs.Quantities.{boundsOf, boundsTable, quantityAt, columnOf, rowOf, quantityTable}
+use Rattle.console_limits.specs.Outside.{SaysOut}
 use Rattle.console_reasons.specs.Events.{commandFor, numbersFor, numbersOf, isSpelt}
-use Rattle.console_reasons.proofs.Naming.{within-all, by-limits}
+use Rattle.console_limits.proofs.Naming.{within-all, by-limits}
 
 both-assoc : (a b c : Bool) → both (both a b) c ≡ both a (both b c)
 both-assoc true b c = refl

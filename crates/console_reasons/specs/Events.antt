@@ -17,8 +17,8 @@ use Rattle.outlook.specs.Outlook.{whenAnswer, whenTime, nextStart, freeLanes, r
 use Rattle.text.specs.Texts.{text}
 use Rattle.text.specs.Digits.{decimal}
 use Rattle.console_commands.specs.Commands.{doOpen, doChange, doClose, doSkip}
-use Rattle.console_reasons.specs.Outside.{outText}
-use Rattle.console_reasons.specs.Asked.{lastText}
+use Rattle.console_limits.specs.Outside.{outText}
+use Rattle.console_limits.specs.Asked.{lastText}
 use Rattle.console_reasons.specs.Lanes.{missingText}
 
 -- the command whose numbers an event has; a hold and a lift have those of a close

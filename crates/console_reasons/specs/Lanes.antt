@@ -10,7 +10,7 @@ use Rattle.story.specs.declared.State.{State}
 use Rattle.story.specs.Kept.{titleAt}
 use Rattle.outlook.specs.Outlook.{presenceOf, neverOpened, isGone}
 use Rattle.console_commands.specs.Commands.{doLane}
-use Rattle.console_reasons.specs.Asked.{askedReason}
+use Rattle.console_limits.specs.Asked.{askedReason}
 
 -- what is missing, by the presence of the title
 unfoldable pub missingText : ℕ → List ℕ

@@ -1,13 +1,8 @@
--- What the console says behind a refusal, so that an operator knows what to type next: by `behindIn` of a line that would change the agent, by
--- `laneReason` of a lane question, by `limitReason` and `askedReason` of any other question. specs/Quantities has the name and the limits
--- of every number of a line, once.
--- specs/Promise is the page of what is promised; proofs/Promise shows it of every state: `line-promise` and `notice-promise` of the events
--- that lines and notices spell, `lane-promise` of lane questions. What 1 says of a fresh pool and of status: proofs/Naming `fresh-out` and
--- `status-out`. That two outcomes of a call here are equal: `text` proofs/Unique `page-one-outcome`.
-pub mod Quantities
-pub mod Outside
-pub mod Asked
+-- What the console says behind a refusal, so that an operator knows what to type next: by `reasonText` of an event, by `laneReason` of a lane
+-- question. specs/Promise is the page of what is promised; proofs/Promise shows it of every state: `event-promise` of the events that can be
+-- spelt, `lane-promise` of lane questions. What 1 says of a fresh pool and of status: proofs/Naming `fresh-out` and `status-out`. The events
+-- that can be spelt are those of lines and notices: `console_desk` proofs/Spelt. What is said behind any other question: `console_limits`.
+-- That two outcomes of a call here are equal: `text` proofs/Unique `page-one-outcome`.
 pub mod Lanes
 pub mod Events
-pub mod Behind
 pub mod Promise

@@ -14,7 +14,7 @@ use Rattle.story.specs.Runs.{answered}
 use Rattle.outlook.specs.Outlook.{isPresent, presenceOf}
 use Rattle.outlook.specs.Foreseen.{AcceptedWhen, StartBehindEight, RoomBehindNine, FreeBehindFour}
 use Rattle.console_commands.specs.Commands.{doLane}
-use Rattle.console_reasons.specs.Outside.{SaysOut}
+use Rattle.console_limits.specs.Outside.{SaysOut}
 use Rattle.console_reasons.specs.Lanes.{lastIn}
 use Rattle.console_reasons.specs.Events.{commandFor, numbersOf}
 

@@ -1,9 +1,9 @@
 // What stands behind the refusal of an event: what can be typed in its place.
 
-use crate::asked::put_last;
 use crate::lanes::put_missing;
-use crate::outside::put_out;
 use console_commands::commands;
+use console_limits::asked::put_last;
+use console_limits::outside::put_out;
 use rules::DONE;
 use rules::EVENT_TIME_MAX;
 use rules::ID_MAX;

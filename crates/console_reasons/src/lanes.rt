@@ -1,7 +1,7 @@
 // What stands behind the refusal of a lane question.
 
-use crate::asked::put_asked;
 use console_commands::commands;
+use console_limits::asked::put_asked;
 use rules::ID_MAX;
 use rules::NOT_THERE;
 use story::State;

@@ -15,7 +15,7 @@ use Rattle.story.specs.Kept.{titleAt, stateOk, isThere}
 use Rattle.measures.specs.Readable.{Filmed}
 use Rattle.measures.proofs.Within.{title-ok}
 use Rattle.title_verdicts.proofs.Stands.{there-changeable}
-use Rattle.console_reasons.specs.Quantities.{ticksMin, ticksMost}
+use Rattle.console_limits.specs.Quantities.{ticksMin, ticksMost}
 use Rattle.console_views.specs.Lanes.{lanesRules, lanesAnswer}
 
 module _ (s : State) (i τ n : ℕ) (none : lanesAnswer s i τ n ≡ 0) where

@@ -18,7 +18,7 @@ use Rattle.story.specs.Story.{lifeOf, latestOf}
 use Rattle.story.specs.Runs.{Reached}
 use Rattle.story.proofs.Tells.{TellsTitle, absent, present}
 use Rattle.story.proofs.Reached.{run-told}
-use Rattle.console_reasons.specs.Quantities.{ticksMost}
+use Rattle.console_limits.specs.Quantities.{ticksMost}
 use Rattle.console_views.specs.Lanes.{lanesAnswer}
 use Rattle.console_views.proofs.Answered.{asked-late, asked-id, asked-film}
 

@@ -13,8 +13,8 @@ use Rattle.text.specs.Texts.{text}
 use Rattle.text.specs.Digits.{decimal}
 use Rattle.console_commands.specs.Commands.{doLanes}
 use Rattle.outlook.specs.Outlook.{presenceOf}
-use Rattle.console_reasons.specs.Quantities.{ticksMin, ticksMost}
-use Rattle.console_reasons.specs.Asked.{askedReason}
+use Rattle.console_limits.specs.Quantities.{ticksMin, ticksMost}
+use Rattle.console_limits.specs.Asked.{askedReason}
 use Rattle.console_reasons.specs.Lanes.{missingText, lastIn}
 use Rattle.words.specs.Words.{refusalText}
 use Rattle.console_answers.specs.Entries.{entry, each}

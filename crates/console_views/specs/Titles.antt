@@ -19,7 +19,7 @@ use Rattle.text.specs.Texts.{text}
 use Rattle.text.specs.Digits.{decimal}
 use Rattle.clocks.specs.Clocks.{clockText}
 use Rattle.console_commands.specs.Commands.{doTitles}
-use Rattle.console_reasons.specs.Asked.{askedReason}
+use Rattle.console_limits.specs.Asked.{askedReason}
 use Rattle.words.specs.Words.{refusalText}
 use Rattle.console_answers.specs.Entries.{each}
 

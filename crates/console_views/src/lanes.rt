@@ -2,11 +2,11 @@
 
 use console_answers::entries::put_entry;
 use console_commands::commands;
-use console_reasons::asked::put_asked;
+use console_limits::asked::put_asked;
+use console_limits::quantities::TICKS_MIN;
+use console_limits::quantities::TICKS_MOST;
 use console_reasons::lanes::last_in;
 use console_reasons::lanes::put_missing;
-use console_reasons::quantities::TICKS_MIN;
-use console_reasons::quantities::TICKS_MOST;
 use limits::state_ok;
 use measures::lanes::is_there;
 use measures::slots::title_of;
@@ -30,7 +30,7 @@ ghost use Rattle.rules.specs.Refusals.{done};
 ghost use Rattle.story.specs.Kept.{stateOk};
 ghost use Rattle.text.specs.Output.{Written};
 ghost use Rattle.console_answers.specs.Entries.{each};
-ghost use Rattle.console_reasons.specs.Quantities.{ticksMin, ticksMost};
+ghost use Rattle.console_limits.specs.Quantities.{ticksMin, ticksMost};
 ghost use Rattle.console_views.specs.Lanes.{
   lanesAnswer,
   shownText,

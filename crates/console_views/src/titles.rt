@@ -5,7 +5,7 @@ use crate::films::put_film;
 use crate::holding::put_count;
 use crate::holding::put_holds;
 use console_commands::commands;
-use console_reasons::asked::put_asked;
+use console_limits::asked::put_asked;
 use measures::lanes::is_there;
 use measures::lanes::lanes_held;
 use measures::slots::title_of;

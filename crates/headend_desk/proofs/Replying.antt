@@ -24,7 +24,7 @@ use Rattle.console_lines.specs.Lines.{meaning, longest}
 use Rattle.console_acts.specs.Events.{eventIn}
 use Rattle.console_acts.specs.Named.{namedIn}
 use Rattle.console_acts.specs.Writing.{cutEvent}
-use Rattle.console_reasons.specs.Behind.{behindIn}
+use Rattle.console_desk.specs.Behind.{behindIn}
 use Rattle.console_desk.specs.Desk.{lineEnd, faultLine, lineText}
 use Rattle.console_lines.proofs.Longest.{readable}
 use Rattle.headend_desk.specs.declared.Desk.{Desk}

@@ -26,7 +26,7 @@ use Rattle.console_lines.specs.Lines.{begun, meaning}
 use Rattle.console_answers.specs.Entries.{entry}
 use Rattle.console_acts.specs.Events.{eventIn}
 use Rattle.console_acts.specs.Named.{namedIn}
-use Rattle.console_reasons.specs.Behind.{behindIn}
+use Rattle.console_desk.specs.Behind.{behindIn}
 use Rattle.console_desk.specs.Desk.{followedText, lineEnd, faultLine, lineText}
 use Rattle.headend_desk.specs.declared.Desk.{Desk}
 

@@ -11,7 +11,7 @@ use Rattle.rules.specs.Refusals.{done}
 use Rattle.rules.specs.Search.{every}
 use Rattle.sharing.specs.Titles.{rowTotal}
 use Rattle.sharing.specs.Term.{term}
-use Rattle.sharing.specs.Choice.{sumOf, lessOr, atLeast, prefers, from, ways, better, bestOf, shared}
+use Rattle.sharing.specs.Choice.{waitSum, lessOr, atLeast, prefers, from, ways, better, bestOf, shared}
 use Rattle.story.specs.declared.State.{State}
 use Rattle.story.specs.Kept.{numbersOk, orderOk, titleOk, stateOk, tickAt, atTickStart, settledAt, ruling, wantsFrom, wants}
 use Rattle.story.specs.Kept.{keptAwaited, keptOwed, keptWithin, keptHeld, titleHeld, lanesHeld, isThere}
@@ -59,7 +59,7 @@ unfolding isDue isPermitted hasLanes atTickStart settledAt changedTitle dropLane
 computedDue = tt
 
 computedChoice : Unit {0}
-unfolding shared bestOf better ways from prefers atLeast lessOr sumOf term rowTotal flatMap
+unfolding shared bestOf better ways from prefers atLeast lessOr waitSum term rowTotal flatMap
 computedChoice = tt
 
 computedShares : Unit {0}

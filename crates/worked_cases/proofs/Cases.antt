@@ -21,12 +21,12 @@ use Rattle.story.specs.Life.{sends, onAir, isHeld}
 use Rattle.story.specs.Story.{tickIn, lifeOf, latestOf, tunedOf, upTo, heldIn, heldOver, answerTo, accepted}
 use Rattle.sharing.specs.Titles.{titles, rowTotal}
 use Rattle.sharing.specs.Term.{term}
-use Rattle.sharing.specs.Choice.{sumOf, lessOr, atLeast, prefers, from, ways, better, bestOf, shared}
+use Rattle.sharing.specs.Choice.{waitSum, lessOr, atLeast, prefers, from, ways, better, bestOf, shared}
 use Rattle.sharing.specs.Verdict.{rowsFit, allowed, ordered, eachTitle, verdictOf, rowAfter}
 use Rattle.worked_cases.specs.Cases.{Case, case, printedCases, upFrom, along, those, sameRow, allAgree}
 
 pub worked : allAgree printedCases ≡ true
-unfolding schemeOf starts takes takesFrom takenAfter tickFor filmIn allAgree printedCases sameRow upFrom along those firstHit some first howMany after total tickOf roundedUp slot cellOf floorRem shift segment channelCell isInG isAdded addedChannel laneCell planAt isAdmission isActive droppedAt isAwaited isOwed reach owedWithin isNth nthOwed sends onAir isHeld tickIn lifeOf latestOf tunedOf upTo heldIn heldOver answerTo accepted flatMap titles rowTotal term sumOf lessOr atLeast prefers from ways better bestOf shared rowsFit allowed ordered eachTitle verdictOf rowAfter
+unfolding schemeOf starts takes takesFrom takenAfter tickFor filmIn allAgree printedCases sameRow upFrom along those firstHit some first howMany after total tickOf roundedUp slot cellOf floorRem shift segment channelCell isInG isAdded addedChannel laneCell planAt isAdmission isActive droppedAt isAwaited isOwed reach owedWithin isNth nthOwed sends onAir isHeld tickIn lifeOf latestOf tunedOf upTo heldIn heldOver answerTo accepted flatMap titles rowTotal term waitSum lessOr atLeast prefers from ways better bestOf shared rowsFit allowed ordered eachTitle verdictOf rowAfter
 worked = refl
 
 -- rows that pass the test are equal

@@ -3,7 +3,7 @@ use Prim.Native.Nat.{ℕ, _+_, _-_}
 use native.Mathlib.Omega.{arith}
 use Rattle.text.specs.Output.{page}
 use Rattle.console_answers.proofs.Rows.{Passed, passed-none, passed-on, passed-all}
-use Rattle.console_reasons.specs.Quantities.{ticksMost}
+use Rattle.console_limits.specs.Quantities.{ticksMost}
 use Rattle.console_drawing.specs.Pictures.{signText}
 use borrow.Author.Needs.{needs}
 use Rattle.console_drawing.proofs.pictures.put_signs.Statement.{statement}

@@ -4,7 +4,7 @@ use native.Mathlib.Omega.{arith}
 use Rattle.rules.specs.Limits.{lengthMax}
 use Rattle.text.specs.Output.{page}
 use Rattle.console_answers.proofs.Rows.{Passed, passed-none, passed-on, passed-all}
-use Rattle.console_reasons.specs.Quantities.{ticksMost}
+use Rattle.console_limits.specs.Quantities.{ticksMost}
 use Rattle.console_views.specs.Lanes.{shownText}
 use Rattle.console_views.proofs.Ticks.{far}
 use borrow.Author.Needs.{needs}
