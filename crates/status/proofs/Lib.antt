@@ -2,4 +2,3 @@
 pub mod Filled
 pub mod Asked
 pub mod Unique
-pub mod Rows

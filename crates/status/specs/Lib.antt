@@ -1,3 +1,2 @@
 -- What is asked of the rows of status.
 pub mod Rows
-pub mod Records

@@ -1,5 +1,5 @@
 // Status: at a given time, the count, the lanes held and the held mark of each title asked for, by its id (01, "Status"; 02,
-// 7). No public function has a `requires`; a refusal writes nothing.
+// 7), over flat rows; `status_records` has it over a row of records. It has no `requires`; a refusal writes nothing.
 
 use measures::lanes::ruling;
 use measures::lanes::title_held;
@@ -8,7 +8,6 @@ use questions::asked_verdict;
 use rules::DONE;
 use rules::ID_MAX;
 use rules::WRONG_ROWS;
-use rules::truth::also;
 use rules::truth::row_within;
 use story::CLEAR;
 use story::State;
@@ -16,14 +15,12 @@ use story::Title;
 ghost use mathlib.Core.Path.{_≡_};
 ghost use mathlib.Core.Bool.{true};
 ghost use mathlib.Core.List.{map};
-ghost use lib.Dec.{leb, eqb};
+ghost use lib.Dec.{eqb};
 ghost use lib.ListN.{length};
-ghost use Rattle.rules.specs.Limits.{both, idMax};
 ghost use Rattle.rules.specs.Refusals.{pick};
 ghost use Rattle.story.specs.Kept.{clearMark, ruling as rulingOf, stateOk};
 ghost use Rattle.story.specs.Calls.{statusAnswer, statusCount, statusHeld, statusMark};
 ghost use Rattle.status.specs.Rows.{idsOk};
-ghost use Rattle.status.specs.Records.{recordsAnswer, filledRecord, recordFor};
 
 // The ids are ids.
 fn ids_ok(ids: &[u64]) -> bool
@@ -97,60 +94,6 @@ pub fn status(
     let answer = status_verdict(s, time, ids, counts.len(), held.len(), marks.len());
     if answer == DONE {
         fill(s, time, ids, counts, held, marks);
-    }
-    answer
-}
-
-// A title asked for by its id, with the numbers that are filled in.
-pub struct Record {
-    pub id: u64,
-    pub count: u64,
-    pub held: u64,
-    pub mark: u64,
-}
-
-// A record's id is an id, and so were those before it.
-fn id_ok(r: Record, ok: bool) -> bool
-    ensures { λ b. ⌜ b ≡ both (leb (r .id) idMax) ok ⌝ }
-{
-    also(r.id <= ID_MAX, ok)
-}
-
-// A record filled in, by the flat call over rows of one place.
-fn row_for(s: State, time: u64, r: Record) -> Record
-    ensures { λ q. ⌜ q ≡ recordFor s time r ⌝ }
-{
-    let ids = [r.id];
-    let mut counts = [r.count];
-    let mut held = [r.held];
-    let mut marks = [r.mark];
-    status(s, time, &ids, &mut counts, &mut held, &mut marks);
-    Record {
-        id: r.id,
-        count: counts[0],
-        held: held[0],
-        mark: marks[0],
-    }
-}
-
-// Fills in counts, lanes held and marks by id, over a row of records.
-pub fn records(s: State, time: u64, rows: &mut [Record]) -> u8
-    ensures { λ r. ⌜ (r ≡ recordsAnswer s time (now (rows .entry)))
-        × (now (rows .exit) ≡ pick (eqb r 0) (map (λ q. filledRecord s time q) (now (rows .entry))) (now (rows .entry))) ⌝ }
-{
-    let mut ids = true;
-    let mut i = 0;
-    while i < rows.len() {
-        ids = id_ok(rows[i], ids);
-        i += 1;
-    }
-    let answer = asked_verdict(s, time, ids);
-    if answer == DONE {
-        i = 0;
-        while i < rows.len() {
-            rows[i] = row_for(s, time, rows[i]);
-            i += 1;
-        }
     }
     answer
 }

@@ -37,14 +37,14 @@ use denote.Triple.Walked.{says, ends-at}
 use Rattle.rules.specs.Refusals as Refusals
 use Rattle.story.proofs.State as S
 use Rattle.story.proofs.State.Laws as S′
-use Rattle.status.specs.declared.Record.{Record}
-use Rattle.status.specs.Records.{recordsAnswer, filledRecord}
-use Rattle.status.proofs.records as records′
-use Rattle.status.proofs.records.Code.Mir as mir′
+use Rattle.status_records.specs.declared.Record.{Record}
+use Rattle.status_records.specs.Records.{recordsAnswer, filledRecord}
+use Rattle.status_records.proofs.records as records′
+use Rattle.status_records.proofs.records.Code.Mir as mir′
 -- the parts of the walk
-use Rattle.status.proofs.records.Proof.Locals.{Blocks, env, freed}
-use Rattle.status.proofs.records.Proof.Steps.{var, sets}
-use Rattle.status.proofs.records.Proof.Call.{R, tys, Called, stayed, lent, vals, At, bound, Post}
+use Rattle.status_records.proofs.records.Proof.Locals.{Blocks, env, freed}
+use Rattle.status_records.proofs.records.Proof.Steps.{var, sets}
+use Rattle.status_records.proofs.records.Proof.Call.{R, tys, Called, stayed, lent, vals, At, bound, Post}
 
 module _ {M : Type 1} (𝓤 : URA M) (H : Heap 𝓤) (A : Atoms 𝓤) (mem : Memory → SProp 𝓤) (run : Routine → Fun 𝓤)
     (W : Given 𝓤 H A) (x : Called) (a : ℕ) (a-fits : a < 2 ^ 8) (zs : List Record) (len : length zs ≡ length (x .rows))

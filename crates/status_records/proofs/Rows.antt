@@ -18,9 +18,9 @@ use Rattle.story.specs.declared.State.{State}
 use Rattle.story.specs.Calls.{statusAnswer, statusCount, statusHeld, statusMark}
 use Rattle.questions.specs.Asked.{askedAnswer}
 use Rattle.questions.proofs.Asked.{asked-state, asked-time, asked-others, asked-late}
-use Rattle.status.specs.declared.Record.{Record}
-use Rattle.status.specs.Records.{noRecord, recordIdsOk, recordsAnswer, filledRecord, recordFor}
+use Rattle.status_records.specs.declared.Record.{Record}
+use Rattle.status_records.specs.Records.{noRecord, recordIdsOk, recordsAnswer, filledRecord, recordFor}
 use Rattle.status.proofs.Filled.{every-place}
 
 pub one-row : (s : State) (τ : ℕ) (r : Record) (a : ℕ) (cs hs ms : List ℕ) → a ≡ statusAnswer s τ (r .id ∷ []) 1 1 1
     → cs ≡ pick (eqb a 0) (map (λ i. statusCount s i) (r .id ∷ [])) (r .count ∷ [])

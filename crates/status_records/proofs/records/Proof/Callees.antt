@@ -34,13 +34,13 @@ use Rattle.story.proofs.State as S
 use Rattle.story.proofs.State.Laws as S′
 use Rattle.questions.specs.Asked.{askedAnswer}
 use Rattle.questions.proofs.asked_verdict as verdict′
-use Rattle.status.specs.declared.Record.{Record}
-use Rattle.status.specs.Records.{recordFor}
-use Rattle.status.proofs.id_ok as id′
-use Rattle.status.proofs.row_for as row′
+use Rattle.status_records.specs.declared.Record.{Record}
+use Rattle.status_records.specs.Records.{recordFor}
+use Rattle.status_records.proofs.id_ok as id′
+use Rattle.status_records.proofs.row_for as row′
 -- the parts of the walk
-use Rattle.status.proofs.records.Proof.Steps.{Told, tells}
-use Rattle.status.proofs.records.Proof.Call.{R, rec, val, Called}
+use Rattle.status_records.proofs.records.Proof.Steps.{Told, tells}
+use Rattle.status_records.proofs.records.Proof.Call.{R, rec, val, Called}
 
 module _ {M : Type 1} (𝓤 : URA M) (H : Heap 𝓤) (A : Atoms 𝓤) (mem : Memory → SProp 𝓤) (run : Routine → Fun 𝓤) where
   abbrev pub Id : Contract 𝓤

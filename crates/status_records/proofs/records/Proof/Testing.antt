@@ -37,18 +37,18 @@ use denote.Triple.Statement.{Triple}
 use denote.Triple.Call.{calls-at}
 -- status: its definitions, its laws, and the functions
 use Rattle.rules.specs.Search.{every}
-use Rattle.status.specs.declared.Record.{Record}
-use Rattle.status.specs.Records.{noRecord, recordIdsOk}
-use Rattle.status.proofs.Record as Rec
-use Rattle.status.proofs.Record.Laws as Rec′
-use Rattle.status.proofs.id_ok.Symbol.{name as #id-ok}
-use Rattle.status.proofs.records.Code.Mir as mir′
+use Rattle.status_records.specs.declared.Record.{Record}
+use Rattle.status_records.specs.Records.{noRecord, recordIdsOk}
+use Rattle.status_records.proofs.Record as Rec
+use Rattle.status_records.proofs.Record.Laws as Rec′
+use Rattle.status_records.proofs.id_ok.Symbol.{name as #id-ok}
+use Rattle.status_records.proofs.records.Code.Mir as mir′
 -- the parts of the walk
-use Rattle.status.proofs.records.Proof.Locals.{Blocks, env}
-use Rattle.status.proofs.records.Proof.Loops.{counts}
-use Rattle.status.proofs.records.Proof.Steps.{var, known, sets, resets, resets-last, regets, Told}
-use Rattle.status.proofs.records.Proof.Call.{R, rec, tys, Called, At}
-use Rattle.status.proofs.records.Proof.Callees.{Id, to-id, goes-id, IdOk, id-tells}
+use Rattle.status_records.proofs.records.Proof.Locals.{Blocks, env}
+use Rattle.status_records.proofs.records.Proof.Loops.{counts}
+use Rattle.status_records.proofs.records.Proof.Steps.{var, known, sets, resets, resets-last, regets, Told}
+use Rattle.status_records.proofs.records.Proof.Call.{R, rec, tys, Called, At}
+use Rattle.status_records.proofs.records.Proof.Callees.{Id, to-id, goes-id, IdOk, id-tells}
 
 module _ {M : Type 1} (𝓤 : URA M) (H : Heap 𝓤) (A : Atoms 𝓤) (mem : Memory → SProp 𝓤) (run : Routine → Fun 𝓤)
     (W : Given 𝓤 H A) (x : Called) (L : Blocks tys) where

@@ -32,22 +32,22 @@ use denote.Triple.Entry.{onEntry}
 use Rattle.rules.specs.Search.{every}
 use Rattle.story.proofs.State as S
 use Rattle.story.proofs.State.Laws as S′
-use Rattle.status.specs.Records.{recordIdsOk}
-use Rattle.status.proofs.records as records′
-use Rattle.status.proofs.records.Code as code
-use Rattle.status.proofs.records.Code.Mir as mir′
+use Rattle.status_records.specs.Records.{recordIdsOk}
+use Rattle.status_records.proofs.records as records′
+use Rattle.status_records.proofs.records.Code as code
+use Rattle.status_records.proofs.records.Code.Mir as mir′
 -- the callees
 use Rattle.questions.proofs.asked_verdict.Symbol.{name as #verdict}
-use Rattle.status.proofs.id_ok.Symbol.{name as #id-ok}
-use Rattle.status.proofs.row_for.Symbol.{name as #row-for}
+use Rattle.status_records.proofs.id_ok.Symbol.{name as #id-ok}
+use Rattle.status_records.proofs.row_for.Symbol.{name as #row-for}
 -- the parts of the walk
-use Rattle.status.proofs.records.Proof.Locals.{Blocks, env, cells, dying, allocated}
-use Rattle.status.proofs.records.Proof.Steps.{sets}
-use Rattle.status.proofs.records.Proof.Call.{R, val, tys, Called, rows-val, args, vals, passed, Post}
-use Rattle.status.proofs.records.Proof.Callees.{Id, Row}
-use Rattle.status.proofs.records.Proof.Callees.{Verdict}
-use Rattle.status.proofs.records.Proof.Testing.{tests}
-use Rattle.status.proofs.records.Proof.Judging.{judges}
+use Rattle.status_records.proofs.records.Proof.Locals.{Blocks, env, cells, dying, allocated}
+use Rattle.status_records.proofs.records.Proof.Steps.{sets}
+use Rattle.status_records.proofs.records.Proof.Call.{R, val, tys, Called, rows-val, args, vals, passed, Post}
+use Rattle.status_records.proofs.records.Proof.Callees.{Id, Row}
+use Rattle.status_records.proofs.records.Proof.Callees.{Verdict}
+use Rattle.status_records.proofs.records.Proof.Testing.{tests}
+use Rattle.status_records.proofs.records.Proof.Judging.{judges}
 
 module _ {M : Type 1} (𝓤 : URA M) (H : Heap 𝓤) (A : Atoms 𝓤) (mem : Memory → SProp 𝓤) (run : Routine → Fun 𝓤)
     (W : Given 𝓤 H A) (x : Called) (𝓣 : Tables 𝓤 H)

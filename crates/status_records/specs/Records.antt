@@ -10,7 +10,7 @@ use Rattle.rules.specs.Search.{every}
 use Rattle.story.specs.declared.State.{State}
 use Rattle.story.specs.Calls.{statusAnswer, statusCount, statusHeld, statusMark}
 use Rattle.questions.specs.Asked.{askedAnswer}
-use Rattle.status.specs.declared.Record.{Record}
+use Rattle.status_records.specs.declared.Record.{Record}
 
 abbrev pub noRecord : Record
 noRecord = record { id = 0; count = 0; held = 0; mark = 0 }

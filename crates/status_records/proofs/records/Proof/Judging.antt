@@ -34,22 +34,22 @@ use Rattle.story.specs.declared.State.{State}
 use Rattle.story.proofs.State as S
 use Rattle.story.proofs.State.Laws as S′
 use Rattle.questions.specs.Asked.{askedAnswer}
-use Rattle.status.specs.declared.Record.{Record}
-use Rattle.status.specs.Records.{recordIdsOk, recordsAnswer, filledRecord, recordFor}
-use Rattle.status.proofs.Rows.{filledTo, filling, records-filled}
-use Rattle.status.proofs.records.Code.Mir as mir′
+use Rattle.status_records.specs.declared.Record.{Record}
+use Rattle.status_records.specs.Records.{recordIdsOk, recordsAnswer, filledRecord, recordFor}
+use Rattle.status_records.proofs.Rows.{filledTo, filling, records-filled}
+use Rattle.status_records.proofs.records.Code.Mir as mir′
 -- the callees
 use Rattle.questions.proofs.asked_verdict.Symbol.{name as #verdict}
-use Rattle.status.proofs.row_for.Symbol.{name as #row-for}
+use Rattle.status_records.proofs.row_for.Symbol.{name as #row-for}
 -- the parts of the walk
-use Rattle.status.proofs.records.Proof.Locals.{Blocks, env}
-use Rattle.status.proofs.records.Proof.Steps.{var, sets, resets, gets, Told}
-use Rattle.status.proofs.records.Proof.Call.{val, tys, Called, Post}
-use Rattle.status.proofs.records.Proof.Callees.{Row}
-use Rattle.status.proofs.records.Proof.Callees.{Verdict, to-verdict, goes-verdict, Judged, verdict-tells}
-use Rattle.status.proofs.records.Proof.Testing.{Tested}
-use Rattle.status.proofs.records.Proof.Filling.{rows-to, fills}
-use Rattle.status.proofs.records.Proof.Leaving.{leaves}
+use Rattle.status_records.proofs.records.Proof.Locals.{Blocks, env}
+use Rattle.status_records.proofs.records.Proof.Steps.{var, sets, resets, gets, Told}
+use Rattle.status_records.proofs.records.Proof.Call.{val, tys, Called, Post}
+use Rattle.status_records.proofs.records.Proof.Callees.{Row}
+use Rattle.status_records.proofs.records.Proof.Callees.{Verdict, to-verdict, goes-verdict, Judged, verdict-tells}
+use Rattle.status_records.proofs.records.Proof.Testing.{Tested}
+use Rattle.status_records.proofs.records.Proof.Filling.{rows-to, fills}
+use Rattle.status_records.proofs.records.Proof.Leaving.{leaves}
 
 answer-is : (s : State) (τ : ℕ) (xs : List Record) (a : ℕ) → a ≡ askedAnswer s τ (recordIdsOk xs (length xs)) →
     a ≡ recordsAnswer s τ xs

@@ -1,8 +1,8 @@
 -- `row_for` meets its contract: the flat call over one place fills the record in, or leaves it.
-use Rattle.status.proofs.Rows.{one-row}
+use Rattle.status_records.proofs.Rows.{one-row}
 use borrow.Author.Needs.{needs}
-use Rattle.status.proofs.row_for.Statement.{statement}
-use Rattle.status.proofs.row_for.Tie as tie
+use Rattle.status_records.proofs.row_for.Statement.{statement}
+use Rattle.status_records.proofs.row_for.Tie as tie
 
 slice-aggregate-status : tie.Need-slice-aggregate-status
 slice-aggregate-status c = search needs

@@ -42,26 +42,26 @@ use denote.Triple.Walked.{Walks, walked, walk-meets, goes-slice, goes-none}
 -- status: its definitions, its laws, and the functions
 use Rattle.story.proofs.State as S
 use Rattle.story.proofs.State.Laws as S′
-use Rattle.status.proofs.records as records′
-use Rattle.status.proofs.records.Key.{name as #records}
-use Rattle.status.proofs.records.Statement as stated
-use Rattle.status.proofs.records.Code as code
+use Rattle.status_records.proofs.records as records′
+use Rattle.status_records.proofs.records.Key.{name as #records}
+use Rattle.status_records.proofs.records.Statement as stated
+use Rattle.status_records.proofs.records.Code as code
 -- the callees
 use Rattle.questions.proofs.asked_verdict.Symbol as verdict-def
 use Rattle.questions.proofs.asked_verdict.Symbol.{name as #verdict}
 use Rattle.questions.proofs.asked_verdict.Met as verdict-thm
-use Rattle.status.proofs.id_ok.Symbol as id-def
-use Rattle.status.proofs.id_ok.Symbol.{name as #id-ok}
-use Rattle.status.proofs.id_ok.Met as id-thm
-use Rattle.status.proofs.row_for.Symbol as row-def
-use Rattle.status.proofs.row_for.Symbol.{name as #row-for}
-use Rattle.status.proofs.row_for.Met as row-thm
+use Rattle.status_records.proofs.id_ok.Symbol as id-def
+use Rattle.status_records.proofs.id_ok.Symbol.{name as #id-ok}
+use Rattle.status_records.proofs.id_ok.Met as id-thm
+use Rattle.status_records.proofs.row_for.Symbol as row-def
+use Rattle.status_records.proofs.row_for.Symbol.{name as #row-for}
+use Rattle.status_records.proofs.row_for.Met as row-thm
 -- the parts of the walk
-use Rattle.status.proofs.records.Proof.Locals.{env}
-use Rattle.status.proofs.records.Proof.Call.{R, stayed, vals}
-use Rattle.status.proofs.records.Proof.Callees.{Id, Row}
-use Rattle.status.proofs.records.Proof.Callees.{Verdict}
-use Rattle.status.proofs.records.Proof.Entering.{walk}
+use Rattle.status_records.proofs.records.Proof.Locals.{env}
+use Rattle.status_records.proofs.records.Proof.Call.{R, stayed, vals}
+use Rattle.status_records.proofs.records.Proof.Callees.{Id, Row}
+use Rattle.status_records.proofs.records.Proof.Callees.{Verdict}
+use Rattle.status_records.proofs.records.Proof.Entering.{walk}
 
 module _ {M : Type 1} (𝓤 : URA M) (H : Heap 𝓤) (A : Atoms 𝓤) (mem : Memory → SProp 𝓤) (run : Routine → Fun 𝓤)
     (W : Given 𝓤 H A) (𝓣 : Tables 𝓤 H) (known-id : Triple 𝓤 (𝓣 .C #id-ok) (Id 𝓤 H A mem run))
@@ -104,8 +104,8 @@ records-spec 𝓤 H 𝓜 𝓖 𝓡 =
     (tables 𝓤 H 𝓜 𝓡 code.env .C) (tables 𝓤 H 𝓜 𝓡 code.env .Λ) #records code.function (code.unfolded 𝓤 H 𝓜 𝓡)
     (records-meets 𝓤 H (𝓖 .A) (𝓜 .mem) (𝓡 .run) (givenOf 𝓤 H 𝓜 𝓖) (tablesOf 𝓤 H 𝓜 (tables 𝓤 H 𝓜 𝓡 code.env))
     (cited 𝓤 H (Id 𝓤 H (𝓖 .A) (𝓜 .mem) (𝓡 .run)) 𝓜 𝓡 code.env #id-ok id-def.routine
-    code.calls-status·id-ok (id-thm.met 𝓤 H 𝓜 𝓖 𝓡))
+    code.calls-status-records·id-ok (id-thm.met 𝓤 H 𝓜 𝓖 𝓡))
     (cited 𝓤 H (Verdict 𝓤 H (𝓖 .A) (𝓜 .mem) (𝓡 .run)) 𝓜 𝓡 code.env #verdict verdict-def.routine
     code.calls-questions·asked-verdict (verdict-thm.met 𝓤 H 𝓜 𝓖 𝓡))
     (cited 𝓤 H (Row 𝓤 H (𝓖 .A) (𝓜 .mem) (𝓡 .run)) 𝓜 𝓡 code.env #row-for row-def.routine
-    code.calls-status·row-for (row-thm.met 𝓤 H 𝓜 𝓖 𝓡)))
+    code.calls-status-records·row-for (row-thm.met 𝓤 H 𝓜 𝓖 𝓡)))

@@ -36,12 +36,12 @@ use denote.Triple.Walked.{Stays, stay-slice, stay-none, walkOf}
 use Rattle.story.specs.declared.State.{State}
 use Rattle.story.proofs.State as S
 use Rattle.story.proofs.State.Laws as S′
-use Rattle.status.specs.declared.Record.{Record}
-use Rattle.status.proofs.Record as Rec
-use Rattle.status.proofs.Record.Laws as Rec′
-use Rattle.status.proofs.records as records′
+use Rattle.status_records.specs.declared.Record.{Record}
+use Rattle.status_records.proofs.Record as Rec
+use Rattle.status_records.proofs.Record.Laws as Rec′
+use Rattle.status_records.proofs.records as records′
 -- the parts of the walk
-use Rattle.status.proofs.records.Proof.Locals.{Blocks, held}
+use Rattle.status_records.proofs.records.Proof.Locals.{Blocks, held}
 
 -- ---- types and values
 abbrev pub R : RattleType
