@@ -9,7 +9,6 @@ use air_record::record::Scan;
 use air_record::record::take_text;
 use files::arguments::Asked;
 use files::arguments::pool_and_title;
-use files::complaints::complain;
 use files::complaints::write_complaints;
 use files::loading::LOG_ROOM;
 use files::loading::load_both;
@@ -17,6 +16,7 @@ use files::pages::within_row;
 use files::pages::write_page;
 use judging::TICKS_MAX;
 use rules::LANE_PLACES;
+use usage::complain;
 
 // One byte more than a text may have: 512 KiB.
 const TEXT_ROOM: usize = 524_289;

@@ -4,7 +4,6 @@
 use crate::complaints::put_beginning;
 use crate::input::time_given;
 use files::arguments::Given;
-use files::arguments::are_right;
 use files::arguments::number_named;
 use files::complaints::write_complaints;
 use files::loading::LOG_ROOM;
@@ -13,6 +12,7 @@ use files::pages::write_page;
 use log_boxes::beginning_of;
 use log_boxes::put_box;
 use unheard_io::put_unheard;
+use usage::are_right;
 
 // No picture is longer: that of a box by proofs/Fits, that of a log by how it is drawn.
 pub const PICTURE_ROOM: usize = 4_999_999;

@@ -7,8 +7,8 @@ use console_desk::Answered;
 use console_drawing::drawn::put_drawn;
 use console_drawing::drawn::switched;
 use console_lines::lines::LONGEST_LINE;
-use files::arguments::count_is;
 use sessions::Session;
+use usage::count_is;
 
 // The pool that a session starts with.
 const POOL: u64 = 8;

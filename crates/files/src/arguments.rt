@@ -1,13 +1,15 @@
-// The arguments of programs: numbers, words, the pool and how many there are, and what programs over a log have in common, POOL TITLE
-// LOG and a file of the program's own. Where they are others than a program takes, one line says what is wrong and how it is used.
+// The arguments of programs: numbers, words and the pool, and what programs over a log have in common, POOL TITLE LOG and a file of the
+// program's own. Where they are others than a program takes, one line says what is wrong.
 
-use crate::complaints::complain;
 use rules::POOL_MAX;
 use rules::POOL_MIN;
 use rules::within;
 use text::bytes::Sort;
 use text::bytes::run_end;
 use text::numbers::spelt;
+use usage::are_right;
+use usage::complain;
+use usage::count_is;
 
 // Room for the longest argument that the system hands over.
 const ARGUMENT_ROOM: usize = 131_072;
@@ -80,37 +82,6 @@ pub fn is_word(i: usize, word: &[u8]) -> bool {
         return false;
     }
     same(&room[..n], word)
-}
-
-// Whether an argument begins with a dash, as no number and none of the words of a program's usage but its options does.
-fn is_option(i: usize) -> bool {
-    let mut first = [0u8; 1];
-    os::arg(i, &mut first);
-    first[0] == b'-'
-}
-
-// Whether there are from so many to so many arguments, the program's own name among them, and no option at the place of the first that
-// is none.
-pub fn are_right(first: usize, least: usize, most: usize, usage: &[u8]) -> bool {
-    let given = os::arg_count();
-    if is_option(first) {
-        complain(b"unknown argument: usage: ", usage);
-        return false;
-    }
-    if given < least {
-        complain(b"too few arguments: usage: ", usage);
-        return false;
-    }
-    if most < given {
-        complain(b"too many arguments: usage: ", usage);
-        return false;
-    }
-    true
-}
-
-// The same for one number of arguments, with no option before them.
-pub fn count_is(many: usize, usage: &[u8]) -> bool {
-    are_right(1, many, many, usage)
 }
 
 // How many arguments there are is tested first, then the numbers in their order.

@@ -1,9 +1,10 @@
-// A line on standard error that begins with a question mark: what is wrong, and with what.
+// Lines of complaints: a row of them, and one that ends in a place.
 
 use crate::pages::within_row;
 use libc::STDERR_FILENO;
 use text::digits::put_number;
 use text::output::put;
+use usage::complain;
 
 // Lines of complaints, in a row that was written from its start up to a place.
 pub fn write_complaints(row: &[u8], place: usize) {
@@ -11,14 +12,7 @@ pub fn write_complaints(row: &[u8], place: usize) {
     io::write_all(STDERR_FILENO, &row[..n]);
 }
 
-pub fn complain(what: &[u8], wrong: &[u8]) {
-    io::write_all(STDERR_FILENO, b"? ");
-    io::write_all(STDERR_FILENO, what);
-    io::write_all(STDERR_FILENO, wrong);
-    io::write_all(STDERR_FILENO, b"\n");
-}
-
-// The same with the number of the place behind it.
+// What is wrong with what, and the number of the place behind it.
 pub fn complain_at(what: &[u8], wrong: &[u8], place: usize) {
     let mut out = io::buffer();
     let a = put(&mut out, 0, wrong);

@@ -1,7 +1,7 @@
 // Files that arguments name, each whole in a lent room.
 
-use crate::complaints::complain;
 use libc::STDIN_FILENO;
+use usage::complain;
 ghost use mathlib.Core.Path.{_≡_};
 ghost use Prim.Native.Nat.{_≤_};
 ghost use lib.ListN.{length};

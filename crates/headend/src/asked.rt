@@ -1,12 +1,12 @@
 // What the arguments ask for: what to do, with which pool, and the journal's name.
 
 use files::arguments::Pool;
-use files::arguments::are_right;
 use files::arguments::is_word;
 use files::arguments::pool_given;
-use files::complaints::complain;
 use files::pages::within_row;
 use journal_files::opening::NAME_MOST;
+use usage::are_right;
+use usage::complain;
 ghost use mathlib.Core.Path.{_≡_};
 ghost use Prim.Native.Nat.{_≤_};
 ghost use Rattle.io.specs.Counts.{Counts};

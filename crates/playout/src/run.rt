@@ -3,13 +3,13 @@
 
 use crate::complaints::put_complaints;
 use files::arguments::Given;
-use files::arguments::count_is;
 use files::arguments::number_named;
 use files::complaints::write_complaints;
 use files::loading::LOG_ROOM;
 use files::loading::load_log;
 use files::pages::write_page;
 use playouts::put_playout;
+use usage::count_is;
 
 // Room for every text: `playouts` proofs/Fits.
 const TEXT_ROOM: usize = 1_048_576;

@@ -3,7 +3,7 @@
 mod blocks;
 mod input;
 
-use files::arguments::count_is;
+use usage::count_is;
 
 fn main() {
     if count_is(1, b"salvage < DAMAGED > LOG") {
