@@ -16,7 +16,7 @@ use files::pages::within_row;
 use files::pages::write_page;
 use judging::TICKS_MAX;
 use rules::LANE_PLACES;
-use usage::complain;
+use streams::usage::complain;
 
 // One byte more than a text may have: 512 KiB.
 const TEXT_ROOM: usize = 524_289;

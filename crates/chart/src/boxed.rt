@@ -11,8 +11,8 @@ use files::loading::load_input;
 use files::pages::write_page;
 use log_boxes::beginning_of;
 use log_boxes::put_box;
+use streams::usage::are_right;
 use unheard_io::put_unheard;
-use usage::are_right;
 
 // No picture is longer: that of a box by proofs/Fits, that of a log by how it is drawn.
 pub const PICTURE_ROOM: usize = 4_999_999;

@@ -8,7 +8,7 @@ use console_drawing::drawn::put_drawn;
 use console_drawing::drawn::switched;
 use console_lines::lines::LONGEST_LINE;
 use sessions::Session;
-use usage::count_is;
+use streams::usage::count_is;
 
 // The pool that a session starts with.
 const POOL: u64 = 8;

@@ -26,7 +26,7 @@ use Rattle.console_pools.specs.Moves.{plannerIn}
 use Rattle.console_lines.specs.Lines.{numberIn}
 use Rattle.console_notices.specs.Hex.{bytesIn}
 use Rattle.console_acts.specs.Writing.{writtenNotice}
-use Rattle.console_desk.specs.Asks.{tellText, asksView, viewText, askText}
+use Rattle.console_desk.specs.Asks.{tellText, asksView, viewText, boxAskText, askText}
 
 module _ (l : Line) (s : List ℕ) (p q : Page) where
   pub tells-help : l .command ≡ Commands.doHelp → q ≡ puts p helpText → q ≡ puts p (tellText l s)
@@ -73,26 +73,25 @@ module _ (l : Line) (s : List ℕ) (p q : Page) where
           unfolding askText
           asks-planner h e = rw (ne-eqb _ _ no-lane, ne-eqb _ _ no-status, ne-eqb _ _ no-share, eq-eqb _ _ h) e
 
-          module _ (no-planner : l .command ≡ Commands.doPlanner → ⊥) where
-            -- the test of a question to the small box, of a plan, of a view, or of none
-            rest : pick (eqb (l .command) Commands.doRomLane) (romLaneText t (numberIn l 0) (numberIn l 1) (numberIn l 2))
-                (pick (Commands.asksPlan (l .command)) (planIn l) (pick (asksView (l .command)) (viewText t l) (tellText l s)))
-                ≡ askText t l s
-            unfolding askText
-            rest = rw (ne-eqb _ _ no-lane, ne-eqb _ _ no-status, ne-eqb _ _ no-share, ne-eqb _ _ no-planner)
+          pub asks-box : (l .command ≡ Commands.doPlanner → ⊥) → q ≡ puts p (boxAskText t l s) → q ≡ puts p (askText t l s)
+          unfolding askText
+          asks-box h e = rw (ne-eqb _ _ no-lane, ne-eqb _ _ no-status, ne-eqb _ _ no-share, ne-eqb _ _ h) e
 
-            pub asks-rom-lane : l .command ≡ Commands.doRomLane
-                → q ≡ puts p (romLaneText t (numberIn l 0) (numberIn l 1) (numberIn l 2)) → q ≡ puts p (askText t l s)
-            asks-rom-lane h e = rw (← rest, eq-eqb _ _ h) e
+    pub asks-rom-lane : l .command ≡ Commands.doRomLane
+        → q ≡ puts p (romLaneText t (numberIn l 0) (numberIn l 1) (numberIn l 2)) → q ≡ puts p (boxAskText t l s)
+    unfolding boxAskText
+    asks-rom-lane h e = rw (eq-eqb _ _ h) e
 
-            module _ (no-rom-lane : l .command ≡ Commands.doRomLane → ⊥) (b : Bool) (f : b ≡ Commands.asksPlan (l .command))
-              where
-                pub asks-plan : b ≡ true → q ≡ puts p (planIn l) → q ≡ puts p (askText t l s)
-                asks-plan h e = rw (← rest, ne-eqb _ _ no-rom-lane, sym f ∙ h) e
+    module _ (no-rom-lane : l .command ≡ Commands.doRomLane → ⊥) (b : Bool) (f : b ≡ Commands.asksPlan (l .command)) where
+      pub asks-plan : b ≡ true → q ≡ puts p (planIn l) → q ≡ puts p (boxAskText t l s)
+      unfolding boxAskText
+      asks-plan h e = rw (ne-eqb _ _ no-rom-lane, sym f ∙ h) e
 
-                module _ (no-plan : b ≡ false) (v : Bool) (is : v ≡ asksView (l .command)) where
-                  pub asks-view : v ≡ true → q ≡ puts p (viewText t l) → q ≡ puts p (askText t l s)
-                  asks-view h e = rw (← rest, ne-eqb _ _ no-rom-lane, sym f ∙ no-plan, sym is ∙ h) e
+      module _ (no-plan : b ≡ false) (v : Bool) (is : v ≡ asksView (l .command)) where
+        pub asks-view : v ≡ true → q ≡ puts p (viewText t l) → q ≡ puts p (boxAskText t l s)
+        unfolding boxAskText
+        asks-view h e = rw (ne-eqb _ _ no-rom-lane, sym f ∙ no-plan, sym is ∙ h) e
 
-                  pub asks-told : v ≡ false → q ≡ puts p (tellText l s) → q ≡ puts p (askText t l s)
-                  asks-told h e = rw (← rest, ne-eqb _ _ no-rom-lane, sym f ∙ no-plan, sym is ∙ h) e
+        pub asks-told : v ≡ false → q ≡ puts p (tellText l s) → q ≡ puts p (boxAskText t l s)
+        unfolding boxAskText
+        asks-told h e = rw (ne-eqb _ _ no-rom-lane, sym f ∙ no-plan, sym is ∙ h) e

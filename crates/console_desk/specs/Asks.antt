@@ -66,13 +66,18 @@ tellText l s =
 
 -- ---- a question
 
+-- of the small box, of a box's plan, for a view, or what is told
+unfoldable pub boxAskText : State → Line → List ℕ → List ℕ
+boxAskText t l s =
+    pick (eqb (l .command) Commands.doRomLane) (romLaneText t (numberIn l 0) (numberIn l 1) (numberIn l 2))
+    (pick (Commands.asksPlan (l .command)) (planIn l)
+    (pick (asksView (l .command)) (viewText t l)
+    (tellText l s)))
+
 unfoldable pub askText : State → Line → List ℕ → List ℕ
 askText t l s =
     pick (eqb (l .command) Commands.doLane) (laneText t (numberIn l 0) (numberIn l 1) (numberIn l 2))
     (pick (eqb (l .command) Commands.doStatus) (statusText t (numberIn l 0) (idsIn (l .numbers) (l .count)))
     (pick (eqb (l .command) Commands.doShare) (shareIn (l .numbers) (l .count))
     (pick (eqb (l .command) Commands.doPlanner) (plannerIn t (l .numbers) (l .count))
-    (pick (eqb (l .command) Commands.doRomLane) (romLaneText t (numberIn l 0) (numberIn l 1) (numberIn l 2))
-    (pick (Commands.asksPlan (l .command)) (planIn l)
-    (pick (asksView (l .command)) (viewText t l)
-    (tellText l s)))))))
+    (boxAskText t l s))))

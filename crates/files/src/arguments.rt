@@ -4,12 +4,12 @@
 use rules::POOL_MAX;
 use rules::POOL_MIN;
 use rules::within;
+use streams::usage::are_right;
+use streams::usage::complain;
+use streams::usage::count_is;
 use text::bytes::Sort;
 use text::bytes::run_end;
 use text::numbers::spelt;
-use usage::are_right;
-use usage::complain;
-use usage::count_is;
 
 // Room for the longest argument that the system hands over.
 const ARGUMENT_ROOM: usize = 131_072;

@@ -2,9 +2,9 @@
 
 use crate::pages::within_row;
 use libc::STDERR_FILENO;
+use streams::usage::complain;
 use text::digits::put_number;
 use text::output::put;
-use usage::complain;
 
 // Lines of complaints, in a row that was written from its start up to a place.
 pub fn write_complaints(row: &[u8], place: usize) {

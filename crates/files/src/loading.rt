@@ -1,7 +1,7 @@
 // Files that arguments name, each whole in a lent room.
 
 use libc::STDIN_FILENO;
-use usage::complain;
+use streams::usage::complain;
 ghost use mathlib.Core.Path.{_≡_};
 ghost use Prim.Native.Nat.{_≤_};
 ghost use lib.ListN.{length};

@@ -9,7 +9,7 @@ use files::loading::LOG_ROOM;
 use files::loading::load_log;
 use files::pages::write_page;
 use playouts::put_playout;
-use usage::count_is;
+use streams::usage::count_is;
 
 // Room for every text: `playouts` proofs/Fits.
 const TEXT_ROOM: usize = 1_048_576;

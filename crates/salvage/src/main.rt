@@ -3,7 +3,7 @@
 mod blocks;
 mod input;
 
-use usage::count_is;
+use streams::usage::count_is;
 
 fn main() {
     if count_is(1, b"salvage < DAMAGED > LOG") {

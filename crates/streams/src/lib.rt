@@ -1,7 +1,9 @@
 // Standard input and standard output, and open files by a name to complain of, with what went wrong told apart from the
 // end. A read or a write that fails is said in a line on standard error, in the system's words, before the call answers:
 // the caller has nothing left to do but to stop. No public function has a `requires`, and no contract can say which
-// bytes are read or written.
+// bytes are read or written. `usage` is how many arguments a program takes, and the line that says what is wrong with them.
+
+pub mod usage;
 
 use libc::STDIN_FILENO;
 use libc::STDOUT_FILENO;
