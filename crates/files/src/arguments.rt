@@ -10,6 +10,7 @@ use streams::usage::count_is;
 use text::bytes::Sort;
 use text::bytes::run_end;
 use text::numbers::spelt;
+ghost use Rattle.files.specs.Texts.{Tells};
 
 // Room for the longest argument that the system hands over.
 const ARGUMENT_ROOM: usize = 131_072;
@@ -60,12 +61,14 @@ pub fn number_named(i: usize, name: &[u8]) -> Given {
 }
 
 // Whether two texts are the same.
-pub fn same(a: &[u8], b: &[u8]) -> bool {
+pub fn same(a: &[u8], b: &[u8]) -> bool
+    ensures { λ r. ⌜ Tells r (now (a .entry)) (now (b .entry)) ⌝ }
+{
     if a.len() != b.len() {
         return false;
     }
     let mut i = 0;
-    while i < a.len() && i < b.len() {
+    while i < a.len() {
         if a[i] != b[i] {
             return false;
         }

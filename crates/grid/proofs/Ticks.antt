@@ -31,14 +31,6 @@ all-cells K k l =
     let e : K ≡ (K - k) + k = omega arith in
     sym (ap (λ n. 2 ^ n) e ∙ pow-add 2 (K - k) k)
 
--- a tick within a channel's window is one of fewer ticks than there are cells
-pub window-lt : (K k d o r : ℕ) → k ≤ K → d < k → o < 2 ^ d → r < slot K k → o * slot K k + r < 2 ^ K
-window-lt K k d o r high l b c =
-    let w : ℕ = slot K k in
-    let m : suc o * w ≤ 2 ^ d * w = mul-le-mul-right w b in
-    let n : 2 ^ d * w ≤ 2 ^ k * w = mul-le-mul-right w (pow-mono (omega arith)) in
-    omega (arith, all-cells K k high)
-
 -- a tick that is rounded up is long enough
 pub rounded-enough : (n m : ℕ) → 0 < m → n ≤ roundedUp n m * m
 unfolding roundedUp

@@ -12,20 +12,6 @@ use journals::Verdict;
 use journals::sums_length;
 use rules::MALFORMED;
 
-// Whether a journal may be gone on with.
-pub fn is_good(verdict: Verdict) -> bool {
-    match verdict {
-        Verdict::Heard => true,
-        Verdict::Torn => true,
-        Verdict::Hearing => false,
-        Verdict::NoNotice => false,
-        Verdict::SumDiffers => false,
-        Verdict::Refused(_) => false,
-        Verdict::SumsShort => false,
-        Verdict::SumsMissing => false,
-    }
-}
-
 // No journal has so many notices.
 const MANY: usize = 4_611_686_018_427_387_904;
 

@@ -1,6 +1,5 @@
 // The journal and its sums looked at, and nothing changed: what was found goes to standard output.
 
-use crate::findings::is_good;
 use crate::findings::say_ends;
 use crate::findings::say_wrong;
 use crate::playing::play;
@@ -13,6 +12,7 @@ use journal_files::opening::open_named;
 use journal_files::pairs::Pair;
 use journal_files::pairs::looked_at;
 use journals::Start;
+use journals::is_good;
 use libc::STDOUT_FILENO;
 use row_calls::starting::fresh;
 

@@ -14,11 +14,19 @@ use journals::hear;
 use journals::sums_length;
 use libc::STDERR_FILENO;
 use rules::truth::either;
+ghost use mathlib.Core.Path.{_≡_};
+ghost use Prim.Native.Nat.{_-_};
+ghost use lib.Dec.{eqb};
+ghost use Rattle.rules.specs.Limits.{both};
+ghost use Rattle.journals.specs.Start.{isGoing};
 
 // Room for the sums of a window's notices, of which the shortest has 26 bytes.
 pub const SUMS_ROOM: usize = BLOCK / 26 * SUM;
 
-pub fn less(a: usize, b: usize) -> usize {
+// How much more a is than b, 0 where it is less.
+pub fn less(a: usize, b: usize) -> usize
+    ensures { λ r. ⌜ r ≡ a - b ⌝ }
+{
     if a < b {
         return 0;
     }
@@ -31,6 +39,7 @@ pub struct Played {
     pub ok: bool,
 }
 
+// Files that could not be read.
 pub fn failed(start: Start) -> Played {
     Played {
         start: start,
@@ -98,7 +107,9 @@ pub fn show(start: Start) {
 }
 
 // Whether a window that left the start where it was shows that there is no more to be had.
-pub fn is_stuck(before: Start, after: Start) -> bool {
+pub fn is_stuck(before: Start, after: Start) -> bool
+    ensures { λ r. ⌜ r ≡ both (isGoing (after .verdict)) (eqb (before .place) (after .place)) ⌝ }
+{
     if going(after) {
         return before.place == after.place;
     }

@@ -1,6 +1,5 @@
 // The sums of a journal made anew: into a file beside it, which takes the name of the sums once it is whole and forced.
 
-use crate::findings::is_good;
 use crate::findings::say_wrong;
 use crate::playing::Played;
 use crate::playing::SUMS_ROOM;
@@ -26,6 +25,7 @@ use journals::Start;
 use journals::Verdict;
 use journals::going;
 use journals::hear;
+use journals::is_good;
 use journals::summing::sums_in;
 use libc::STDERR_FILENO;
 use libc::STDOUT_FILENO;

@@ -1,7 +1,7 @@
 -- What is shown of the start of a head-end.
 pub mod Endings
-pub mod Deeds
-pub mod Onward
+pub mod StepCases
+pub mod StartSteps
 pub mod WholeFiles
 pub mod Cutting
 pub mod Outcomes

@@ -34,7 +34,7 @@ use Rattle.journals.specs.Torn.{isTorn, hadKind}
 use Rattle.journals.specs.Start.{sumBytes, blockEvents, isGoing, startedWith, begunWith, endedWith, heardOne, passedOne, hasSum, afterSummed, afterUnsummed}
 use Rattle.journals.specs.Start.{atStop, agentHears, Stage, stage, view, sumAt, isReady, partOf, noticeDone, doneAt, stepAt, stepIn, stepsIn, hearsIn, journalStart}
 use Rattle.journals.specs.Outcome.{noticeBytes, Heeded, NoticeHere, Says, Outcome}
-use Rattle.journals.proofs.Onward.{Counted, Along, set-out, ready-goes, steps-along, ends}
+use Rattle.journals.proofs.StartSteps.{Counted, Along, set-out, ready-goes, steps-along, ends}
 use Rattle.journals.proofs.WholeFiles.{whole-ready, none-ready}
 use Rattle.journals.proofs.Cutting as cutting
 

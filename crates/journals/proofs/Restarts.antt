@@ -193,8 +193,8 @@ module _ (pool : ℕ) (j s : List ℕ) (c m : ℕ) (kept : KeptWith pool j s) (l
     where
       go : (v : Verdict) → x .start .verdict ≡ v → isGoing v ≡ false → Says j' true s' x v → GoesOn j' s' x
       go Hearing is over says = false-true (sym over)
-      go Heard is over says = inl (inl is)
-      go Torn is over says = inl (inr is)
+      go Heard is over says = inl (rw is refl)
+      go Torn is over says = inl (rw is refl)
       go NoNotice is over says =
           let at : placeTo j (x .start .heard + x .start .behind) ≡ x .start .place = sym (w .place-is ∙ reads .0) in
           false-true (sym (says .1) ∙ left-torn j c (left .journal-to) (kept .bytes) (kept .whole) (x .start .heard + x .start .behind) (x .start .place) at (says .0))

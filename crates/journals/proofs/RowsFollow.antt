@@ -37,7 +37,7 @@ use Rattle.journals.specs.Start.{isGoing, begunWith, endedWith, hasSum, 
 use Rattle.journals.specs.Start.{isReady, partOf, noticeDone, doneAt, stepAt, stepIn, stepsIn, hearsIn, journalStart}
 use Rattle.journals.specs.Rows.{rowHears, isCounted, rowHeard}
 use Rattle.journals.specs.Windows.{Lent, InWindows}
-use Rattle.journals.proofs.Onward.{Counted, Along}
+use Rattle.journals.proofs.StartSteps.{Counted, Along}
 use Rattle.journals.proofs.WholeFiles.{run-along, run-whole}
 use Rattle.journals.proofs.Outcomes.{begun-first, outcome}
 

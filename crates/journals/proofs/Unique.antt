@@ -18,6 +18,8 @@ use Rattle.journals.proofs.begun.Kinds as begun-kinds
 use Rattle.journals.proofs.begun.Reads as begun-call
 use Rattle.journals.proofs.going.Kinds as going-kinds
 use Rattle.journals.proofs.going.Reads as going-call
+use Rattle.journals.proofs.is_good.Kinds as is-good-kinds
+use Rattle.journals.proofs.is_good.Reads as is-good-call
 use Rattle.journals.proofs.sums_length.Kinds as sums-length-kinds
 use Rattle.journals.proofs.sums_length.Reads as sums-length-call
 use Rattle.journals.proofs.hear.Kinds as hear-kinds
@@ -30,6 +32,9 @@ begun-one-outcome κs a x y e f p q = p ∙ sym q
 
 pub going-one-outcome : OneOutcome 0 going-kinds.ps going-kinds.r going-call.Learnt
 going-one-outcome κs a x y e f p q = p ∙ sym q
+
+pub is-good-one-outcome : OneOutcome 0 is-good-kinds.ps is-good-kinds.r is-good-call.Learnt
+is-good-one-outcome κs a x y e f p q = p ∙ sym q
 
 pub sums-length-one-outcome : OneOutcome 0 sums-length-kinds.ps sums-length-kinds.r sums-length-call.Learnt
 sums-length-one-outcome κs a x y e f p q = p ∙ sym q

@@ -35,7 +35,7 @@ use Rattle.journals.specs.Start.{sumBytes, isGoing, endedWith, hasSum, a
 use Rattle.journals.specs.Start.{Hearer, Stage, stage, View, view, sumAt, isFar, isReadyAt, isReady, partOf, noticeDone, doneAt, stepAt, stepIn, stepsIn, hearsIn}
 use Rattle.journals.specs.Windows.{Part, Lent, InWindows, no-window, next-window}
 use Rattle.journals.proofs.Endings.{longest}
-use Rattle.journals.proofs.Onward.{Counted, Along, set-out, ready-goes, one-on, steps-along, all-heard}
+use Rattle.journals.proofs.StartSteps.{Counted, Along, set-out, ready-goes, one-on, steps-along, all-heard}
 
 -- ---- what a part of a file has
 

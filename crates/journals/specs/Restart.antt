@@ -14,9 +14,9 @@ use Rattle.notice.specs.Log.{Bytes, placeTo, isNotice, noticesTo, isWholeLog}
 use Rattle.agent.specs.declared.Agent.{Agent}
 use Rattle.agent.specs.Turns.{freshAgent, noticeAnswer}
 use Rattle.agent.specs.Played.{agentTold}
-use Rattle.journals.specs.declared.Verdict.the-variants.{Heard, Torn, SumDiffers}
+use Rattle.journals.specs.declared.Verdict.the-variants.{SumDiffers}
 use Rattle.journals.specs.Torn.{hadKind}
-use Rattle.journals.specs.Start.{sumBytes, blockEvents, Stage, sumAt}
+use Rattle.journals.specs.Start.{sumBytes, blockEvents, isGood, Stage, sumAt}
 use Rattle.journals.specs.Outcome.{noticeBytes}
 
 -- a journal and its sums as a head-end keeps them: notices back to back, each accepted after those before it, and the sum of each
@@ -34,9 +34,9 @@ pub record LeftOf (j s : List ℕ) (c m : ℕ) : Type 0 where
   pub sums-to : m ≤ length s
   pub one-block : (i : ℕ) → length (take m s) / sumBytes + blockEvents ≤ i → isNotice (readAt (take c j) (placeTo (take c j) i)) ≡ false
 
--- the start goes on: all was heard, or the end is torn. What is left of a notice may, by the odds of its sum, have it as a notice of another
+-- the start goes on, as `is_good` answers: all was heard, or the end is torn. What is left of a notice may, by the odds of its sum, have it as a notice of another
 -- kind: then it is refused
 abbrev pub GoesOn : List ℕ → List ℕ → Stage Agent → Type 0
 GoesOn j s x =
-    ((x .start .verdict ≡ Heard) ⊎ (x .start .verdict ≡ Torn))
+    (isGood (x .start .verdict) ≡ true)
     ⊎ ((x .start .verdict ≡ SumDiffers) × (hadKind (drop (x .start .place) j) (sumAt s (x .start .heard)) ≡ true))

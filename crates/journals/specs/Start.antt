@@ -43,6 +43,17 @@ isGoing (Refused a) = false
 isGoing SumsShort = false
 isGoing SumsMissing = false
 
+-- a journal may be gone on with where all of it was heard, or its end is torn
+abbrev pub isGood : Verdict → Bool
+isGood Hearing = false
+isGood Heard = true
+isGood Torn = true
+isGood NoNotice = false
+isGood SumDiffers = false
+isGood (Refused a) = false
+isGood SumsShort = false
+isGood SumsMissing = false
+
 abbrev pub startedWith : ℕ → Verdict → Start
 startedWith sums v = record { place = 0; heard = 0; behind = 0; cut = 0; sums = sums; verdict = v }
 

@@ -9,7 +9,7 @@ use steps::step;
 ghost use mathlib.Core.Path.{_≡_};
 ghost use mathlib.Core.Bool.{true};
 ghost use lib.ListN.{length};
-ghost use Rattle.journals.specs.Start.{begunWith, isGoing, isReadyAt, sumAt, sumsLength, stage, view, hearsIn};
+ghost use Rattle.journals.specs.Start.{begunWith, isGoing, isGood, isReadyAt, sumAt, sumsLength, stage, view, hearsIn};
 ghost use Rattle.journals.specs.Rows.{isCounted, rowHears, rowHeard};
 
 mod far;
@@ -106,6 +106,22 @@ pub fn going(start: Start) -> bool
 {
     let verdict = start.verdict;
     is_hearing(verdict)
+}
+
+// Whether a journal may be gone on with: all of it was heard, or its end is torn.
+pub fn is_good(verdict: Verdict) -> bool
+    ensures { λ r. ⌜ r ≡ isGood verdict ⌝ }
+{
+    match verdict {
+        Verdict::Heard => true,
+        Verdict::Torn => true,
+        Verdict::Hearing => false,
+        Verdict::NoNotice => false,
+        Verdict::SumDiffers => false,
+        Verdict::Refused(_) => false,
+        Verdict::SumsShort => false,
+        Verdict::SumsMissing => false,
+    }
 }
 
 // How many bytes the sums of the played notices have, to which the sums are cut.

@@ -8,6 +8,6 @@ pub mod SameRow
 pub mod Whole
 pub mod Sequence
 pub mod InPlace
-pub mod FromThere
-pub mod GoesOn
+pub mod SeriesTaken
+pub mod AfterLoading
 pub mod Unique

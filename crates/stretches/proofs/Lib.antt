@@ -7,7 +7,7 @@ pub mod OnLanes
 pub mod Turning
 pub mod Walked
 pub mod Steps
-pub mod Lately
+pub mod LatestBoxes
 pub mod Slots
 pub mod LowSlots
 pub mod LowSteps

@@ -12,7 +12,7 @@ use Rattle.rules.specs.Limits.{both}
 use Rattle.rules.specs.Refusals.{pick}
 use Rattle.rules.specs.Search.{first, howMany}
 use Rattle.rules.proofs.Tests.{decide}
-use Rattle.rules.proofs.Search.{first-le, first-hit, first-before, first-least}
+use Rattle.rules.proofs.Search.{first-hit, first-before, first-least}
 use Rattle.scheme.specs.Scheme.{filmIn}
 use Rattle.takings.specs.Takings.{takingPlace, isKept, keptAt}
 
@@ -52,11 +52,3 @@ module _ (D tick : ℕ) (f : ℕ → ℕ) (m c : ℕ) where
   pub place-padding : D ≤ c * tick → m ≡ takingPlace D tick f m c
   unfolding takingPlace filmIn
   place-padding h = rw (le-ltb _ _ h) refl
-
-  pub place-high : takingPlace D tick f m c ≤ m
-  unfolding takingPlace
-  place-high = go (filmIn D tick c)
-    where
-      go : (b : Bool) → pick b (first (λ j. eqb (f j) c) m) m ≤ m
-      go true = first-le (λ j. eqb (f j) c) m
-      go false = omega arith

@@ -1,6 +1,6 @@
 use Prim.Native.Nat.{_<_, _^_}
 use native.Mathlib.Omega.{arith}
-use Rattle.journals.proofs.Onward.{room-test}
+use Rattle.journals.proofs.StartSteps.{room-test}
 -- `counted` meets its contract: its tests are the definition's.
 use Rattle.journals.specs.Rows.{isCounted}
 use borrow.Author.Needs.{needs}

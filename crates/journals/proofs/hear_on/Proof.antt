@@ -4,7 +4,7 @@ use native.Mathlib.Omega.{arith}
 use lib.ListN.{length}
 use Rattle.journals.specs.Start.{stage, view}
 use Rattle.journals.specs.Rows.{rowHears}
-use Rattle.journals.proofs.Onward.{Along, left, set-out, turn-on, turn-less, all-heard, counted-is, counted-fits}
+use Rattle.journals.proofs.StartSteps.{Along, left, set-out, turn-on, turn-less, all-heard, counted-is, counted-fits}
 use borrow.Author.Needs.{needs}
 use Rattle.journals.proofs.hear_on.Statement.{statement}
 use Rattle.journals.proofs.hear_on.Tie as tie

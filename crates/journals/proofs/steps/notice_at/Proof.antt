@@ -1,7 +1,7 @@
 -- `steps::notice_at` meets its contract, by whether the notice has a sum.
 use mathlib.Core.Path.{refl}
 use Rattle.journals.specs.Rows.{rowHears}
-use Rattle.journals.proofs.Deeds.{part-size, with-sum, without-sum}
+use Rattle.journals.proofs.StepCases.{part-size, with-sum, without-sum}
 use borrow.Author.Needs.{needs}
 use Rattle.journals.proofs.steps.notice_at.Statement.{statement}
 use Rattle.journals.proofs.steps.notice_at.Tie as tie

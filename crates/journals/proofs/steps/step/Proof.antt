@@ -3,7 +3,7 @@ use mathlib.Core.Path.{refl, sym, _∙_}
 use native.Mathlib.Omega.{arith}
 use Rattle.notice.proofs.NoticePlaces.{inside}
 use Rattle.journals.specs.Rows.{rowHears}
-use Rattle.journals.proofs.Deeds.{found-notice, found-end, found-none}
+use Rattle.journals.proofs.StepCases.{found-notice, found-end, found-none}
 use borrow.Author.Needs.{needs}
 use Rattle.journals.proofs.steps.step.Statement.{statement}
 use Rattle.journals.proofs.steps.step.Tie as tie

@@ -2,7 +2,7 @@
 use mathlib.Core.Path.{sym, ap, _∙_}
 use Rattle.rules.specs.Limits.{both}
 use Rattle.journals.specs.Start.{hasSum}
-use Rattle.journals.proofs.Deeds.{kind-was, is-torn, no-notice}
+use Rattle.journals.proofs.StepCases.{kind-was, is-torn, no-notice}
 use borrow.Author.Needs.{needs}
 use Rattle.journals.proofs.steps.stopped.Statement.{statement}
 use Rattle.journals.proofs.steps.stopped.Tie as tie

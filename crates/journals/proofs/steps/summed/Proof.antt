@@ -4,7 +4,7 @@ use lib.ListN.{length}
 use mathlib.Core.Path.{refl, sym, ap, _∙_}
 use Rattle.journals.specs.declared.Verdict.the-variants.{Refused}
 use Rattle.journals.specs.Start.{endedWith}
-use Rattle.journals.proofs.Deeds.{played, refused, differs}
+use Rattle.journals.proofs.StepCases.{played, refused, differs}
 use borrow.Author.Needs.{needs}
 use Rattle.journals.proofs.steps.summed.Statement.{statement}
 use Rattle.journals.proofs.steps.summed.Tie as tie

@@ -1,5 +1,5 @@
 -- `steps::unsummed` meets its contract, by whether a block of input may have held one more.
-use Rattle.journals.proofs.Deeds.{block-holds, block-full}
+use Rattle.journals.proofs.StepCases.{block-holds, block-full}
 use borrow.Author.Needs.{needs}
 use Rattle.journals.proofs.steps.unsummed.Statement.{statement}
 use Rattle.journals.proofs.steps.unsummed.Tie as tie

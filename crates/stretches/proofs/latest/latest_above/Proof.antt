@@ -8,7 +8,7 @@ use Rattle.rules.specs.Limits.{countPlaces}
 use Rattle.grid.specs.Ticks.{slot as slotOf}
 use Rattle.measures.proofs.Within.{in-row}
 use Rattle.stretches.specs.inner.Walk.{IsLatest}
-use Rattle.stretches.proofs.Lately.{latest-yet, latest-more}
+use Rattle.stretches.proofs.LatestBoxes.{latest-yet, latest-more}
 use Rattle.stretches.proofs.Slots.{slot-less}
 use borrow.Author.Needs.{needs}
 use Rattle.stretches.proofs.latest.latest_above.Statement.{statement}

@@ -11,7 +11,7 @@ use Rattle.grid.specs.Ticks.{slot as slotOf}
 use Rattle.measures.proofs.Within.{in-row}
 use Rattle.stretches.specs.inner.Walk.{IsMost}
 use Rattle.stretches.specs.inner.Low.{spanBy}
-use Rattle.stretches.proofs.Lately.{most-yet, most-more}
+use Rattle.stretches.proofs.LatestBoxes.{most-yet, most-more}
 use Rattle.stretches.proofs.LowSlots.{span-wide, span-low}
 use Rattle.stretches.proofs.LowSteps.{width-high, own-high}
 use Rattle.stretches.proofs.Steps.{small}

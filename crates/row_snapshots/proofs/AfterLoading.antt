@@ -24,7 +24,7 @@ use Rattle.snapshots.specs.Bytes.{snapshotOf}
 use Rattle.row_snapshots.specs.Calls.{RowLoads}
 use Rattle.row_snapshots.specs.Taken.{takenFrom, rowTaken, AllBytes}
 use Rattle.row_snapshots.proofs.SameAgent.{is-loaded}
-use Rattle.row_snapshots.proofs.FromThere.{from-there, row-from-there}
+use Rattle.row_snapshots.proofs.SeriesTaken.{from-there, row-from-there}
 pub use Rattle.row_snapshots.proofs.Whole.{after-whole}
 pub use Rattle.row_snapshots.proofs.Sequence.{after-fits}
 
