@@ -1,18 +1,11 @@
--- Marks that are drawn one behind the other, while a row is kept beside them. Rest on what is written in turn being written as one, and on
--- every number of a tested row being within its limits.
-use Prim.Native.Nat.{ℕ, _+_, _<_}
-use mathlib.Core.Path.{_≡_, sym, ap, subst, _∙_}
+-- Marks that are drawn one behind the other, while a row is kept beside them. Rest on what is written in turn being written as one.
+use Prim.Native.Nat.{ℕ, _+_}
+use mathlib.Core.Path.{_≡_, ap, _∙_}
 use mathlib.Core.List.{List, _++_}
 use native.Mathlib.Numerals.{add-one}
-use Rattle.rules.specs.Limits.{titlesMax}
 use Rattle.story.specs.declared.Title.{Title}
 use Rattle.story.specs.declared.State.{State}
-use Rattle.story.specs.Kept.{absentMode, titleAt}
-use Rattle.measures.proofs.Within.{title-ok}
-use Rattle.moments.specs.Searched.{Timed}
-use Rattle.moments.proofs.Due.{timed}
-use Rattle.agent_rows.specs.Packed.{unpacked}
-use Rattle.row_calls.specs.inner.Steps.{Tested}
+use Rattle.story.specs.Kept.{titleAt}
 use Rattle.text.specs.Output.{Page, puts}
 use Rattle.text.proofs.Pages.{puts-then}
 use Rattle.strips.specs.declared.scale.Band.{Band}
@@ -26,12 +19,6 @@ then-text T p {q} s {k} {k′} e f w = puts-then p s (T k′) e (w ∙ ap (λ (x
 
 pub then-kept : (K : List ℕ → List ℕ) {k k′ r : List ℕ} → k ≡ k′ → r ≡ K k → r ≡ K k′
 then-kept K e f = f ∙ ap K e
-
--- the releases of a title in a tested row can be told
-pub row-timed : (r : List ℕ) (i : ℕ) → Tested r → i < titlesMax → (t : Title) → t ≡ titleAt (unpacked r .state) i →
-    (t .mode ≡ absentMode → ⊥) → Timed t
-row-timed r i tested low t is =
-    subst (λ (u : Title). (u .mode ≡ absentMode → ⊥) → Timed u) (sym is) (timed _ (title-ok (unpacked r .state) (tested .ok) i low))
 
 -- one title more at a log's end
 pub all-next : (v : View) (s : State) (kept : List ℕ) (end i : ℕ) (p q r : Page) (K K′ : List ℕ) (b : Band) (t : Title) →

@@ -10,7 +10,8 @@ use Rattle.text.specs.Output.{page, puts}
 use Rattle.text.proofs.Pages.{same-room}
 use Rattle.strips.specs.Kept.{keptLength}
 use Rattle.charts.specs.Ending.{allMarks, allKept}
-use Rattle.charts.proofs.Threaded.{row-timed, all-next}
+use Rattle.moments.proofs.Due.{title-timed}
+use Rattle.charts.proofs.Threaded.{all-next}
 use borrow.Author.Needs.{needs}
 use Rattle.charts.proofs.ending.put_all.Statement.{statement}
 use Rattle.charts.proofs.ending.put_all.Tie as tie
@@ -46,7 +47,7 @@ put-left-requires c κs =
     let at-loop-test = at-band-of .before .before .before in
     let at-loop = at-loop-test .before in
     let at-start = at-loop .before .before .before .before in
-    (at-loop .loop .inv .3, (rw (at-band-of .band-of .ensures) (omega (arith, at-loop-test .loop-test .taken)), row-timed _ _ (at-start .pre .1) (omega (arith, at-loop-test .loop-test .taken)) _ (c .title-at .ensures)))
+    (at-loop .loop .inv .3, (rw (at-band-of .band-of .ensures) (omega (arith, at-loop-test .loop-test .taken)), title-timed _ _ (at-start .pre .1 .ok) (omega (arith, at-loop-test .loop-test .taken)) _ (c .title-at .ensures)))
 
 loop-again : tie.Need-loop-again Inv-loop μ-loop
 loop-again c =

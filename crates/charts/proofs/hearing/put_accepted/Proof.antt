@@ -2,7 +2,7 @@
 use mathlib.Core.Path.{_∙_}
 use native.Mathlib.Omega.{arith}
 use Rattle.agent_rows.specs.Packed.{unpacked}
-use Rattle.charts.proofs.Threaded.{row-timed}
+use Rattle.moments.proofs.Due.{title-timed}
 use Rattle.charts.proofs.Heard.{accepted-are}
 use Rattle.text.proofs.Pages.{same-room}
 use mathlib.Core.Path.{refl}
@@ -45,7 +45,7 @@ put-turn-requires c κs =
     let at-put-curve = at-title-at .before .before .before .before .before .before .before in
     let at-band-of = at-put-curve .before .before .before .before .before in
     let at-start = at-band-of .before .before .before .before .before .before in
-    (at-put-curve .put-curve .kept .1 .1 .0 ∙ at-start .pre .0 .0, (rw (at-band-of .band-of .ensures) (at-start .pre .0 .1), row-timed _ _ (at-start .pre .1 .0) (omega (arith, at-start .pre .0 .1)) _ (at-title-at .title-at .ensures)))
+    (at-put-curve .put-curve .kept .1 .1 .0 ∙ at-start .pre .0 .0, (rw (at-band-of .band-of .ensures) (at-start .pre .0 .1), title-timed _ _ (at-start .pre .1 .0 .ok) (omega (arith, at-start .pre .0 .1)) _ (at-title-at .title-at .ensures)))
 
 put-tick-requires : tie.Need-put-tick-requires
 put-tick-requires c κs =
