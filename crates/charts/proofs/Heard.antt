@@ -20,7 +20,7 @@ use Rattle.story.specs.declared.Title.{Title}
 use Rattle.story.specs.declared.State.{State}
 use Rattle.story.specs.Kept.{titleAt}
 use Rattle.strips.specs.declared.scale.Band.{Band}
-use Rattle.strips.specs.Marks.{tickText, tickKept, tickLabelText, tickLabelKept}
+use Rattle.marks.specs.Marks.{tickText, tickKept, tickLabelText, tickLabelKept}
 use Rattle.curves.specs.Curves.{curveText, curveKept}
 use Rattle.frames.specs.Bands.{bandOf}
 use Rattle.charts.specs.Hearing.{turnMarks, turnKept}

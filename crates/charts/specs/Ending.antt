@@ -12,7 +12,8 @@ use Rattle.drawing.specs.Axis.{plotLeft}
 use Rattle.spans.specs.Extents.{titleUntil}
 use Rattle.strips.specs.declared.scale.Band.{Band}
 use Rattle.strips.specs.Lanes.{lanesMarks, lanesKept}
-use Rattle.strips.specs.Marks.{doorsMark, doorsKept, brokenMark, refusedKept, refusedLabel, refusedLabelKept}
+use Rattle.strips.specs.Doors.{doorsMark, doorsKept}
+use Rattle.marks.specs.Marks.{brokenMark, refusedKept, refusedLabel, refusedLabelKept}
 use Rattle.frames.specs.declared.bands.View.{View}
 use Rattle.frames.specs.Bands.{bandOf}
 use Rattle.charts.specs.Hearing.{lifeMarks, lifeMarksKept}

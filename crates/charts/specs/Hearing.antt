@@ -18,8 +18,9 @@ use Rattle.row_calls.specs.inner.Steps.{SoundAgentRow}
 use Rattle.spans.specs.Extents.{titleUntil}
 use Rattle.strips.specs.declared.scale.Band.{Band}
 use Rattle.strips.specs.Lanes.{lanesMarks, lanesKept}
-use Rattle.strips.specs.Marks.{doorsMark, doorsKept, tickText, tickKept, tickLabelText, tickLabelKept, lifeText, lifeKept}
-use Rattle.strips.specs.Marks.{lifeLabelText, lifeLabelKept, refusedPlace, refusedMark, refusedKept, refusedLabel, refusedLabelKept}
+use Rattle.strips.specs.Doors.{doorsMark, doorsKept}
+use Rattle.marks.specs.Marks.{tickText, tickKept, tickLabelText, tickLabelKept, lifeText, lifeKept, lifeLabelText, lifeLabelKept}
+use Rattle.marks.specs.Marks.{refusedPlace, refusedMark, refusedKept, refusedLabel, refusedLabelKept}
 use Rattle.curves.specs.Curves.{curveText, curveKept}
 use Rattle.frames.specs.declared.bands.View.{View}
 use Rattle.frames.specs.Bands.{bandOf}

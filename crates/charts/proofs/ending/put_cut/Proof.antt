@@ -6,7 +6,7 @@ use borrow.Author.Tests.{lt-ltb, le-ltb}
 use Rattle.rules.specs.Refusals.{malformed}
 use Rattle.text.specs.Output.{puts}
 use Rattle.drawing.specs.Axis.{plotLeft}
-use Rattle.strips.specs.Marks.{refusedLabel, refusedLabelKept}
+use Rattle.marks.specs.Marks.{refusedLabel, refusedLabelKept}
 use Rattle.charts.specs.Ending.{cutMarks, cutKept}
 use Rattle.charts.proofs.Threaded.{then-text, then-kept}
 use borrow.Author.Needs.{needs}

@@ -7,7 +7,7 @@ use borrow.Author.Tests.{eq-eqb, ne-eqb}
 use Rattle.rules.specs.Limits.{countMax}
 use Rattle.text.specs.Output.{puts}
 use Rattle.strips.specs.Lanes.{lanesMarks, lanesKept}
-use Rattle.strips.specs.Marks.{doorsMark, doorsKept}
+use Rattle.strips.specs.Doors.{doorsMark, doorsKept}
 use Rattle.charts.specs.Ending.{leftMarks, leftKept}
 use Rattle.charts.proofs.Threaded.{then-text, then-kept}
 use mathlib.Core.Path.{_∙_}

@@ -1,7 +1,7 @@
 -- `charts::hearing::put_ended` meets its contract: its frame and its label.
 use mathlib.Core.List.{List}
 use Prim.Native.Nat.{ℕ}
-use Rattle.strips.specs.Marks.{lifeLabelText, lifeLabelKept}
+use Rattle.marks.specs.Marks.{lifeLabelText, lifeLabelKept}
 use Rattle.charts.specs.Hearing.{lifeMarks}
 use Rattle.charts.proofs.Threaded.{then-text, then-kept}
 use borrow.Author.Needs.{needs}

@@ -6,7 +6,7 @@ use lib.Dec.{eqb}
 use Rattle.rules.specs.Limits.{countMax}
 use Rattle.story.specs.Kept.{openMode, isShut}
 use Rattle.strips.specs.Lanes.{lanesMarks, lanesKept}
-use Rattle.strips.specs.Marks.{doorsMark, doorsKept}
+use Rattle.strips.specs.Doors.{doorsMark, doorsKept}
 use Rattle.charts.specs.Hearing.{turnMarks, turnKept}
 use Rattle.charts.proofs.Threaded.{then-text, then-kept}
 use mathlib.Core.Path.{_∙_}

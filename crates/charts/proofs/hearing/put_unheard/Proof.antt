@@ -1,7 +1,7 @@
 -- `charts::hearing::put_unheard` meets its contract: its mark and its number.
 use mathlib.Core.List.{List}
 use Prim.Native.Nat.{ℕ}
-use Rattle.strips.specs.Marks.{refusedLabel, refusedLabelKept}
+use Rattle.marks.specs.Marks.{refusedLabel, refusedLabelKept}
 use Rattle.charts.specs.Hearing.{unheardMarks, unheardKept}
 use Rattle.charts.proofs.Threaded.{then-text, then-kept}
 use borrow.Author.Needs.{needs}
