@@ -1,8 +1,4 @@
--- Laws of what is drawn, notice by notice, and of a picture that has room.
-pub mod Threaded
-pub mod Copied
-pub mod Heard
-pub mod Going
+-- Laws of how a log is seen, of a picture that has room, and of the curve under the line of the pool.
 pub mod Viewed
 pub mod Fitting
 pub mod Pool

@@ -12,10 +12,10 @@ use Rattle.text.specs.Output.{Page, puts}
 use Rattle.curves.specs.Curves.{curveText}
 use Rattle.spans.specs.declared.Outline.{Outline}
 use Rattle.frames.specs.declared.bands.View.{View}
-use Rattle.charts.specs.Ending.{allMarks, allKept, cutMarks, cutKept}
-use Rattle.charts.specs.Played.{drawnOf}
+use Rattle.log_marks.specs.Ending.{allMarks, allKept, cutMarks, cutKept}
+use Rattle.log_marks.specs.Played.{drawnOf}
 use Rattle.charts.specs.Charts.{viewAt, restText, marksText}
-use Rattle.charts.proofs.Threaded.{then-text, then-kept}
+use Rattle.log_marks.proofs.Threaded.{then-text, then-kept}
 
 pub view-is : (m : Outline) (pool columns grain base span : ℕ) → span ≡ m .end - m .extent .first →
     record {

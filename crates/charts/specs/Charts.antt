@@ -22,8 +22,8 @@ use Rattle.frames.specs.declared.bands.View.{View}
 use Rattle.frames.specs.Bands.{topOf, bandsText}
 use Rattle.frames.specs.Headings.{headingText, legendText, poolLines}
 use Rattle.frames.specs.Times.{timesMost, timesText}
-use Rattle.charts.specs.Played.{Drawn, drawnOf}
-use Rattle.charts.specs.Ending.{allMarks, allKept, cutMarks, cutKept}
+use Rattle.log_marks.specs.Played.{Drawn, drawnOf}
+use Rattle.log_marks.specs.Ending.{allMarks, allKept, cutMarks, cutKept}
 
 -- the scale of a log in so many columns of so many tenths of a pixel
 abbrev pub scaleOf : Outline → ℕ → ℕ → Scale

@@ -1,8 +1,5 @@
 // The whole picture, in columns of a width, and the finest in which it has room.
 
-use crate::ending::put_all;
-use crate::ending::put_cut;
-use crate::playing::play;
 use agent_rows::LAST_AT;
 use agent_rows::ROW_LENGTH;
 use curves::Curve;
@@ -18,6 +15,9 @@ use frames::headings::put_heading;
 use frames::headings::put_legend;
 use frames::headings::put_pool;
 use frames::times::put_times;
+use log_marks::ending::put_all;
+use log_marks::ending::put_cut;
+use log_marks::playing::play;
 use measures::ticks::since;
 use rules::TITLES_MAX;
 use spans::Outline;

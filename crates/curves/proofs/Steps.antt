@@ -1,20 +1,13 @@
 -- The curve as far as it is drawn, step by step: each step takes a millisecond at least, and once its end is reached nothing is added.
--- Rests on the definitions, and on every number of a tested row being within its limits.
+-- Rests on the definitions.
 use Prim.Native.Nat.{ℕ, zero, suc, _+_, _-_, _≤_, _<_}
 use mathlib.Core.Path.{_≡_, refl, sym, ap, subst, _∙_}
 use mathlib.Core.List.{List, [], _++_}
 use native.Mathlib.Omega.{arith}
 use borrow.Author.Tests.{lt-ltb, le-ltb}
 use lib.ListN.{length}
-use Rattle.rules.specs.Limits.{titlesMax}
-use Rattle.story.specs.declared.Title.{Title}
 use Rattle.story.specs.declared.State.{State}
-use Rattle.story.specs.Kept.{absentMode, titleAt, lanesHeld}
-use Rattle.measures.proofs.Within.{title-ok}
-use Rattle.moments.specs.Searched.{Timed}
-use Rattle.moments.proofs.Due.{timed}
-use Rattle.agent_rows.specs.Packed.{unpacked}
-use Rattle.row_calls.specs.inner.Steps.{Tested}
+use Rattle.story.specs.Kept.{lanesHeld}
 use Rattle.drawing.specs.Axis.{partAcross}
 use Rattle.text.specs.Output.{Page, puts}
 use Rattle.text.proofs.Pages.{puts-then}
@@ -25,12 +18,6 @@ use Rattle.curves.specs.Curves.{heightOf, levelText, levelKept, nextStep
 pub height-is : (c : Curve) (n p r : ℕ) → p ≡ partAcross 1_000 (c .pool) n → r ≡ c .base - p → r ≡ heightOf c n
 unfolding heightOf
 height-is c n p r e f = f ∙ ap (λ x. c .base - x) e
-
--- the releases of a title in a tested row can be told
-pub row-timed : (r : List ℕ) (i : ℕ) → Tested r → i < titlesMax → (t : Title) → t ≡ titleAt (unpacked r .state) i →
-    (t .mode ≡ absentMode → ⊥) → Timed t
-row-timed r i tested low t is =
-    subst (λ (u : Title). (u .mode ≡ absentMode → ⊥) → Timed u) (sym is) (timed _ (title-ok (unpacked r .state) (tested .ok) i low))
 
 module _ (c : Curve) (s : State) (kept : List ℕ) (from to : ℕ) where
   abbrev at : ℕ → Walk

@@ -11,11 +11,12 @@ use Rattle.drawing.specs.Axis.{plotLeft, plotWidth}
 use Rattle.drawing.specs.declared.pieces.Area.{Area}
 use Rattle.drawing.specs.Pieces.{rectText, rectEnd, labelText, labelEnd}
 use Rattle.strips.specs.declared.scale.Band.{Band}
+use Rattle.strips.specs.Lanes.{lanesDown, laneStep}
 use Rattle.frames.specs.declared.bands.View.{View}
 
 -- how high a band with rows for so many lanes is, and the same with the room below it
 abbrev pub lanesHeight : ℕ → ℕ
-lanesHeight K = 380 + K * 90
+lanesHeight K = lanesDown + K * laneStep
 
 unfoldable pub bandHeight : ℕ → ℕ
 bandHeight K = pick (eqb K 0) 0 (lanesHeight K + 100)
@@ -41,7 +42,7 @@ unfoldable pub bandText : View → ℕ → List ℕ
 bandText v i =
     pick (eqb (getD (v .caps) i 0) 0) []
     (rectText (text "b") 0 (bandArea v i) ++ text "title " ++ decimal i ++ rectEnd
-    ++ labelText (text "small right") (plotLeft - 50) (topOf v i + 380 + 80) ++ text "title " ++ decimal i ++ labelEnd)
+    ++ labelText (text "small right") (plotLeft - 50) (topOf v i + lanesDown + 80) ++ text "title " ++ decimal i ++ labelEnd)
 
 unfoldable pub bandsText : View → ℕ → List ℕ
 bandsText v zero = []

@@ -1,6 +1,6 @@
 -- The earliest moment of a change: the first that the title's rules permit from the time on at which the change finds its lanes, since
 -- lanes once free for it stay free. Rests on the laws of permitted times, of falling lanes and of the earliest time.
-use mathlib.Core.Path.{_≡_, refl, ap, _∙_}
+use mathlib.Core.Path.{_≡_, refl, sym, ap, subst, _∙_}
 use mathlib.Core.Bool.{Bool, true, false, not}
 use mathlib.Core.Logic.{⊎-elim}
 use Prim.Native.Nat.{ℕ, suc, _≤_, _<_, min}
@@ -43,6 +43,12 @@ module _ (t : Title) (ok : titleOk t ≡ true) where
   pub timed : (t .mode ≡ absentMode → ⊥) → Timed t
   timed there =
       record { film = readable t ok there; opened = opened-high; dropped = dropped-ok t ok; owed = owed-ok }
+
+-- the releases of a title in a state within its limits can be told
+pub title-timed : (s : State) (i : ℕ) → stateOk s ≡ true → i < titlesMax → (t : Title) → t ≡ titleAt s i →
+    (t .mode ≡ absentMode → ⊥) → Timed t
+title-timed s i ok b t is =
+    subst (λ (u : Title). (u .mode ≡ absentMode → ⊥) → Timed u) (sym is) (timed (titleAt s i) (title-ok s ok i b))
 
 -- what a state within its limits gives of an open title in it
 module _ (s : State) (ok : stateOk s ≡ true) (i : ℕ) (b : i < titlesMax) (is-open : titleAt s i .mode ≡ openMode)

@@ -1,7 +1,6 @@
--- What is drawn of a log, as the code meets its cases. Rests on the definitions, on what a read makes of the row, and on every number of a
--- tested row being within its limits.
-use Prim.Native.Nat.{ℕ, _≤_, _<_, min, max}
-use mathlib.Core.Path.{_≡_, refl, sym, ap, subst, _∙_}
+-- What is drawn of a log, as the code meets its cases. Rests on the definitions, and on what a read makes of the row.
+use Prim.Native.Nat.{ℕ, _≤_, min, max}
+use mathlib.Core.Path.{_≡_, refl, sym, ap, _∙_}
 use mathlib.Core.Bool.{Bool, true, false}
 use mathlib.Core.List.{List}
 use borrow.Author.Tests.{leb-true}
@@ -16,15 +15,11 @@ use Rattle.notice.specs.declared.Found.{Found}
 use Rattle.notice.specs.declared.Found.the-variants as found
 use Rattle.notice.specs.Log.{noticesOf}
 use Rattle.story.specs.declared.Title.{Title}
-use Rattle.story.specs.Kept.{absentMode, titleAt}
-use Rattle.measures.proofs.Within.{title-ok}
+use Rattle.story.specs.Kept.{titleAt}
 use Rattle.agent.specs.declared.Agent.{Agent}
 use Rattle.agent.specs.Turns.{noticeAnswer}
 use Rattle.agent.specs.Played.{agentPlayed}
 use Rattle.agent_rows.specs.Packed.{unpacked}
-use Rattle.row_calls.specs.inner.Steps.{Tested}
-use Rattle.moments.specs.Searched.{Timed}
-use Rattle.moments.proofs.Due.{timed}
 use Rattle.text.specs.Numbers.{byteMost}
 use Rattle.logs.specs.declared.ReadOn.{ReadOn}
 use Rattle.logs.specs.declared.PlayedLog.{PlayedLog}
@@ -96,11 +91,6 @@ module _ (r : List ℕ) (at : ℕ) (x : Extent) (f : Found) (o : ReadOn) (s : Li
     steps-still h = told x (rw (sym is-counts ∙ h) refl)
 
 -- ---- the row as it is then
-
--- the releases of a title in a tested row can be told
-pub row-timed : (r : List ℕ) (i : ℕ) → Tested r → i < titlesMax → (t : Title) → t ≡ titleAt (unpacked r .state) i →
-    (t .mode ≡ absentMode → ⊥) → Timed t
-row-timed r i tested low t is = subst (λ (u : Title). (u .mode ≡ absentMode → ⊥) → Timed u) (sym is) (timed _ (title-ok (unpacked r .state) (tested .ok) i low))
 
 pub measured : (pool : ℕ) (log r : List ℕ) (p : PlayedLog) (x : Extent) → Plays heardExtent pool log noExtent r p x → (end : ℕ) →
     end ≡ latestOver (unpacked r .state) titlesMax → record { extent = x; end = end; stop = p .place } ≡ measureOf pool log

@@ -3,11 +3,12 @@ use Prim.Native.Nat.{ℕ, zero, suc, _+_, _-_, _*_, max}
 use mathlib.Core.Bool.{Bool}
 use mathlib.Core.List.{List, [], _++_}
 use lib.ListN.{getD, set}
-use Rattle.rules.specs.Limits.{both, either}
+use Rattle.rules.specs.Limits.{both, either, laneMax}
 use Rattle.rules.specs.Refusals.{pick}
 use Rattle.story.specs.declared.Title.{Title}
 use Rattle.text.specs.Texts.{text}
 use Rattle.text.specs.Digits.{decimal}
+use Rattle.text.specs.Numbers.{fourBytesMost}
 use Rattle.clocks.specs.Clocks.{clockText}
 use Rattle.drawing.specs.declared.pieces.Area.{Area}
 use Rattle.drawing.specs.Pieces.{rectText, rectEnd, pathText, pointText, stepText, pathEnd}
@@ -17,9 +18,19 @@ use Rattle.strips.specs.Scale.{placeAcross, endAcross}
 use Rattle.strips.specs.Kept.{sinceAt, lanesAt, isNew}
 use Rattle.strips.specs.States.{stretchSince, switches}
 
--- the top of a lane's row in a band, and its height
+-- a band's first lane, from its top, and from one lane to the next
+abbrev pub lanesDown : ℕ
+lanesDown = 380
+
+abbrev pub laneStep : ℕ
+laneStep = 90
+
+-- the top of a lane's row in a band; the lowest that there is, the last lane's where the band's top has four bytes; and a row's height
 unfoldable pub laneTop : ℕ → ℕ → ℕ
-laneTop top l = top + 380 + l * 90
+laneTop top l = top + lanesDown + l * laneStep
+
+abbrev pub lowestTop : ℕ
+lowestTop = fourBytesMost + lanesDown + laneMax * laneStep
 
 abbrev pub laneHeight : ℕ
 laneHeight = 76

@@ -21,7 +21,7 @@ ghost use lib.ListN.{length};
 ghost use Rattle.rules.specs.Limits.{idMax};
 ghost use Rattle.text.specs.Output.{Written};
 ghost use Rattle.strips.specs.Kept.{keptLength};
-ghost use Rattle.strips.specs.Marks.{heldText, heldKept, doorsMark, doorsKept};
+ghost use Rattle.strips.specs.Doors.{heldText, heldKept, doorsMark, doorsKept};
 
 // The strip's top, from the band's, and its height.
 const DOORS_DOWN: u64 = 300;

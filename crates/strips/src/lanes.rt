@@ -34,6 +34,7 @@ ghost use Rattle.text.specs.Output.{Written};
 ghost use Rattle.strips.specs.Kept.{keptLength};
 ghost use Rattle.strips.specs.Lanes.{
   laneTop,
+  lowestTop,
   hoverText,
   tailText,
   stripText,
@@ -55,7 +56,7 @@ const LANE_HEIGHT: u64 = 76;
 // The top of a lane's row.
 fn lane_top(top: u32, lane: u64) -> u64
     requires { ⌜ lane < countMax ⌝ }
-    ensures { λ r. ⌜ (r ≡ laneTop top lane) × (r ≤ 4294969056) ⌝ }
+    ensures { λ r. ⌜ (r ≡ laneTop top lane) × (r ≤ lowestTop) ⌝ }
 {
     top as u64 + LANES_DOWN + lane * LANE_STEP
 }
@@ -80,7 +81,7 @@ fn put_told(out: &mut [u8], at: usize, lane: u64, s: Stretch) -> usize
 
 // The mark at the end of what a lane sends.
 fn put_tail(out: &mut [u8], at: usize, x: u64, y: u64) -> usize
-    requires { ⌜ y ≤ 4294969056 ⌝ }
+    requires { ⌜ y ≤ lowestTop ⌝ }
     ensures { λ r. ⌜ Written (now (out .entry)) at (tailText x y) (now (out .exit)) r ⌝ }
 {
     let a = put_path(out, at, b"axis");

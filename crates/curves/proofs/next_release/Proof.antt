@@ -6,8 +6,8 @@ use native.Mathlib.Numerals.{add-one}
 use native.Mathlib.Nat.{le-antisymm}
 use Rattle.rules.specs.Limits.{titlesMax}
 use Rattle.moments.specs.inner.Steps.{releaseIn}
+use Rattle.moments.proofs.Due.{title-timed}
 use Rattle.agent_rows.specs.Packed.{unpacked}
-use Rattle.curves.proofs.Steps.{row-timed}
 use borrow.Author.Needs.{needs}
 use Rattle.curves.proofs.next_release.Statement.{statement}
 use Rattle.curves.proofs.next_release.Tie as tie
@@ -32,7 +32,7 @@ title-release-requires : tie.Need-title-release-requires Inv-loop μ-loop
 title-release-requires c κs =
     let at-loop-test = c .before in
     let at-start = at-loop-test .before .before .before in
-    row-timed _ _ (at-start .pre) (omega (arith, at-loop-test .loop-test .taken)) _ (c .title-at .ensures)
+    title-timed _ _ (at-start .pre .ok) (omega (arith, at-loop-test .loop-test .taken)) _ (c .title-at .ensures)
 
 loop-again : tie.Need-loop-again Inv-loop μ-loop
 unfolding releaseIn

@@ -7,7 +7,7 @@ use native.Mathlib.Nat.{le-antisymm}
 use Rattle.rules.specs.Limits.{titlesMax}
 use Rattle.agent_rows.specs.Packed.{unpacked}
 use Rattle.spans.specs.Extents.{latestOver}
-use Rattle.spans.proofs.Widened.{row-timed}
+use Rattle.moments.proofs.Due.{title-timed}
 use borrow.Author.Needs.{needs}
 use Rattle.spans.proofs.latest.Statement.{statement}
 use Rattle.spans.proofs.latest.Tie as tie
@@ -32,7 +32,7 @@ title-until-requires : tie.Need-title-until-requires Inv-loop μ-loop
 title-until-requires c κs =
     let at-loop-test = c .before in
     let at-start = at-loop-test .before .before .before in
-    row-timed _ _ (at-start .pre) (omega (arith, at-loop-test .loop-test .taken)) _ (c .title-at .ensures)
+    title-timed _ _ (at-start .pre .ok) (omega (arith, at-loop-test .loop-test .taken)) _ (c .title-at .ensures)
 
 loop-again : tie.Need-loop-again Inv-loop μ-loop
 unfolding latestOver

@@ -2,7 +2,7 @@
 use mathlib.Core.Path.{refl}
 use borrow.Author.Tests.{eq-eqb, ne-eqb}
 use Rattle.text.specs.Output.{puts}
-use Rattle.strips.specs.Marks.{doorsMark, doorsKept}
+use Rattle.strips.specs.Doors.{doorsMark, doorsKept}
 use borrow.Author.Needs.{needs}
 use Rattle.strips.proofs.doors.put_doors.Statement.{statement}
 use Rattle.strips.proofs.doors.put_doors.Tie as tie

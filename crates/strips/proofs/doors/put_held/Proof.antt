@@ -1,7 +1,7 @@
 -- `strips::doors::put_held` meets its contract: the strip where it is new, else nothing.
 use Rattle.text.specs.Texts.{text}
 use Rattle.text.proofs.Pages.{puts-then}
-use Rattle.strips.specs.Marks.{heldText}
+use Rattle.strips.specs.Doors.{heldText}
 use Rattle.strips.proofs.Marked.{new-mark, old-mark}
 use borrow.Author.Needs.{needs}
 use Rattle.strips.proofs.doors.put_held.Statement.{statement}
