@@ -1,22 +1,29 @@
 -- A test over a whole table holds at each of its entries; a row that passes is the table, and so is one that was filled; and the
 -- table's number for a lane and a tick is the lane's cell, also at ticks that lie whole periods away. Rests on the period of a
--- lawful scheme's lanes.
+-- lawful scheme's lanes, and on the law by which low zeros number the added channel.
 use mathlib.Core.Path.{_≡_, refl, sym, ap, ap₂, _∙_}
 use mathlib.Core.Bool.{Bool, true}
 use mathlib.Core.List.{List, [], _∷_}
-use Prim.Native.Nat.{ℕ, zero, suc, _+_, _*_, _/_, _%_, _^_, _<_}
-use native.Mathlib.Nat.{le-of-suc-le-suc, not-suc-le-zero, add-suc, suc-add, add-zero, zero-add, mod-lt}
+use Prim.Native.Nat.{ℕ, zero, suc, _+_, _*_, _/_, _%_, _^_, _≤_, _<_}
+use native.Mathlib.Nat.{le-of-suc-le-suc, not-suc-le-zero, add-suc, suc-add, add-zero, zero-add, mod-lt, div-lt-iff-lt-mul}
 use native.Mathlib.Omega.{arith}
 use lib.Arith.{digits-div, digits-mod}
 use lib.ListN.{length, getD}
-use borrow.Author.Tests.{eqb-true, eq-eqb}
-use Rattle.rules.proofs.Tests.{both-l, both-r}
+use borrow.Author.Tests.{eqb-true, eq-eqb, ltb-true, ltb-false}
+use mathlib.Core.Logic.{⊎-elim}
+use lib.Count.{trailingZeros}
+use lib.Dec.{eqb, ltb}
+use Rattle.rules.specs.Refusals.{pick, done}
+use Rattle.rules.proofs.Tests.{both-l, both-r, decide}
+use Rattle.grid.specs.Channels.{channelCell}
 use Rattle.grid.specs.Lanes.{laneCell}
+use Rattle.grid.specs.Lifted.{shiftedSum}
+use Rattle.grid.proofs.Lanes.{lane-channel, lane-added}
+use Rattle.grid.proofs.Zeros.{zeros-added}
 use Rattle.scheme.proofs.Padded.{padded-lawful}
 use Rattle.scheme.proofs.Lawful.{lane-looked-up}
-use Rattle.rules.specs.Refusals.{done}
 use Rattle.plans.proofs.Row.{filled-length, filled-first}
-use Rattle.rom_table.specs.Table.{romFloor, romCap, romPeriod, romEntries, romEntry, IsTable, fillAnswer, Filled, tableCell, passes, isEntry}
+use Rattle.rom_table.specs.Table.{romFloor, romCap, romPeriod, romEntries, romEntry, IsTable, fillAnswer, Filled, tableCell, passes}
 
 -- ---- a test over a table
 
@@ -35,11 +42,37 @@ passes-at f xs e k h = rw (zero-add k) at (passes-from f xs 0 e k h)
 
 -- ---- the table of the grid
 
+-- what stands at a place, by the law that low zeros number the channel that is added: quick to compute at every place
+unfoldable pub laneCellQuick : ℕ → ℕ → ℕ
+laneCellQuick l t =
+    pick (ltb l romFloor) (channelCell romFloor romCap romFloor l t)
+    (channelCell romFloor romCap (suc l) (trailingZeros l (shiftedSum romFloor romCap l t)) t)
+
+quick-is : (l t : ℕ) → l < romCap → laneCellQuick l t ≡ laneCell romFloor romCap l t
+unfolding laneCellQuick
+quick-is l t b =
+    ⊎-elim
+    (λ h. rw h (sym (lane-channel romFloor romCap l t (ltb-true l romFloor h))))
+    (λ h. let low : romFloor ≤ l = ltb-false l romFloor h in
+    rw h
+    (ap (λ d. channelCell romFloor romCap (suc l) d t) (zeros-added romFloor romCap l t low b)
+    ∙ sym (lane-added romFloor romCap l t low)))
+    (decide (ltb l romFloor))
+
+-- number x may stand at place i
+unfoldable pub isEntry : ℕ → ℕ → Bool
+isEntry i x = eqb x (laneCellQuick (i / romPeriod) (i % romPeriod))
+
 -- numbers that all pass are the table
 pub table-of : (xs : List ℕ) → length xs ≡ romEntries → passes isEntry 0 xs ≡ true → IsTable xs
-unfolding isEntry
+unfolding isEntry romEntry
 table-of xs l e =
-    record { long = l; each = λ i b. eqb-true (getD xs i 0) (romEntry i) (passes-at isEntry xs e i (omega (arith, l, b))) }
+    record {
+      long = l;
+      each = λ i b.
+          let lane : i / romPeriod < romCap = div-lt-iff-lt-mul {k = romPeriod} {x = i} {y = romCap} (omega arith) .1 b in
+          eqb-true (getD xs i 0) _ (passes-at isEntry xs e i (omega (arith, l, b))) ∙ quick-is _ _ lane;
+    }
 
 -- a row that was filled is the table
 pub filled-table : (row : List ℕ) (r : ℕ) (after : List ℕ) → Filled row r after → length row ≡ romEntries → IsTable after

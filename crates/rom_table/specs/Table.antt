@@ -50,10 +50,6 @@ pub record Filled (row : List ℕ) (r : ℕ) (after : List ℕ) : Type 0 where
 abbrev pub tableCell : List ℕ → ℕ → ℕ → ℕ
 tableCell T l t = getD T (l * romPeriod + t % romPeriod) 0
 
--- number x may stand at place i
-unfoldable pub isEntry : ℕ → ℕ → Bool
-isEntry i x = eqb x (romEntry i)
-
 -- a test passes at every entry of a list and its place, counted from i
 unfoldable pub passes : (ℕ → ℕ → Bool) → ℕ → List ℕ → Bool
 passes f i [] = true
