@@ -1,6 +1,6 @@
 -- `drop_lanes` meets its contract: the loop has the title with the lanes passed dropped, whose film and ends are as before.
 use Prim.Native.Nat.{_≤_, _-_}
-use mathlib.Core.Path.{_≡_, _∙_}
+use mathlib.Core.Path.{_≡_, refl, ap, _∙_}
 use native.Mathlib.Omega.{arith}
 use native.Mathlib.Numerals.{add-one}
 use native.Mathlib.Nat.{le-antisymm}
@@ -18,7 +18,7 @@ abbrev μ-loop : tie.MeasureT-loop
 
 loop-holds : tie.Need-loop-holds Inv-loop μ-loop
 unfolding dropLanes
-loop-holds c = search needs
+loop-holds c = (omega arith, refl, refl)
 
 drop-above-requires : tie.Need-drop-above-requires Inv-loop μ-loop
 drop-above-requires c κs =
@@ -40,7 +40,10 @@ loop-again c =
     (omega arith, rw add-one (c .drop-above .ensures ∙ drop-more (a .args .t) (l .q) (a .args .tick) (a .args .count) (l .lane) (l .inv .1) (c .before .loop-test .taken)), l .inv .2)
 
 returns : tie.Need-returns Inv-loop μ-loop
-returns c = cc (le-antisymm (c .before .loop .inv .0) (c .loop-test .left))
+returns c =
+    let l = c .before .loop in
+    let a = c .before .before .args in
+    l .inv .1 ∙ ap (dropLanes (a .t) (a .tick) (a .count)) (le-antisymm (l .inv .0) (c .loop-test .left) ∙ l .inv .2)
 
 pub drop-lanes-spec : {M : Type 1} → statement M
 drop-lanes-spec =

@@ -1,7 +1,7 @@
 -- `awaited_by_some` meets its contract: the loop's value is the test of some count passed, and no count up to the lane had
 -- it. Rests on the law that a count with the lane has its cell.
 use Prim.Native.Nat.{suc, _+_, _-_, _≤_, _<_}
-use mathlib.Core.Path.{_≡_, refl, sym, ap, _∙_}
+use mathlib.Core.Path.{_≡_, refl, sym, ap, ap₂, _∙_}
 use native.Mathlib.Omega.{arith}
 use native.Mathlib.Numerals.{add-one}
 use native.Mathlib.Nat.{le-antisymm}
@@ -9,7 +9,7 @@ use lib.Dec.{ltb, leb}
 use lib.ListN.{getD}
 use borrow.Author.Needs.{needs}
 use borrow.Author.Tests.{lt-ltb, le-ltb}
-use Rattle.rules.specs.Limits.{both, countPlaces}
+use Rattle.rules.specs.Limits.{both, either, countPlaces}
 use Rattle.rules.specs.Search.{some}
 use Rattle.rules.proofs.Search.{some-none}
 use Rattle.measures.proofs.Within.{in-row}
@@ -80,12 +80,16 @@ loop-again c =
     let k = at .loop .count in
     let x = a .cell in
     let e : c .before .owed-to .result ≡ both (leb (t .film .floor) k) (wants (schemeIn t) (getD (t .ends) k 0) x (a .tick) k) =
-    c .before .owed-to .ensures ∙ ap (both (leb (t .film .floor) k)) (padded-wants t x (a .tick) k (at .before .pre .1 .1 .1)) in
-    (omega arith, search needs, omega arith, rw add-one (simp (lt-ltb _ _ (at .loop .inv .2)) (cc e)))
+    c .before .owed-to .ensures ∙ ap (both (leb (t .film .floor) k)) (padded-wants t x (a .tick) k (at .before .pre .1 .1 .1)) in (
+      omega arith,
+      at .loop .inv .1,
+      omega arith,
+      rw (add-one, lt-ltb _ _ (at .loop .inv .2)) (c .either .ensures ∙ ap₂ either e (at .loop .inv .3)),
+    )
 
 returns : tie.Need-returns Inv-loop μ-loop
 unfolding keptAwaited
-returns c = cc (le-antisymm (c .before .loop .inv .0) (c .loop-test .left))
+returns c = let l = c .before .loop in rw (le-antisymm (l .inv .0) (c .loop-test .left)) at (l .inv .3)
 
 pub awaited-by-some-spec : {M : Type 1} → statement M
 awaited-by-some-spec =

@@ -1,9 +1,11 @@
 -- `owed_within` meets its contract: the loop's number is the count of the owed ticks passed.
-use Prim.Native.Nat.{_≤_, _-_}
-use mathlib.Core.Path.{_≡_}
+use Prim.Native.Nat.{_+_, _≤_, _-_}
+use mathlib.Core.Path.{_≡_, refl, ap, ap₂, _∙_}
+use mathlib.Core.Bool.{Bool}
 use native.Mathlib.Omega.{arith}
 use native.Mathlib.Numerals.{add-one}
 use native.Mathlib.Nat.{le-antisymm}
+use Rattle.rules.specs.Refusals.{pick}
 use Rattle.rules.specs.Search.{howMany}
 use Rattle.story.specs.Kept.{keptWithin}
 use borrow.Author.Needs.{needs}
@@ -18,7 +20,7 @@ abbrev μ-loop : tie.MeasureT-loop
 
 loop-holds : tie.Need-loop-holds Inv-loop μ-loop
 unfolding keptWithin howMany
-loop-holds c = search needs
+loop-holds c = (omega arith, refl, omega arith)
 
 add-is-owed : tie.Need-add-is-owed Inv-loop μ-loop
 add-is-owed c = search needs
@@ -40,10 +42,21 @@ loop-less c = search needs
 
 loop-again : tie.Need-loop-again Inv-loop μ-loop
 unfolding keptWithin howMany
-loop-again c = (omega arith, rw add-one (cc (c .one-if .ensures .0)), omega arith)
+loop-again c =
+    let at = c .before .before .before in
+    let a = at .before .args in
+    let l = at .loop in (
+      omega arith,
+      rw add-one (ap₂ _+_ (l .inv .1) (c .one-if .ensures .0 ∙ ap (λ (b : Bool). pick b 1 0) (c .before .is-owed .ensures))),
+      omega (arith, c .one-if .ensures .1),
+    )
 
 returns : tie.Need-returns Inv-loop μ-loop
-returns c = record { is = cc (le-antisymm (c .before .loop .inv .0) (c .loop-test .left)); low = omega arith; high = omega arith }
+returns c =
+    let l = c .before .loop in
+    let a = c .before .before .args in
+    let e = le-antisymm (l .inv .0) (c .loop-test .left) in
+    record { is = l .inv .1 ∙ ap (keptWithin (a .t) (a .lane) (a .from)) e; low = omega arith; high = omega (arith, e, l .inv .2) }
 
 pub owed-within-spec : {M : Type 1} → statement M
 owed-within-spec =

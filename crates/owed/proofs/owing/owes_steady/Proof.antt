@@ -20,13 +20,17 @@ reach-requires : tie.Need-reach-requires
 reach-requires c κs = search needs
 
 owed-within-requires : tie.Need-owed-within-requires
-owed-within-requires c κs = search needs
+owed-within-requires c κs =
+    let s = c .before .before .before .before in
+    (s .pre .0, (s .pre .1 .0 .0, omega (arith, s .pre .1 .0 .1, c .reach .ensures .high)))
 
 returns : tie.Need-returns
 returns c = rw (← c .before .reach .ensures .is) (c .owed-within .ensures .is)
 
 turns-at-requires : tie.Need-turns-at-requires
-turns-at-requires c κs = search needs
+turns-at-requires c κs =
+    let s = c .before .before .before in
+    (s .pre .0 .film, ((s .pre .1 .1, s .pre .1 .0 .0), (omega (arith, c .if1 .left, s .pre .1 .0 .1), s .pre .1 .0 .1)))
 
 owed : (c : tie.After-struct-known) →
     let a = c .before .before .before .before .before .args in

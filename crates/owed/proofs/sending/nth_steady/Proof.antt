@@ -20,13 +20,15 @@ element-copy-out-ended : tie.Need-element-copy-out-ended
 element-copy-out-ended c = search needs
 
 nth-by-ticks-requires : tie.Need-nth-by-ticks-requires
-nth-by-ticks-requires c κs = search needs
+nth-by-ticks-requires c κs = let s = c .before .before .before in (s .pre .0, s .pre .1 .0)
 
 returns : tie.Need-returns
-returns c = search needs
+returns c = c .nth-by-ticks .ensures
 
 turns-at-requires : tie.Need-turns-at-requires
-turns-at-requires c κs = search needs
+turns-at-requires c κs =
+    let s = c .before .before .before in
+    (s .pre .0 .film, ((s .pre .1 .1, s .pre .1 .0 .0), (omega (arith, c .if1 .left, s .pre .1 .0 .1), s .pre .1 .0 .1)))
 
 returns-2 : tie.Need-returns-2
 returns-2 c =
@@ -70,7 +72,7 @@ returns-3 : tie.Need-returns-3
 returns-3 c = found c
 
 reach-requires : tie.Need-reach-requires
-reach-requires c κs = search needs
+reach-requires c κs = c .before .before .before .before .before .before .before .before .pre .0
 
 returns-4 : tie.Need-returns-4
 returns-4 c =
