@@ -8,7 +8,7 @@ use native.Mathlib.Nat.{mod-lt}
 use lib.Dec.{ltb, eqb}
 use lib.Pow.{pow-pos, pow-mono}
 use borrow.Author.Tests.{eq-eqb, ne-eqb, ltb-true, ltb-false}
-use Rattle.rules.specs.Limits.{countMax}
+use Rattle.rules.specs.Limits.{askedMax, countMax}
 use Rattle.rules.proofs.Tests.{decide, pick-true, pick-false}
 use Rattle.grid.specs.Ticks.{slot}
 use Rattle.grid.specs.Bounds.{Exactly, IsRest}
@@ -88,6 +88,10 @@ till-first ends A K l u left m z e h = rw (decisive-first A K l u z, ← e) h
 
 pub till-later : (ends : List ℕ) (A K l u m : ℕ) → (placeAt A K l u ≡ 0 → ⊥) → IsTill ends A K l 0 m → IsTill ends A K l (decisive A K l u) m
 till-later ends A K l u m some h = rw (decisive-later A K l u some) h
+
+-- a tick of a walk up to `end` has room
+pub tick-fits : (at i end far more : ℕ) → at ≤ askedMax → i ≤ end → end ≡ min far more → far ≤ 2 ^ countMax → at + i < 2 ^ 64
+tick-fits at i end far more low in-end e high = omega arith
 
 -- a step of a walk up to `end`: from i on, q of the stretch's ticks, of which so many are owed
 pub record Stepped (end i q len owed ticks : ℕ) : Type 0 where

@@ -1,5 +1,5 @@
 -- `nth_low` meets its contract: the first stretch that reaches past the number has the tick. Rests on the laws of stretches.
-use Prim.Native.Nat.{_+_, _-_, _^_, _≤_, min}
+use Prim.Native.Nat.{_+_, _-_, _^_, _≤_, _<_, min}
 use mathlib.Core.Path.{_≡_, refl, sym, ap, ap₂, _∙_}
 use native.Mathlib.Omega.{arith}
 use native.Mathlib.Nat.{le-antisymm}
@@ -7,7 +7,7 @@ use Rattle.rules.specs.Limits.{countMax}
 use Rattle.rules.specs.Search.{first, howMany}
 use Rattle.story.specs.Life.{reach}
 use Rattle.story.specs.Kept.{keptWithin}
-use Rattle.stretches.proofs.LowSteps.{Stepped, step, reach-low, found-low}
+use Rattle.stretches.proofs.LowSteps.{tick-fits, Stepped, step, reach-low, found-low}
 use Rattle.stretches.proofs.BelowFloor.{step-owed, step-nth, none-left}
 use borrow.Author.Needs.{needs}
 use Rattle.stretches.proofs.low.nth_low.Statement.{statement}
@@ -20,19 +20,22 @@ abbrev μ-loop : tie.MeasureT-loop
 μ-loop lane at nth t s cells late reach end owed₀ i₀ owed i = end - i
 
 low-of-requires : tie.Need-low-of-requires Inv-loop μ-loop
-low-of-requires c κs = search needs
+low-of-requires c κs =
+    let s = c .before in
+    let cut = s .pre .0 .film .cut in
+    ((s .pre .1 .0 .0, s .pre .1 .0 .1 .0), (cut .fit, cut .high))
 
 film-cells-requires : tie.Need-film-cells-requires Inv-loop μ-loop
-film-cells-requires c κs = search needs
+film-cells-requires c κs = c .before .before .pre .0 .film
 
 till-requires : tie.Need-till-requires Inv-loop μ-loop
-till-requires c κs = search needs
+till-requires c κs = let low = c .before .before .before in (low .low-of .ensures .lower, low .before .before .pre .0 .ends)
 
 sub-pow2 : tie.Need-sub-pow2 Inv-loop μ-loop
-sub-pow2 c = search needs
+sub-pow2 c = let cut = c .before .before .before .before .before .before .before .pre .0 .film .cut in omega (arith, cut .low, cut .fit)
 
 pow2-requires : tie.Need-pow2-requires Inv-loop μ-loop
-pow2-requires c κs = search needs
+pow2-requires c κs = omega (arith, c .before .before .before .before .before .before .before .pre .0 .film .cut .high)
 
 since-requires : tie.Need-since-requires Inv-loop μ-loop
 since-requires c κs = search needs
@@ -44,29 +47,35 @@ loop-holds : tie.Need-loop-holds Inv-loop μ-loop
 unfolding keptWithin howMany
 loop-holds c = (omega arith, refl, omega arith, omega arith)
 
+-- a tick of the walk has room
+within : (at : tie.At-loop Inv-loop μ-loop) → at .before .before .before .before .before .before .before .before .before .before .before .args .at + at .loop .i < 2 ^ 64
+within at =
+    let far = at .before in
+    tick-fits (at .before .before .before .before .before .before .before .before .before .before .before .args .at) (at .loop .i) (far .smaller .result) (far .before .before .pow2 .result) _ (at .before .before .before .before .before .before .before .before .before .before .before .pre .1 .0 .1 .1) (at .loop .inv .0) (far .smaller .ensures) (far .before .before .pow2 .ensures .high)
+
 add-length-at : tie.Need-add-length-at Inv-loop μ-loop
-add-length-at c = search needs
+add-length-at c = record { fits = within (c .before) }
 
 length-at-requires : tie.Need-length-at-requires Inv-loop μ-loop
-length-at-requires c κs = search needs
+length-at-requires c κs = c .before .before .before .before .before .before .before .before .before .before .low-of .ensures .lower
 
 sub-smaller : tie.Need-sub-smaller Inv-loop μ-loop
-sub-smaller c = search needs
+sub-smaller c = c .before .before .loop .inv .0
 
 smaller-requires-2 : tie.Need-smaller-requires-2 Inv-loop μ-loop
 smaller-requires-2 c κs = search needs
 
 add-till-at : tie.Need-add-till-at Inv-loop μ-loop
-add-till-at c = search needs
+add-till-at c = record { fits = within (c .before .before .before .before .before) }
 
 till-at-requires : tie.Need-till-at-requires Inv-loop μ-loop
-till-at-requires c κs = search needs
+till-at-requires c κs = let low = c .before .before .before .before .before .before .before .before .before .before .before .before .before .before in (low .low-of .ensures .lower, (low .before .before .pre .0 .ends, c .before .before .before .before .before .before .before .before .before .before .till .ensures))
 
 add-ticks-at : tie.Need-add-ticks-at Inv-loop μ-loop
-add-ticks-at c = search needs
+add-ticks-at c = record { fits = within (c .before .before .before .before .before .before) }
 
 ticks-at-requires : tie.Need-ticks-at-requires Inv-loop μ-loop
-ticks-at-requires c κs = search needs
+ticks-at-requires c κs = c .before .before .before .before .before .before .before .before .before .before .before .before .before .before .before .low-of .ensures .lower
 
 -- a step of the loop
 stepped : (c : tie.After-ticks-at Inv-loop μ-loop) →
