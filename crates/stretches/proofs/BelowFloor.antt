@@ -273,7 +273,3 @@ module _ (t : Title) (T : ℕ) (off : t .film .kind ≡ steadyKind → ⊥) (flo
     where
       idle-at : (o : ℕ) → keptOwed t 0 (T + (0 + o)) ≡ ltb o 0
       idle-at o = idle-tick (0 + o) ∙ sym (le-ltb o 0 (omega arith))
-
-  pub idle-nth : (N n : ℕ) → N ≡ first (keptNth t 0 T n) N
-  unfolding keptWithin keptNth
-  idle-nth N n = sym (nth-none (λ o. keptOwed t 0 (T + o)) N n (omega (arith, idle-owes N)))

@@ -43,14 +43,6 @@ module _ (s : Low) (h : Lower s) where
   place-rest u = rw (h .wide, h .owns) (record { is = refl; less = mod-lt (u / slot (s .cap) (s .floor)) (pow-pos (s .lane)) })
 
 module _ (A K l u : ℕ) where
-  pub length-later : (placeAt A K l u ≡ 0 → ⊥) → IsLength A K l u (leftAt A K u)
-  length-later some =
-      let m : u % slot K A < slot K A = mod-lt u (slot-pos K A) in
-      record { some = omega arith; within = omega arith; apart = λ z c low fit d. absurd (some z) }
-
-  pub length-last : leftAt A K u ≡ 1 → IsLength A K l u 1
-  length-last e = record { some = omega arith; within = omega arith; apart = λ z c low fit d. omega arith }
-
   -- up to the highest power of two that is less than what is left
   pub length-first : (k r : ℕ) → r ≡ 2 ^ k → r ≤ leftAt A K u - 1 → leftAt A K u - 1 < 2 ^ suc k → (leftAt A K u ≡ 1 → ⊥) → IsLength A K l u (leftAt A K u - r)
   unfolding slot
@@ -68,11 +60,6 @@ module _ (A K l u : ℕ) where
           (λ t. let m : 2 ^ suc k ≤ 2 ^ n = pow-mono {i = suc k} {j = n} (ltb-true k n t) in absurd (omega arith))
           (λ t. pow-mono {i = n} {j = k} (ltb-false k n t))
           (decide (ltb k n))
-
-  -- a part of a stretch is one
-  pub length-less : (r q : ℕ) → IsLength A K l u r → 0 < q → q ≤ r → IsLength A K l u q
-  length-less r q h some less =
-      record { some = some; within = omega (arith, h .within); apart = λ z c low fit d. omega (arith, h .apart z c low fit d) }
 
   pub decisive-first : placeAt A K l u ≡ 0 → decisive A K l u ≡ leftAt A K u
   unfolding decisive
