@@ -4,44 +4,33 @@ use console_answers::entries;
 use notice::Kind;
 use notice::Notice;
 use notice::Reading;
+use notice::kind_number;
 use rules::MALFORMED;
 use text::output;
-ghost use mathlib.Core.List.{_++_};
+use words::lines::put_line;
 ghost use lib.ListN.{length};
-ghost use Rattle.notice.specs.declared.Kind.the-variants.{Open};
 ghost use Rattle.text.specs.Output.{Written};
 ghost use Rattle.console_answers.specs.Entries.{numbersText};
 ghost use Rattle.console_notices.specs.Reading.{kindText, noticeText, readingText};
+ghost use Rattle.console_notices.specs.inner.Kinds.{kindWord, kindNumbers};
 
-// A word and a row of numbers.
-fn put_event(out: &mut [u8], at: usize, word: &[u8], row: &[u64]) -> usize
-    ensures { λ r. ⌜ Written (now (out .entry)) at
-        (now (word .entry) ++ numbersText (now (row .entry)) (length (now (row .entry)))) (now (out .exit)) r ⌝ }
+// The word of a kind behind a space, each the line of its number, of which 0 is none.
+fn put_word(out: &mut [u8], at: usize, kind: Kind) -> usize
+    ensures { λ r. ⌜ Written (now (out .entry)) at (kindWord kind) (now (out .exit)) r ⌝ }
 {
-    let a = output::put(out, at, word);
-    entries::put_numbers(out, a, row)
+    let words = b"\n\
+        \x20open\n\
+        \x20change\n\
+        \x20close\n\
+        \x20hold\n\
+        \x20lift\n\
+        \x20skip\n";
+    put_line(out, at, words, kind_number(kind))
 }
 
-// An opening on the padded grid, which has the most numbers.
-fn put_open(
-    out: &mut [u8],
-    at: usize,
-    id: u64,
-    time: u64,
-    length: u64,
-    floor: u64,
-    cap: u64,
-    count: u64,
-) -> usize
-    ensures { λ r. ⌜ Written (now (out .entry)) at (kindText id time (Open length floor cap count)) (now (out .exit)) r ⌝ }
-{
-    let row = [id, time, length, floor, cap, count];
-    put_event(out, at, b" open", &row)
-}
-
-// The kind with the numbers of its notice.
-fn put_kind(out: &mut [u8], at: usize, id: u64, time: u64, kind: Kind) -> usize
-    ensures { λ r. ⌜ Written (now (out .entry)) at (kindText id time kind) (now (out .exit)) r ⌝ }
+// The numbers that a kind has of its own.
+fn put_own(out: &mut [u8], at: usize, kind: Kind) -> usize
+    ensures { λ r. ⌜ Written (now (out .entry)) at (numbersText (kindNumbers kind) (length (kindNumbers kind))) (now (out .exit)) r ⌝ }
 {
     match kind {
         Kind::Open {
@@ -49,37 +38,29 @@ fn put_kind(out: &mut [u8], at: usize, id: u64, time: u64, kind: Kind) -> usize
             floor,
             cap,
             count,
-        } => put_open(
-            out,
-            at,
-            id,
-            time,
-            length as u64,
-            floor as u64,
-            cap as u64,
-            count as u64,
-        ),
-        Kind::Change { count } => {
-            let row = [id, time, count as u64];
-            put_event(out, at, b" change", &row)
+        } => {
+            let row = [length as u64, floor as u64, cap as u64, count as u64];
+            entries::put_numbers(out, at, &row)
         }
-        Kind::Close => {
-            let row = [id, time];
-            put_event(out, at, b" close", &row)
-        }
-        Kind::Hold => {
-            let row = [id, time];
-            put_event(out, at, b" hold", &row)
-        }
-        Kind::Lift => {
-            let row = [id, time];
-            put_event(out, at, b" lift", &row)
-        }
+        Kind::Change { count } => entries::put_entry(out, at, count as u64),
         Kind::Skip { length, count } => {
-            let row = [id, time, length as u64, count as u64];
-            put_event(out, at, b" skip", &row)
+            let a = entries::put_entry(out, at, length as u64);
+            entries::put_entry(out, a, count as u64)
         }
+        Kind::Close => at,
+        Kind::Hold => at,
+        Kind::Lift => at,
     }
+}
+
+// The kind with the numbers of its notice.
+fn put_kind(out: &mut [u8], at: usize, id: u64, time: u64, kind: Kind) -> usize
+    ensures { λ r. ⌜ Written (now (out .entry)) at (kindText id time kind) (now (out .exit)) r ⌝ }
+{
+    let a = put_word(out, at, kind);
+    let b = entries::put_entry(out, a, id);
+    let c = entries::put_entry(out, b, time);
+    put_own(out, c, kind)
 }
 
 fn put_notice(out: &mut [u8], at: usize, n: Notice) -> usize
