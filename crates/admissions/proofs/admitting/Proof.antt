@@ -4,12 +4,9 @@ use borrow.Author.Needs.{needs}
 use Rattle.admissions.proofs.admitting.Statement.{statement}
 use Rattle.admissions.proofs.admitting.Tie as tie
 
-also-requires : tie.Need-also-requires
-also-requires c κs = search needs
-
 returns : tie.Need-returns
 unfolding isAdmitting
 returns c = c .also .ensures
 
 pub admitting-spec : {M : Type 1} → statement M
-admitting-spec = tie.close (tie.spec also-requires returns)
+admitting-spec = tie.close (tie.spec (λ c κs. search needs) returns)

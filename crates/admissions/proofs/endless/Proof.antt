@@ -5,15 +5,9 @@ use borrow.Author.Needs.{needs}
 use Rattle.admissions.proofs.endless.Statement.{statement}
 use Rattle.admissions.proofs.endless.Tie as tie
 
-admitting-requires : tie.Need-admitting-requires
-admitting-requires c κs = search needs
-
 stretch-of-requires : tie.Need-stretch-of-requires
 stretch-of-requires c κs =
     c .before .before .before .before .pre .0 (admitting-open _ (sym (c .before .admitting .ensures) ∙ c .if1 .taken))
-
-admit-all-requires : tie.Need-admit-all-requires
-admit-all-requires c κs = search needs
 
 returns : tie.Need-returns
 returns c =
@@ -24,4 +18,4 @@ returns-2 : tie.Need-returns-2
 returns-2 c = not-endless _ _ _ (sym (c .before .admitting .ensures) ∙ c .if1 .left)
 
 pub endless-spec : {M : Type 1} → statement M
-endless-spec = tie.close (tie.spec admitting-requires stretch-of-requires admit-all-requires returns returns-2)
+endless-spec = tie.close (tie.spec (λ c κs. search needs) stretch-of-requires (λ c κs. search needs) returns returns-2)

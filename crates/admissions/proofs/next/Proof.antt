@@ -5,21 +5,6 @@ use borrow.Author.Needs.{needs}
 use Rattle.admissions.proofs.next.Statement.{statement}
 use Rattle.admissions.proofs.next.Tie as tie
 
-later-requires : tie.Need-later-requires
-later-requires c κs = search needs
-
-sub-slots : tie.Need-sub-slots
-sub-slots c = search needs
-
-sub-slots-2 : tie.Need-sub-slots-2
-sub-slots-2 c = search needs
-
-add-slots : tie.Need-add-slots
-add-slots c = search needs
-
-div-slots : tie.Need-div-slots
-div-slots c = search needs
-
 mul-result : tie.Need-mul-result
 mul-result c = record { fits = omega (arith, slots-fit _ _ (c .before .pre .0) (c .before .pre .1) _ (c .later .ensures)) }
 
@@ -36,11 +21,11 @@ pub next-spec : {M : Type 1} → statement M
 next-spec =
     tie.close
     (tie.spec
-    later-requires
-    sub-slots
-    sub-slots-2
-    add-slots
-    div-slots
+    (λ c κs. search needs)
+    (λ c. search needs)
+    (λ c. search needs)
+    (λ c. search needs)
+    (λ c. search needs)
     mul-result
     add-result
     returns)

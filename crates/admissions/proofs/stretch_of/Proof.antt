@@ -6,12 +6,6 @@ use borrow.Author.Needs.{needs}
 use Rattle.admissions.proofs.stretch_of.Statement.{statement}
 use Rattle.admissions.proofs.stretch_of.Tie as tie
 
-slot-requires : tie.Need-slot-requires
-slot-requires c κs = search needs
-
-tick-requires : tie.Need-tick-requires
-tick-requires c κs = search needs
-
 mul-slot : tie.Need-mul-slot
 mul-slot c =
     let slot = c .before .slot .ensures in
@@ -22,4 +16,4 @@ returns : tie.Need-returns
 returns c = stretch-spaced _ _ _ (c .before .before .pre) (c .before .slot .ensures) (c .tick .ensures)
 
 pub stretch-of-spec : {M : Type 1} → statement M
-stretch-of-spec = tie.close (tie.spec slot-requires tick-requires mul-slot returns)
+stretch-of-spec = tie.close (tie.spec (λ c κs. search needs) (λ c κs. search needs) mul-slot returns)

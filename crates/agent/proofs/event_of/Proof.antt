@@ -6,19 +6,10 @@ use borrow.Author.Needs.{needs}
 use Rattle.agent.proofs.event_of.Statement.{statement}
 use Rattle.agent.proofs.event_of.Tie as tie
 
-cast-event-at : tie.Need-cast-event-at
-cast-event-at c = search needs
-
-act-of-requires : tie.Need-act-of-requires
-act-of-requires c κs = search needs
-
-event-at-requires : tie.Need-event-at-requires
-event-at-requires c κs = search needs
-
 returns : tie.Need-returns
 returns c =
     let n = c .before .before .before .args .n in
     c .event-at .ensures ∙ ap (λ (a : Act). event (n .title) (n .time) a) (c .before .act-of .ensures)
 
 pub event-of-spec : {M : Type 1} → statement M
-event-of-spec = tie.close (tie.spec cast-event-at act-of-requires event-at-requires returns)
+event-of-spec = tie.close (tie.spec (λ c. search needs) (λ c κs. search needs) (λ c κs. search needs) returns)

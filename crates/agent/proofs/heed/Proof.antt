@@ -4,18 +4,6 @@ use borrow.Author.Needs.{needs}
 use Rattle.agent.proofs.heed.Statement.{statement}
 use Rattle.agent.proofs.heed.Tie as tie
 
-cast-if1 : tie.Need-cast-if1
-cast-if1 c = search needs
-
-cast-if1-2 : tie.Need-cast-if1-2
-cast-if1-2 c = search needs
-
-add-if1 : tie.Need-add-if1
-add-if1 c = search needs
-
-enact-requires : tie.Need-enact-requires
-enact-requires c κs = search needs
-
 returns : tie.Need-returns
 returns c =
     turn-taken _ _ _ _ (c .before .before .before .before .if1 .taken) (c .before .before .enact .ensures .0) (c .before .before .enact .ensures .1) (c .before .if2 .taken)
@@ -29,4 +17,4 @@ returns-3 c = turn-other _ _ (c .if1 .left)
 
 pub heed-spec : {M : Type 1} → statement M
 heed-spec =
-    tie.close (tie.spec cast-if1 cast-if1-2 add-if1 enact-requires returns returns-2 returns-3)
+    tie.close (tie.spec (λ c. search needs) (λ c. search needs) (λ c. search needs) (λ c κs. search needs) returns returns-2 returns-3)

@@ -5,18 +5,6 @@ use borrow.Author.Needs.{needs}
 use Rattle.agent.proofs.take.Statement.{statement}
 use Rattle.agent.proofs.take.Tie as tie
 
-read-requires : tie.Need-read-requires
-read-requires c κs = search needs
-
-enum-known-read : tie.Need-enum-known-read
-enum-known-read c = search needs
-
-heed-requires : tie.Need-heed-requires
-heed-requires c κs = search needs
-
-enum-told : tie.Need-enum-told
-enum-told c = search needs
-
 returns : tie.Need-returns
 returns c = reads-as _ _ _ _ _ (sym (c .before .before .before .before .read .ensures .is) ∙ c .before .before .read2 .given .1) (c .heed .ensures)
 
@@ -25,4 +13,4 @@ returns-2 c = reads-as _ _ _ _ _ (sym (c .before .before .read .ensures .is) ∙
 
 pub take-spec : {M : Type 1} → statement M
 take-spec =
-    tie.close (tie.spec read-requires enum-known-read heed-requires enum-told returns returns-2)
+    tie.close (tie.spec (λ c κs. search needs) (λ c. search needs) (λ c κs. search needs) (λ c. search needs) returns returns-2)

@@ -5,9 +5,6 @@ use borrow.Author.Needs.{needs}
 use Rattle.airing.proofs.admissions.Statement.{statement}
 use Rattle.airing.proofs.admissions.Tie as tie
 
-in-limits-requires : tie.Need-in-limits-requires
-in-limits-requires c κs = search needs
-
 end-of-requires : tie.Need-end-of-requires
 end-of-requires c κs = sym (c .before .in-limits .ensures) ∙ c .if1 .taken
 
@@ -15,9 +12,6 @@ follow-requires : tie.Need-follow-requires
 follow-requires c κs =
     let at-if1 = c .before .before .before in
     sym (at-if1 .before .in-limits .ensures) ∙ at-if1 .if1 .taken
-
-same-length : tie.Need-same-length
-same-length c = search needs
 
 returns : tie.Need-returns
 returns c =
@@ -40,10 +34,10 @@ pub admissions-spec : {M : Type 1} → statement M
 admissions-spec =
     tie.close
     (tie.spec
-    in-limits-requires
+    (λ c κs. search needs)
     end-of-requires
     follow-requires
-    same-length
+    (λ c. search needs)
     returns
     returns-2
     returns-3)

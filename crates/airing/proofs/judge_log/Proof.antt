@@ -26,12 +26,6 @@ judge-requires c κs =
     let x = start .args in
     judgeable (x .pool) (x .log .now) (x .title) (x .«record» .now) (x .row .now) (start .pre .0) _ _ _ (at-follow .follow .ensures) (at-if1 .if1 .taken) (start .pre .1)
 
-same-length : tie.Need-same-length
-same-length c = search needs
-
-same-length-2 : tie.Need-same-length-2
-same-length-2 c = search needs
-
 returns : tie.Need-returns
 returns c =
     let at-judge = c .before .before in
@@ -42,12 +36,6 @@ returns c =
     let x = start .args in
     air-judged (x .pool) (x .log .now) (x .title) (x .«record» .now) (x .row .now) (start .pre .0) _ _ _ (at-follow .follow .ensures) (at-if1 .if1 .taken) (start .pre .1) _ _ (sym (at-if2 .before .all-cells .ensures) ∙ at-if2 .if2 .taken) (at-judge .judge .ensures)
 
-refused-requires : tie.Need-refused-requires
-refused-requires c κs = search needs
-
-same-length-3 : tie.Need-same-length-3
-same-length-3 c = search needs
-
 returns-2 : tie.Need-returns-2
 returns-2 c =
     let at-if2 = c .before in
@@ -56,12 +44,6 @@ returns-2 c =
     let start = at-follow .before .before .before .before .before .before in
     let x = start .args in
     air-number (x .pool) (x .log .now) (x .title) (x .«record» .now) (x .row .now) (start .pre .0) _ _ _ (at-follow .follow .ensures) (at-if1 .if1 .taken) _ (sym (at-if2 .before .all-cells .ensures) ∙ at-if2 .if2 .left) (c .refused .ensures)
-
-refused-requires-2 : tie.Need-refused-requires-2
-refused-requires-2 c κs = search needs
-
-same-length-4 : tie.Need-same-length-4
-same-length-4 c = search needs
 
 returns-3 : tie.Need-returns-3
 returns-3 c =
@@ -78,12 +60,12 @@ judge-log-spec =
     follow-requires
     all-cells-requires
     judge-requires
-    same-length
-    same-length-2
+    (λ c. search needs)
+    (λ c. search needs)
     returns
-    refused-requires
-    same-length-3
+    (λ c κs. search needs)
+    (λ c. search needs)
     returns-2
-    refused-requires-2
-    same-length-4
+    (λ c κs. search needs)
+    (λ c. search needs)
     returns-3)

@@ -5,18 +5,6 @@ use borrow.Author.Needs.{needs}
 use Rattle.console_desk.proofs.act.Statement.{statement}
 use Rattle.console_desk.proofs.act.Tie as tie
 
-follow-requires : tie.Need-follow-requires
-follow-requires c κs = search needs
-
-put-told-requires : tie.Need-put-told-requires
-put-told-requires c κs = search needs
-
-put-behind-requires : tie.Need-put-behind-requires
-put-behind-requires c κs = search needs
-
-same-length : tie.Need-same-length
-same-length c = search needs
-
 returns : tie.Need-returns
 returns c =
     let at-put-behind = c .before .before in
@@ -32,4 +20,4 @@ returns c =
     }
 
 pub act-spec : {M : Type 1} → statement M
-act-spec = tie.close (tie.spec follow-requires put-told-requires put-behind-requires same-length returns)
+act-spec = tie.close (tie.spec (λ c κs. search needs) (λ c κs. search needs) (λ c κs. search needs) (λ c. search needs) returns)

@@ -5,17 +5,8 @@ use borrow.Author.Needs.{needs}
 use Rattle.console_desk.proofs.answer.Statement.{statement}
 use Rattle.console_desk.proofs.answer.Tie as tie
 
-parse-requires : tie.Need-parse-requires
-parse-requires c κs = search needs
-
-ends-requires : tie.Need-ends-requires
-ends-requires c κs = search needs
-
 reply-requires : tie.Need-reply-requires
 reply-requires c κs = c .before .before .parse .ensures
-
-same-length : tie.Need-same-length
-same-length c = search needs
 
 returns : tie.Need-returns
 returns c =
@@ -25,4 +16,4 @@ returns c =
     (at-reply .reply .ensures, at-ends .ends .ensures ∙ ap isLast (at-parse .parse .ensures))
 
 pub answer-spec : {M : Type 1} → statement M
-answer-spec = tie.close (tie.spec parse-requires ends-requires reply-requires same-length returns)
+answer-spec = tie.close (tie.spec (λ c κs. search needs) (λ c κs. search needs) reply-requires (λ c. search needs) returns)

@@ -9,18 +9,9 @@ returns : tie.Need-returns
 unfolding mayChange
 returns c = rw (eq-eqb _ _ (c .if1 .taken))
 
-cast-within : tie.Need-cast-within
-cast-within c = search needs
-
-cast-within-2 : tie.Need-cast-within-2
-cast-within-2 c = search needs
-
-within-requires : tie.Need-within-requires
-within-requires c κs = search needs
-
 returns-2 : tie.Need-returns-2
 unfolding mayChange
 returns-2 c = rw (ne-eqb _ _ (c .before .if1 .left)) (c .within .ensures)
 
 pub may-change-spec : {M : Type 1} → statement M
-may-change-spec = tie.close (tie.spec returns cast-within cast-within-2 within-requires returns-2)
+may-change-spec = tie.close (tie.spec returns (λ c. search needs) (λ c. search needs) (λ c κs. search needs) returns-2)

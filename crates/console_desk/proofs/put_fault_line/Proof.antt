@@ -5,18 +5,6 @@ use borrow.Author.Needs.{needs}
 use Rattle.console_desk.proofs.put_fault_line.Statement.{statement}
 use Rattle.console_desk.proofs.put_fault_line.Tie as tie
 
-put-fault-requires : tie.Need-put-fault-requires
-put-fault-requires c κs = search needs
-
-slice-aggregate-put : tie.Need-slice-aggregate-put
-slice-aggregate-put c = search needs
-
-put-requires : tie.Need-put-requires
-put-requires c κs = search needs
-
-same-length : tie.Need-same-length
-same-length c = search needs
-
 returns : tie.Need-returns
 returns c =
     let at-put = c .before .before in
@@ -27,4 +15,4 @@ returns c =
 pub put-fault-line-spec : {M : Type 1} → statement M
 put-fault-line-spec =
     tie.close
-    (tie.spec put-fault-requires slice-aggregate-put put-requires same-length returns)
+    (tie.spec (λ c κs. search needs) (λ c. search needs) (λ c κs. search needs) (λ c. search needs) returns)

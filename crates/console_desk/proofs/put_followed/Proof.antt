@@ -4,15 +4,6 @@ use borrow.Author.Needs.{needs}
 use Rattle.console_desk.proofs.put_followed.Statement.{statement}
 use Rattle.console_desk.proofs.put_followed.Tie as tie
 
-held-requires : tie.Need-held-requires
-held-requires c κs = search needs
-
-put-value-requires : tie.Need-put-value-requires
-put-value-requires c κs = search needs
-
-same-length : tie.Need-same-length
-same-length c = search needs
-
 returns : tie.Need-returns
 unfolding followedText
 returns c = rw (← c .before .before .before .before .held .ensures .1) (c .before .before .put-value .ensures)
@@ -20,4 +11,4 @@ returns c = rw (← c .before .before .before .before .held .ensures .1) (c .bef
 pub put-followed-spec : {M : Type 1} → statement M
 put-followed-spec =
     tie.close
-    (tie.spec held-requires put-value-requires same-length returns)
+    (tie.spec (λ c κs. search needs) (λ c κs. search needs) (λ c. search needs) returns)

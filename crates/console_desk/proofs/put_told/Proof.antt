@@ -5,12 +5,6 @@ use borrow.Author.Needs.{needs}
 use Rattle.console_desk.proofs.put_told.Statement.{statement}
 use Rattle.console_desk.proofs.put_told.Tie as tie
 
-put-done-requires : tie.Need-put-done-requires
-put-done-requires c κs = search needs
-
-same-length : tie.Need-same-length
-same-length c = search needs
-
 returns : tie.Need-returns
 returns c =
     let at-put-done = c .before .before in
@@ -18,15 +12,6 @@ returns c =
     let x = at-if1 .before .before .before .args in
     tells-fresh (x .line) (x .s .now) (page (x .out .now) (x .at)) _ (x .agent) (x .next) (x .answer) (at-if1 .if1 .taken)
     (at-put-done .put-done .ensures)
-
-by-line-requires : tie.Need-by-line-requires
-by-line-requires c κs = search needs
-
-put-followed-requires : tie.Need-put-followed-requires
-put-followed-requires c κs = search needs
-
-same-length-2 : tie.Need-same-length-2
-same-length-2 c = search needs
 
 returns-2 : tie.Need-returns-2
 returns-2 c =
@@ -41,10 +26,10 @@ pub put-told-spec : {M : Type 1} → statement M
 put-told-spec =
     tie.close
     (tie.spec
-    put-done-requires
-    same-length
+    (λ c κs. search needs)
+    (λ c. search needs)
     returns
-    by-line-requires
-    put-followed-requires
-    same-length-2
+    (λ c κs. search needs)
+    (λ c κs. search needs)
+    (λ c. search needs)
     returns-2)

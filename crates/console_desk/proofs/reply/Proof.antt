@@ -14,9 +14,6 @@ whole-requires c κs =
     let at-start = at-if1 .before .before .before in
     readable (at-start .args .s .now) (sym (ap (λ (l : Line). l .fault) (at-start .pre)) ∙ at-if1 .if1 .taken)
 
-same-length : tie.Need-same-length
-same-length c = search needs
-
 returns : tie.Need-returns
 returns c =
     let at-whole = c .before .before in
@@ -25,12 +22,6 @@ returns c =
     let x = at-start .args in
     it-is-whole (x .agent) (x .s .now) (x .line) (at-start .pre) (page (x .out .now) (x .at)) (at-if1 .if1 .taken) _ _
     (at-whole .whole .ensures)
-
-put-fault-line-requires : tie.Need-put-fault-line-requires
-put-fault-line-requires c κs = search needs
-
-same-length-2 : tie.Need-same-length-2
-same-length-2 c = search needs
 
 returns-2 : tie.Need-returns-2
 returns-2 c =
@@ -46,8 +37,8 @@ reply-spec =
     tie.close
     (tie.spec
     whole-requires
-    same-length
+    (λ c. search needs)
     returns
-    put-fault-line-requires
-    same-length-2
+    (λ c κs. search needs)
+    (λ c. search needs)
     returns-2)

@@ -5,29 +5,11 @@ use borrow.Author.Needs.{needs}
 use Rattle.console_desk.proofs.whole.Statement.{statement}
 use Rattle.console_desk.proofs.whole.Tie as tie
 
-is-silent-requires : tie.Need-is-silent-requires
-is-silent-requires c κs = search needs
-
 returns : tie.Need-returns
 returns c =
     let at-is-silent = c .before in
     let x = at-is-silent .before .before .before .args in
     asks-nothing (x .agent) (x .line) (x .s .now) (page (x .out .now) (x .at)) _ (at-is-silent .is-silent .ensures) (c .if1 .taken)
-
-may-change-requires : tie.Need-may-change-requires
-may-change-requires c κs = search needs
-
-act-requires : tie.Need-act-requires
-act-requires c κs = search needs
-
-slice-aggregate-put : tie.Need-slice-aggregate-put
-slice-aggregate-put c = search needs
-
-put-requires : tie.Need-put-requires
-put-requires c κs = search needs
-
-same-length : tie.Need-same-length
-same-length c = search needs
 
 returns-2 : tie.Need-returns-2
 returns-2 c =
@@ -42,18 +24,6 @@ returns-2 c =
     let p = page (x .out .now) (x .at) in
     it-acts (x .agent) (x .line) (x .s .now) p _ (at-is-silent .is-silent .ensures) (at-if1 .if1 .left) _ (at-may-change .may-change .ensures) _ _ _
     (at-if2 .if2 .taken) (at-act .act .ensures) (at-put .put .ensures)
-
-ask-requires : tie.Need-ask-requires
-ask-requires c κs = search needs
-
-slice-aggregate-put-2 : tie.Need-slice-aggregate-put-2
-slice-aggregate-put-2 c = search needs
-
-put-requires-2 : tie.Need-put-requires-2
-put-requires-2 c κs = search needs
-
-same-length-2 : tie.Need-same-length-2
-same-length-2 c = search needs
 
 returns-3 : tie.Need-returns-3
 returns-3 c =
@@ -73,16 +43,16 @@ pub whole-spec : {M : Type 1} → statement M
 whole-spec =
     tie.close
     (tie.spec
-    is-silent-requires
+    (λ c κs. search needs)
     returns
-    may-change-requires
-    act-requires
-    slice-aggregate-put
-    put-requires
-    same-length
+    (λ c κs. search needs)
+    (λ c κs. search needs)
+    (λ c. search needs)
+    (λ c κs. search needs)
+    (λ c. search needs)
     returns-2
-    ask-requires
-    slice-aggregate-put-2
-    put-requires-2
-    same-length-2
+    (λ c κs. search needs)
+    (λ c. search needs)
+    (λ c κs. search needs)
+    (λ c. search needs)
     returns-3)

@@ -59,9 +59,6 @@ same-length c =
     let at-loop = c .before in
     same-room _ _ (at-loop .loop .inv .written) refl
 
-same-length-2 : tie.Need-same-length-2 Inv-loop μ-loop
-same-length-2 c = search needs
-
 returns : tie.Need-returns Inv-loop μ-loop
 returns c =
     let at-loop = c .before in
@@ -80,5 +77,5 @@ put-curve-spec =
     loop-less
     loop-again
     same-length
-    same-length-2
+    (λ c. search needs)
     returns)

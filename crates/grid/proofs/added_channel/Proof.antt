@@ -7,27 +7,9 @@ use borrow.Author.Needs.{needs}
 use Rattle.grid.proofs.added_channel.Statement.{statement}
 use Rattle.grid.proofs.added_channel.Tie as tie
 
-add-count : tie.Need-add-count
-add-count c = search needs
-
-slot-requires : tie.Need-slot-requires
-slot-requires c κs = search needs
-
-div-j : tie.Need-div-j
-div-j c = search needs
-
 add-apart : tie.Need-add-apart
 add-apart c =
     record { fits = omega (arith, div-le-self (c .before .args .tick) (c .slot .result), c .before .pre .1 .1) }
-
-shift-requires : tie.Need-shift-requires
-shift-requires c κs = search needs
-
-apart-requires : tie.Need-apart-requires
-apart-requires c κs = search needs
-
-low-zeros-requires : tie.Need-low-zeros-requires
-low-zeros-requires c κs = search needs
 
 returns : tie.Need-returns
 returns c =
@@ -43,11 +25,11 @@ pub added-channel-spec : {M : Type 1} → statement M
 added-channel-spec =
     tie.close
     (tie.spec
-    add-count
-    slot-requires
-    div-j
+    (λ c. search needs)
+    (λ c κs. search needs)
+    (λ c. search needs)
     add-apart
-    shift-requires
-    apart-requires
-    low-zeros-requires
+    (λ c κs. search needs)
+    (λ c κs. search needs)
+    (λ c κs. search needs)
     returns)

@@ -11,12 +11,6 @@ use borrow.Author.Needs.{needs}
 use Rattle.grid.proofs.carrier.Statement.{statement}
 use Rattle.grid.proofs.carrier.Tie as tie
 
-slot-requires : tie.Need-slot-requires
-slot-requires c κs = search needs
-
-div-result : tie.Need-div-result
-div-result c = search needs
-
 add-result : tie.Need-add-result
 add-result c =
     let room : 2 ^ c .before .args .cap ≤ 2 ^ countMax = pow-mono (c .before .pre .0 .high) in
@@ -42,4 +36,4 @@ returns c = record { low = rw (← c .slot .ensures .is) (top c .low); high = rw
 
 pub carrier-spec : {M : Type 1} → statement M
 carrier-spec =
-    tie.close (tie.spec slot-requires div-result add-result cast-result sub-result returns)
+    tie.close (tie.spec (λ c κs. search needs) (λ c. search needs) add-result cast-result sub-result returns)

@@ -10,28 +10,10 @@ use Rattle.grid.proofs.Channels.{cell-parts}
 use Rattle.grid.proofs.channel_cell.Statement.{statement}
 use Rattle.grid.proofs.channel_cell.Tie as tie
 
-slot-requires : tie.Need-slot-requires
-slot-requires c κs = search needs
-
-pow2-requires : tie.Need-pow2-requires
-pow2-requires c κs = search needs
-
-div-place : tie.Need-div-place
-div-place c = search needs
-
 place-requires : tie.Need-place-requires
 place-requires c κs =
     let p = c .before .before .pre in
     ((p .0 .floor, omega (arith, p .0 .fit, p .0 .high)), (omega (arith, p .1 .0), omega (arith, div-le-self (c .before .before .args .tick) (c .before .slot .result), p .1 .1)))
-
-add-segment : tie.Need-add-segment
-add-segment c = search needs
-
-sub-result : tie.Need-sub-result
-sub-result c = search needs
-
-rem-result : tie.Need-rem-result
-rem-result c = search needs
 
 returns : tie.Need-returns
 returns c =
@@ -54,13 +36,13 @@ pub channel-cell-spec : {M : Type 1} → statement M
 channel-cell-spec =
     tie.close
     (tie.spec
-    slot-requires
-    pow2-requires
-    div-place
+    (λ c κs. search needs)
+    (λ c κs. search needs)
+    (λ c. search needs)
     place-requires
-    add-segment
-    sub-result
+    (λ c. search needs)
+    (λ c. search needs)
     mul-result
-    rem-result
+    (λ c. search needs)
     add-result
     returns)

@@ -21,9 +21,6 @@ cast-n c =
     let b = below x (c .before .fits .x) (c .if1 .taken) in
     cast-of _ (b .0) (flipped-read x (b .0) (c .before .fits .x) (b .1)) (b .1 .small)
 
-rem-from-below : tie.Need-rem-from-below
-rem-from-below c = search needs
-
 from-below-requires : tie.Need-from-below-requires
 from-below-requires c κs = mod-lt _ (c .before .pre)
 
@@ -32,9 +29,6 @@ cast-result c =
     let x = c .before .args .x in
     let b = above x (c .before .fits .x) (c .if1 .left) in
     cast-of _ (b .0) (toZ-ofZ w64 x (c .before .fits .x) ∙ b .1 .is) (b .1 .small)
-
-rem-result : tie.Need-rem-result
-rem-result c = search needs
 
 returns : tie.Need-returns
 returns c =
@@ -55,9 +49,9 @@ floor-rem-spec =
     (tie.spec
     sub-n
     cast-n
-    rem-from-below
+    (λ c. search needs)
     from-below-requires
     cast-result
-    rem-result
+    (λ c. search needs)
     returns
     returns-2)

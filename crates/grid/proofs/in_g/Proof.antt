@@ -8,16 +8,10 @@ use borrow.Author.Needs.{needs}
 use Rattle.grid.proofs.in_g.Statement.{statement}
 use Rattle.grid.proofs.in_g.Tie as tie
 
-pow2-requires : tie.Need-pow2-requires
-pow2-requires c κs = search needs
-
 returns : tie.Need-returns
 returns c =
     let s = c .before .before in
     sym (in-cells _ _ _ _ _ (s .pre .0 .fit) (omega (arith, c .if1 .taken, c .before .pow2 .ensures .is)))
-
-carrier-requires : tie.Need-carrier-requires
-carrier-requires c κs = search needs
 
 returns-2 : tie.Need-returns-2
 returns-2 c =
@@ -25,9 +19,6 @@ returns-2 c =
     let d = c .before .carrier in
     sym (in-carried (a .floor) (a .cap) (a .count) (a .tick) (a .cell) (d .result) (d .ensures)
     ∙ rw (le-ltb _ _ (c .if2 .taken)) refl)
-
-channel-cell-requires : tie.Need-channel-cell-requires
-channel-cell-requires c κs = search needs
 
 returns-3 : tie.Need-returns-3
 returns-3 c =
@@ -40,4 +31,4 @@ returns-3 c =
 pub in-g-spec : {M : Type 1} → statement M
 in-g-spec =
     tie.close
-    (tie.spec pow2-requires returns carrier-requires returns-2 channel-cell-requires returns-3)
+    (tie.spec (λ c κs. search needs) returns (λ c κs. search needs) returns-2 (λ c κs. search needs) returns-3)

@@ -9,9 +9,6 @@ use borrow.Author.Needs.{needs}
 use Rattle.grid.proofs.lane_cell.Statement.{statement}
 use Rattle.grid.proofs.lane_cell.Tie as tie
 
-channel-cell-requires : tie.Need-channel-cell-requires
-channel-cell-requires c κs = search needs
-
 returns : tie.Need-returns
 returns c =
     let a = c .before .before .args in
@@ -19,15 +16,6 @@ returns c =
       is = c .channel-cell .ensures .is ∙ sym (lane-channel (a .floor) (a .cap) (a .lane) (a .tick) (c .before .if1 .taken));
       within = c .channel-cell .ensures .within;
     }
-
-add-channel-cell : tie.Need-add-channel-cell
-add-channel-cell c = search needs
-
-added-channel-requires : tie.Need-added-channel-requires
-added-channel-requires c κs = search needs
-
-channel-cell-requires-2 : tie.Need-channel-cell-requires-2
-channel-cell-requires-2 c κs = search needs
 
 returns-2 : tie.Need-returns-2
 returns-2 c =
@@ -45,9 +33,9 @@ pub lane-cell-spec : {M : Type 1} → statement M
 lane-cell-spec =
     tie.close
     (tie.spec
-    channel-cell-requires
+    (λ c κs. search needs)
     returns
-    add-channel-cell
-    added-channel-requires
-    channel-cell-requires-2
+    (λ c. search needs)
+    (λ c κs. search needs)
+    (λ c κs. search needs)
     returns-2)

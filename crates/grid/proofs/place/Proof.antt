@@ -6,18 +6,6 @@ use borrow.Author.Needs.{needs}
 use Rattle.grid.proofs.place.Statement.{statement}
 use Rattle.grid.proofs.place.Tie as tie
 
-shift-requires : tie.Need-shift-requires
-shift-requires c κs = search needs
-
-slot-difference-requires : tie.Need-slot-difference-requires
-slot-difference-requires c κs = search needs
-
-pow2-requires : tie.Need-pow2-requires
-pow2-requires c κs = search needs
-
-floor-rem-requires : tie.Need-floor-rem-requires
-floor-rem-requires c κs = search needs
-
 returns : tie.Need-returns
 returns c =
     let s = c .before .before .before .before in
@@ -32,4 +20,4 @@ returns c =
 pub place-spec : {M : Type 1} → statement M
 place-spec =
     tie.close
-    (tie.spec shift-requires slot-difference-requires pow2-requires floor-rem-requires returns)
+    (tie.spec (λ c κs. search needs) (λ c κs. search needs) (λ c κs. search needs) (λ c κs. search needs) returns)

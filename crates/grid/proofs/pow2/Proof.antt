@@ -5,11 +5,8 @@ use Rattle.grid.proofs.Bounds.{small-power}
 use Rattle.grid.proofs.pow2.Statement.{statement}
 use Rattle.grid.proofs.pow2.Tie as tie
 
-shl-result : tie.Need-shl-result
-shl-result c = search needs
-
 returns : tie.Need-returns
 returns c = small-power (c .args .n) (c .pre)
 
 pub pow2-spec : {M : Type 1} → statement M
-pow2-spec = tie.close (tie.spec shl-result returns)
+pow2-spec = tie.close (tie.spec (λ c. search needs) returns)

@@ -7,15 +7,6 @@ use borrow.Author.Needs.{needs}
 use Rattle.grid.proofs.shift.Statement.{statement}
 use Rattle.grid.proofs.shift.Tie as tie
 
-sub-pow2 : tie.Need-sub-pow2
-sub-pow2 c = search needs
-
-pow2-requires : tie.Need-pow2-requires
-pow2-requires c κs = search needs
-
-sub-result : tie.Need-sub-result
-sub-result c = search needs
-
 returns : tie.Need-returns
 unfolding shift
 returns c =
@@ -26,4 +17,4 @@ returns c =
     }
 
 pub shift-spec : {M : Type 1} → statement M
-shift-spec = tie.close (tie.spec sub-pow2 pow2-requires sub-result returns)
+shift-spec = tie.close (tie.spec (λ c. search needs) (λ c κs. search needs) (λ c. search needs) returns)

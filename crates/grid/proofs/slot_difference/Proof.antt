@@ -5,12 +5,6 @@ use Rattle.grid.proofs.Signed.{diff-fits, diff-read}
 use Rattle.grid.proofs.slot_difference.Statement.{statement}
 use Rattle.grid.proofs.slot_difference.Tie as tie
 
-cast-result : tie.Need-cast-result
-cast-result c = search needs
-
-cast-result-2 : tie.Need-cast-result-2
-cast-result-2 c = search needs
-
 sub-result : tie.Need-sub-result
 sub-result c = diff-fits (c .args .j) (c .args .s) (c .pre .0) (c .pre .1)
 
@@ -18,4 +12,4 @@ returns : tie.Need-returns
 returns c = diff-read (c .args .j) (c .args .s) (c .pre .0) (c .pre .1)
 
 pub slot-difference-spec : {M : Type 1} → statement M
-slot-difference-spec = tie.close (tie.spec cast-result cast-result-2 sub-result returns)
+slot-difference-spec = tie.close (tie.spec (λ c. search needs) (λ c. search needs) sub-result returns)

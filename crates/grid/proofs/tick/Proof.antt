@@ -6,23 +6,11 @@ use Rattle.grid.proofs.Ticks.{held-pos, tick-exactly}
 use Rattle.grid.proofs.tick.Statement.{statement}
 use Rattle.grid.proofs.tick.Tie as tie
 
-pow2-requires : tie.Need-pow2-requires
-pow2-requires c κs = search needs
-
-sub-pow2 : tie.Need-sub-pow2
-sub-pow2 c = search needs
-
-pow2-requires-2 : tie.Need-pow2-requires-2
-pow2-requires-2 c κs = search needs
-
 sub-held : tie.Need-sub-held
 sub-held c = omega (arith, c .pow22 .ensures .is, c .before .pow2 .ensures .is, held-pos (c .before .before .args .floor) (c .before .before .args .cap) (c .before .before .pre .1 .low) (c .before .before .pre .1 .fit))
 
 sub-result : tie.Need-sub-result
 sub-result c = omega (arith, c .pow22 .ensures .is, c .before .pow2 .ensures .is, held-pos (c .before .before .args .floor) (c .before .before .args .cap) (c .before .before .pre .1 .low) (c .before .before .pre .1 .fit))
-
-add-result : tie.Need-add-result
-add-result c = search needs
 
 div-result : tie.Need-div-result
 div-result c = omega (arith, c .pow22 .ensures .is, c .before .pow2 .ensures .is, held-pos (c .before .before .args .floor) (c .before .before .args .cap) (c .before .before .pre .1 .low) (c .before .before .pre .1 .fit))
@@ -37,11 +25,11 @@ pub tick-spec : {M : Type 1} → statement M
 tick-spec =
     tie.close
     (tie.spec
-    pow2-requires
-    sub-pow2
-    pow2-requires-2
+    (λ c κs. search needs)
+    (λ c. search needs)
+    (λ c κs. search needs)
     sub-held
     sub-result
-    add-result
+    (λ c. search needs)
     div-result
     returns)

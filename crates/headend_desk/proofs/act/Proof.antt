@@ -5,30 +5,6 @@ use borrow.Author.Needs.{needs}
 use Rattle.headend_desk.proofs.act.Statement.{statement}
 use Rattle.headend_desk.proofs.act.Tie as tie
 
-event-in-requires : tie.Need-event-in-requires
-event-in-requires c κs = search needs
-
-take-requires : tie.Need-take-requires
-take-requires c κs = search needs
-
-put-event-requires : tie.Need-put-event-requires
-put-event-requires c κs = search needs
-
-notice-with-requires : tie.Need-notice-with-requires
-notice-with-requires c κs = search needs
-
-keep-requires : tie.Need-keep-requires
-keep-requires c κs = search needs
-
-same-length : tie.Need-same-length
-same-length c = search needs
-
-same-length-2 : tie.Need-same-length-2
-same-length-2 c = search needs
-
-same-length-3 : tie.Need-same-length-3
-same-length-3 c = search needs
-
 returns : tie.Need-returns
 returns c =
     let at-keep = c .before .before .before .before in
@@ -54,9 +30,6 @@ returns c =
       summed = acts-sum g (x .line) (x .s .now) _ is _ _ taken done _ made (page (x .sums .now) (x .desk .summed)) _ (kept .1);
     }
 
-same-length-4 : tie.Need-same-length-4
-same-length-4 c = search needs
-
 returns-2 : tie.Need-returns-2
 returns-2 c =
     let at-put-event = c .before .before .before in
@@ -79,14 +52,14 @@ pub act-spec : {M : Type 1} → statement M
 act-spec =
     tie.close
     (tie.spec
-    event-in-requires
-    take-requires
-    put-event-requires
-    notice-with-requires
-    keep-requires
-    same-length
-    same-length-2
-    same-length-3
+    (λ c κs. search needs)
+    (λ c κs. search needs)
+    (λ c κs. search needs)
+    (λ c κs. search needs)
+    (λ c κs. search needs)
+    (λ c. search needs)
+    (λ c. search needs)
+    (λ c. search needs)
     returns
-    same-length-4
+    (λ c. search needs)
     returns-2)

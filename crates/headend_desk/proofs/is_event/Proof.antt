@@ -5,18 +5,6 @@ use borrow.Author.Needs.{needs}
 use Rattle.headend_desk.proofs.is_event.Statement.{statement}
 use Rattle.headend_desk.proofs.is_event.Tie as tie
 
-cast-within : tie.Need-cast-within
-cast-within c = search needs
-
-cast-within-2 : tie.Need-cast-within-2
-cast-within-2 c = search needs
-
-cast-within-3 : tie.Need-cast-within-3
-cast-within-3 c = search needs
-
-within-requires : tie.Need-within-requires
-within-requires c κs = search needs
-
 returns : tie.Need-returns
 returns c = rw (eq-eqb _ _ (c .before .if1 .taken)) (c .within .ensures)
 
@@ -25,4 +13,4 @@ returns-2 c = rw (ne-eqb _ _ (c .if1 .left)) refl
 
 pub is-event-spec : {M : Type 1} → statement M
 is-event-spec =
-    tie.close (tie.spec cast-within cast-within-2 cast-within-3 within-requires returns returns-2)
+    tie.close (tie.spec (λ c. search needs) (λ c. search needs) (λ c. search needs) (λ c κs. search needs) returns returns-2)

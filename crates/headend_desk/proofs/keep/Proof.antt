@@ -7,15 +7,6 @@ use borrow.Author.Needs.{needs}
 use Rattle.headend_desk.proofs.keep.Statement.{statement}
 use Rattle.headend_desk.proofs.keep.Tie as tie
 
-slice-aggregate-write : tie.Need-slice-aggregate-write
-slice-aggregate-write c = search needs
-
-write-requires : tie.Need-write-requires
-write-requires c κs = search needs
-
-size-requires : tie.Need-size-requires
-size-requires c κs = search needs
-
 array-share-prefix-room : tie.Need-array-share-prefix-room
 array-share-prefix-room c =
     omega (arith, none-longer (c .before .before .before .before .before .before .before .args .n), open-length, c .before .size .ensures)
@@ -27,9 +18,6 @@ slice-aggregate-put c =
     let at-start = at-write .before .before .before .before in
     counted (at-start .args .n) _ _ _ _ (at-write .write .ensures) (sym open-length) (at-size .size .ensures)
 
-put-requires : tie.Need-put-requires
-put-requires c κs = search needs
-
 array-share-prefix-room-2 : tie.Need-array-share-prefix-room-2
 array-share-prefix-room-2 c =
     omega (arith, none-longer (c .before .before .before .before .before .before .before .before .before .before .before .before .args .n), open-length, c .before .before .before .before .before .before .size .ensures)
@@ -40,15 +28,6 @@ slice-aggregate-put-sum c =
     let at-write = at-size .before .before in
     let at-start = at-write .before .before .before .before in
     counted (at-start .args .n) _ _ _ _ (at-write .write .ensures) (sym open-length) (at-size .size .ensures)
-
-put-sum-requires : tie.Need-put-sum-requires
-put-sum-requires c κs = search needs
-
-same-length : tie.Need-same-length
-same-length c = search needs
-
-same-length-2 : tie.Need-same-length-2
-same-length-2 c = search needs
 
 returns : tie.Need-returns
 returns c =
@@ -64,15 +43,15 @@ pub keep-spec : {M : Type 1} → statement M
 keep-spec =
     tie.close
     (tie.spec
-    slice-aggregate-write
-    write-requires
-    size-requires
+    (λ c. search needs)
+    (λ c κs. search needs)
+    (λ c κs. search needs)
     array-share-prefix-room
     slice-aggregate-put
-    put-requires
+    (λ c κs. search needs)
     array-share-prefix-room-2
     slice-aggregate-put-sum
-    put-sum-requires
-    same-length
-    same-length-2
+    (λ c κs. search needs)
+    (λ c. search needs)
+    (λ c. search needs)
     returns)

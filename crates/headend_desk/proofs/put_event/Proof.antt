@@ -5,24 +5,6 @@ use borrow.Author.Needs.{needs}
 use Rattle.headend_desk.proofs.put_event.Statement.{statement}
 use Rattle.headend_desk.proofs.put_event.Tie as tie
 
-by-line-requires : tie.Need-by-line-requires
-by-line-requires c κs = search needs
-
-put-taken-requires : tie.Need-put-taken-requires
-put-taken-requires c κs = search needs
-
-put-behind-requires : tie.Need-put-behind-requires
-put-behind-requires c κs = search needs
-
-slice-aggregate-put : tie.Need-slice-aggregate-put
-slice-aggregate-put c = search needs
-
-put-requires : tie.Need-put-requires
-put-requires c κs = search needs
-
-same-length : tie.Need-same-length
-same-length c = search needs
-
 returns : tie.Need-returns
 returns c =
     let at-put = c .before .before in
@@ -37,10 +19,10 @@ pub put-event-spec : {M : Type 1} → statement M
 put-event-spec =
     tie.close
     (tie.spec
-    by-line-requires
-    put-taken-requires
-    put-behind-requires
-    slice-aggregate-put
-    put-requires
-    same-length
+    (λ c κs. search needs)
+    (λ c κs. search needs)
+    (λ c κs. search needs)
+    (λ c. search needs)
+    (λ c κs. search needs)
+    (λ c. search needs)
     returns)

@@ -5,18 +5,6 @@ use borrow.Author.Needs.{needs}
 use Rattle.headend_desk.proofs.put_other.Statement.{statement}
 use Rattle.headend_desk.proofs.put_other.Tie as tie
 
-is-apart-requires : tie.Need-is-apart-requires
-is-apart-requires c κs = search needs
-
-run-end-requires : tie.Need-run-end-requires
-run-end-requires c κs = search needs
-
-put-fault-line-requires : tie.Need-put-fault-line-requires
-put-fault-line-requires c κs = search needs
-
-same-length : tie.Need-same-length
-same-length c = search needs
-
 returns : tie.Need-returns
 returns c =
     let at-put-fault-line = c .before .before in
@@ -30,9 +18,6 @@ returns c =
 
 reply-requires : tie.Need-reply-requires
 reply-requires c κs = c .before .before .before .before .before .pre
-
-same-length-2 : tie.Need-same-length-2
-same-length-2 c = search needs
 
 returns-2 : tie.Need-returns-2
 returns-2 c =
@@ -48,11 +33,11 @@ pub put-other-spec : {M : Type 1} → statement M
 put-other-spec =
     tie.close
     (tie.spec
-    is-apart-requires
-    run-end-requires
-    put-fault-line-requires
-    same-length
+    (λ c κs. search needs)
+    (λ c κs. search needs)
+    (λ c κs. search needs)
+    (λ c. search needs)
     returns
     reply-requires
-    same-length-2
+    (λ c. search needs)
     returns-2)

@@ -5,18 +5,6 @@ use borrow.Author.Needs.{needs}
 use Rattle.headend_desk.proofs.put_taken.Statement.{statement}
 use Rattle.headend_desk.proofs.put_taken.Tie as tie
 
-put-followed-requires : tie.Need-put-followed-requires
-put-followed-requires c κs = search needs
-
-cast-put-entry : tie.Need-cast-put-entry
-cast-put-entry c = search needs
-
-put-entry-requires : tie.Need-put-entry-requires
-put-entry-requires c κs = search needs
-
-same-length : tie.Need-same-length
-same-length c = search needs
-
 returns : tie.Need-returns
 returns c =
     let at-put-entry = c .before .before in
@@ -26,9 +14,6 @@ returns c =
     let x = at-start .args in
     tells-taken (page (x .out .now) (x .at)) _ (x .answer) (x .after) (x .named) (at-put-followed .put-followed .ensures) (at-if1 .if1 .taken) _
     (at-put-entry .put-entry .ensures)
-
-same-length-2 : tie.Need-same-length-2
-same-length-2 c = search needs
 
 returns-2 : tie.Need-returns-2
 returns-2 c =
@@ -41,10 +26,10 @@ pub put-taken-spec : {M : Type 1} → statement M
 put-taken-spec =
     tie.close
     (tie.spec
-    put-followed-requires
-    cast-put-entry
-    put-entry-requires
-    same-length
+    (λ c κs. search needs)
+    (λ c. search needs)
+    (λ c κs. search needs)
+    (λ c. search needs)
     returns
-    same-length-2
+    (λ c. search needs)
     returns-2)

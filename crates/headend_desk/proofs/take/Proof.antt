@@ -4,12 +4,6 @@ use borrow.Author.Needs.{needs}
 use Rattle.headend_desk.proofs.take.Statement.{statement}
 use Rattle.headend_desk.proofs.take.Tie as tie
 
-call-requires : tie.Need-call-requires
-call-requires c κs = search needs
-
-add-t11 : tie.Need-add-t11
-add-t11 c = search needs
-
 returns : tie.Need-returns
 returns c =
     let at-if2 = c .before in
@@ -25,4 +19,4 @@ returns-3 : tie.Need-returns-3
 returns-3 c = takes-refused _ _ _ (c .before .call .ensures .0) (c .if1 .left)
 
 pub take-spec : {M : Type 1} → statement M
-take-spec = tie.close (tie.spec call-requires add-t11 returns returns-2 returns-3)
+take-spec = tie.close (tie.spec (λ c κs. search needs) (λ c. search needs) returns returns-2 returns-3)

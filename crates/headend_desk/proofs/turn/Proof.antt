@@ -4,24 +4,12 @@ use borrow.Author.Needs.{needs}
 use Rattle.headend_desk.proofs.turn.Statement.{statement}
 use Rattle.headend_desk.proofs.turn.Tie as tie
 
-is-event-requires : tie.Need-is-event-requires
-is-event-requires c κs = search needs
-
 act-requires : tie.Need-act-requires
 act-requires c κs =
     let at-if1 = c .before .before .before in
     let at-is-event = at-if1 .before in
     let at-start = at-is-event .before .before .before .before .before in
     event-readable (at-start .args .s .now) _ (at-start .pre) _ (at-is-event .is-event .ensures) (at-if1 .if1 .taken)
-
-same-length : tie.Need-same-length
-same-length c = search needs
-
-same-length-2 : tie.Need-same-length-2
-same-length-2 c = search needs
-
-same-length-3 : tie.Need-same-length-3
-same-length-3 c = search needs
 
 returns : tie.Need-returns
 returns c =
@@ -32,12 +20,6 @@ returns c =
     let x = at-start .args in
     says-event (x .s .now) _ (at-start .pre) _ (at-is-event .is-event .ensures) (x .desk) (x .out .now) (x .notices .now) (x .sums .now)
     (at-if1 .if1 .taken) _ _ _ _ (at-act .act .ensures)
-
-put-other-requires : tie.Need-put-other-requires
-put-other-requires c κs = search needs
-
-same-length-4 : tie.Need-same-length-4
-same-length-4 c = search needs
 
 returns-2 : tie.Need-returns-2
 returns-2 c =
@@ -53,12 +35,12 @@ pub turn-spec : {M : Type 1} → statement M
 turn-spec =
     tie.close
     (tie.spec
-    is-event-requires
+    (λ c κs. search needs)
     act-requires
-    same-length
-    same-length-2
-    same-length-3
+    (λ c. search needs)
+    (λ c. search needs)
+    (λ c. search needs)
     returns
-    put-other-requires
-    same-length-4
+    (λ c κs. search needs)
+    (λ c. search needs)
     returns-2)

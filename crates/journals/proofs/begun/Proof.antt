@@ -4,9 +4,6 @@ use borrow.Author.Needs.{needs}
 use Rattle.journals.proofs.begun.Statement.{statement}
 use Rattle.journals.proofs.begun.Tie as tie
 
-also-requires : tie.Need-also-requires
-also-requires c κs = search needs
-
 returns : tie.Need-returns
 returns c = rw (sym (c .before .also .ensures) ∙ c .if1 .taken)
 
@@ -14,4 +11,4 @@ returns-2 : tie.Need-returns-2
 returns-2 c = rw (sym (c .before .also .ensures) ∙ c .if1 .left)
 
 pub begun-spec : {M : Type 1} → statement M
-begun-spec = tie.close (tie.spec also-requires returns returns-2)
+begun-spec = tie.close (tie.spec (λ c κs. search needs) returns returns-2)

@@ -7,15 +7,6 @@ use borrow.Author.Needs.{needs}
 use Rattle.journals.proofs.counted.Statement.{statement}
 use Rattle.journals.proofs.counted.Tie as tie
 
-also-requires : tie.Need-also-requires
-also-requires c κs = search needs
-
-sub-also : tie.Need-sub-also
-sub-also c = search needs
-
-also-requires-2 : tie.Need-also-requires-2
-also-requires-2 c κs = search needs
-
 returns : tie.Need-returns
 unfolding isCounted
 returns c =
@@ -25,4 +16,4 @@ returns c =
     cc
 
 pub counted-spec : {M : Type 1} → statement M
-counted-spec = tie.close (tie.spec also-requires sub-also also-requires-2 returns)
+counted-spec = tie.close (tie.spec (λ c κs. search needs) (λ c. search needs) (λ c κs. search needs) returns)

@@ -5,14 +5,8 @@ use Rattle.journals.specs.Rows.{rowHeard}
 use Rattle.journals.proofs.hear.Statement.{statement}
 use Rattle.journals.proofs.hear.Tie as tie
 
-counted-requires : tie.Need-counted-requires
-counted-requires c κs = search needs
-
 hear-on-requires : tie.Need-hear-on-requires
 hear-on-requires c κs = sym (c .before .before .counted .ensures) ∙ c .before .if1 .taken
-
-same-length : tie.Need-same-length
-same-length c = search needs
 
 returns : tie.Need-returns
 unfolding rowHeard
@@ -26,4 +20,4 @@ unfolding rowHeard
 returns-2 c = rw (sym (c .before .counted .ensures) ∙ c .if1 .left)
 
 pub hear-spec : {M : Type 1} → statement M
-hear-spec = tie.close (tie.spec counted-requires hear-on-requires same-length returns returns-2)
+hear-spec = tie.close (tie.spec (λ c κs. search needs) hear-on-requires (λ c. search needs) returns returns-2)

@@ -25,14 +25,8 @@ sub-ready c = c .before .loop .inv .0 .from
 sub-ready-2 : tie.Need-sub-ready-2 Inv-loop μ-loop
 sub-ready-2 c = c .before .before .loop .inv .0 .known
 
-ready-requires : tie.Need-ready-requires Inv-loop μ-loop
-ready-requires c κs = search needs
-
 sub-sum-at : tie.Need-sub-sum-at Inv-loop μ-loop
 sub-sum-at c = c .before .before .before .before .before .loop .inv .0 .known
-
-sum-at-requires : tie.Need-sum-at-requires Inv-loop μ-loop
-sum-at-requires c κs = search needs
 
 sub-step : tie.Need-sub-step Inv-loop μ-loop
 sub-step c = c .before .before .before .before .before .before .before .before .loop .inv .0 .from
@@ -78,9 +72,9 @@ hear-on-spec =
     loop-holds
     sub-ready
     sub-ready-2
-    ready-requires
+    (λ c κs. search needs)
     sub-sum-at
-    sum-at-requires
+    (λ c κs. search needs)
     sub-step
     step-requires
     loop-less

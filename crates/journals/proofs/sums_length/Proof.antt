@@ -5,9 +5,6 @@ use borrow.Author.Needs.{needs}
 use Rattle.journals.proofs.sums_length.Statement.{statement}
 use Rattle.journals.proofs.sums_length.Tie as tie
 
-mul-result : tie.Need-mul-result
-mul-result c = search needs
-
 returns : tie.Need-returns
 unfolding sumsLength
 returns c = rw (le-leb _ _ (c .if1 .taken))
@@ -17,4 +14,4 @@ unfolding sumsLength
 returns-2 c = rw (lt-leb _ _ (c .if1 .left))
 
 pub sums-length-spec : {M : Type 1} → statement M
-sums-length-spec = tie.close (tie.spec mul-result returns returns-2)
+sums-length-spec = tie.close (tie.spec (λ c. search needs) returns returns-2)

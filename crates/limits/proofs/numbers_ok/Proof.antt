@@ -21,15 +21,6 @@ returns-4 : tie.Need-returns-4
 unfolding numbersOk
 returns-4 c = search (le-leb, lt-leb)
 
-floor-ok-requires : tie.Need-floor-ok-requires
-floor-ok-requires c κs = search needs
-
-rest-ok-requires : tie.Need-rest-ok-requires
-rest-ok-requires c κs = search needs
-
-also-requires : tie.Need-also-requires
-also-requires c κs = search needs
-
 returns-5 : tie.Need-returns-5
 unfolding numbersOk
 returns-5 c =
@@ -54,7 +45,7 @@ numbers-ok-spec =
     returns-2
     returns-3
     returns-4
-    floor-ok-requires
-    rest-ok-requires
-    also-requires
+    (λ c κs. search needs)
+    (λ c κs. search needs)
+    (λ c κs. search needs)
     returns-5)

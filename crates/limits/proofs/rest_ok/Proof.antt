@@ -16,12 +16,9 @@ returns-3 c = search (le-leb, lt-leb)
 returns-4 : tie.Need-returns-4
 returns-4 c = search (le-leb, lt-leb)
 
-kept-ok-requires : tie.Need-kept-ok-requires
-kept-ok-requires c κs = search needs
-
 returns-5 : tie.Need-returns-5
 returns-5 c = search (le-leb, lt-leb)
 
 pub rest-ok-spec : {M : Type 1} → statement M
 rest-ok-spec =
-    tie.close (tie.spec returns returns-2 returns-3 returns-4 kept-ok-requires returns-5)
+    tie.close (tie.spec returns returns-2 returns-3 returns-4 (λ c κs. search needs) returns-5)

@@ -4,9 +4,6 @@ use borrow.Author.Needs.{needs}
 use Rattle.limits.proofs.slot_ok.Statement.{statement}
 use Rattle.limits.proofs.slot_ok.Tie as tie
 
-title-ok-requires : tie.Need-title-ok-requires
-title-ok-requires c κs = search needs
-
 returns : tie.Need-returns
 returns c = simp (← c .before .before .title-ok .ensures, c .before .if1 .taken, le-leb _ _ (c .if2 .taken))
 
@@ -17,4 +14,4 @@ returns-3 : tie.Need-returns-3
 returns-3 c = simp (← c .before .title-ok .ensures, c .if1 .left)
 
 pub slot-ok-spec : {M : Type 1} → statement M
-slot-ok-spec = tie.close (tie.spec title-ok-requires returns returns-2 returns-3)
+slot-ok-spec = tie.close (tie.spec (λ c κs. search needs) returns returns-2 returns-3)

@@ -13,12 +13,9 @@ returns-2 : tie.Need-returns-2
 unfolding stateOk
 returns-2 c = search (le-leb, lt-leb)
 
-slots-ok-requires : tie.Need-slots-ok-requires
-slots-ok-requires c κs = search needs
-
 returns-3 : tie.Need-returns-3
 unfolding stateOk
 returns-3 c = search (le-leb, lt-leb)
 
 pub state-ok-spec : {M : Type 1} → statement M
-state-ok-spec = tie.close (tie.spec returns returns-2 slots-ok-requires returns-3)
+state-ok-spec = tie.close (tie.spec returns returns-2 (λ c κs. search needs) returns-3)

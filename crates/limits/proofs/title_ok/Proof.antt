@@ -5,15 +5,9 @@ use borrow.Author.Needs.{needs}
 use Rattle.limits.proofs.title_ok.Statement.{statement}
 use Rattle.limits.proofs.title_ok.Tie as tie
 
-numbers-ok-requires : tie.Need-numbers-ok-requires
-numbers-ok-requires c κs = search needs
-
 returns : tie.Need-returns
 unfolding titleOk
 returns c = simp (← c .before .before .before .numbers-ok .ensures, c .before .before .if1 .taken, eq-eqb _ _ (c .if2 .taken))
-
-order-ok-requires : tie.Need-order-ok-requires
-order-ok-requires c κs = search needs
 
 returns-2 : tie.Need-returns-2
 unfolding titleOk
@@ -25,4 +19,4 @@ returns-3 c = simp (← c .before .numbers-ok .ensures, c .if1 .left)
 
 pub title-ok-spec : {M : Type 1} → statement M
 title-ok-spec =
-    tie.close (tie.spec numbers-ok-requires returns order-ok-requires returns-2 returns-3)
+    tie.close (tie.spec (λ c κs. search needs) returns (λ c κs. search needs) returns-2 returns-3)

@@ -5,33 +5,6 @@ use borrow.Author.Needs.{needs}
 use Rattle.logs.proofs.read_on.Statement.{statement}
 use Rattle.logs.proofs.read_on.Tie as tie
 
-next-in-requires : tie.Need-next-in-requires
-next-in-requires c κs = search needs
-
-enum-known-found : tie.Need-enum-known-found
-enum-known-found c = search needs
-
-heed-tested-requires : tie.Need-heed-tested-requires
-heed-tested-requires c κs = search needs
-
-cast-t12 : tie.Need-cast-t12
-cast-t12 c = search needs
-
-enum-told : tie.Need-enum-told
-enum-told c = search needs
-
-nothing-read-requires : tie.Need-nothing-read-requires
-nothing-read-requires c κs = search needs
-
-enum-told-2 : tie.Need-enum-told-2
-enum-told-2 c = search needs
-
-nothing-read-requires-2 : tie.Need-nothing-read-requires-2
-nothing-read-requires-2 c κs = search needs
-
-same-length : tie.Need-same-length
-same-length c = search needs
-
 returns : tie.Need-returns
 returns c =
     let at-heed = c .before .before .before in
@@ -52,15 +25,15 @@ pub read-on-spec : {M : Type 1} → statement M
 read-on-spec =
     tie.close
     (tie.spec
-    next-in-requires
-    enum-known-found
-    heed-tested-requires
-    cast-t12
-    enum-told
-    nothing-read-requires
-    enum-told-2
-    nothing-read-requires-2
-    same-length
+    (λ c κs. search needs)
+    (λ c. search needs)
+    (λ c κs. search needs)
+    (λ c. search needs)
+    (λ c. search needs)
+    (λ c κs. search needs)
+    (λ c. search needs)
+    (λ c κs. search needs)
+    (λ c. search needs)
     returns
     returns-2
     returns-3)

@@ -5,15 +5,6 @@ use borrow.Author.Needs.{needs}
 use Rattle.moments.proofs.due_at.Statement.{statement}
 use Rattle.moments.proofs.due_at.Tie as tie
 
-title-of-requires : tie.Need-title-of-requires
-title-of-requires c κs = search needs
-
-lanes-from-requires : tie.Need-lanes-from-requires
-lanes-from-requires c κs = search needs
-
-smaller-requires : tie.Need-smaller-requires
-smaller-requires c κs = search needs
-
 permitted-from-requires : tie.Need-permitted-from-requires
 permitted-from-requires c κs =
     let start = c .before .before .before in
@@ -24,9 +15,6 @@ permitted-from-requires c κs =
     let z = open-changeable (a .s) (start .pre .0) (a .id) (omega (arith, b)) o (t .result) (t .ensures) in
     let limits = open-limits (a .s) (start .pre .0) (a .id) (omega (arith, b)) o (t .result) (t .ensures) in
     (z .owing .film, ((omega (arith, z .ruled), limits), c .before .lanes-from .ensures .high))
-
-smaller-requires-2 : tie.Need-smaller-requires-2
-smaller-requires-2 c κs = search needs
 
 returns : tie.Need-returns
 returns c =
@@ -41,9 +29,9 @@ pub due-at-spec : {M : Type 1} → statement M
 due-at-spec =
     tie.close
     (tie.spec
-    title-of-requires
-    lanes-from-requires
-    smaller-requires
+    (λ c κs. search needs)
+    (λ c κs. search needs)
+    (λ c κs. search needs)
     permitted-from-requires
-    smaller-requires-2
+    (λ c κs. search needs)
     returns)

@@ -17,9 +17,6 @@ raise-made : (s : State) (i k τ : ℕ) {t q : Title} {z : State} → t ≡ titl
 raise-made s i k τ is changed made =
     made ∙ ap (λ t. withTitle s i t τ) (changed ∙ ap (λ t. changedTitle t τ k) is)
 
-title-of-requires : tie.Need-title-of-requires
-title-of-requires c κs = search needs
-
 returns : tie.Need-returns
 returns c =
     let start = c .before .before .before in
@@ -35,9 +32,6 @@ changed-title-requires c κs =
     let id = start .pre .1 .0 in
     let z = open-changeable (a .s) (start .pre .0) (a .id) (omega (arith, id .0)) (id .1) (t .result) (t .ensures) in
     (z, omega (arith, start .pre .1 .1))
-
-with-title-requires : tie.Need-with-title-requires
-with-title-requires c κs = search needs
 
 free-from-requires : tie.Need-free-from-requires
 free-from-requires c κs =
@@ -65,9 +59,9 @@ pub lanes-from-spec : {M : Type 1} → statement M
 lanes-from-spec =
     tie.close
     (tie.spec
-    title-of-requires
+    (λ c κs. search needs)
     returns
     changed-title-requires
-    with-title-requires
+    (λ c κs. search needs)
     free-from-requires
     returns-2)

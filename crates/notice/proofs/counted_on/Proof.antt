@@ -3,17 +3,8 @@ use borrow.Author.Needs.{needs}
 use Rattle.notice.proofs.counted_on.Statement.{statement}
 use Rattle.notice.proofs.counted_on.Tie as tie
 
-enum-known-found : tie.Need-enum-known-found
-enum-known-found c = search needs
-
 add-t6 : tie.Need-add-t6
 add-t6 c = record { fits = rw (c .before .found .given .1) at (c .before .before .before .pre) }
-
-enum-told : tie.Need-enum-told
-enum-told c = search needs
-
-enum-told-2 : tie.Need-enum-told-2
-enum-told-2 c = search needs
 
 returns : tie.Need-returns
 returns c = rw (c .before .found .given .1)
@@ -26,4 +17,4 @@ returns-3 c = rw (c .enum-told2 .given .1)
 
 pub counted-on-spec : {M : Type 1} → statement M
 counted-on-spec =
-    tie.close (tie.spec enum-known-found add-t6 enum-told enum-told-2 returns returns-2 returns-3)
+    tie.close (tie.spec (λ c. search needs) add-t6 (λ c. search needs) (λ c. search needs) returns returns-2 returns-3)

@@ -7,12 +7,6 @@ use Rattle.notice.proofs.Part.{from-part, part-fits}
 use Rattle.notice.proofs.found_from.Statement.{statement}
 use Rattle.notice.proofs.found_from.Tie as tie
 
-part-from-requires : tie.Need-part-from-requires
-part-from-requires c κs = search needs
-
-read-at-requires : tie.Need-read-at-requires
-read-at-requires c κs = search needs
-
 counted-on-requires : tie.Need-counted-on-requires
 counted-on-requires c κs =
     part-fits _ _ _ _ (c .before .part-from .ensures) (c .read-at .ensures .is) (omega arith) (omega arith)
@@ -24,4 +18,4 @@ returns c =
 
 pub found-from-spec : {M : Type 1} → statement M
 found-from-spec =
-    tie.close (tie.spec part-from-requires read-at-requires counted-on-requires returns)
+    tie.close (tie.spec (λ c κs. search needs) (λ c κs. search needs) counted-on-requires returns)

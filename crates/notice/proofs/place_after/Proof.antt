@@ -3,15 +3,6 @@ use borrow.Author.Needs.{needs}
 use Rattle.notice.proofs.place_after.Statement.{statement}
 use Rattle.notice.proofs.place_after.Tie as tie
 
-enum-known-found : tie.Need-enum-known-found
-enum-known-found c = search needs
-
-enum-told : tie.Need-enum-told
-enum-told c = search needs
-
-enum-told-2 : tie.Need-enum-told-2
-enum-told-2 c = search needs
-
 returns : tie.Need-returns
 returns c = rw (c .before .found .given .1)
 
@@ -23,4 +14,4 @@ returns-3 c = rw (c .enum-told2 .given .1)
 
 pub place-after-spec : {M : Type 1} → statement M
 place-after-spec =
-    tie.close (tie.spec enum-known-found enum-told enum-told-2 returns returns-2 returns-3)
+    tie.close (tie.spec (λ c. search needs) (λ c. search needs) (λ c. search needs) returns returns-2 returns-3)

@@ -15,9 +15,6 @@ use Rattle.notice.proofs.read.Tie as tie
 here : (c : tie.Then1) → Stood (now (c .before .before .before .args .bytes)) 0
 here c = stood _ 0 (both-l _ _ (sym (c .before .alone .ensures) ∙ c .if1 .taken))
 
-alone-requires : tie.Need-alone-requires
-alone-requires c κs = search needs
-
 shared-slice-read-notice-in : tie.Need-shared-slice-read-notice-in
 shared-slice-read-notice-in c = omega (arith, here (c .before) .fits, here (c .before) .headed)
 
@@ -37,4 +34,4 @@ returns-2 c = reads _ (rw (← c .before .alone .ensures, c .if1 .left))
 pub read-spec : {M : Type 1} → statement M
 read-spec =
     tie.close
-    (tie.spec alone-requires shared-slice-read-notice-in notice-in-requires returns returns-2)
+    (tie.spec (λ c κs. search needs) shared-slice-read-notice-in notice-in-requires returns returns-2)

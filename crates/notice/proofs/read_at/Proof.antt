@@ -17,20 +17,11 @@ here c = stood _ _ (sym (c .before .whole-at .ensures) ∙ c .if2 .taken)
 returns : tie.Need-returns
 returns c = finds _ _ (at-end _ _ (c .if1 .taken))
 
-whole-at-requires : tie.Need-whole-at-requires
-whole-at-requires c κs = search needs
-
-add-kind : tie.Need-add-kind
-add-kind c = search needs
-
 shared-slice-read-kind : tie.Need-shared-slice-read-kind
 shared-slice-read-kind c = omega (arith, here (c .before) .fits, here (c .before) .headed)
 
 notice-in-requires : tie.Need-notice-in-requires
 notice-in-requires c κs = (here (c .before) .fits, here (c .before) .known)
-
-start-requires : tie.Need-start-requires
-start-requires c κs = search needs
 
 add-t12 : tie.Need-add-t12
 add-t12 c = omega (arith, c .start .ensures, here (c .before .before .before) .fits)
@@ -51,11 +42,11 @@ read-at-spec =
     tie.close
     (tie.spec
     returns
-    whole-at-requires
-    add-kind
+    (λ c κs. search needs)
+    (λ c. search needs)
     shared-slice-read-kind
     notice-in-requires
-    start-requires
+    (λ c κs. search needs)
     add-t12
     returns-2
     returns-3)

@@ -5,14 +5,8 @@ use Rattle.notice.proofs.Bytes.{length-notice}
 use Rattle.notice.proofs.size.Statement.{statement}
 use Rattle.notice.proofs.size.Tie as tie
 
-kind-number-requires : tie.Need-kind-number-requires
-kind-number-requires c κs = search needs
-
-start-requires : tie.Need-start-requires
-start-requires c κs = search needs
-
 returns : tie.Need-returns
 returns c = c .start .ensures ∙ rw (c .before .kind-number .ensures) (sym (length-notice _))
 
 pub size-spec : {M : Type 1} → statement M
-size-spec = tie.close (tie.spec kind-number-requires start-requires returns)
+size-spec = tie.close (tie.spec (λ c κs. search needs) (λ c κs. search needs) returns)

@@ -4,25 +4,10 @@ use Rattle.notice.proofs.Bytes.{written-short, written-whole}
 use Rattle.notice.proofs.write.Statement.{statement}
 use Rattle.notice.proofs.write.Tie as tie
 
-kind-number-requires : tie.Need-kind-number-requires
-kind-number-requires c κs = search needs
-
-start-requires : tie.Need-start-requires
-start-requires c κs = search needs
-
 returns : tie.Need-returns
 returns c =
     let sized = c .before in
     written-short _ _ (rw (sized .start .ensures, sized .before .kind-number .ensures) at (c .if1 .taken))
-
-values-requires : tie.Need-values-requires
-values-requires c κs = search needs
-
-put-rows-requires : tie.Need-put-rows-requires
-put-rows-requires c κs = search needs
-
-same-length : tie.Need-same-length
-same-length c = search needs
 
 returns-2 : tie.Need-returns-2
 returns-2 c =
@@ -37,10 +22,10 @@ pub write-spec : {M : Type 1} → statement M
 write-spec =
     tie.close
     (tie.spec
-    kind-number-requires
-    start-requires
+    (λ c κs. search needs)
+    (λ c κs. search needs)
     returns
-    values-requires
-    put-rows-requires
-    same-length
+    (λ c κs. search needs)
+    (λ c κs. search needs)
+    (λ c. search needs)
     returns-2)

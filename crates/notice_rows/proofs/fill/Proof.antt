@@ -20,32 +20,14 @@ abbrev μ-loop : tie.MeasureT-loop
 eight : (c : tie.After-values Inv-loop μ-loop) → length (c .values .result) ≡ 8
 eight c = ap length (c .values .ensures) ∙ length-fields (c .before .before .args .n)
 
-values-requires : tie.Need-values-requires Inv-loop μ-loop
-values-requires c κs = search needs
-
 loop-holds : tie.Need-loop-holds Inv-loop μ-loop
 loop-holds c = (omega arith, paste-zero _ 0 (c .values .result))
-
-mul-fields : tie.Need-mul-fields Inv-loop μ-loop
-mul-fields c = search needs
-
-array-read-fields : tie.Need-array-read-fields Inv-loop μ-loop
-array-read-fields c = search needs
-
-mul-fields-2 : tie.Need-mul-fields-2 Inv-loop μ-loop
-mul-fields-2 c = search needs
 
 slice-write-fields : tie.Need-slice-write-fields Inv-loop μ-loop
 slice-write-fields c =
     let l = c .before .loop in
     let start = c .before .before in
     omega (arith, ap length (l .inv .1), length-filled (start .before .before .args .fields .now) (start .values .result) (eight start) (start .before .before .pre) (l .i) (omega arith))
-
-add-i : tie.Need-add-i Inv-loop μ-loop
-add-i c = search needs
-
-loop-less : tie.Need-loop-less Inv-loop μ-loop
-loop-less c = search needs
 
 loop-again : tie.Need-loop-again Inv-loop μ-loop
 loop-again c =
@@ -73,14 +55,14 @@ fill-spec =
     (tie.spec
     Inv-loop
     μ-loop
-    values-requires
+    (λ c κs. search needs)
     loop-holds
-    mul-fields
-    array-read-fields
-    mul-fields-2
+    (λ c. search needs)
+    (λ c. search needs)
+    (λ c. search needs)
     slice-write-fields
-    add-i
-    loop-less
+    (λ c. search needs)
+    (λ c. search needs)
     loop-again
     same-length
     returns)

@@ -7,17 +7,8 @@ use borrow.Author.Needs.{needs}
 use Rattle.notice_rows.proofs.size_of.Statement.{statement}
 use Rattle.notice_rows.proofs.size_of.Tie as tie
 
-cast-start : tie.Need-cast-start
-cast-start c = search needs
-
-start-requires : tie.Need-start-requires
-start-requires c κs = search needs
-
-returns : tie.Need-returns
-returns c = search needs
-
 returns-2 : tie.Need-returns-2
 returns-2 c = sym (needs-none _ (no-bit _ 0 (omega arith) (c .if1 .left)))
 
 pub size-of-spec : {M : Type 1} → statement M
-size-of-spec = tie.close (tie.spec cast-start start-requires returns returns-2)
+size-of-spec = tie.close (tie.spec (λ c. search needs) (λ c κs. search needs) (λ c. search needs) returns-2)

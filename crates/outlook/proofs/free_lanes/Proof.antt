@@ -6,15 +6,9 @@ use borrow.Author.Needs.{needs}
 use Rattle.outlook.proofs.free_lanes.Statement.{statement}
 use Rattle.outlook.proofs.free_lanes.Tie as tie
 
-state-ok-requires : tie.Need-state-ok-requires
-state-ok-requires c κs = search needs
-
 lanes-held-requires : tie.Need-lanes-held-requires
 lanes-held-requires c κs =
     all-readable (c .before .before .args .s) (sym (c .before .state-ok .ensures) ∙ c .if1 .taken)
-
-since-requires : tie.Need-since-requires
-since-requires c κs = search needs
 
 returns : tie.Need-returns
 unfolding freeLanes
@@ -27,4 +21,4 @@ returns-2 c = simp (← c .before .state-ok .ensures, c .if1 .left)
 
 pub free-lanes-spec : {M : Type 1} → statement M
 free-lanes-spec =
-    tie.close (tie.spec state-ok-requires lanes-held-requires since-requires returns returns-2)
+    tie.close (tie.spec (λ c κs. search needs) lanes-held-requires (λ c κs. search needs) returns returns-2)

@@ -10,9 +10,6 @@ use borrow.Author.Needs.{needs}
 use Rattle.outlook.proofs.id_free_from.Statement.{statement}
 use Rattle.outlook.proofs.id_free_from.Tie as tie
 
-event-ok-requires : tie.Need-event-ok-requires
-event-ok-requires c κs = search needs
-
 -- past the first test the numbers are within their limits
 fits : (c : tie.Then1) → let a = c .before .before .args in eventOk (a .s) (a .id) (a .time) ≡ true
 fits c = sym (c .before .event-ok .ensures) ∙ c .if1 .taken
@@ -61,7 +58,7 @@ pub id-free-from-spec : {M : Type 1} → statement M
 id-free-from-spec =
     tie.close
     (tie.spec
-    event-ok-requires
+    (λ c κs. search needs)
     title-of-requires
     returns
     returns-2

@@ -14,12 +14,6 @@ use borrow.Author.Needs.{needs}
 use Rattle.outlook.proofs.presence.Statement.{statement}
 use Rattle.outlook.proofs.presence.Tie as tie
 
-state-ok-requires : tie.Need-state-ok-requires
-state-ok-requires c κs = search needs
-
-also-requires : tie.Need-also-requires
-also-requires c κs = search needs
-
 -- past the first test the state and the id are within their limits
 inside : (c : tie.Then1) →
     let a = c .before .before .before .args in
@@ -76,8 +70,8 @@ pub presence-spec : {M : Type 1} → statement M
 presence-spec =
     tie.close
     (tie.spec
-    state-ok-requires
-    also-requires
+    (λ c κs. search needs)
+    (λ c κs. search needs)
     title-of-requires
     returns
     is-there-requires

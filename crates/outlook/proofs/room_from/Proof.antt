@@ -16,9 +16,6 @@ use borrow.Author.Needs.{needs}
 use Rattle.outlook.proofs.room_from.Statement.{statement}
 use Rattle.outlook.proofs.room_from.Tie as tie
 
-verdict-requires : tie.Need-verdict-requires
-verdict-requires c κs = search needs
-
 -- past the test only lanes may refuse the event
 none : (c : tie.Then1) → let a = c .before .before .args in firstAnswer (a .s) (a .e) ≡ 0
 none c = sym (c .before .verdict .ensures) ∙ c .if1 .taken
@@ -28,9 +25,6 @@ fits c = let a = c .before .before .args in taken-event (a .s) (a .e .title) (a 
 
 title-of-requires : tie.Need-title-of-requires
 title-of-requires c κs = let a = c .before .before .args in event-id (a .s) (a .e .title) (a .e .time) (fits c)
-
-takes-lanes-requires : tie.Need-takes-lanes-requires
-takes-lanes-requires c κs = search needs
 
 next-title-requires : tie.Need-next-title-requires
 next-title-requires c κs =
@@ -89,9 +83,9 @@ pub room-from-spec : {M : Type 1} → statement M
 room-from-spec =
     tie.close
     (tie.spec
-    verdict-requires
+    (λ c κs. search needs)
     title-of-requires
-    takes-lanes-requires
+    (λ c κs. search needs)
     next-title-requires
     with-title-requires
     free-from-requires

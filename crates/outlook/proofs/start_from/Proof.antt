@@ -12,9 +12,6 @@ use borrow.Author.Needs.{needs}
 use Rattle.outlook.proofs.start_from.Statement.{statement}
 use Rattle.outlook.proofs.start_from.Tie as tie
 
-event-ok-requires : tie.Need-event-ok-requires
-event-ok-requires c κs = search needs
-
 -- past the first test the numbers are within their limits
 fits : (c : tie.Then1) → let a = c .before .before .args in eventOk (a .s) (a .e .title) (a .e .time) ≡ true
 fits c = sym (c .before .event-ok .ensures) ∙ c .if1 .taken
@@ -34,9 +31,6 @@ allowed-from-requires c κs =
     let a = at-title .before .before .before .args in
     let ok = fits (at-title .before) in
     ((rw (at-title .title-of .ensures) (event-title (a .s) (a .e .title) (a .e .time) ok), c .if2 .left), on-clock (a .s) (a .e .title) (a .e .time) ok)
-
-smaller-requires : tie.Need-smaller-requires
-smaller-requires c κs = search needs
 
 returns-2 : tie.Need-returns-2
 returns-2 c =
@@ -58,10 +52,10 @@ pub start-from-spec : {M : Type 1} → statement M
 start-from-spec =
     tie.close
     (tie.spec
-    event-ok-requires
+    (λ c κs. search needs)
     title-of-requires
     returns
     allowed-from-requires
-    smaller-requires
+    (λ c κs. search needs)
     returns-2
     returns-3)

@@ -11,26 +11,11 @@ use borrow.Author.Needs.{needs}
 use Rattle.outlook.proofs.when.Statement.{statement}
 use Rattle.outlook.proofs.when.Tie as tie
 
-accepted-from-requires : tie.Need-accepted-from-requires
-accepted-from-requires c κs = search needs
-
 returns : tie.Need-returns
 returns c =
     let first = c .before in
     let a = first .before .args in
     when-on (a .s) (a .e) (first .accepted-from .result) (first .accepted-from .ensures) (c .if1 .taken)
-
-larger-requires : tie.Need-larger-requires
-larger-requires c κs = search needs
-
-event-at-requires : tie.Need-event-at-requires
-event-at-requires c κs = search needs
-
-call-requires : tie.Need-call-requires
-call-requires c κs = search needs
-
-is-mended-requires : tie.Need-is-mended-requires
-is-mended-requires c κs = search needs
 
 -- what is answered at the later of its time and the last event's
 said : (c : tie.After-is-mended) →
@@ -68,11 +53,11 @@ pub when-spec : {M : Type 1} → statement M
 when-spec =
     tie.close
     (tie.spec
-    accepted-from-requires
+    (λ c κs. search needs)
     returns
-    larger-requires
-    event-at-requires
-    call-requires
-    is-mended-requires
+    (λ c κs. search needs)
+    (λ c κs. search needs)
+    (λ c κs. search needs)
+    (λ c κs. search needs)
     returns-2
     returns-3)

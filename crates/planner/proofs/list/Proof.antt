@@ -25,15 +25,6 @@ wishes-of-requires c κs =
     let g = stands (a .s) (a .time) (a .rates .now) (start .pre .0) in
     (g .state, (start .pre .1, (g .rated, g .floors)))
 
-smaller-requires : tie.Need-smaller-requires
-smaller-requires c κs = search needs
-
-smaller-requires-2 : tie.Need-smaller-requires-2
-smaller-requires-2 c κs = search needs
-
-refused-requires : tie.Need-refused-requires
-refused-requires c κs = search needs
-
 returns : tie.Need-returns
 returns c =
     let tested = c .before in
@@ -68,9 +59,6 @@ times-of-requires c κs =
     let all = all-wished (a .s) (a .rates .now) (g .state) (start .pre .1, (g .rated, g .floors)) in
     (g .state, (all-fit (a .s) (a .rates .now) (w .result) (w .ensures .0) all, (g .time, w .ensures .1)))
 
-refused-requires-2 : tie.Need-refused-requires-2
-refused-requires-2 c κs = search needs
-
 returns-2 : tie.Need-returns-2
 returns-2 c =
     let late = c .before in
@@ -98,24 +86,6 @@ returns-2 c =
     (c .refused2 .ensures .0)
     (c .refused2 .ensures .1)
     (late .if2 .taken)
-
-write-requires : tie.Need-write-requires
-write-requires c κs = search needs
-
-write-requires-2 : tie.Need-write-requires-2
-write-requires-2 c κs = search needs
-
-write-requires-3 : tie.Need-write-requires-3
-write-requires-3 c κs = search needs
-
-same-length : tie.Need-same-length
-same-length c = search needs
-
-same-length-2 : tie.Need-same-length-2
-same-length-2 c = search needs
-
-same-length-3 : tie.Need-same-length-3
-same-length-3 c = search needs
 
 returns-3 : tie.Need-returns-3
 returns-3 c =
@@ -155,17 +125,17 @@ list-spec =
     tie.close
     (tie.spec
     wishes-of-requires
-    smaller-requires
-    smaller-requires-2
-    refused-requires
+    (λ c κs. search needs)
+    (λ c κs. search needs)
+    (λ c κs. search needs)
     returns
     times-of-requires
-    refused-requires-2
+    (λ c κs. search needs)
     returns-2
-    write-requires
-    write-requires-2
-    write-requires-3
-    same-length
-    same-length-2
-    same-length-3
+    (λ c κs. search needs)
+    (λ c κs. search needs)
+    (λ c κs. search needs)
+    (λ c. search needs)
+    (λ c. search needs)
+    (λ c. search needs)
     returns-3)

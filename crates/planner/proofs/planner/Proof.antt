@@ -8,27 +8,6 @@ use borrow.Author.Needs.{needs}
 use Rattle.planner.proofs.planner.Statement.{statement}
 use Rattle.planner.proofs.planner.Tie as tie
 
-standing-requires : tie.Need-standing-requires
-standing-requires c κs = search needs
-
-list-requires : tie.Need-list-requires
-list-requires c κs = search needs
-
-same-length : tie.Need-same-length
-same-length c = search needs
-
-same-length-2 : tie.Need-same-length-2
-same-length-2 c = search needs
-
-same-length-3 : tie.Need-same-length-3
-same-length-3 c = search needs
-
-returns : tie.Need-returns
-returns c = search needs
-
-refused-requires : tie.Need-refused-requires
-refused-requires c κs = search needs
-
 returns-2 : tie.Need-returns-2
 returns-2 c =
     let asked = c .before .before .before in
@@ -42,9 +21,6 @@ returns-2 c =
     (c .before .if2 .left)))
     (c .refused .ensures .1)
     (λ e. omega (arith, c .refused .ensures .0))
-
-refused-requires-2 : tie.Need-refused-requires-2
-refused-requires-2 c κs = search needs
 
 returns-3 : tie.Need-returns-3
 returns-3 c =
@@ -65,13 +41,13 @@ pub planner-spec : {M : Type 1} → statement M
 planner-spec =
     tie.close
     (tie.spec
-    standing-requires
-    list-requires
-    same-length
-    same-length-2
-    same-length-3
-    returns
-    refused-requires
+    (λ c κs. search needs)
+    (λ c κs. search needs)
+    (λ c. search needs)
+    (λ c. search needs)
+    (λ c. search needs)
+    (λ c. search needs)
+    (λ c κs. search needs)
     returns-2
-    refused-requires-2
+    (λ c κs. search needs)
     returns-3)

@@ -9,9 +9,6 @@ use Rattle.plans.proofs.Row.{left-done, left-refused}
 use Rattle.plans.proofs.plan.Statement.{statement}
 use Rattle.plans.proofs.plan.Tie as tie
 
-answer-requires : tie.Need-answer-requires
-answer-requires c κs = search needs
-
 -- an answer of done has cleared every refusal
 clear : (c : tie.Then1) →
     let a = c .before .before .before .args in
@@ -24,9 +21,6 @@ fill-requires : tie.Need-fill-requires
 fill-requires c κs =
     let t = clear (c .before) in
     (t .count, (t .start, (t .arrival, t .room)))
-
-same-length : tie.Need-same-length
-same-length c = search needs
 
 returns : tie.Need-returns
 unfolding planRow
@@ -42,4 +36,4 @@ returns-2 c =
     record { answer = e; left = left-refused _ _ _ _ _ _ e (c .if1 .left) refl }
 
 pub plan-spec : {M : Type 1} → statement M
-plan-spec = tie.close (tie.spec answer-requires fill-requires same-length returns returns-2)
+plan-spec = tie.close (tie.spec (λ c κs. search needs) fill-requires (λ c. search needs) returns returns-2)

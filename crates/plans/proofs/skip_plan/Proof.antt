@@ -9,9 +9,6 @@ use Rattle.plans.proofs.Row.{left-done, left-refused}
 use Rattle.plans.proofs.skip_plan.Statement.{statement}
 use Rattle.plans.proofs.skip_plan.Tie as tie
 
-answer-requires : tie.Need-answer-requires
-answer-requires c κs = search needs
-
 -- an answer of done has cleared every refusal
 clear : (c : tie.Then1) →
     let a = c .before .before .before .args in
@@ -25,9 +22,6 @@ fill-requires c κs =
     let t = clear (c .before) in
     let w = t .within in
     ((w .low, w .high), t .room)
-
-same-length : tie.Need-same-length
-same-length c = search needs
 
 returns : tie.Need-returns
 unfolding skipRow
@@ -44,4 +38,4 @@ returns-2 c =
 
 pub skip-plan-spec : {M : Type 1} → statement M
 skip-plan-spec =
-    tie.close (tie.spec answer-requires fill-requires same-length returns returns-2)
+    tie.close (tie.spec (λ c κs. search needs) fill-requires (λ c. search needs) returns returns-2)

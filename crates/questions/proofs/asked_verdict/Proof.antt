@@ -6,15 +6,6 @@ use borrow.Author.Needs.{needs}
 use Rattle.questions.proofs.asked_verdict.Statement.{statement}
 use Rattle.questions.proofs.asked_verdict.Tie as tie
 
-state-ok-requires : tie.Need-state-ok-requires
-state-ok-requires c κs = search needs
-
-also-requires : tie.Need-also-requires
-also-requires c κs = search needs
-
-also-requires-2 : tie.Need-also-requires-2
-also-requires-2 c κs = search needs
-
 returns : tie.Need-returns
 unfolding askedAnswer firstHit
 returns c = simp (← c .before .before .before .before .before .state-ok .ensures, ← c .before .before .before .before .also .ensures, ← c .before .before .before .also2 .ensures, c .before .before .if1 .taken, lt-ltb _ _ (c .if2 .taken))
@@ -30,4 +21,4 @@ returns-3 c = simp (← c .before .before .before .state-ok .ensures, ← c .bef
 pub asked-verdict-spec : {M : Type 1} → statement M
 asked-verdict-spec =
     tie.close
-    (tie.spec state-ok-requires also-requires also-requires-2 returns returns-2 returns-3)
+    (tie.spec (λ c κs. search needs) (λ c κs. search needs) (λ c κs. search needs) returns returns-2 returns-3)

@@ -4,18 +4,6 @@ use borrow.Author.Needs.{needs}
 use Rattle.questions.proofs.lane_ok.Statement.{statement}
 use Rattle.questions.proofs.lane_ok.Tie as tie
 
-state-ok-requires : tie.Need-state-ok-requires
-state-ok-requires c κs = search needs
-
-also-requires : tie.Need-also-requires
-also-requires c κs = search needs
-
-also-requires-2 : tie.Need-also-requires-2
-also-requires-2 c κs = search needs
-
-also-requires-3 : tie.Need-also-requires-3
-also-requires-3 c κs = search needs
-
 returns : tie.Need-returns
 returns c =
     let at-also = c .before .before in
@@ -23,4 +11,4 @@ returns c =
 
 pub lane-ok-spec : {M : Type 1} → statement M
 lane-ok-spec =
-    tie.close (tie.spec state-ok-requires also-requires also-requires-2 also-requires-3 returns)
+    tie.close (tie.spec (λ c κs. search needs) (λ c κs. search needs) (λ c κs. search needs) (λ c κs. search needs) returns)

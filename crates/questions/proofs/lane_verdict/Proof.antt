@@ -14,9 +14,6 @@ use borrow.Author.Needs.{needs}
 use Rattle.questions.proofs.lane_verdict.Statement.{statement}
 use Rattle.questions.proofs.lane_verdict.Tie as tie
 
-lane-ok-requires : tie.Need-lane-ok-requires
-lane-ok-requires c κs = search needs
-
 title-of-requires : tie.Need-title-of-requires
 title-of-requires c κs = let ok = sym (c .before .lane-ok .ensures) ∙ c .if1 .taken in search (both-l, both-r, leb-true) depth 12
 
@@ -48,7 +45,7 @@ pub lane-verdict-spec : {M : Type 1} → statement M
 lane-verdict-spec =
     tie.close
     (tie.spec
-    lane-ok-requires
+    (λ c κs. search needs)
     title-of-requires
     returns
     lane-held-requires

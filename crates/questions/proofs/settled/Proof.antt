@@ -15,12 +15,6 @@ use borrow.Author.Needs.{needs}
 use Rattle.questions.proofs.settled.Statement.{statement}
 use Rattle.questions.proofs.settled.Tie as tie
 
-state-ok-requires : tie.Need-state-ok-requires
-state-ok-requires c κs = search needs
-
-also-requires : tie.Need-also-requires
-also-requires c κs = search needs
-
 -- past the first test the state and the id are within their limits
 inside : (c : tie.Then1) →
     let a = c .before .before .before .args in
@@ -63,8 +57,8 @@ pub settled-spec : {M : Type 1} → statement M
 settled-spec =
     tie.close
     (tie.spec
-    state-ok-requires
-    also-requires
+    (λ c κs. search needs)
+    (λ c κs. search needs)
     title-of-requires
     returns
     settled-at-requires

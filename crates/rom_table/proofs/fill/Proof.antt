@@ -10,12 +10,6 @@ use Rattle.rom_table.specs.Table.{romEntries, romEntry, fillAnswer}
 use Rattle.rom_table.proofs.fill.Statement.{statement}
 use Rattle.rom_table.proofs.fill.Tie as tie
 
-write-requires : tie.Need-write-requires
-write-requires c κs = search needs
-
-same-length : tie.Need-same-length
-same-length c = search needs
-
 returns : tie.Need-returns
 unfolding fillAnswer
 returns c =
@@ -32,4 +26,4 @@ returns-2 c =
     record { answer = e; left = left-refused (fillAnswer row) romEntry romEntries row wrongRows _ e (λ w. absurd (omega (arith, w))) refl }
 
 pub fill-spec : {M : Type 1} → statement M
-fill-spec = tie.close (tie.spec write-requires same-length returns returns-2)
+fill-spec = tie.close (tie.spec (λ c κs. search needs) (λ c. search needs) returns returns-2)

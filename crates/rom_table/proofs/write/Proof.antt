@@ -17,27 +17,12 @@ Inv-loop row₀ numbers i₀ row i = (i ≤ romEntries) × (row ≡ written romE
 abbrev μ-loop : tie.MeasureT-loop
 μ-loop row₀ numbers i₀ row i = romEntries - i
 
-cells-requires : tie.Need-cells-requires Inv-loop μ-loop
-cells-requires c κs = search needs
-
 loop-holds : tie.Need-loop-holds Inv-loop μ-loop
 unfolding written
 loop-holds c = (omega arith, refl, refl)
 
-mul-row : tie.Need-mul-row Inv-loop μ-loop
-mul-row c = search needs
-
-array-read-row : tie.Need-array-read-row Inv-loop μ-loop
-array-read-row c = search needs
-
-mul-row-2 : tie.Need-mul-row-2 Inv-loop μ-loop
-mul-row-2 c = search needs
-
 slice-write-row : tie.Need-slice-write-row Inv-loop μ-loop
 slice-write-row c = omega (arith, c .before .loop .inv .2, c .before .before .before .before .pre, c .loop-test .taken)
-
-add-i : tie.Need-add-i Inv-loop μ-loop
-add-i c = search needs
 
 loop-less : tie.Need-loop-less Inv-loop μ-loop
 loop-less c = omega arith
@@ -66,13 +51,13 @@ write-spec =
     (tie.spec
     Inv-loop
     μ-loop
-    cells-requires
+    (λ c κs. search needs)
     loop-holds
-    mul-row
-    array-read-row
-    mul-row-2
+    (λ c. search needs)
+    (λ c. search needs)
+    (λ c. search needs)
     slice-write-row
-    add-i
+    (λ c. search needs)
     loop-less
     loop-again
     same-length

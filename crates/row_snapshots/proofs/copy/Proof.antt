@@ -31,15 +31,6 @@ mul-row c = omega (arith, long (c .before), c .before .before .pre)
 shared-slice-read-row : tie.Need-shared-slice-read-row Inv-loop μ-loop
 shared-slice-read-row c = omega (arith, long (c .before .before), c .before .before .before .pre)
 
-mul-row-2 : tie.Need-mul-row-2 Inv-loop μ-loop
-mul-row-2 c = search needs
-
-slice-write-row : tie.Need-slice-write-row Inv-loop μ-loop
-slice-write-row c = search needs
-
-add-i : tie.Need-add-i Inv-loop μ-loop
-add-i c = search needs
-
 loop-less : tie.Need-loop-less Inv-loop μ-loop
 loop-less c = omega (arith, long (c .before .before))
 
@@ -70,9 +61,9 @@ copy-spec =
     loop-holds
     mul-row
     shared-slice-read-row
-    mul-row-2
-    slice-write-row
-    add-i
+    (λ c. search needs)
+    (λ c. search needs)
+    (λ c. search needs)
     loop-less
     loop-again
     same-length

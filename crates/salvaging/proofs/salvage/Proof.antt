@@ -4,37 +4,16 @@ use borrow.Author.Needs.{needs}
 use Rattle.salvaging.proofs.salvage.Statement.{statement}
 use Rattle.salvaging.proofs.salvage.Tie as tie
 
-measure-requires : tie.Need-measure-requires
-measure-requires c κs = search needs
-
-refused-requires : tie.Need-refused-requires
-refused-requires c κs = search needs
-
 returns : tie.Need-returns
 returns c =
     let short = c .before in
     area-short _ _ _ _ (short .before .before .measure .ensures) (short .if1 .taken) _ (c .refused .ensures)
-
-refused-requires-2 : tie.Need-refused-requires-2
-refused-requires-2 c κs = search needs
 
 returns-2 : tie.Need-returns-2
 returns-2 c =
     let short = c .before in
     let measured = short .before .before .before .before in
     row-short _ _ _ _ (measured .measure .ensures) (short .if2 .taken) _ (c .refused2 .ensures)
-
-fill-requires : tie.Need-fill-requires
-fill-requires c κs = search needs
-
-counted-requires : tie.Need-counted-requires
-counted-requires c κs = search needs
-
-same-length : tie.Need-same-length
-same-length c = search needs
-
-same-length-2 : tie.Need-same-length-2
-same-length-2 c = search needs
 
 returns-3 : tie.Need-returns-3
 returns-3 c =
@@ -48,13 +27,13 @@ pub salvage-spec : {M : Type 1} → statement M
 salvage-spec =
     tie.close
     (tie.spec
-    measure-requires
-    refused-requires
+    (λ c κs. search needs)
+    (λ c κs. search needs)
     returns
-    refused-requires-2
+    (λ c κs. search needs)
     returns-2
-    fill-requires
-    counted-requires
-    same-length
-    same-length-2
+    (λ c κs. search needs)
+    (λ c κs. search needs)
+    (λ c. search needs)
+    (λ c. search needs)
     returns-3)

@@ -15,9 +15,6 @@ use borrow.Author.Needs.{needs}
 use Rattle.scheduler.proofs.call.Statement.{statement}
 use Rattle.scheduler.proofs.call.Tie as tie
 
-verdict-requires : tie.Need-verdict-requires
-verdict-requires c κs = search needs
-
 -- past the test only lanes may refuse the event
 none : (c : tie.Then1) → firstAnswer (c .before .before .args .s) (c .before .before .args .e) ≡ 0
 none c = sym (c .before .verdict .ensures) ∙ c .if1 .taken
@@ -38,9 +35,6 @@ with-title-requires : tie.Need-with-title-requires
 with-title-requires c κs =
     let a = c .before .before .before .before .args in
     event-id (a .s) (a .e .title) (a .e .time) (ok (c .before .before))
-
-sets-count-requires : tie.Need-sets-count-requires
-sets-count-requires c κs = search needs
 
 settle-requires : tie.Need-settle-requires
 settle-requires c κs =
@@ -79,11 +73,11 @@ pub call-spec : {M : Type 1} → statement M
 call-spec =
     tie.close
     (tie.spec
-    verdict-requires
+    (λ c κs. search needs)
     title-of-requires
     next-title-requires
     with-title-requires
-    sets-count-requires
+    (λ c κs. search needs)
     settle-requires
     returns
     returns-2)

@@ -4,14 +4,8 @@ use borrow.Author.Needs.{needs}
 use Rattle.scheduler.proofs.change.Statement.{statement}
 use Rattle.scheduler.proofs.change.Tie as tie
 
-event-at-requires : tie.Need-event-at-requires
-event-at-requires c κs = search needs
-
-call-requires : tie.Need-call-requires
-call-requires c κs = search needs
-
 returns : tie.Need-returns
 returns c = as-event (c .before .before .args .s) (c .call .result) _ _ (c .before .event-at .ensures) (c .call .ensures)
 
 pub change-spec : {M : Type 1} → statement M
-change-spec = tie.close (tie.spec event-at-requires call-requires returns)
+change-spec = tie.close (tie.spec (λ c κs. search needs) (λ c κs. search needs) returns)

@@ -3,11 +3,8 @@ use borrow.Author.Needs.{needs}
 use Rattle.scheduler.proofs.empty_pool.Statement.{statement}
 use Rattle.scheduler.proofs.empty_pool.Tie as tie
 
-blank-title-requires : tie.Need-blank-title-requires
-blank-title-requires c κs = search needs
-
 returns : tie.Need-returns
 returns c = simp (c .blank-title .ensures)
 
 pub empty-pool-spec : {M : Type 1} → statement M
-empty-pool-spec = tie.close (tie.spec blank-title-requires returns)
+empty-pool-spec = tie.close (tie.spec (λ c κs. search needs) returns)

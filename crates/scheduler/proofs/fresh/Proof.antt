@@ -5,18 +5,9 @@ use borrow.Author.Needs.{needs}
 use Rattle.scheduler.proofs.fresh.Statement.{statement}
 use Rattle.scheduler.proofs.fresh.Tie as tie
 
-within-requires : tie.Need-within-requires
-within-requires c κs = search needs
-
-empty-pool-requires : tie.Need-empty-pool-requires
-empty-pool-requires c κs = search needs
-
 returns : tie.Need-returns
 unfolding firstHit
 returns c = simp (← c .before .before .within .ensures, c .before .if1 .taken) (refl, c .empty-pool .ensures)
-
-empty-pool-requires-2 : tie.Need-empty-pool-requires-2
-empty-pool-requires-2 c κs = search needs
 
 returns-2 : tie.Need-returns-2
 unfolding firstHit
@@ -25,4 +16,4 @@ returns-2 c = simp (← c .before .before .within .ensures, c .before .if1 .left
 pub fresh-spec : {M : Type 1} → statement M
 fresh-spec =
     tie.close
-    (tie.spec within-requires empty-pool-requires returns empty-pool-requires-2 returns-2)
+    (tie.spec (λ c κs. search needs) (λ c κs. search needs) returns (λ c κs. search needs) returns-2)

@@ -8,9 +8,6 @@ use Rattle.scheduler.specs.Outcomes.{heldAnswer, heldShown}
 use Rattle.scheduler.proofs.held.Statement.{statement}
 use Rattle.scheduler.proofs.held.Tie as tie
 
-asked-verdict-requires : tie.Need-asked-verdict-requires
-asked-verdict-requires c κs = search needs
-
 lanes-held-requires : tie.Need-lanes-held-requires
 lanes-held-requires c κs =
     let a = c .before .before .args in
@@ -25,4 +22,4 @@ unfolding heldAnswer heldShown
 returns-2 c = simp (← c .before .asked-verdict .ensures, ne-eqb _ _ (c .if1 .left)) (refl, refl)
 
 pub held-spec : {M : Type 1} → statement M
-held-spec = tie.close (tie.spec asked-verdict-requires lanes-held-requires returns returns-2)
+held-spec = tie.close (tie.spec (λ c κs. search needs) lanes-held-requires returns returns-2)

@@ -8,9 +8,6 @@ use borrow.Author.Needs.{needs}
 use Rattle.scheduler.proofs.lane.Statement.{statement}
 use Rattle.scheduler.proofs.lane.Tie as tie
 
-lane-verdict-requires : tie.Need-lane-verdict-requires
-lane-verdict-requires c κs = search needs
-
 title-of-requires : tie.Need-title-of-requires
 title-of-requires c κs =
     let a = c .before .before .args in
@@ -41,7 +38,7 @@ pub lane-spec : {M : Type 1} → statement M
 lane-spec =
     tie.close
     (tie.spec
-    lane-verdict-requires
+    (λ c κs. search needs)
     title-of-requires
     tick-at-requires
     shows-requires

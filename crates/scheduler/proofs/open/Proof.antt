@@ -7,15 +7,6 @@ use borrow.Author.Needs.{needs}
 use Rattle.scheduler.proofs.open.Statement.{statement}
 use Rattle.scheduler.proofs.open.Tie as tie
 
-opening-requires : tie.Need-opening-requires
-opening-requires c κs = search needs
-
-event-at-requires : tie.Need-event-at-requires
-event-at-requires c κs = search needs
-
-call-requires : tie.Need-call-requires
-call-requires c κs = search needs
-
 returns : tie.Need-returns
 returns c =
     let a = c .before .before .before .args in
@@ -23,4 +14,4 @@ returns c =
     (c .before .event-at .ensures ∙ ap (λ (x : Act). event (a .id) (a .time) x) (c .before .before .opening .ensures)) (c .call .ensures)
 
 pub open-spec : {M : Type 1} → statement M
-open-spec = tie.close (tie.spec opening-requires event-at-requires call-requires returns)
+open-spec = tie.close (tie.spec (λ c κs. search needs) (λ c κs. search needs) (λ c κs. search needs) returns)

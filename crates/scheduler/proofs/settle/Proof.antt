@@ -7,9 +7,6 @@ use borrow.Author.Needs.{needs}
 use Rattle.scheduler.proofs.settle.Statement.{statement}
 use Rattle.scheduler.proofs.settle.Tie as tie
 
-lanes-held-requires : tie.Need-lanes-held-requires
-lanes-held-requires c κs = search needs
-
 returns : tie.Need-returns
 unfolding settledAnswer firstHit
 returns c =
@@ -27,4 +24,4 @@ unfolding settledAnswer firstHit
 returns-3 c = simp (c .if1 .left) (refl, refl)
 
 pub settle-spec : {M : Type 1} → statement M
-settle-spec = tie.close (tie.spec lanes-held-requires returns returns-2 returns-3)
+settle-spec = tie.close (tie.spec (λ c κs. search needs) returns returns-2 returns-3)

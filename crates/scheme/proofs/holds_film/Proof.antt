@@ -5,9 +5,6 @@ use Rattle.scheme.specs.Scheme.{filmIn}
 use Rattle.scheme.proofs.holds_film.Statement.{statement}
 use Rattle.scheme.proofs.holds_film.Tie as tie
 
-tick-requires : tie.Need-tick-requires
-tick-requires c κs = search needs
-
 mul-result : tie.Need-mul-result
 mul-result c =
     record {
@@ -20,4 +17,4 @@ unfolding filmIn
 returns c = cc (c .tick .ensures .is)
 
 pub holds-film-spec : {M : Type 1} → statement M
-holds-film-spec = tie.close (tie.spec tick-requires mul-result returns)
+holds-film-spec = tie.close (tie.spec (λ c κs. search needs) mul-result returns)

@@ -4,17 +4,11 @@ use Rattle.scheme.proofs.ByKind.{steady-scheme, padded-scheme, steady-w
 use Rattle.scheme.proofs.lane_cell.Statement.{statement}
 use Rattle.scheme.proofs.lane_cell.Tie as tie
 
-steady-cell-requires : tie.Need-steady-cell-requires
-steady-cell-requires c κs = search needs
-
 returns : tie.Need-returns
 returns c =
     let a = c .before .before .args in
     rw (steady-scheme (a .kind) (a .floor) (a .cap) (c .before .if1 .taken))
     (record { is = c .steady-cell .ensures; within = rw (c .steady-cell .ensures) (steady-within (a .cap) (a .lane) (a .tick) (c .before .before .pre .1 .0)) })
-
-lane-cell-requires : tie.Need-lane-cell-requires
-lane-cell-requires c κs = search needs
 
 returns-2 : tie.Need-returns-2
 returns-2 c =
@@ -22,4 +16,4 @@ returns-2 c =
     rw (padded-scheme (a .kind) (a .floor) (a .cap) (c .before .if1 .left)) (c .lane-cell .ensures)
 
 pub lane-cell-spec : {M : Type 1} → statement M
-lane-cell-spec = tie.close (tie.spec steady-cell-requires returns lane-cell-requires returns-2)
+lane-cell-spec = tie.close (tie.spec (λ c κs. search needs) returns (λ c κs. search needs) returns-2)

@@ -5,15 +5,6 @@ use Rattle.scheme.proofs.ByKind.{period-above}
 use Rattle.scheme.proofs.period.Statement.{statement}
 use Rattle.scheme.proofs.period.Tie as tie
 
-returns : tie.Need-returns
-returns c = search needs
-
-sub-pow2 : tie.Need-sub-pow2
-sub-pow2 c = search needs
-
-pow2-requires : tie.Need-pow2-requires
-pow2-requires c κs = search needs
-
 returns-2 : tie.Need-returns-2
 returns-2 c =
     record {
@@ -23,4 +14,4 @@ returns-2 c =
     }
 
 pub period-spec : {M : Type 1} → statement M
-period-spec = tie.close (tie.spec returns sub-pow2 pow2-requires returns-2)
+period-spec = tie.close (tie.spec (λ c. search needs) (λ c. search needs) (λ c κs. search needs) returns-2)

@@ -11,13 +11,10 @@ returns c =
     let a = c .before .args in
     rw (steady-scheme (a .kind) (a .floor) (a .cap) (c .if1 .taken)) (record { is = refl; low = omega arith; high = omega arith })
 
-slot-requires : tie.Need-slot-requires
-slot-requires c κs = search needs
-
 returns-2 : tie.Need-returns-2
 returns-2 c =
     let a = c .before .before .args in
     rw (padded-scheme (a .kind) (a .floor) (a .cap) (c .before .if1 .left)) (c .slot .ensures)
 
 pub slot-spec : {M : Type 1} → statement M
-slot-spec = tie.close (tie.spec returns slot-requires returns-2)
+slot-spec = tie.close (tie.spec returns (λ c κs. search needs) returns-2)

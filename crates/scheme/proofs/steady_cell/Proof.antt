@@ -13,15 +13,6 @@ returns : tie.Need-returns
 unfolding steadyCell
 returns c = rw (c .if1 .taken) refl
 
-sub-pow2 : tie.Need-sub-pow2
-sub-pow2 c = search needs
-
-pow2-requires : tie.Need-pow2-requires
-pow2-requires c κs = search needs
-
-rem-result : tie.Need-rem-result
-rem-result c = search needs
-
 add-result : tie.Need-add-result
 add-result c =
     let r : c .before .before .args .tick % c .pow2 .result < c .pow2 .result = mod-lt (c .before .before .args .tick) (c .pow2 .ensures .low) in
@@ -34,4 +25,4 @@ returns-2 c =
 
 pub steady-cell-spec : {M : Type 1} → statement M
 steady-cell-spec =
-    tie.close (tie.spec returns sub-pow2 pow2-requires rem-result add-result returns-2)
+    tie.close (tie.spec returns (λ c. search needs) (λ c κs. search needs) (λ c. search needs) add-result returns-2)

@@ -4,29 +4,11 @@ use Rattle.scheme.proofs.ByKind.{steady-tick-exactly, padded-tick}
 use Rattle.scheme.proofs.tick.Statement.{statement}
 use Rattle.scheme.proofs.tick.Tie as tie
 
-sub-pow2 : tie.Need-sub-pow2
-sub-pow2 c = search needs
-
-pow2-requires : tie.Need-pow2-requires
-pow2-requires c κs = search needs
-
-sub-result : tie.Need-sub-result
-sub-result c = search needs
-
-add-result : tie.Need-add-result
-add-result c = search needs
-
-div-result : tie.Need-div-result
-div-result c = search needs
-
 returns : tie.Need-returns
 returns c =
     let s = c .before .before in
     let a = s .args in
     steady-tick-exactly (a .kind) (a .floor) (a .cap) (a .length) (c .pow2 .result) (c .before .if1 .taken) (s .pre .0 .low) (c .pow2 .ensures .is)
-
-tick-requires : tie.Need-tick-requires
-tick-requires c κs = search needs
 
 returns-2 : tie.Need-returns-2
 returns-2 c =
@@ -37,11 +19,11 @@ pub tick-spec : {M : Type 1} → statement M
 tick-spec =
     tie.close
     (tie.spec
-    sub-pow2
-    pow2-requires
-    sub-result
-    add-result
-    div-result
+    (λ c. search needs)
+    (λ c κs. search needs)
+    (λ c. search needs)
+    (λ c. search needs)
+    (λ c. search needs)
     returns
-    tick-requires
+    (λ c κs. search needs)
     returns-2)

@@ -6,9 +6,6 @@ use borrow.Author.Needs.{needs}
 use Rattle.sharers.proofs.floor_of.Statement.{statement}
 use Rattle.sharers.proofs.floor_of.Tie as tie
 
-takes-part-requires : tie.Need-takes-part-requires
-takes-part-requires c κs = search needs
-
 returns : tie.Need-returns
 returns c =
     let part = c .before .takes-part in
@@ -19,4 +16,4 @@ returns-2 : tie.Need-returns-2
 returns-2 c = (simp (← c .before .takes-part .ensures, c .if1 .left), omega arith)
 
 pub floor-of-spec : {M : Type 1} → statement M
-floor-of-spec = tie.close (tie.spec takes-part-requires returns returns-2)
+floor-of-spec = tie.close (tie.spec (λ c κs. search needs) returns returns-2)

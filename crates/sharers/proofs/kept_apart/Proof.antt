@@ -6,9 +6,6 @@ use borrow.Author.Needs.{needs}
 use Rattle.sharers.proofs.kept_apart.Statement.{statement}
 use Rattle.sharers.proofs.kept_apart.Tie as tie
 
-ruling-requires : tie.Need-ruling-requires
-ruling-requires c κs = search needs
-
 returns : tie.Need-returns
 returns c =
     let start = c .before .before .before in
@@ -19,4 +16,4 @@ returns-2 : tie.Need-returns-2
 returns-2 c = (simp (ne-eqb _ _ (c .if1 .left)), omega arith)
 
 pub kept-apart-spec : {M : Type 1} → statement M
-kept-apart-spec = tie.close (tie.spec ruling-requires returns returns-2)
+kept-apart-spec = tie.close (tie.spec (λ c κs. search needs) returns returns-2)

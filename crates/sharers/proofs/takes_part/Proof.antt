@@ -3,11 +3,8 @@ use borrow.Author.Needs.{needs}
 use Rattle.sharers.proofs.takes_part.Statement.{statement}
 use Rattle.sharers.proofs.takes_part.Tie as tie
 
-also-requires : tie.Need-also-requires
-also-requires c κs = search needs
-
 returns : tie.Need-returns
 returns c = c .also .ensures
 
 pub takes-part-spec : {M : Type 1} → statement M
-takes-part-spec = tie.close (tie.spec also-requires returns)
+takes-part-spec = tie.close (tie.spec (λ c κs. search needs) returns)

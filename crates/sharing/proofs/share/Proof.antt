@@ -7,9 +7,6 @@ use Rattle.sharing.proofs.verdict.Laws.{Ready, ready, row-done, row-ref
 use Rattle.sharing.proofs.share.Statement.{statement}
 use Rattle.sharing.proofs.share.Tie as tie
 
-verdict-requires : tie.Need-verdict-requires
-verdict-requires c κs = search needs
-
 -- where nothing was refused, the counts can be worked out
 go-ahead : (c : tie.Then1) →
     let a = c .before .before .before .before .before .before .before .args in
@@ -26,9 +23,6 @@ fill-requires : tie.Need-fill-requires
 fill-requires c κs =
     let g = go-ahead (c .before) in
     record { sound = g .sound; few = g .few; room = g .room; places = length-take-le _ _ (g .roomy) }
-
-same-length : tie.Need-same-length
-same-length c = search needs
 
 returns : tie.Need-returns
 returns c =
@@ -50,10 +44,10 @@ pub share-spec : {M : Type 1} → statement M
 share-spec =
     tie.close
     (tie.spec
-    verdict-requires
+    (λ c κs. search needs)
     slice-relend-prefix-fill
     slice-aggregate-fill
     fill-requires
-    same-length
+    (λ c. search needs)
     returns
     returns-2)

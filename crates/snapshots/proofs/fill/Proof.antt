@@ -37,12 +37,6 @@ get-requires c κs = omega (arith, long (c .before), c .before .before .before .
 mul-row : tie.Need-mul-row Inv-loop μ-loop
 mul-row c = omega (arith, long (c .before .before), c .before .before .before .before .before .pre)
 
-slice-write-row : tie.Need-slice-write-row Inv-loop μ-loop
-slice-write-row c = search needs
-
-add-i : tie.Need-add-i Inv-loop μ-loop
-add-i c = search needs
-
 loop-less : tie.Need-loop-less Inv-loop μ-loop
 loop-less c = omega (arith, long (c .before .before))
 
@@ -74,8 +68,8 @@ fill-spec =
     mul-get
     get-requires
     mul-row
-    slice-write-row
-    add-i
+    (λ c. search needs)
+    (λ c. search needs)
     loop-less
     loop-again
     same-length

@@ -13,18 +13,6 @@ returns c = wrong-size _ (c .if1 .taken)
 slice-aggregate-sum : tie.Need-slice-aggregate-sum
 slice-aggregate-sum c = sym (length-take-le 6048 (c .before .before .before .args .bytes .now) (omega (arith, c .before .if1 .left)))
 
-sum-requires : tie.Need-sum-requires
-sum-requires c κs = search needs
-
-get-requires : tie.Need-get-requires
-get-requires c κs = search needs
-
-cast-if2 : tie.Need-cast-if2
-cast-if2 c = search needs
-
-get-requires-2 : tie.Need-get-requires-2
-get-requires-2 c κs = search needs
-
 returns-2 : tie.Need-returns-2
 returns-2 c =
     let got = c .before .before in
@@ -44,9 +32,9 @@ fits-spec =
     (tie.spec
     returns
     slice-aggregate-sum
-    sum-requires
-    get-requires
-    cast-if2
-    get-requires-2
+    (λ c κs. search needs)
+    (λ c κs. search needs)
+    (λ c. search needs)
+    (λ c κs. search needs)
     returns-2
     returns-3)

@@ -24,12 +24,6 @@ loop-holds c = (omega arith, refl)
 mul-put : tie.Need-mul-put Inv-loop μ-loop
 mul-put c = omega arith
 
-mul-put-2 : tie.Need-mul-put-2 Inv-loop μ-loop
-mul-put-2 c = search needs
-
-shared-slice-read-put : tie.Need-shared-slice-read-put Inv-loop μ-loop
-shared-slice-read-put c = search needs
-
 put-requires : tie.Need-put-requires Inv-loop μ-loop
 put-requires c κs =
     let at = c .before .before .before in
@@ -37,12 +31,6 @@ put-requires c κs =
     let l = at .loop in
     let same = ap length (l .inv .1) ∙ length-sets (start .args .room .now) 0 (numberBytes (take (l .i) (start .args .row .now))) in
     omega (arith, same, start .pre)
-
-add-i : tie.Need-add-i Inv-loop μ-loop
-add-i c = search needs
-
-loop-less : tie.Need-loop-less Inv-loop μ-loop
-loop-less c = search needs
 
 loop-again : tie.Need-loop-again Inv-loop μ-loop
 loop-again c =
@@ -71,11 +59,11 @@ lay-spec =
     μ-loop
     loop-holds
     mul-put
-    mul-put-2
-    shared-slice-read-put
+    (λ c. search needs)
+    (λ c. search needs)
     put-requires
-    add-i
-    loop-less
+    (λ c. search needs)
+    (λ c. search needs)
     loop-again
     same-length
     returns)

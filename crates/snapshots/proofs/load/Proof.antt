@@ -9,18 +9,12 @@ use Rattle.snapshots.proofs.load.Tie as tie
 returns : tie.Need-returns
 returns c = load-odd _ _ (c .if1 .taken)
 
-fits-requires : tie.Need-fits-requires
-fits-requires c κs = search needs
-
 fill-requires : tie.Need-fill-requires
 fill-requires c κs =
     let tested = c .before in
     let right = tested .before .before in
     let size = fitting-size (right .before .before .before .args .bytes .now) (sym (tested .before .fits2 .ensures) ∙ tested .if2 .taken) in
     omega (arith, size, right .if1 .left)
-
-same-length : tie.Need-same-length
-same-length c = search needs
 
 returns-2 : tie.Need-returns-2
 returns-2 c =
@@ -34,4 +28,4 @@ returns-3 c = load-none _ _ (c .before .before .if1 .left) (sym (c .before .fits
 
 pub load-spec : {M : Type 1} → statement M
 load-spec =
-    tie.close (tie.spec returns fits-requires fill-requires same-length returns-2 returns-3)
+    tie.close (tie.spec returns (λ c κs. search needs) fill-requires (λ c. search needs) returns-2 returns-3)

@@ -16,12 +16,6 @@ returns c = save-odd _ _ (c .if1 .taken)
 returns-2 : tie.Need-returns-2
 returns-2 c = save-short _ _ (c .before .if1 .left) (c .if2 .taken)
 
-lay-requires : tie.Need-lay-requires
-lay-requires c κs = search needs
-
-slice-reshare-prefix-sum : tie.Need-slice-reshare-prefix-sum
-slice-reshare-prefix-sum c = search needs
-
 slice-aggregate-sum : tie.Need-slice-aggregate-sum
 slice-aggregate-sum c =
     let laid = c .before .before .before in
@@ -29,18 +23,6 @@ slice-aggregate-sum c =
     let args = long .before .before .before .before .args in
     let same = ap length (laid .lay .ensures) ∙ length-sets (args .room .now) 0 (numberBytes (args .row .now)) in
     sym (length-take-le 6048 (laid .lay .last .1 .0) (omega (arith, same, long .if2 .left)))
-
-sum-requires : tie.Need-sum-requires
-sum-requires c κs = search needs
-
-cast-put : tie.Need-cast-put
-cast-put c = search needs
-
-put-requires : tie.Need-put-requires
-put-requires c κs = search needs
-
-same-length : tie.Need-same-length
-same-length c = search needs
 
 returns-3 : tie.Need-returns-3
 returns-3 c =
@@ -65,11 +47,11 @@ save-spec =
     (tie.spec
     returns
     returns-2
-    lay-requires
-    slice-reshare-prefix-sum
+    (λ c κs. search needs)
+    (λ c. search needs)
     slice-aggregate-sum
-    sum-requires
-    cast-put
-    put-requires
-    same-length
+    (λ c κs. search needs)
+    (λ c. search needs)
+    (λ c κs. search needs)
+    (λ c. search needs)
     returns-3)

@@ -41,23 +41,11 @@ loop-holds c =
       (λ k l. absurd (omega arith)),
     )
 
-mul-title-of : tie.Need-mul-title-of Inv-loop μ-loop
-mul-title-of c = search needs
-
-shared-slice-read-title-of : tie.Need-shared-slice-read-title-of Inv-loop μ-loop
-shared-slice-read-title-of c = search needs
-
 title-of-requires : tie.Need-title-of-requires Inv-loop μ-loop
 title-of-requires c κs =
     let at = c .before .before in
     let start = at .before .before .before .before .before in
     id-below (start .args .ids .now) (at .loop .i) (start .pre .1 .1) (c .before .loop-test .taken)
-
-ruling-requires : tie.Need-ruling-requires Inv-loop μ-loop
-ruling-requires c κs = search needs
-
-mul-counts : tie.Need-mul-counts Inv-loop μ-loop
-mul-counts c = search needs
 
 slice-write-counts : tie.Need-slice-write-counts Inv-loop μ-loop
 slice-write-counts c =
@@ -71,30 +59,15 @@ title-held-requires c κs =
     let below = id-below (start .args .ids .now) (at .loop .i) (start .pre .1 .1) (c .before .before .before .loop-test .taken) in
     rw (c .before .title-of .ensures) (all-readable (start .args .s) (start .pre .1 .0) _ (omega arith))
 
-mul-held : tie.Need-mul-held Inv-loop μ-loop
-mul-held c = search needs
-
 slice-write-held : tie.Need-slice-write-held Inv-loop μ-loop
 slice-write-held c =
     let at = c .before .before .before .before .before in
     omega (arith, at .loop .inv .2, c .before .before .before .before .loop-test .taken)
 
-shown-mark-requires : tie.Need-shown-mark-requires Inv-loop μ-loop
-shown-mark-requires c κs = search needs
-
-mul-marks : tie.Need-mul-marks Inv-loop μ-loop
-mul-marks c = search needs
-
 slice-write-marks : tie.Need-slice-write-marks Inv-loop μ-loop
 slice-write-marks c =
     let at = c .before .before .before .before .before .before in
     omega (arith, at .loop .inv .3, c .before .before .before .before .before .loop-test .taken)
-
-add-i : tie.Need-add-i Inv-loop μ-loop
-add-i c = search needs
-
-loop-less : tie.Need-loop-less Inv-loop μ-loop
-loop-less c = search needs
 
 loop-again : tie.Need-loop-again Inv-loop μ-loop
 loop-again c =
@@ -153,20 +126,20 @@ fill-spec =
     Inv-loop
     μ-loop
     loop-holds
-    mul-title-of
-    shared-slice-read-title-of
+    (λ c. search needs)
+    (λ c. search needs)
     title-of-requires
-    ruling-requires
-    mul-counts
+    (λ c κs. search needs)
+    (λ c. search needs)
     slice-write-counts
     title-held-requires
-    mul-held
+    (λ c. search needs)
     slice-write-held
-    shown-mark-requires
-    mul-marks
+    (λ c κs. search needs)
+    (λ c. search needs)
     slice-write-marks
-    add-i
-    loop-less
+    (λ c. search needs)
+    (λ c. search needs)
     loop-again
     same-length
     same-length-2

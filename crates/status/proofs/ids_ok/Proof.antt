@@ -4,12 +4,9 @@ use Rattle.status.specs.Rows.{idsOk}
 use Rattle.status.proofs.ids_ok.Statement.{statement}
 use Rattle.status.proofs.ids_ok.Tie as tie
 
-row-within-requires : tie.Need-row-within-requires
-row-within-requires c κs = search needs
-
 returns : tie.Need-returns
 unfolding idsOk
 returns c = c .row-within .ensures
 
 pub ids-ok-spec : {M : Type 1} → statement M
-ids-ok-spec = tie.close (tie.spec row-within-requires returns)
+ids-ok-spec = tie.close (tie.spec (λ c κs. search needs) returns)

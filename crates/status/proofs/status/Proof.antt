@@ -7,9 +7,6 @@ use borrow.Author.Needs.{needs}
 use Rattle.status.proofs.status.Statement.{statement}
 use Rattle.status.proofs.status.Tie as tie
 
-status-verdict-requires : tie.Need-status-verdict-requires
-status-verdict-requires c κs = search needs
-
 fill-requires : tie.Need-fill-requires
 fill-requires c κs =
     let tested = c .before .before .before in
@@ -26,15 +23,6 @@ fill-requires c κs =
       (rows-state (a .s) (a .time) (a .ids .now) m h d none, rows-ids (a .s) (a .time) (a .ids .now) m h d none),
     )
 
-same-length : tie.Need-same-length
-same-length c = search needs
-
-same-length-2 : tie.Need-same-length-2
-same-length-2 c = search needs
-
-same-length-3 : tie.Need-same-length-3
-same-length-3 c = search needs
-
 returns : tie.Need-returns
 returns c =
     let called = c .before .before .before .before .before .before in
@@ -48,4 +36,4 @@ returns-2 c =
 pub status-spec : {M : Type 1} → statement M
 status-spec =
     tie.close
-    (tie.spec status-verdict-requires fill-requires same-length same-length-2 same-length-3 returns returns-2)
+    (tie.spec (λ c κs. search needs) fill-requires (λ c. search needs) (λ c. search needs) (λ c. search needs) returns returns-2)

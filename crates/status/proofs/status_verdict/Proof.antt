@@ -20,12 +20,6 @@ returns-3 : tie.Need-returns-3
 unfolding statusAnswer firstHit
 returns-3 c = simp (eq-eqb _ _ (c .before .before .if1 .left), eq-eqb _ _ (c .before .if2 .left), ne-eqb _ _ (c .if3 .taken))
 
-ids-ok-requires : tie.Need-ids-ok-requires
-ids-ok-requires c κs = search needs
-
-asked-verdict-requires : tie.Need-asked-verdict-requires
-asked-verdict-requires c κs = search needs
-
 returns-4 : tie.Need-returns-4
 unfolding statusAnswer askedAnswer firstHit idsOk
 returns-4 c =
@@ -40,4 +34,4 @@ returns-4 c =
 pub status-verdict-spec : {M : Type 1} → statement M
 status-verdict-spec =
     tie.close
-    (tie.spec returns returns-2 returns-3 ids-ok-requires asked-verdict-requires returns-4)
+    (tie.spec returns returns-2 returns-3 (λ c κs. search needs) (λ c κs. search needs) returns-4)

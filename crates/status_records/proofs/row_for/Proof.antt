@@ -4,30 +4,6 @@ use borrow.Author.Needs.{needs}
 use Rattle.status_records.proofs.row_for.Statement.{statement}
 use Rattle.status_records.proofs.row_for.Tie as tie
 
-slice-aggregate-status : tie.Need-slice-aggregate-status
-slice-aggregate-status c = search needs
-
-slice-aggregate-status-2 : tie.Need-slice-aggregate-status-2
-slice-aggregate-status-2 c = search needs
-
-slice-aggregate-status-3 : tie.Need-slice-aggregate-status-3
-slice-aggregate-status-3 c = search needs
-
-slice-aggregate-status-4 : tie.Need-slice-aggregate-status-4
-slice-aggregate-status-4 c = search needs
-
-status-requires : tie.Need-status-requires
-status-requires c κs = search needs
-
-array-read-t19 : tie.Need-array-read-t19
-array-read-t19 c = search needs
-
-array-read-t22 : tie.Need-array-read-t22
-array-read-t22 c = search needs
-
-array-read-t25 : tie.Need-array-read-t25
-array-read-t25 c = search needs
-
 returns : tie.Need-returns
 returns c =
     let start = c .before .before .before .before in
@@ -41,12 +17,12 @@ pub row-for-spec : {M : Type 1} → statement M
 row-for-spec =
     tie.close
     (tie.spec
-    slice-aggregate-status
-    slice-aggregate-status-2
-    slice-aggregate-status-3
-    slice-aggregate-status-4
-    status-requires
-    array-read-t19
-    array-read-t22
-    array-read-t25
+    (λ c. search needs)
+    (λ c. search needs)
+    (λ c. search needs)
+    (λ c. search needs)
+    (λ c κs. search needs)
+    (λ c. search needs)
+    (λ c. search needs)
+    (λ c. search needs)
     returns)

@@ -5,11 +5,8 @@ use lib.Bits.{bitXor}
 use Rattle.sums.proofs.behind.Statement.{statement}
 use Rattle.sums.proofs.behind.Tie as tie
 
-moved-requires : tie.Need-moved-requires
-moved-requires c κs = search needs
-
 returns : tie.Need-returns
 returns c = (ap (λ x. bitXor x (c .before .args .second)) (c .moved .ensures .0), c .moved .ensures .1)
 
 pub behind-spec : {M : Type 1} → statement M
-behind-spec = tie.close (tie.spec moved-requires returns)
+behind-spec = tie.close (tie.spec (λ c κs. search needs) returns)

@@ -5,19 +5,10 @@ use Rattle.sums.specs.Crc.{withByte}
 use Rattle.sums.proofs.next.Statement.{statement}
 use Rattle.sums.proofs.next.Tie as tie
 
-shared-slice-read-wide : tie.Need-shared-slice-read-wide
-shared-slice-read-wide c = search needs
-
-wide-requires : tie.Need-wide-requires
-wide-requires c κs = search needs
-
-with-byte-requires : tie.Need-with-byte-requires
-with-byte-requires c κs = search needs
-
 returns : tie.Need-returns
 returns c =
     let s = c .before .before .before .before in
     c .with-byte .ensures ∙ ap (withByte (s .args .r)) (c .before .wide .ensures)
 
 pub next-spec : {M : Type 1} → statement M
-next-spec = tie.close (tie.spec shared-slice-read-wide wide-requires with-byte-requires returns)
+next-spec = tie.close (tie.spec (λ c. search needs) (λ c κs. search needs) (λ c κs. search needs) returns)

@@ -28,39 +28,6 @@ loop-holds c =
     let b = a .bytes .now in
     (omega arith, none-in b 0 ones, none-in b (a .many) 0, none-in b (2 * a .many) 0, none-in b (3 * a .many) 0)
 
-next-requires : tie.Need-next-requires Inv-loop μ-loop
-next-requires c κs = search needs
-
-add-next : tie.Need-add-next Inv-loop μ-loop
-add-next c = search needs
-
-next-requires-2 : tie.Need-next-requires-2 Inv-loop μ-loop
-next-requires-2 c κs = search needs
-
-mul-next : tie.Need-mul-next Inv-loop μ-loop
-mul-next c = search needs
-
-add-next-2 : tie.Need-add-next-2 Inv-loop μ-loop
-add-next-2 c = search needs
-
-next-requires-3 : tie.Need-next-requires-3 Inv-loop μ-loop
-next-requires-3 c κs = search needs
-
-mul-next-2 : tie.Need-mul-next-2 Inv-loop μ-loop
-mul-next-2 c = search needs
-
-add-next-3 : tie.Need-add-next-3 Inv-loop μ-loop
-add-next-3 c = search needs
-
-next-requires-4 : tie.Need-next-requires-4 Inv-loop μ-loop
-next-requires-4 c κs = search needs
-
-add-i : tie.Need-add-i Inv-loop μ-loop
-add-i c = search needs
-
-loop-less : tie.Need-loop-less Inv-loop μ-loop
-loop-less c = search needs
-
 loop-again : tie.Need-loop-again Inv-loop μ-loop
 loop-again c =
     let one = c .before .before .before in
@@ -95,16 +62,16 @@ parts-spec =
     Inv-loop
     μ-loop
     loop-holds
-    next-requires
-    add-next
-    next-requires-2
-    mul-next
-    add-next-2
-    next-requires-3
-    mul-next-2
-    add-next-3
-    next-requires-4
-    add-i
-    loop-less
+    (λ c κs. search needs)
+    (λ c. search needs)
+    (λ c κs. search needs)
+    (λ c. search needs)
+    (λ c. search needs)
+    (λ c κs. search needs)
+    (λ c. search needs)
+    (λ c. search needs)
+    (λ c κs. search needs)
+    (λ c. search needs)
+    (λ c. search needs)
     loop-again
     returns)

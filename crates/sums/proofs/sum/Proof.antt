@@ -45,35 +45,11 @@ all-in bs n r x l p q =
     ∙ ap (registerFrom bs 0 ones) t
     ∙ sym (whole bs (length bs))
 
-rest-requires : tie.Need-rest-requires
-rest-requires c κs = search needs
-
 returns : tie.Need-returns
 unfolding sumOf
 returns c =
     let bs = c .before .before .before .args .bytes .now in
     ap (λ x. bitXor x ones) (all-in bs 0 ones (c .rest .result) (omega arith) (none-in bs 0 ones) (c .rest .ensures))
-
-parts-requires : tie.Need-parts-requires
-parts-requires c κs = search needs
-
-far-requires : tie.Need-far-requires
-far-requires c κs = search needs
-
-behind-requires : tie.Need-behind-requires
-behind-requires c κs = search needs
-
-behind-requires-2 : tie.Need-behind-requires-2
-behind-requires-2 c κs = search needs
-
-behind-requires-3 : tie.Need-behind-requires-3
-behind-requires-3 c κs = search needs
-
-mul-rest : tie.Need-mul-rest
-mul-rest c = search needs
-
-rest-requires-2 : tie.Need-rest-requires-2
-rest-requires-2 c κs = search needs
 
 returns-2 : tie.Need-returns-2
 unfolding sumOf
@@ -94,13 +70,13 @@ pub sum-spec : {M : Type 1} → statement M
 sum-spec =
     tie.close
     (tie.spec
-    rest-requires
+    (λ c κs. search needs)
     returns
-    parts-requires
-    far-requires
-    behind-requires
-    behind-requires-2
-    behind-requires-3
-    mul-rest
-    rest-requires-2
+    (λ c κs. search needs)
+    (λ c κs. search needs)
+    (λ c κs. search needs)
+    (λ c κs. search needs)
+    (λ c κs. search needs)
+    (λ c. search needs)
+    (λ c κs. search needs)
     returns-2)

@@ -20,15 +20,6 @@ loop-holds : tie.Need-loop-holds Inv-loop μ-loop
 unfolding shiftedBy
 loop-holds c = (omega arith, refl)
 
-shift-requires : tie.Need-shift-requires Inv-loop μ-loop
-shift-requires c κs = search needs
-
-add-i : tie.Need-add-i Inv-loop μ-loop
-add-i c = search needs
-
-loop-less : tie.Need-loop-less Inv-loop μ-loop
-loop-less c = search needs
-
 loop-again : tie.Need-loop-again Inv-loop μ-loop
 unfolding shiftedBy
 loop-again c =
@@ -44,4 +35,4 @@ returns c =
 pub with-byte-spec : {M : Type 1} → statement M
 with-byte-spec =
     tie.close
-    (tie.spec Inv-loop μ-loop loop-holds shift-requires add-i loop-less loop-again returns)
+    (tie.spec Inv-loop μ-loop loop-holds (λ c κs. search needs) (λ c. search needs) (λ c. search needs) loop-again returns)

@@ -3,15 +3,6 @@ use borrow.Author.Needs.{needs}
 use Rattle.title_verdicts.proofs.at_slot_start.Statement.{statement}
 use Rattle.title_verdicts.proofs.at_slot_start.Tie as tie
 
-at-tick-start-requires : tie.Need-at-tick-start-requires
-at-tick-start-requires c κs = search needs
-
-tick-at-requires : tie.Need-tick-at-requires
-tick-at-requires c κs = search needs
-
-starts-requires : tie.Need-starts-requires
-starts-requires c κs = search needs
-
 returns : tie.Need-returns
 returns c =
     simp (← c .before .before .before .at-tick-start .ensures, c .before .before .if1 .taken, ← c .before .tick-at .ensures .is)
@@ -23,4 +14,4 @@ returns-2 c = simp (← c .before .at-tick-start .ensures, c .if1 .left)
 pub at-slot-start-spec : {M : Type 1} → statement M
 at-slot-start-spec =
     tie.close
-    (tie.spec at-tick-start-requires tick-at-requires starts-requires returns returns-2)
+    (tie.spec (λ c κs. search needs) (λ c κs. search needs) (λ c κs. search needs) returns returns-2)

@@ -32,9 +32,6 @@ returns-4 c =
       eq-eqb _ _ (c .if4 .taken),
     )
 
-smaller-requires : tie.Need-smaller-requires
-smaller-requires c κs = search needs
-
 retune-verdict-requires : tie.Need-retune-verdict-requires
 retune-verdict-requires c κs =
     let start = c .before .before .before .before .before .before .before .before .before in
@@ -64,6 +61,6 @@ count-verdict-spec =
     returns-2
     returns-3
     returns-4
-    smaller-requires
+    (λ c κs. search needs)
     retune-verdict-requires
     returns-5)

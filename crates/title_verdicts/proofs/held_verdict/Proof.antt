@@ -9,15 +9,9 @@ returns : tie.Need-returns
 unfolding firstHit
 returns c = simp (eq-eqb _ _ (c .if1 .taken))
 
-same-doors-requires : tie.Need-same-doors-requires
-same-doors-requires c κs = search needs
-
 returns-2 : tie.Need-returns-2
 unfolding firstHit
 returns-2 c = simp (ne-eqb _ _ (c .before .before .if1 .left), ← c .before .same-doors .ensures, c .if2 .taken)
-
-turn-verdict-requires : tie.Need-turn-verdict-requires
-turn-verdict-requires c κs = search needs
 
 returns-3 : tie.Need-returns-3
 unfolding firstHit
@@ -25,4 +19,4 @@ returns-3 c = simp (ne-eqb _ _ (c .before .before .before .if1 .left), ← c .be
 
 pub held-verdict-spec : {M : Type 1} → statement M
 held-verdict-spec =
-    tie.close (tie.spec returns same-doors-requires returns-2 turn-verdict-requires returns-3)
+    tie.close (tie.spec returns (λ c κs. search needs) returns-2 (λ c κs. search needs) returns-3)

@@ -26,9 +26,6 @@ unfolding firstHit
 past-second true b r e n = absurd (n e)
 past-second false b r e n = refl
 
-turn-verdict-requires : tie.Need-turn-verdict-requires
-turn-verdict-requires c κs = search needs
-
 returns : tie.Need-returns
 unfolding firstHit
 returns c =
@@ -36,9 +33,6 @@ returns c =
     let turn = c .before .turn-verdict in
     simp (hits-second (eqb (x .time) (x .t .last)) (not (atSlotStart (x .t) (x .count) (x .time))) (turn .result) (turn .ensures) (c .if1 .taken))
     (c .if1 .taken)
-
-settled-at-requires : tie.Need-settled-at-requires
-settled-at-requires c κs = search needs
 
 -- past the first test it is no second event
 fresh : (c : tie.Else1) → let x = c .before .before .args in eqb (x .time) (x .t .last) ≡ false
@@ -60,4 +54,4 @@ returns-3 c =
 
 pub retune-verdict-spec : {M : Type 1} → statement M
 retune-verdict-spec =
-    tie.close (tie.spec turn-verdict-requires returns settled-at-requires returns-2 returns-3)
+    tie.close (tie.spec (λ c κs. search needs) returns (λ c κs. search needs) returns-2 returns-3)

@@ -9,9 +9,6 @@ returns : tie.Need-returns
 unfolding firstHit
 returns c = simp (eq-eqb _ _ (c .if1 .taken))
 
-at-slot-start-requires : tie.Need-at-slot-start-requires
-at-slot-start-requires c κs = search needs
-
 returns-2 : tie.Need-returns-2
 unfolding firstHit
 returns-2 c = simp (ne-eqb _ _ (c .before .before .if1 .left), ← c .before .at-slot-start .ensures, c .if2 .taken)
@@ -21,4 +18,4 @@ unfolding firstHit
 returns-3 c = simp (ne-eqb _ _ (c .before .before .if1 .left), ← c .before .at-slot-start .ensures, c .if2 .left)
 
 pub turn-verdict-spec : {M : Type 1} → statement M
-turn-verdict-spec = tie.close (tie.spec returns at-slot-start-requires returns-2 returns-3)
+turn-verdict-spec = tie.close (tie.spec returns (λ c κs. search needs) returns-2 returns-3)

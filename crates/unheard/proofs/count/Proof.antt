@@ -4,14 +4,8 @@ use borrow.Author.Needs.{needs}
 use Rattle.unheard.proofs.count.Statement.{statement}
 use Rattle.unheard.proofs.count.Tie as tie
 
-add-number : tie.Need-add-number
-add-number c = search needs
-
 returns : tie.Need-returns
 returns c = counts-heard _ _ (c .if1 .taken)
-
-add-next : tie.Need-add-next
-add-next c = search needs
 
 returns-2 : tie.Need-returns-2
 returns-2 c = counts-first _ _ (c .before .if1 .left) (c .if2 .taken)
@@ -20,4 +14,4 @@ returns-3 : tie.Need-returns-3
 returns-3 c = counts-later _ _ (c .before .if1 .left) (c .if2 .left)
 
 pub count-spec : {M : Type 1} → statement M
-count-spec = tie.close (tie.spec add-number returns add-next returns-2 returns-3)
+count-spec = tie.close (tie.spec (λ c. search needs) returns (λ c. search needs) returns-2 returns-3)

@@ -15,12 +15,6 @@ Inv-loop row₀ pool log counted₀ row counted = PlayedTo heardCount pool log n
 abbrev μ-loop : tie.MeasureT-loop
 μ-loop row₀ pool log counted₀ row counted = left log (counted .played)
 
-not-begun-requires : tie.Need-not-begun-requires Inv-loop μ-loop
-not-begun-requires c κs = search needs
-
-none-told-requires : tie.Need-none-told-requires Inv-loop μ-loop
-none-told-requires c κs = search needs
-
 loop-holds : tie.Need-loop-holds Inv-loop μ-loop
 loop-holds c = not-begun _ _ _ _ _ _ _ (c .before .before .before .not-begun .ensures) (c .none-told .ensures)
 
@@ -52,8 +46,8 @@ play-spec =
     (tie.spec
     Inv-loop
     μ-loop
-    not-begun-requires
-    none-told-requires
+    (λ c κs. search needs)
+    (λ c κs. search needs)
     loop-holds
     step-requires
     loop-less

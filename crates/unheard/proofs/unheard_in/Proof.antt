@@ -5,17 +5,8 @@ use borrow.Author.Needs.{needs}
 use Rattle.unheard.proofs.unheard_in.Statement.{statement}
 use Rattle.unheard.proofs.unheard_in.Tie as tie
 
-within-requires : tie.Need-within-requires
-within-requires c κs = search needs
-
-slice-aggregate-play : tie.Need-slice-aggregate-play
-slice-aggregate-play c = search needs
-
 play-requires : tie.Need-play-requires
 play-requires c κs = (refl, sym (c .before .before .within .ensures) ∙ c .before .if1 .taken)
-
-refused-requires : tie.Need-refused-requires
-refused-requires c κs = search needs
 
 returns : tie.Need-returns
 returns c =
@@ -29,9 +20,6 @@ returns-2 c =
     let fits = sym (at-play .before .before .before .within .ensures) ∙ at-play .before .before .if1 .taken in
     told _ _ fits _ _ _ (at-play .play .ensures) (c .if2 .left)
 
-refused-requires-2 : tie.Need-refused-requires-2
-refused-requires-2 c κs = search needs
-
 returns-3 : tie.Need-returns-3
 returns-3 c = outside _ _ _ (c .refused2 .ensures) (sym (c .before .before .within .ensures) ∙ c .before .if1 .left)
 
@@ -39,11 +27,11 @@ pub unheard-in-spec : {M : Type 1} → statement M
 unheard-in-spec =
     tie.close
     (tie.spec
-    within-requires
-    slice-aggregate-play
+    (λ c κs. search needs)
+    (λ c. search needs)
     play-requires
-    refused-requires
+    (λ c κs. search needs)
     returns
     returns-2
-    refused-requires-2
+    (λ c κs. search needs)
     returns-3)

@@ -4,17 +4,11 @@ use borrow.Author.Needs.{needs}
 use Rattle.waiting.proofs.count_event.Statement.{statement}
 use Rattle.waiting.proofs.count_event.Tie as tie
 
-ended-requires : tie.Need-ended-requires
-ended-requires c κs = search needs
-
 returns : tie.Need-returns
 returns c = rw (eq-eqb _ 1 (c .before .if1 .taken)) (c .ended .ensures)
-
-opened-requires : tie.Need-opened-requires
-opened-requires c κs = search needs
 
 returns-2 : tie.Need-returns-2
 returns-2 c = rw (ne-eqb _ 1 (c .before .if1 .left)) (c .opened .ensures)
 
 pub count-event-spec : {M : Type 1} → statement M
-count-event-spec = tie.close (tie.spec ended-requires returns opened-requires returns-2)
+count-event-spec = tie.close (tie.spec (λ c κs. search needs) returns (λ c κs. search needs) returns-2)

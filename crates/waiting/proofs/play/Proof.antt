@@ -16,12 +16,6 @@ Inv-loop row₀ pool log title arrivals counted₀ row counted =
 abbrev μ-loop : tie.MeasureT-loop
 μ-loop row₀ pool log title arrivals counted₀ row counted = left log (counted .played)
 
-not-begun-requires : tie.Need-not-begun-requires Inv-loop μ-loop
-not-begun-requires c κs = search needs
-
-opened-requires : tie.Need-opened-requires Inv-loop μ-loop
-opened-requires c κs = search needs
-
 loop-holds : tie.Need-loop-holds Inv-loop μ-loop
 loop-holds c = not-begun _ _ _ _ _ _ _ (c .before .before .before .not-begun .ensures) (c .opened .ensures)
 
@@ -56,8 +50,8 @@ play-spec =
     (tie.spec
     Inv-loop
     μ-loop
-    not-begun-requires
-    opened-requires
+    (λ c κs. search needs)
+    (λ c κs. search needs)
     loop-holds
     step-requires
     loop-less

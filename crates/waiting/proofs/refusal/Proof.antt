@@ -5,12 +5,6 @@ use borrow.Author.Needs.{needs}
 use Rattle.waiting.proofs.refusal.Statement.{statement}
 use Rattle.waiting.proofs.refusal.Tie as tie
 
-within-requires : tie.Need-within-requires
-within-requires c κs = search needs
-
-row-ok-requires : tie.Need-row-ok-requires
-row-ok-requires c κs = search needs
-
 returns : tie.Need-returns
 returns c =
     let row = c .before .before in
@@ -37,4 +31,4 @@ returns-5 c = pool-out _ _ _ (sym (c .before .within .ensures) ∙ c .if1 .left)
 pub refusal-spec : {M : Type 1} → statement M
 refusal-spec =
     tie.close
-    (tie.spec within-requires row-ok-requires returns returns-2 returns-3 returns-4 returns-5)
+    (tie.spec (λ c κs. search needs) (λ c κs. search needs) returns returns-2 returns-3 returns-4 returns-5)

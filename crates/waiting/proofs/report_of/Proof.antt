@@ -29,36 +29,21 @@ fit c = passes _ _ _ (none-first c)
 bytes : (c : tie.After-play) → Bytes (start c .args .log .now)
 bytes c = let known = c .before .before .before .before .before in λ j. omega (arith, known .shared-slice-known .given j)
 
-refusal-requires : tie.Need-refusal-requires
-refusal-requires c κs = search needs
-
-refused-requires : tie.Need-refused-requires
-refused-requires c κs = search needs
-
 returns : tie.Need-returns
 returns c =
     let tested = c .before .before in
     let is = tested .refusal .ensures in
     reports-refusal _ _ _ _ _ _ (c .refused .ensures) (is ∙ refused-first _ _ _ _ (λ h. c .before .if1 .taken (is ∙ h))) (c .before .if1 .taken)
 
-slice-aggregate-play : tie.Need-slice-aggregate-play
-slice-aggregate-play c = search needs
-
 play-requires : tie.Need-play-requires
 play-requires c κs =
     let fit = passes _ _ _ (sym (c .before .before .refusal .ensures) ∙ c .before .if1 .left) in
     (refl, (fit .pool-in, (fit .id, fit .short)))
 
-refused-requires-2 : tie.Need-refused-requires-2
-refused-requires-2 c κs = search needs
-
 returns-2 : tie.Need-returns-2
 returns-2 c =
     let at-play = c .before .before .before .before .before in
     reports-refusal _ _ _ _ _ _ (c .refused2 .ensures) (not-whole _ _ _ _ (none-first at-play) _ (at-play .play .ensures .place-is) (c .before .if2 .taken)) (λ h. omega arith)
-
-slice-aggregate-title-at : tie.Need-slice-aggregate-title-at
-slice-aggregate-title-at c = search needs
 
 title-at-requires : tie.Need-title-at-requires
 title-at-requires c κs = (search needs, fit (c .before .before .before .before .before .before) .id)
@@ -79,14 +64,14 @@ pub report-of-spec : {M : Type 1} → statement M
 report-of-spec =
     tie.close
     (tie.spec
-    refusal-requires
-    refused-requires
+    (λ c κs. search needs)
+    (λ c κs. search needs)
     returns
-    slice-aggregate-play
+    (λ c. search needs)
     play-requires
-    refused-requires-2
+    (λ c κs. search needs)
     returns-2
-    slice-aggregate-title-at
+    (λ c. search needs)
     title-at-requires
     endless-requires
     returns-3)

@@ -16,19 +16,13 @@ count-event-requires c κs =
     let met = at-read .read-for .ensures in
     (of-before (λ t. t .mode ≡ 1 → Playing t) _ _ _ _ _ _ met (ready .playing), (met .early (c .if1 .taken), ready .few))
 
-same-length : tie.Need-same-length
-same-length c = search needs
-
 returns : tie.Need-returns
 returns c =
     let at-read = c .before .before .before .before .before .before in
     steps-own _ _ _ _ _ _ _ _ (at-read .read-for .ensures) _ (c .before .if1 .taken) (c .count-event .ensures)
 
-same-length-2 : tie.Need-same-length-2
-same-length-2 c = search needs
-
 returns-2 : tie.Need-returns-2
 returns-2 c = steps-past _ _ _ _ _ _ _ _ (c .before .before .before .before .before .read-for .ensures) (c .if1 .left)
 
 pub step-spec : {M : Type 1} → statement M
-step-spec = tie.close (tie.spec read-for-requires count-event-requires same-length returns same-length-2 returns-2)
+step-spec = tie.close (tie.spec read-for-requires count-event-requires (λ c. search needs) returns (λ c. search needs) returns-2)

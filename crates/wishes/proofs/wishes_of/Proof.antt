@@ -5,9 +5,6 @@ use borrow.Author.Needs.{needs}
 use Rattle.wishes.proofs.wishes_of.Statement.{statement}
 use Rattle.wishes.proofs.wishes_of.Tie as tie
 
-shares-of-requires : tie.Need-shares-of-requires
-shares-of-requires c κs = search needs
-
 pass-requires : tie.Need-pass-requires
 pass-requires c κs = omega arith
 
@@ -23,4 +20,4 @@ returns c =
     (wishes-are (a .s) (shares .result) (a .rates .now) (shares .ensures), wishes-few (a .s) (shares .result))
 
 pub wishes-of-spec : {M : Type 1} → statement M
-wishes-of-spec = tie.close (tie.spec shares-of-requires pass-requires pass-requires-2 returns)
+wishes-of-spec = tie.close (tie.spec (λ c κs. search needs) pass-requires pass-requires-2 returns)

@@ -22,47 +22,8 @@ Inv-loop row at from cap all₀ lane₀ all lane =
 abbrev μ-loop : tie.MeasureT-loop
 μ-loop row at from cap all₀ lane₀ all lane = cap - lane
 
-add-cap : tie.Need-add-cap Inv-loop μ-loop
-add-cap c = search needs
-
-mul-cap : tie.Need-mul-cap Inv-loop μ-loop
-mul-cap c = search needs
-
-shared-slice-read-cap : tie.Need-shared-slice-read-cap Inv-loop μ-loop
-shared-slice-read-cap c = search needs
-
 loop-holds : tie.Need-loop-holds Inv-loop μ-loop
 loop-holds c = (refl, λ l low high. absurd (omega arith))
-
-add-all : tie.Need-add-all Inv-loop μ-loop
-add-all c = search needs
-
-add-all-2 : tie.Need-add-all-2 Inv-loop μ-loop
-add-all-2 c = search needs
-
-mul-all : tie.Need-mul-all Inv-loop μ-loop
-mul-all c = search needs
-
-shared-slice-read-all : tie.Need-shared-slice-read-all Inv-loop μ-loop
-shared-slice-read-all c = search needs
-
-add-all-3 : tie.Need-add-all-3 Inv-loop μ-loop
-add-all-3 c = search needs
-
-add-all-4 : tie.Need-add-all-4 Inv-loop μ-loop
-add-all-4 c = search needs
-
-mul-all-2 : tie.Need-mul-all-2 Inv-loop μ-loop
-mul-all-2 c = search needs
-
-shared-slice-read-all-2 : tie.Need-shared-slice-read-all-2 Inv-loop μ-loop
-shared-slice-read-all-2 c = search needs
-
-add-lane : tie.Need-add-lane Inv-loop μ-loop
-add-lane c = search needs
-
-loop-less : tie.Need-loop-less Inv-loop μ-loop
-loop-less c = search needs
 
 loop-again : tie.Need-loop-again Inv-loop μ-loop
 loop-again c =
@@ -88,19 +49,19 @@ drops-from-spec =
     (tie.spec
     Inv-loop
     μ-loop
-    add-cap
-    mul-cap
-    shared-slice-read-cap
+    (λ c. search needs)
+    (λ c. search needs)
+    (λ c. search needs)
     loop-holds
-    add-all
-    add-all-2
-    mul-all
-    shared-slice-read-all
-    add-all-3
-    add-all-4
-    mul-all-2
-    shared-slice-read-all-2
-    add-lane
-    loop-less
+    (λ c. search needs)
+    (λ c. search needs)
+    (λ c. search needs)
+    (λ c. search needs)
+    (λ c. search needs)
+    (λ c. search needs)
+    (λ c. search needs)
+    (λ c. search needs)
+    (λ c. search needs)
+    (λ c. search needs)
     loop-again
     returns)

@@ -36,15 +36,6 @@ cap-fits c =
     let s = c .before .before .before .before in
     cap-high (titleFrom (s .args .row .now) (s .args .at)) (s .pre .1 .0)
 
-add-cap : tie.Need-add-cap Inv-loop μ-loop
-add-cap c = search needs
-
-mul-cap : tie.Need-mul-cap Inv-loop μ-loop
-mul-cap c = search needs
-
-shared-slice-read-cap : tie.Need-shared-slice-read-cap Inv-loop μ-loop
-shared-slice-read-cap c = search needs
-
 loop-holds : tie.Need-loop-holds Inv-loop μ-loop
 loop-holds c =
     let a = c .before .before .args in
@@ -53,17 +44,11 @@ loop-holds c =
 is-sending-requires : tie.Need-is-sending-requires Inv-loop μ-loop
 is-sending-requires c κs = let s = c .before .before .before .before in (s .pre .0, (s .pre .1 .0, (omega arith, omega arith)))
 
-one-if-requires : tie.Need-one-if-requires Inv-loop μ-loop
-one-if-requires c κs = search needs
-
 add-n : tie.Need-add-n Inv-loop μ-loop
 add-n c = let f = cap-fits (c .before .before) in omega arith
 
 add-lane : tie.Need-add-lane Inv-loop μ-loop
 add-lane c = let f = cap-fits (c .before .before) in omega arith
-
-loop-less : tie.Need-loop-less Inv-loop μ-loop
-loop-less c = search needs
 
 loop-again : tie.Need-loop-again Inv-loop μ-loop
 unfolding howMany
@@ -93,14 +78,14 @@ held-at-spec =
     (tie.spec
     Inv-loop
     μ-loop
-    add-cap
-    mul-cap
-    shared-slice-read-cap
+    (λ c. search needs)
+    (λ c. search needs)
+    (λ c. search needs)
     loop-holds
     is-sending-requires
-    one-if-requires
+    (λ c κs. search needs)
     add-n
     add-lane
-    loop-less
+    (λ c. search needs)
     loop-again
     returns)

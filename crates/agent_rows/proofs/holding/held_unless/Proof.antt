@@ -15,9 +15,6 @@ use Rattle.agent_rows.proofs.holding.held_unless.Tie as tie
 returns : tie.Need-returns
 returns c = record { is = simp (eq-eqb _ _ (c .if1 .taken)); low = omega arith; high = omega arith }
 
-title-place-requires : tie.Need-title-place-requires
-title-place-requires c κs = search needs
-
 title-held-requires : tie.Need-title-held-requires
 title-held-requires c κs =
     let s = c .before .before .before in
@@ -38,4 +35,4 @@ returns-2 c =
     }
 
 pub held-unless-spec : {M : Type 1} → statement M
-held-unless-spec = tie.close (tie.spec returns title-place-requires title-held-requires returns-2)
+held-unless-spec = tie.close (tie.spec returns (λ c κs. search needs) title-held-requires returns-2)

@@ -13,9 +13,6 @@ use Rattle.agent_rows.proofs.holding.is_sending.Tie as tie
 lane-fits : (c : tie.Start) → c .args .lane < lanePlaces
 lane-fits c = omega (arith, cap-high (titleFrom (c .args .row .now) (c .args .at)) (c .pre .1 .0))
 
-add-result : tie.Need-add-result
-add-result c = search needs
-
 add-result-2 : tie.Need-add-result-2
 add-result-2 c = let f = lane-fits c in omega arith
 
@@ -24,9 +21,6 @@ mul-result c = let f = lane-fits c in omega arith
 
 shared-slice-read-result : tie.Need-shared-slice-read-result
 shared-slice-read-result c = let f = lane-fits (c .before) in omega arith
-
-add-result-3 : tie.Need-add-result-3
-add-result-3 c = search needs
 
 add-result-4 : tie.Need-add-result-4
 add-result-4 c = let f = lane-fits (c .before) in omega arith
@@ -53,11 +47,11 @@ pub is-sending-spec : {M : Type 1} → statement M
 is-sending-spec =
     tie.close
     (tie.spec
-    add-result
+    (λ c. search needs)
     add-result-2
     mul-result
     shared-slice-read-result
-    add-result-3
+    (λ c. search needs)
     add-result-4
     mul-result-2
     shared-slice-read-result-2

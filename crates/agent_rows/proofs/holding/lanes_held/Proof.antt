@@ -6,11 +6,8 @@ use borrow.Author.Needs.{needs}
 use Rattle.agent_rows.proofs.holding.lanes_held.Statement.{statement}
 use Rattle.agent_rows.proofs.holding.lanes_held.Tie as tie
 
-others-held-requires : tie.Need-others-held-requires
-others-held-requires c κs = search needs
-
 returns : tie.Need-returns
 returns c = c .others-held .ensures .is ∙ all-but-none (unpacked (c .before .before .args .row .now) .state) (c .before .before .args .time)
 
 pub lanes-held-spec : {M : Type 1} → statement M
-lanes-held-spec = tie.close (tie.spec others-held-requires returns)
+lanes-held-spec = tie.close (tie.spec (λ c κs. search needs) returns)

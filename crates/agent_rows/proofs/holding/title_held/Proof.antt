@@ -13,21 +13,9 @@ use borrow.Author.Needs.{needs}
 use Rattle.agent_rows.proofs.holding.title_held.Statement.{statement}
 use Rattle.agent_rows.proofs.holding.title_held.Tie as tie
 
-add-mode : tie.Need-add-mode
-add-mode c = search needs
-
-mul-mode : tie.Need-mul-mode
-mul-mode c = search needs
-
-shared-slice-read-mode : tie.Need-shared-slice-read-mode
-shared-slice-read-mode c = search needs
-
 returns : tie.Need-returns
 unfolding titleHeld
 returns c = record { is = simp (eq-eqb _ _ (c .if1 .taken)); low = omega arith; high = omega arith }
-
-ruling-requires : tie.Need-ruling-requires
-ruling-requires c κs = search needs
 
 drops-from-requires : tie.Need-drops-from-requires
 drops-from-requires c κs =
@@ -79,11 +67,11 @@ pub title-held-spec : {M : Type 1} → statement M
 title-held-spec =
     tie.close
     (tie.spec
-    add-mode
-    mul-mode
-    shared-slice-read-mode
+    (λ c. search needs)
+    (λ c. search needs)
+    (λ c. search needs)
     returns
-    ruling-requires
+    (λ c κs. search needs)
     drops-from-requires
     returns-2
     tick-at-requires

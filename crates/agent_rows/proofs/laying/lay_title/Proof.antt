@@ -28,41 +28,17 @@ at-dropped c = c .before .before .before .before .before
 whole : (c : tie.Start) → WholeTitle (c .args .t)
 whole c = record { ends = search needs; dropped = search needs; owed = search needs }
 
-slice-aggregate-lay : tie.Need-slice-aggregate-lay
-slice-aggregate-lay c = search needs
-
-lay-requires : tie.Need-lay-requires
-lay-requires c κs = search needs
-
-add-lay : tie.Need-add-lay
-add-lay c = search needs
-
-slice-aggregate-lay-2 : tie.Need-slice-aggregate-lay-2
-slice-aggregate-lay-2 c = search needs
-
 lay-requires-2 : tie.Need-lay-requires-2
 lay-requires-2 c κs = let w = whole (start (at-own c)) in omega arith
 
-add-lay-2 : tie.Need-add-lay-2
-add-lay-2 c = search needs
-
-slice-aggregate-lay-3 : tie.Need-slice-aggregate-lay-3
-slice-aggregate-lay-3 c = search needs
-
 lay-requires-3 : tie.Need-lay-requires-3
 lay-requires-3 c κs = let w = whole (start (at-own (at-ends c))) in omega arith
-
-add-lay-3 : tie.Need-add-lay-3
-add-lay-3 c = search needs
 
 slice-aggregate-lay-4 : tie.Need-slice-aggregate-lay-4
 slice-aggregate-lay-4 c = let w = whole (start (at-own (at-ends (at-dropped c)))) in omega arith
 
 lay-requires-4 : tie.Need-lay-requires-4
 lay-requires-4 c κs = let w = whole (start (at-own (at-ends (at-dropped c)))) in omega arith
-
-same-length : tie.Need-same-length
-same-length c = search needs
 
 returns : tie.Need-returns
 returns c =
@@ -84,16 +60,16 @@ pub lay-title-spec : {M : Type 1} → statement M
 lay-title-spec =
     tie.close
     (tie.spec
-    slice-aggregate-lay
-    lay-requires
-    add-lay
-    slice-aggregate-lay-2
+    (λ c. search needs)
+    (λ c κs. search needs)
+    (λ c. search needs)
+    (λ c. search needs)
     lay-requires-2
-    add-lay-2
-    slice-aggregate-lay-3
+    (λ c. search needs)
+    (λ c. search needs)
     lay-requires-3
-    add-lay-3
+    (λ c. search needs)
     slice-aggregate-lay-4
     lay-requires-4
-    same-length
+    (λ c. search needs)
     returns)

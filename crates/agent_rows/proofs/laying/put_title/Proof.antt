@@ -11,12 +11,6 @@ use borrow.Author.Needs.{needs}
 use Rattle.agent_rows.proofs.laying.put_title.Statement.{statement}
 use Rattle.agent_rows.proofs.laying.put_title.Tie as tie
 
-slice-write-row : tie.Need-slice-write-row
-slice-write-row c = search needs
-
-title-place-requires : tie.Need-title-place-requires
-title-place-requires c κs = search needs
-
 lay-title-requires : tie.Need-lay-title-requires
 lay-title-requires c κs =
     let a = c .before .before .before .args in
@@ -42,4 +36,4 @@ returns c =
 pub put-title-spec : {M : Type 1} → statement M
 put-title-spec =
     tie.close
-    (tie.spec slice-write-row title-place-requires lay-title-requires same-length returns)
+    (tie.spec (λ c. search needs) (λ c κs. search needs) lay-title-requires same-length returns)

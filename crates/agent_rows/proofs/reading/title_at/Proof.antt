@@ -7,12 +7,6 @@ use borrow.Author.Needs.{needs}
 use Rattle.agent_rows.proofs.reading.title_at.Statement.{statement}
 use Rattle.agent_rows.proofs.reading.title_at.Tie as tie
 
-title-place-requires : tie.Need-title-place-requires
-title-place-requires c κs = search needs
-
-title-from-requires : tie.Need-title-from-requires
-title-from-requires c κs = search needs
-
 returns : tie.Need-returns
 returns c =
     let a = c .before .before .before .args in
@@ -21,4 +15,4 @@ returns c =
     ∙ sym (title-at (a .row .now) (a .id) (omega arith))
 
 pub title-at-spec : {M : Type 1} → statement M
-title-at-spec = tie.close (tie.spec title-place-requires title-from-requires returns)
+title-at-spec = tie.close (tie.spec (λ c κs. search needs) (λ c κs. search needs) returns)

@@ -29,9 +29,6 @@ returns-6 : tie.Need-returns-6
 unfolding smallNumbers
 returns-6 c = search (le-leb, lt-leb)
 
-floor-ok-requires : tie.Need-floor-ok-requires
-floor-ok-requires c κs = search needs
-
 returns-7 : tie.Need-returns-7
 unfolding smallNumbers
 returns-7 c = search (le-leb, lt-leb)
@@ -46,5 +43,5 @@ numbers-ok-spec =
     returns-4
     returns-5
     returns-6
-    floor-ok-requires
+    (λ c κs. search needs)
     returns-7)

@@ -17,15 +17,6 @@ returns-3 : tie.Need-returns-3
 unfolding orderedNumbers
 returns-3 c = search (le-leb, lt-leb)
 
-within-requires : tie.Need-within-requires
-within-requires c κs = search needs
-
-is-level-requires : tie.Need-is-level-requires
-is-level-requires c κs = search needs
-
-also-requires : tie.Need-also-requires
-also-requires c κs = search needs
-
 returns-4 : tie.Need-returns-4
 unfolding orderedNumbers
 returns-4 c =
@@ -47,7 +38,7 @@ order-ok-spec =
     returns
     returns-2
     returns-3
-    within-requires
-    is-level-requires
-    also-requires
+    (λ c κs. search needs)
+    (λ c κs. search needs)
+    (λ c κs. search needs)
     returns-4)

@@ -10,15 +10,6 @@ use borrow.Author.Needs.{needs}
 use Rattle.agent_rows.proofs.testing.row_ok.Statement.{statement}
 use Rattle.agent_rows.proofs.testing.row_ok.Tie as tie
 
-head-ok-requires : tie.Need-head-ok-requires
-head-ok-requires c κs = search needs
-
-shared-slice-read-titles-ok : tie.Need-shared-slice-read-titles-ok
-shared-slice-read-titles-ok c = search needs
-
-titles-ok-requires : tie.Need-titles-ok-requires
-titles-ok-requires c κs = search needs
-
 returns : tie.Need-returns
 returns c =
     let at-if = c .before .before in
@@ -38,4 +29,4 @@ returns-2 c =
 pub row-ok-spec : {M : Type 1} → statement M
 row-ok-spec =
     tie.close
-    (tie.spec head-ok-requires shared-slice-read-titles-ok titles-ok-requires returns returns-2)
+    (tie.spec (λ c κs. search needs) (λ c. search needs) (λ c κs. search needs) returns returns-2)

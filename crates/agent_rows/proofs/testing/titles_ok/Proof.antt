@@ -32,26 +32,11 @@ loop-holds : tie.Need-loop-holds Inv-loop μ-loop
 unfolding every
 loop-holds c = (omega arith, search needs, λ j b. absurd (omega arith))
 
-mul-at : tie.Need-mul-at Inv-loop μ-loop
-mul-at c = search needs
-
-add-at : tie.Need-add-at Inv-loop μ-loop
-add-at c = search needs
-
 small-ok-requires : tie.Need-small-ok-requires Inv-loop μ-loop
 small-ok-requires c κs = omega arith
 
-also-requires : tie.Need-also-requires Inv-loop μ-loop
-also-requires c κs = search needs
-
 all-of-requires : tie.Need-all-of-requires Inv-loop μ-loop
 all-of-requires c κs = omega arith
-
-add-i : tie.Need-add-i Inv-loop μ-loop
-add-i c = search needs
-
-loop-less : tie.Need-loop-less Inv-loop μ-loop
-loop-less c = search needs
 
 loop-again : tie.Need-loop-again Inv-loop μ-loop
 unfolding every
@@ -78,12 +63,6 @@ returns c =
     let low = all-low (a .row .now) (λ i b j d. le-trans (l .inv .2 i (rw done b) j d) (c .if1 .taken)) in
     l .inv .1 ∙ ap (every _) done ∙ sym (both-true smalls) ∙ ap (both smalls) (sym low)
 
-each-times-ok-requires : tie.Need-each-times-ok-requires Inv-loop μ-loop
-each-times-ok-requires c κs = search needs
-
-also-requires-2 : tie.Need-also-requires-2 Inv-loop μ-loop
-also-requires-2 c κs = search needs
-
 returns-2 : tie.Need-returns-2 Inv-loop μ-loop
 returns-2 c =
     let left = c .before .before .before in
@@ -96,15 +75,15 @@ titles-ok-spec =
     Inv-loop
     μ-loop
     loop-holds
-    mul-at
-    add-at
+    (λ c. search needs)
+    (λ c. search needs)
     small-ok-requires
-    also-requires
+    (λ c κs. search needs)
     all-of-requires
-    add-i
-    loop-less
+    (λ c. search needs)
+    (λ c. search needs)
     loop-again
     returns
-    each-times-ok-requires
-    also-requires-2
+    (λ c κs. search needs)
+    (λ c κs. search needs)
     returns-2)

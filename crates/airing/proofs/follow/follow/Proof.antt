@@ -5,22 +5,10 @@ use borrow.Author.Needs.{needs}
 use Rattle.airing.proofs.follow.follow.Statement.{statement}
 use Rattle.airing.proofs.follow.follow.Tie as tie
 
-slice-aggregate-play : tie.Need-slice-aggregate-play
-slice-aggregate-play c = search needs
-
-play-requires : tie.Need-play-requires
-play-requires c κs = search needs
-
-slice-aggregate-title-at : tie.Need-slice-aggregate-title-at
-slice-aggregate-title-at c = search needs
-
 title-at-requires : tie.Need-title-at-requires
 title-at-requires c κs =
     let start = c .before .before .before .before .before .before .before .before .before in
     (search needs, id-low (start .args .pool) (start .args .title) (start .pre))
-
-answer-of-requires : tie.Need-answer-of-requires
-answer-of-requires c κs = search needs
 
 mark-to-requires : tie.Need-mark-to-requires
 mark-to-requires c κs =
@@ -29,9 +17,6 @@ mark-to-requires c κs =
     let at-play = at-title-at .before .before .before .before .before in
     let known = at-play .before .before .before .before in
     markable _ _ (known .before .pre) _ _ _ _ _ (at-play .play .ensures) (λ j. omega (arith, known .shared-slice-known .given j)) _ (at-title-at .title-at .ensures) _ (at-answer-of .answer-of .ensures) (c .before .if1 .taken)
-
-same-length : tie.Need-same-length
-same-length c = search needs
 
 returns : tie.Need-returns
 returns c =
@@ -42,9 +27,6 @@ returns c =
     let at-play = at-title-at .before .before .before .before .before in
     let known = at-play .before .before .before .before in
     follows-done _ _ (known .before .pre) _ _ _ _ _ (at-play .play .ensures) (λ j. omega (arith, known .shared-slice-known .given j)) _ (at-title-at .title-at .ensures) _ (at-answer-of .answer-of .ensures) _ (at-if1 .if1 .taken) (at-mark-to .mark-to .ensures)
-
-same-length-2 : tie.Need-same-length-2
-same-length-2 c = search needs
 
 returns-2 : tie.Need-returns-2
 returns-2 c =
@@ -58,13 +40,13 @@ pub follow-spec : {M : Type 1} → statement M
 follow-spec =
     tie.close
     (tie.spec
-    slice-aggregate-play
-    play-requires
-    slice-aggregate-title-at
+    (λ c. search needs)
+    (λ c κs. search needs)
+    (λ c. search needs)
     title-at-requires
-    answer-of-requires
+    (λ c κs. search needs)
     mark-to-requires
-    same-length
+    (λ c. search needs)
     returns
-    same-length-2
+    (λ c. search needs)
     returns-2)

@@ -8,9 +8,6 @@ use borrow.Author.Needs.{needs}
 use Rattle.airing.proofs.follow.step.Statement.{statement}
 use Rattle.airing.proofs.follow.step.Tie as tie
 
-read-for-requires : tie.Need-read-for-requires
-read-for-requires c κs = search needs
-
 tick-at-requires : tie.Need-tick-at-requires
 tick-at-requires c κs =
     let at-read = c .before .before .before .before .before .before in
@@ -22,12 +19,6 @@ mark-to-requires c κs =
     let at-read = at-open .before .before .before .before .before .before in
     of-before (λ t. t .mode ≡ openMode → Markable t) _ _ _ _ _ _ (at-read .read-for .ensures) (at-read .before .before .before .before .before .pre .1 .markable) (at-open .if2 .taken)
 
-same-length : tie.Need-same-length
-same-length c = search needs
-
-same-length-2 : tie.Need-same-length-2
-same-length-2 c = search needs
-
 returns : tie.Need-returns
 returns c =
     let at-mark-to = c .before .before in
@@ -37,16 +28,10 @@ returns c =
     steps-own _ _ _ _ _ _ _ _ (at-own .before .before .before .before .before .read-for .ensures) _ (at-own .if1 .taken)
     (marks-open _ _ _ _ _ (at-open .if2 .taken) (at-tick-at .tick-at .ensures .is) (at-mark-to .mark-to .ensures))
 
-same-length-3 : tie.Need-same-length-3
-same-length-3 c = search needs
-
 returns-2 : tie.Need-returns-2
 returns-2 c =
     let at-own = c .before in
     steps-own _ _ _ _ _ _ _ _ (at-own .before .before .before .before .before .read-for .ensures) _ (at-own .if1 .taken) (marks-opening _ _ _ (c .if2 .left))
-
-same-length-4 : tie.Need-same-length-4
-same-length-4 c = search needs
 
 returns-3 : tie.Need-returns-3
 returns-3 c = steps-past _ _ _ _ _ _ _ _ (c .before .before .before .before .before .read-for .ensures) (c .if1 .left)
@@ -55,13 +40,13 @@ pub step-spec : {M : Type 1} → statement M
 step-spec =
     tie.close
     (tie.spec
-    read-for-requires
+    (λ c κs. search needs)
     tick-at-requires
     mark-to-requires
-    same-length
-    same-length-2
+    (λ c. search needs)
+    (λ c. search needs)
     returns
-    same-length-3
+    (λ c. search needs)
     returns-2
-    same-length-4
+    (λ c. search needs)
     returns-3)

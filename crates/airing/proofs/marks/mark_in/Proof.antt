@@ -4,12 +4,6 @@ use borrow.Author.Needs.{needs}
 use Rattle.airing.proofs.marks.mark_in.Statement.{statement}
 use Rattle.airing.proofs.marks.mark_in.Tie as tie
 
-admitting-requires : tie.Need-admitting-requires
-admitting-requires c κs = search needs
-
-starts-requires : tie.Need-starts-requires
-starts-requires c κs = search needs
-
 returns : tie.Need-returns
 unfolding markIn
 returns c = simp (← c .before .before .before .admitting .ensures, c .before .before .if1 .taken, ← c .before .starts .ensures, c .if2 .taken)
@@ -23,4 +17,4 @@ unfolding markIn
 returns-3 c = simp (← c .before .admitting .ensures, c .if1 .left)
 
 pub mark-in-spec : {M : Type 1} → statement M
-mark-in-spec = tie.close (tie.spec admitting-requires starts-requires returns returns-2 returns-3)
+mark-in-spec = tie.close (tie.spec (λ c κs. search needs) (λ c κs. search needs) returns returns-2 returns-3)

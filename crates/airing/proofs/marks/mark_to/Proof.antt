@@ -18,26 +18,11 @@ Inv-loop t upto marks₀ end tick₀ marks tick =
 abbrev μ-loop : tie.MeasureT-loop
 μ-loop t upto marks₀ end tick₀ marks tick = end - tick
 
-smaller-requires : tie.Need-smaller-requires Inv-loop μ-loop
-smaller-requires c κs = search needs
-
-tick-at-requires : tie.Need-tick-at-requires Inv-loop μ-loop
-tick-at-requires c κs = search needs
-
 loop-holds : tie.Need-loop-holds Inv-loop μ-loop
 unfolding markedFrom
 loop-holds c =
     let is = c .tick-at .ensures .is in
     let none = sub-zero _ _ is in (omega (arith, is), omega (arith, is), rw none refl, refl)
-
-mark-in-requires : tie.Need-mark-in-requires Inv-loop μ-loop
-mark-in-requires c κs = search needs
-
-slice-write-marks : tie.Need-slice-write-marks Inv-loop μ-loop
-slice-write-marks c = search needs
-
-add-tick : tie.Need-add-tick Inv-loop μ-loop
-add-tick c = search needs
 
 loop-less : tie.Need-loop-less Inv-loop μ-loop
 loop-less c = omega arith
@@ -71,12 +56,12 @@ mark-to-spec =
     (tie.spec
     Inv-loop
     μ-loop
-    smaller-requires
-    tick-at-requires
+    (λ c κs. search needs)
+    (λ c κs. search needs)
     loop-holds
-    mark-in-requires
-    slice-write-marks
-    add-tick
+    (λ c κs. search needs)
+    (λ c. search needs)
+    (λ c. search needs)
     loop-less
     loop-again
     same-length

@@ -5,9 +5,6 @@ use borrow.Author.Needs.{needs}
 use Rattle.airing.proofs.reasons.first_stray.Statement.{statement}
 use Rattle.airing.proofs.reasons.first_stray.Tie as tie
 
-in-limits-requires : tie.Need-in-limits-requires
-in-limits-requires c κs = search needs
-
 end-of-requires : tie.Need-end-of-requires
 end-of-requires c κs = sym (c .before .in-limits .ensures) ∙ c .if1 .taken
 
@@ -24,4 +21,4 @@ returns-3 : tie.Need-returns-3
 returns-3 c = stray-outside _ _ _ _ (sym (c .before .in-limits .ensures) ∙ c .if1 .left)
 
 pub first-stray-spec : {M : Type 1} → statement M
-first-stray-spec = tie.close (tie.spec in-limits-requires end-of-requires stray-of-requires returns returns-2 returns-3)
+first-stray-spec = tie.close (tie.spec (λ c κs. search needs) end-of-requires stray-of-requires returns returns-2 returns-3)

@@ -5,14 +5,8 @@ use borrow.Author.Needs.{needs}
 use Rattle.airing.proofs.reasons.is_skip_forward.Statement.{statement}
 use Rattle.airing.proofs.reasons.is_skip_forward.Tie as tie
 
-in-limits-requires : tie.Need-in-limits-requires
-in-limits-requires c κs = search needs
-
 end-of-requires : tie.Need-end-of-requires
 end-of-requires c κs = sym (c .before .in-limits .ensures) ∙ c .if1 .taken
-
-is-steady-requires : tie.Need-is-steady-requires
-is-steady-requires c κs = search needs
 
 returns : tie.Need-returns
 returns c = skip-inside _ _ _ (sym (c .before .before .before .in-limits .ensures) ∙ c .before .before .if1 .taken) _ (c .before .end-of .ensures) _ (c .is-steady .ensures)
@@ -21,4 +15,4 @@ returns-2 : tie.Need-returns-2
 returns-2 c = skip-outside _ _ _ (sym (c .before .in-limits .ensures) ∙ c .if1 .left)
 
 pub is-skip-forward-spec : {M : Type 1} → statement M
-is-skip-forward-spec = tie.close (tie.spec in-limits-requires end-of-requires is-steady-requires returns returns-2)
+is-skip-forward-spec = tie.close (tie.spec (λ c κs. search needs) end-of-requires (λ c κs. search needs) returns returns-2)

@@ -23,12 +23,6 @@ Inv-loop cap «record» n found₀ i₀ found i =
 abbrev μ-loop : tie.MeasureT-loop
 μ-loop cap «record» n found₀ i₀ found i = length «record» - i
 
-pow2-requires : tie.Need-pow2-requires Inv-loop μ-loop
-pow2-requires c κs = search needs
-
-cast-cells : tie.Need-cast-cells Inv-loop μ-loop
-cast-cells c = search needs
-
 loop-holds : tie.Need-loop-holds Inv-loop μ-loop
 unfolding first
 loop-holds c = search needs
@@ -67,4 +61,4 @@ returns c =
     ∙ ap (first (λ j. not (either (eqb (getD r j 0) nothingSeen) (ltb (getD r j 0) (2 ^ x .cap))))) all
 
 pub stray-of-spec : {M : Type 1} → statement M
-stray-of-spec = tie.close (tie.spec Inv-loop μ-loop pow2-requires cast-cells loop-holds mul-seen shared-slice-read-seen either-requires keep-first-requires add-i loop-less loop-again returns)
+stray-of-spec = tie.close (tie.spec Inv-loop μ-loop (λ c κs. search needs) (λ c. search needs) loop-holds mul-seen shared-slice-read-seen either-requires keep-first-requires add-i loop-less loop-again returns)

@@ -21,12 +21,6 @@ Inv-loop cap «record» n ok₀ i₀ ok i =
 abbrev μ-loop : tie.MeasureT-loop
 μ-loop cap «record» n ok₀ i₀ ok i = length «record» - i
 
-pow2-requires : tie.Need-pow2-requires Inv-loop μ-loop
-pow2-requires c κs = search needs
-
-cast-cells : tie.Need-cast-cells Inv-loop μ-loop
-cast-cells c = search needs
-
 loop-holds : tie.Need-loop-holds Inv-loop μ-loop
 unfolding every
 loop-holds c = search needs
@@ -69,8 +63,8 @@ all-cells-spec =
     (tie.spec
     Inv-loop
     μ-loop
-    pow2-requires
-    cast-cells
+    (λ c κs. search needs)
+    (λ c. search needs)
     loop-holds
     mul-seen
     shared-slice-read-seen

@@ -5,12 +5,6 @@ use borrow.Author.Needs.{needs}
 use Rattle.airing.proofs.refusals.first_answer.Statement.{statement}
 use Rattle.airing.proofs.refusals.first_answer.Tie as tie
 
-in-limits-requires : tie.Need-in-limits-requires
-in-limits-requires c κs = search needs
-
-has-room-requires : tie.Need-has-room-requires
-has-room-requires c κs = search needs
-
 returns : tie.Need-returns
 unfolding rowsAnswer firstHit
 returns c = simp (← c .before .before .before .in-limits .ensures, c .before .before .if1 .taken, ← c .before .has-room .ensures, c .if2 .taken)
@@ -25,4 +19,4 @@ returns-3 c = simp (← c .before .in-limits .ensures, c .if1 .left)
 
 pub first-answer-spec : {M : Type 1} → statement M
 first-answer-spec =
-    tie.close (tie.spec in-limits-requires has-room-requires returns returns-2 returns-3)
+    tie.close (tie.spec (λ c κs. search needs) (λ c κs. search needs) returns returns-2 returns-3)

@@ -5,15 +5,9 @@ use borrow.Author.Needs.{needs}
 use Rattle.airing.proofs.refusals.has_room.Statement.{statement}
 use Rattle.airing.proofs.refusals.has_room.Tie as tie
 
-also-requires : tie.Need-also-requires
-also-requires c κs = search needs
-
-also-requires-2 : tie.Need-also-requires-2
-also-requires-2 c κs = search needs
-
 returns : tie.Need-returns
 unfolding hasRoom
 returns c = c .also2 .ensures ∙ simp (c .before .also .ensures)
 
 pub has-room-spec : {M : Type 1} → statement M
-has-room-spec = tie.close (tie.spec also-requires also-requires-2 returns)
+has-room-spec = tie.close (tie.spec (λ c κs. search needs) (λ c κs. search needs) returns)

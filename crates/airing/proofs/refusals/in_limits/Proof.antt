@@ -4,14 +4,8 @@ use borrow.Author.Needs.{needs}
 use Rattle.airing.proofs.refusals.in_limits.Statement.{statement}
 use Rattle.airing.proofs.refusals.in_limits.Tie as tie
 
-within-requires : tie.Need-within-requires
-within-requires c κs = search needs
-
-also-requires : tie.Need-also-requires
-also-requires c κs = search needs
-
 returns : tie.Need-returns
 returns c = c .also .ensures ∙ simp (c .before .within .ensures)
 
 pub in-limits-spec : {M : Type 1} → statement M
-in-limits-spec = tie.close (tie.spec within-requires also-requires returns)
+in-limits-spec = tie.close (tie.spec (λ c κs. search needs) (λ c κs. search needs) returns)

@@ -5,12 +5,6 @@ use borrow.Author.Needs.{needs}
 use Rattle.console_acts.proofs.acts.event.Statement.{statement}
 use Rattle.console_acts.proofs.acts.event.Tie as tie
 
-event-in-requires : tie.Need-event-in-requires
-event-in-requires c κs = search needs
-
-call-requires : tie.Need-call-requires
-call-requires c κs = search needs
-
 returns : tie.Need-returns
 returns c =
     let called = c .before in
@@ -19,4 +13,4 @@ returns c =
     (told .0, moves (a .agent) (a .line) _ (told .1))
 
 pub event-spec : {M : Type 1} → statement M
-event-spec = tie.close (tie.spec event-in-requires call-requires returns)
+event-spec = tie.close (tie.spec (λ c κs. search needs) (λ c κs. search needs) returns)

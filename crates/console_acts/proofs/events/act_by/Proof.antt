@@ -6,9 +6,6 @@ use borrow.Author.Needs.{needs}
 use Rattle.console_acts.proofs.events.act_by.Statement.{statement}
 use Rattle.console_acts.proofs.events.act_by.Tie as tie
 
-opening-requires : tie.Need-opening-requires
-opening-requires c κs = search needs
-
 returns : tie.Need-returns
 unfolding actBy
 returns c = rw (c .before .if1 .taken) (c .opening .ensures)
@@ -24,9 +21,6 @@ returns-3 c = rw (c .if3 .taken) refl
 returns-4 : tie.Need-returns-4
 unfolding actBy
 returns-4 c = rw (c .if4 .taken) refl
-
-opening-requires-2 : tie.Need-opening-requires-2
-opening-requires-2 c κs = search needs
 
 returns-5 : tie.Need-returns-5
 unfolding actBy
@@ -51,11 +45,11 @@ pub act-by-spec : {M : Type 1} → statement M
 act-by-spec =
     tie.close
     (tie.spec
-    opening-requires
+    (λ c κs. search needs)
     returns
     returns-2
     returns-3
     returns-4
-    opening-requires-2
+    (λ c κs. search needs)
     returns-5
     returns-6)

@@ -8,11 +8,8 @@ use Rattle.console_acts.proofs.events.word_of.Tie as tie
 returns : tie.Need-returns
 returns c = rw (lt-ltb _ _ (c .if1 .taken)) refl
 
-sub-result : tie.Need-sub-result
-sub-result c = search needs
-
 returns-2 : tie.Need-returns-2
 returns-2 c = rw (le-ltb _ _ (c .if1 .left)) refl
 
 pub word-of-spec : {M : Type 1} → statement M
-word-of-spec = tie.close (tie.spec returns sub-result returns-2)
+word-of-spec = tie.close (tie.spec returns (λ c. search needs) returns-2)

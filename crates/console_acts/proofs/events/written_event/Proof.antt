@@ -9,33 +9,6 @@ use borrow.Author.Needs.{needs}
 use Rattle.console_acts.proofs.events.written_event.Statement.{statement}
 use Rattle.console_acts.proofs.events.written_event.Tie as tie
 
-word-of-requires : tie.Need-word-of-requires
-word-of-requires c κs = search needs
-
-array-read-event-at : tie.Need-array-read-event-at
-array-read-event-at c = search needs
-
-array-read-event-at-2 : tie.Need-array-read-event-at-2
-array-read-event-at-2 c = search needs
-
-array-read-act-by : tie.Need-array-read-act-by
-array-read-act-by c = search needs
-
-array-read-act-by-2 : tie.Need-array-read-act-by-2
-array-read-act-by-2 c = search needs
-
-array-read-act-by-3 : tie.Need-array-read-act-by-3
-array-read-act-by-3 c = search needs
-
-array-read-act-by-4 : tie.Need-array-read-act-by-4
-array-read-act-by-4 c = search needs
-
-act-by-requires : tie.Need-act-by-requires
-act-by-requires c κs = search needs
-
-event-at-requires : tie.Need-event-at-requires
-event-at-requires c κs = search needs
-
 returns : tie.Need-returns
 unfolding writtenEvent
 returns c =
@@ -49,13 +22,13 @@ pub written-event-spec : {M : Type 1} → statement M
 written-event-spec =
     tie.close
     (tie.spec
-    word-of-requires
-    array-read-event-at
-    array-read-event-at-2
-    array-read-act-by
-    array-read-act-by-2
-    array-read-act-by-3
-    array-read-act-by-4
-    act-by-requires
-    event-at-requires
+    (λ c κs. search needs)
+    (λ c. search needs)
+    (λ c. search needs)
+    (λ c. search needs)
+    (λ c. search needs)
+    (λ c. search needs)
+    (λ c. search needs)
+    (λ c κs. search needs)
+    (λ c κs. search needs)
     returns)

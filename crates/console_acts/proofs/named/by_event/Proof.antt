@@ -3,30 +3,6 @@ use borrow.Author.Needs.{needs}
 use Rattle.console_acts.proofs.named.by_event.Statement.{statement}
 use Rattle.console_acts.proofs.named.by_event.Tie as tie
 
-enum-known-act : tie.Need-enum-known-act
-enum-known-act c = search needs
-
-missed-requires : tie.Need-missed-requires
-missed-requires c κs = search needs
-
-enum-told : tie.Need-enum-told
-enum-told c = search needs
-
-by-title-requires : tie.Need-by-title-requires
-by-title-requires c κs = search needs
-
-enum-told-2 : tie.Need-enum-told-2
-enum-told-2 c = search needs
-
-by-title-requires-2 : tie.Need-by-title-requires-2
-by-title-requires-2 c κs = search needs
-
-enum-told-3 : tie.Need-enum-told-3
-enum-told-3 c = search needs
-
-by-title-requires-3 : tie.Need-by-title-requires-3
-by-title-requires-3 c κs = search needs
-
 returns : tie.Need-returns
 returns c = rw (c .before .before .act .given .1) (c .missed .ensures)
 
@@ -43,14 +19,14 @@ pub by-event-spec : {M : Type 1} → statement M
 by-event-spec =
     tie.close
     (tie.spec
-    enum-known-act
-    missed-requires
-    enum-told
-    by-title-requires
-    enum-told-2
-    by-title-requires-2
-    enum-told-3
-    by-title-requires-3
+    (λ c. search needs)
+    (λ c κs. search needs)
+    (λ c. search needs)
+    (λ c κs. search needs)
+    (λ c. search needs)
+    (λ c κs. search needs)
+    (λ c. search needs)
+    (λ c κs. search needs)
     returns
     returns-2
     returns-3

@@ -7,26 +7,8 @@ use borrow.Author.Needs.{needs}
 use Rattle.console_acts.proofs.named.by_line.Statement.{statement}
 use Rattle.console_acts.proofs.named.by_line.Tie as tie
 
-cast-result : tie.Need-cast-result
-cast-result c = search needs
-
-add-result : tie.Need-add-result
-add-result c = search needs
-
 returns : tie.Need-returns
 returns c = names-sequence _ _ _ _ (c .before .if1 .taken)
-
-array-read-reading : tie.Need-array-read-reading
-array-read-reading c = search needs
-
-array-read-reading-2 : tie.Need-array-read-reading-2
-array-read-reading-2 c = search needs
-
-reading-requires : tie.Need-reading-requires
-reading-requires c κs = search needs
-
-by-reading-requires : tie.Need-by-reading-requires
-by-reading-requires c κs = search needs
 
 returns-2 : tie.Need-returns-2
 returns-2 c =
@@ -34,12 +16,6 @@ returns-2 c =
     let at-if2 = at-reading .before in
     names-notice _ _ _ _ _ _ (at-if2 .before .before .before .if1 .left) (at-if2 .if2 .taken)
     (at-reading .reading .ensures) (c .by-reading .ensures)
-
-event-in-requires : tie.Need-event-in-requires
-event-in-requires c κs = search needs
-
-by-event-requires : tie.Need-by-event-requires
-by-event-requires c κs = search needs
 
 returns-3 : tie.Need-returns-3
 returns-3 c =
@@ -52,14 +28,14 @@ pub by-line-spec : {M : Type 1} → statement M
 by-line-spec =
     tie.close
     (tie.spec
-    cast-result
-    add-result
+    (λ c. search needs)
+    (λ c. search needs)
     returns
-    array-read-reading
-    array-read-reading-2
-    reading-requires
-    by-reading-requires
+    (λ c. search needs)
+    (λ c. search needs)
+    (λ c κs. search needs)
+    (λ c κs. search needs)
     returns-2
-    event-in-requires
-    by-event-requires
+    (λ c κs. search needs)
+    (λ c κs. search needs)
     returns-3)

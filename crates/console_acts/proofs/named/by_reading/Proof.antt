@@ -6,18 +6,6 @@ use borrow.Author.Needs.{needs}
 use Rattle.console_acts.proofs.named.by_reading.Statement.{statement}
 use Rattle.console_acts.proofs.named.by_reading.Tie as tie
 
-enum-known-reading : tie.Need-enum-known-reading
-enum-known-reading c = search needs
-
-event-of-requires : tie.Need-event-of-requires
-event-of-requires c κs = search needs
-
-by-event-requires : tie.Need-by-event-requires
-by-event-requires c κs = search needs
-
-enum-told : tie.Need-enum-told
-enum-told c = search needs
-
 returns : tie.Need-returns
 returns c =
     let told = c .before .before .before in
@@ -31,4 +19,4 @@ returns-2 c = rw (c .enum-told .given .1)
 pub by-reading-spec : {M : Type 1} → statement M
 by-reading-spec =
     tie.close
-    (tie.spec enum-known-reading event-of-requires by-event-requires enum-told returns returns-2)
+    (tie.spec (λ c. search needs) (λ c κs. search needs) (λ c κs. search needs) (λ c. search needs) returns returns-2)

@@ -5,20 +5,8 @@ use borrow.Author.Needs.{needs}
 use Rattle.console_acts.proofs.named.by_title.Statement.{statement}
 use Rattle.console_acts.proofs.named.by_title.Tie as tie
 
-settled-requires : tie.Need-settled-requires
-settled-requires c κs = search needs
-
 returns : tie.Need-returns
 returns c = rw (eq-eqb _ _ (c .before .if1 .taken)) (c .settled .ensures)
-
-mul-t : tie.Need-mul-t
-mul-t c = search needs
-
-element-copy-out-t : tie.Need-element-copy-out-t
-element-copy-out-t c = search needs
-
-missed-requires : tie.Need-missed-requires
-missed-requires c κs = search needs
 
 returns-2 : tie.Need-returns-2
 returns-2 c =
@@ -29,4 +17,4 @@ returns-3 : tie.Need-returns-3
 returns-3 c = rw (ne-eqb _ _ (c .before .if1 .left), lt-leb _ _ (c .if2 .left))
 
 pub by-title-spec : {M : Type 1} → statement M
-by-title-spec = tie.close (tie.spec settled-requires returns mul-t element-copy-out-t missed-requires returns-2 returns-3)
+by-title-spec = tie.close (tie.spec (λ c κs. search needs) returns (λ c. search needs) (λ c. search needs) (λ c κs. search needs) returns-2 returns-3)

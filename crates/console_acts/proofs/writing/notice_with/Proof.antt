@@ -4,16 +4,10 @@ use borrow.Author.Needs.{needs}
 use Rattle.console_acts.proofs.writing.notice_with.Statement.{statement}
 use Rattle.console_acts.proofs.writing.notice_with.Tie as tie
 
-kind-for-requires : tie.Need-kind-for-requires
-kind-for-requires c κs = search needs
-
-as-byte-requires : tie.Need-as-byte-requires
-as-byte-requires c κs = search needs
-
 returns : tie.Need-returns
 returns c =
     let x = c .before .before .args in
     notice-made (x .sequence) (x .e) _ _ (c .as-byte .ensures) (c .before .kind-for .ensures)
 
 pub notice-with-spec : {M : Type 1} → statement M
-notice-with-spec = tie.close (tie.spec kind-for-requires as-byte-requires returns)
+notice-with-spec = tie.close (tie.spec (λ c κs. search needs) (λ c κs. search needs) returns)

@@ -5,26 +5,8 @@ use borrow.Author.Needs.{needs}
 use Rattle.console_acts.proofs.writing.opening_kind.Statement.{statement}
 use Rattle.console_acts.proofs.writing.opening_kind.Tie as tie
 
-as-four-bytes-requires : tie.Need-as-four-bytes-requires
-as-four-bytes-requires c κs = search needs
-
-as-byte-requires : tie.Need-as-byte-requires
-as-byte-requires c κs = search needs
-
 returns : tie.Need-returns
 returns c = rw (eq-eqb _ _ (c .before .before .if1 .taken), ← c .before .as-four-bytes .ensures, ← c .as-byte .ensures) refl
-
-as-four-bytes-requires-2 : tie.Need-as-four-bytes-requires-2
-as-four-bytes-requires-2 c κs = search needs
-
-as-byte-requires-2 : tie.Need-as-byte-requires-2
-as-byte-requires-2 c κs = search needs
-
-as-byte-requires-3 : tie.Need-as-byte-requires-3
-as-byte-requires-3 c κs = search needs
-
-as-byte-requires-4 : tie.Need-as-byte-requires-4
-as-byte-requires-4 c κs = search needs
 
 returns-2 : tie.Need-returns-2
 returns-2 c = rw (
@@ -40,11 +22,11 @@ pub opening-kind-spec : {M : Type 1} → statement M
 opening-kind-spec =
     tie.close
     (tie.spec
-    as-four-bytes-requires
-    as-byte-requires
+    (λ c κs. search needs)
+    (λ c κs. search needs)
     returns
-    as-four-bytes-requires-2
-    as-byte-requires-2
-    as-byte-requires-3
-    as-byte-requires-4
+    (λ c κs. search needs)
+    (λ c κs. search needs)
+    (λ c κs. search needs)
+    (λ c κs. search needs)
     returns-2)

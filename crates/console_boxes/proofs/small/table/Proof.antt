@@ -5,14 +5,8 @@ use borrow.Author.Needs.{needs}
 use Rattle.console_boxes.proofs.small.table.Statement.{statement}
 use Rattle.console_boxes.proofs.small.table.Tie as tie
 
-slice-aggregate-fill : tie.Need-slice-aggregate-fill
-slice-aggregate-fill c = search needs
-
-fill-requires : tie.Need-fill-requires
-fill-requires c κs = search needs
-
 returns : tie.Need-returns
 returns c = filled-table _ _ _ (c .before .fill .ensures) refl
 
 pub table-spec : {M : Type 1} → statement M
-table-spec = tie.close (tie.spec slice-aggregate-fill fill-requires returns)
+table-spec = tie.close (tie.spec (λ c. search needs) (λ c κs. search needs) returns)

@@ -5,21 +5,6 @@ use borrow.Author.Needs.{needs}
 use Rattle.console_desk.proofs.asks.ask_box.Statement.{statement}
 use Rattle.console_desk.proofs.asks.ask_box.Tie as tie
 
-array-read-put-rom-lane : tie.Need-array-read-put-rom-lane
-array-read-put-rom-lane c = search needs
-
-array-read-put-rom-lane-2 : tie.Need-array-read-put-rom-lane-2
-array-read-put-rom-lane-2 c = search needs
-
-array-read-put-rom-lane-3 : tie.Need-array-read-put-rom-lane-3
-array-read-put-rom-lane-3 c = search needs
-
-put-rom-lane-requires : tie.Need-put-rom-lane-requires
-put-rom-lane-requires c κs = search needs
-
-same-length : tie.Need-same-length
-same-length c = search needs
-
 returns : tie.Need-returns
 returns c =
     let at-put-rom-lane = c .before .before in
@@ -28,15 +13,6 @@ returns c =
     let x = at-start .args in
     let p = page (x .out .now) (x .at) in
     asks-rom-lane (x .line) (x .s .now) p _ (x .state) (at-if1 .if1 .taken) (at-put-rom-lane .put-rom-lane .ensures)
-
-asks-plan-requires : tie.Need-asks-plan-requires
-asks-plan-requires c κs = search needs
-
-put-plan-requires : tie.Need-put-plan-requires
-put-plan-requires c κs = search needs
-
-same-length-2 : tie.Need-same-length-2
-same-length-2 c = search needs
 
 returns-2 : tie.Need-returns-2
 returns-2 c =
@@ -49,15 +25,6 @@ returns-2 c =
     let p = page (x .out .now) (x .at) in
     asks-plan (x .line) (x .s .now) p _ (x .state) (at-if1 .if1 .left) _ (at-asks-plan .asks-plan .ensures) (at-if2 .if2 .taken)
     (at-put-plan .put-plan .ensures)
-
-asks-view-requires : tie.Need-asks-view-requires
-asks-view-requires c κs = search needs
-
-view-requires : tie.Need-view-requires
-view-requires c κs = search needs
-
-same-length-3 : tie.Need-same-length-3
-same-length-3 c = search needs
 
 returns-3 : tie.Need-returns-3
 returns-3 c =
@@ -72,12 +39,6 @@ returns-3 c =
     let p = page (x .out .now) (x .at) in
     asks-view (x .line) (x .s .now) p _ (x .state) (at-if1 .if1 .left) _ (at-asks-plan .asks-plan .ensures) (at-if2 .if2 .left) _
     (at-asks-view .asks-view .ensures) (at-if3 .if3 .taken) (at-view .view .ensures)
-
-tell-requires : tie.Need-tell-requires
-tell-requires c κs = search needs
-
-same-length-4 : tie.Need-same-length-4
-same-length-4 c = search needs
 
 returns-4 : tie.Need-returns-4
 returns-4 c =
@@ -97,20 +58,20 @@ pub ask-box-spec : {M : Type 1} → statement M
 ask-box-spec =
     tie.close
     (tie.spec
-    array-read-put-rom-lane
-    array-read-put-rom-lane-2
-    array-read-put-rom-lane-3
-    put-rom-lane-requires
-    same-length
+    (λ c. search needs)
+    (λ c. search needs)
+    (λ c. search needs)
+    (λ c κs. search needs)
+    (λ c. search needs)
     returns
-    asks-plan-requires
-    put-plan-requires
-    same-length-2
+    (λ c κs. search needs)
+    (λ c κs. search needs)
+    (λ c. search needs)
     returns-2
-    asks-view-requires
-    view-requires
-    same-length-3
+    (λ c κs. search needs)
+    (λ c κs. search needs)
+    (λ c. search needs)
     returns-3
-    tell-requires
-    same-length-4
+    (λ c κs. search needs)
+    (λ c. search needs)
     returns-4)

@@ -6,25 +6,10 @@ use borrow.Author.Needs.{needs}
 use Rattle.console_desk.proofs.telling.tell.Statement.{statement}
 use Rattle.console_desk.proofs.telling.tell.Tie as tie
 
-put-help-requires : tie.Need-put-help-requires
-put-help-requires c κs = search needs
-
-same-length : tie.Need-same-length
-same-length c = search needs
-
 returns : tie.Need-returns
 returns c = let x = c .before .before .before .before .before .before .before .args in
     tells-help (x .line) (x .s .now) (page (x .out .now) (x .at)) _ (c .before .before .before .before .if1 .taken)
     (c .before .before .put-help .ensures)
-
-slice-aggregate-put : tie.Need-slice-aggregate-put
-slice-aggregate-put c = search needs
-
-put-requires : tie.Need-put-requires
-put-requires c κs = search needs
-
-same-length-2 : tie.Need-same-length-2
-same-length-2 c = search needs
 
 returns-2 : tie.Need-returns-2
 unfolding text
@@ -35,21 +20,6 @@ returns-2 c =
     let at-start = at-if1 .before .before .before in
     let x = at-start .args in
     tells-draw (x .line) (x .s .now) (page (x .out .now) (x .at)) _ (at-if1 .if1 .left) (at-if2 .if2 .taken) (at-put .put .ensures)
-
-array-read-reading : tie.Need-array-read-reading
-array-read-reading c = search needs
-
-array-read-reading-2 : tie.Need-array-read-reading-2
-array-read-reading-2 c = search needs
-
-reading-requires : tie.Need-reading-requires
-reading-requires c κs = search needs
-
-put-reading-requires : tie.Need-put-reading-requires
-put-reading-requires c κs = search needs
-
-same-length-3 : tie.Need-same-length-3
-same-length-3 c = search needs
 
 returns-3 : tie.Need-returns-3
 returns-3 c =
@@ -62,15 +32,6 @@ returns-3 c =
     let x = at-start .args in
     tells-reading (x .line) (x .s .now) (page (x .out .now) (x .at)) _ (at-if1 .if1 .left) (at-if2 .if2 .left) _
     (at-if3 .if3 .taken) (at-reading .reading .ensures) (at-put-reading .put-reading .ensures)
-
-notice-of-requires : tie.Need-notice-of-requires
-notice-of-requires c κs = search needs
-
-put-bytes-requires : tie.Need-put-bytes-requires
-put-bytes-requires c κs = search needs
-
-same-length-4 : tie.Need-same-length-4
-same-length-4 c = search needs
 
 returns-4 : tie.Need-returns-4
 returns-4 c =
@@ -88,20 +49,20 @@ pub tell-spec : {M : Type 1} → statement M
 tell-spec =
     tie.close
     (tie.spec
-    put-help-requires
-    same-length
+    (λ c κs. search needs)
+    (λ c. search needs)
     returns
-    slice-aggregate-put
-    put-requires
-    same-length-2
+    (λ c. search needs)
+    (λ c κs. search needs)
+    (λ c. search needs)
     returns-2
-    array-read-reading
-    array-read-reading-2
-    reading-requires
-    put-reading-requires
-    same-length-3
+    (λ c. search needs)
+    (λ c. search needs)
+    (λ c κs. search needs)
+    (λ c κs. search needs)
+    (λ c. search needs)
     returns-3
-    notice-of-requires
-    put-bytes-requires
-    same-length-4
+    (λ c κs. search needs)
+    (λ c κs. search needs)
+    (λ c. search needs)
     returns-4)

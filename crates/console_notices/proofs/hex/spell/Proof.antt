@@ -11,21 +11,6 @@ returns c = (none-past _ (c .before .before .before .args .from) _ (c .if1 .take
 returns-2 : tie.Need-returns-2
 returns-2 c = (none-before _ _ _ (c .before .if1 .left) (c .if2 .taken), omega arith)
 
-sub-decode : tie.Need-sub-decode
-sub-decode c = search needs
-
-part-decode-start : tie.Need-part-decode-start
-part-decode-start c = search needs
-
-part-decode-end : tie.Need-part-decode-end
-part-decode-end c = search needs
-
-decode-requires : tie.Need-decode-requires
-decode-requires c κs = search needs
-
-same-length : tie.Need-same-length
-same-length c = search needs
-
 returns-3 : tie.Need-returns-3
 returns-3 c =
     let at-decode = c .before .before in
@@ -44,9 +29,9 @@ spell-spec =
     (tie.spec
     returns
     returns-2
-    sub-decode
-    part-decode-start
-    part-decode-end
-    decode-requires
-    same-length
+    (λ c. search needs)
+    (λ c. search needs)
+    (λ c. search needs)
+    (λ c κs. search needs)
+    (λ c. search needs)
     returns-3)

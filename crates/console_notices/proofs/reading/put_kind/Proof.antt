@@ -7,21 +7,6 @@ use borrow.Author.Needs.{needs}
 use Rattle.console_notices.proofs.reading.put_kind.Statement.{statement}
 use Rattle.console_notices.proofs.reading.put_kind.Tie as tie
 
-put-word-requires : tie.Need-put-word-requires
-put-word-requires c κs = search needs
-
-put-entry-requires : tie.Need-put-entry-requires
-put-entry-requires c κs = search needs
-
-put-entry-requires-2 : tie.Need-put-entry-requires-2
-put-entry-requires-2 c κs = search needs
-
-put-own-requires : tie.Need-put-own-requires
-put-own-requires c κs = search needs
-
-same-length : tie.Need-same-length
-same-length c = search needs
-
 returns : tie.Need-returns
 returns c =
     let at-put-own = c .before .before in
@@ -37,9 +22,9 @@ pub put-kind-spec : {M : Type 1} → statement M
 put-kind-spec =
     tie.close
     (tie.spec
-    put-word-requires
-    put-entry-requires
-    put-entry-requires-2
-    put-own-requires
-    same-length
+    (λ c κs. search needs)
+    (λ c κs. search needs)
+    (λ c κs. search needs)
+    (λ c κs. search needs)
+    (λ c. search needs)
     returns)

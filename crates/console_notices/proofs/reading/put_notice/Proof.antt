@@ -6,27 +6,6 @@ use borrow.Author.Needs.{needs}
 use Rattle.console_notices.proofs.reading.put_notice.Statement.{statement}
 use Rattle.console_notices.proofs.reading.put_notice.Tie as tie
 
-slice-aggregate-put : tie.Need-slice-aggregate-put
-slice-aggregate-put c = search needs
-
-put-requires : tie.Need-put-requires
-put-requires c κs = search needs
-
-cast-put-entry : tie.Need-cast-put-entry
-cast-put-entry c = search needs
-
-put-entry-requires : tie.Need-put-entry-requires
-put-entry-requires c κs = search needs
-
-cast-put-kind : tie.Need-cast-put-kind
-cast-put-kind c = search needs
-
-put-kind-requires : tie.Need-put-kind-requires
-put-kind-requires c κs = search needs
-
-same-length : tie.Need-same-length
-same-length c = search needs
-
 returns : tie.Need-returns
 unfolding noticeText text
 returns c =
@@ -39,11 +18,11 @@ pub put-notice-spec : {M : Type 1} → statement M
 put-notice-spec =
     tie.close
     (tie.spec
-    slice-aggregate-put
-    put-requires
-    cast-put-entry
-    put-entry-requires
-    cast-put-kind
-    put-kind-requires
-    same-length
+    (λ c. search needs)
+    (λ c κs. search needs)
+    (λ c. search needs)
+    (λ c κs. search needs)
+    (λ c. search needs)
+    (λ c κs. search needs)
+    (λ c. search needs)
     returns)

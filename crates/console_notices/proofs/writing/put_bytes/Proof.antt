@@ -7,15 +7,6 @@ use borrow.Author.Needs.{needs}
 use Rattle.console_notices.proofs.writing.put_bytes.Statement.{statement}
 use Rattle.console_notices.proofs.writing.put_bytes.Tie as tie
 
-slice-aggregate-write : tie.Need-slice-aggregate-write
-slice-aggregate-write c = search needs
-
-write-requires : tie.Need-write-requires
-write-requires c κs = search needs
-
-size-requires : tie.Need-size-requires
-size-requires c κs = search needs
-
 array-share-prefix-room : tie.Need-array-share-prefix-room
 array-share-prefix-room c =
     omega (arith, none-longer (c .before .before .before .before .before .before .args .n), open-length, c .before .size .ensures)
@@ -24,12 +15,6 @@ slice-aggregate-put-hex : tie.Need-slice-aggregate-put-hex
 slice-aggregate-put-hex c =
     counted (c .before .before .before .before .before .before .before .args .n) _ _ _ _
     (c .before .before .before .before .write .ensures) (sym open-length) (c .before .before .size .ensures)
-
-put-hex-requires : tie.Need-put-hex-requires
-put-hex-requires c κs = search needs
-
-same-length : tie.Need-same-length
-same-length c = search needs
 
 returns : tie.Need-returns
 returns c =
@@ -44,11 +29,11 @@ pub put-bytes-spec : {M : Type 1} → statement M
 put-bytes-spec =
     tie.close
     (tie.spec
-    slice-aggregate-write
-    write-requires
-    size-requires
+    (λ c. search needs)
+    (λ c κs. search needs)
+    (λ c κs. search needs)
     array-share-prefix-room
     slice-aggregate-put-hex
-    put-hex-requires
-    same-length
+    (λ c κs. search needs)
+    (λ c. search needs)
     returns)

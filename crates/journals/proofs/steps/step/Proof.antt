@@ -8,12 +8,6 @@ use borrow.Author.Needs.{needs}
 use Rattle.journals.proofs.steps.step.Statement.{statement}
 use Rattle.journals.proofs.steps.step.Tie as tie
 
-next-in-requires : tie.Need-next-in-requires
-next-in-requires c κs = search needs
-
-enum-known-found : tie.Need-enum-known-found
-enum-known-found c = search needs
-
 notice-at-requires : tie.Need-notice-at-requires
 notice-at-requires c κs =
     let read = c .before .before in
@@ -21,30 +15,6 @@ notice-at-requires c κs =
     let i = inside _ _ _ _ (sym (read .before .before .next-in .ensures .is) ∙ read .found .given .1) in
     let pre = start .pre in
     (pre .0, (omega (arith, i .ahead), (i .within, pre .1 .1)))
-
-enum-told : tie.Need-enum-told
-enum-told c = search needs
-
-ended-requires : tie.Need-ended-requires
-ended-requires c κs = search needs
-
-enum-told-2 : tie.Need-enum-told-2
-enum-told-2 c = search needs
-
-sub-stopped : tie.Need-sub-stopped
-sub-stopped c = search needs
-
-part-stopped-start : tie.Need-part-stopped-start
-part-stopped-start c = search needs
-
-part-stopped-end : tie.Need-part-stopped-end
-part-stopped-end c = search needs
-
-stopped-requires : tie.Need-stopped-requires
-stopped-requires c κs = search needs
-
-same-length : tie.Need-same-length
-same-length c = search needs
 
 returns : tie.Need-returns
 returns c =
@@ -67,17 +37,17 @@ pub step-spec : {M : Type 1} → statement M
 step-spec =
     tie.close
     (tie.spec
-    next-in-requires
-    enum-known-found
+    (λ c κs. search needs)
+    (λ c. search needs)
     notice-at-requires
-    enum-told
-    ended-requires
-    enum-told-2
-    sub-stopped
-    part-stopped-start
-    part-stopped-end
-    stopped-requires
-    same-length
+    (λ c. search needs)
+    (λ c κs. search needs)
+    (λ c. search needs)
+    (λ c. search needs)
+    (λ c. search needs)
+    (λ c. search needs)
+    (λ c κs. search needs)
+    (λ c. search needs)
     returns
     returns-2
     returns-3)

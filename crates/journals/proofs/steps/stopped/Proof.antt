@@ -7,18 +7,6 @@ use borrow.Author.Needs.{needs}
 use Rattle.journals.proofs.steps.stopped.Statement.{statement}
 use Rattle.journals.proofs.steps.stopped.Tie as tie
 
-is-torn-requires : tie.Need-is-torn-requires
-is-torn-requires c κs = search needs
-
-had-kind-requires : tie.Need-had-kind-requires
-had-kind-requires c κs = search needs
-
-also-requires : tie.Need-also-requires
-also-requires c κs = search needs
-
-ended-requires : tie.Need-ended-requires
-ended-requires c κs = search needs
-
 returns : tie.Need-returns
 returns c =
     let joined = c .before .before in
@@ -26,9 +14,6 @@ returns c =
     let x = torn .before .before .before .args in
     kind-was _ _ _ _ (sym (torn .before .is-torn .ensures) ∙ torn .if1 .taken)
     (sym (joined .also .ensures ∙ ap (both (hasSum (x .start))) (joined .before .had-kind .ensures)) ∙ c .before .if2 .taken) (c .ended .ensures)
-
-ended-requires-2 : tie.Need-ended-requires-2
-ended-requires-2 c κs = search needs
 
 returns-2 : tie.Need-returns-2
 returns-2 c =
@@ -38,9 +23,6 @@ returns-2 c =
     is-torn _ _ _ _ (sym (torn .before .is-torn .ensures) ∙ torn .if1 .taken)
     (sym (joined .also .ensures ∙ ap (both (hasSum (x .start))) (joined .before .had-kind .ensures)) ∙ c .before .if2 .left) (c .ended2 .ensures)
 
-ended-requires-3 : tie.Need-ended-requires-3
-ended-requires-3 c κs = search needs
-
 returns-3 : tie.Need-returns-3
 returns-3 c =
     no-notice _ _ _ _ (sym (c .before .before .is-torn .ensures) ∙ c .before .if1 .left) (c .ended3 .ensures)
@@ -49,12 +31,12 @@ pub stopped-spec : {M : Type 1} → statement M
 stopped-spec =
     tie.close
     (tie.spec
-    is-torn-requires
-    had-kind-requires
-    also-requires
-    ended-requires
+    (λ c κs. search needs)
+    (λ c κs. search needs)
+    (λ c κs. search needs)
+    (λ c κs. search needs)
     returns
-    ended-requires-2
+    (λ c κs. search needs)
     returns-2
-    ended-requires-3
+    (λ c κs. search needs)
     returns-3)

@@ -9,33 +9,12 @@ use borrow.Author.Needs.{needs}
 use Rattle.journals.proofs.steps.summed.Statement.{statement}
 use Rattle.journals.proofs.steps.summed.Tie as tie
 
-sum-requires : tie.Need-sum-requires
-sum-requires c κs = search needs
-
-cast-if1 : tie.Need-cast-if1
-cast-if1 c = search needs
-
-take-requires : tie.Need-take-requires
-take-requires c κs = search needs
-
-heard-one-requires : tie.Need-heard-one-requires
-heard-one-requires c κs = search needs
-
-same-length : tie.Need-same-length
-same-length c = search needs
-
 returns : tie.Need-returns
 returns c =
     let took = c .before .before .before .before in
     let sums = took .before .before in
     played _ _ _ _ _ _ _ _ _ (sym (sums .before .sum .ensures) ∙ sums .if1 .taken) (sym (took .take .ensures .0) ∙ c .before .if2 .taken)
     (c .heard-one .ensures) (took .take .ensures .1)
-
-ended-requires : tie.Need-ended-requires
-ended-requires c κs = search needs
-
-same-length-2 : tie.Need-same-length-2
-same-length-2 c = search needs
 
 returns-2 : tie.Need-returns-2
 returns-2 c =
@@ -45,9 +24,6 @@ returns-2 c =
     refused (x .start) _ (length (x .part .now)) _ _ _ _ _ _ (sym (sums .before .sum .ensures) ∙ sums .if1 .taken) (λ e. c .before .if2 .left (took .take .ensures .0 ∙ e))
     (c .ended .ensures ∙ ap (λ (a : ℕ). endedWith (x .start) (Refused a)) (took .take .ensures .0)) (took .take .ensures .1)
 
-ended-requires-2 : tie.Need-ended-requires-2
-ended-requires-2 c κs = search needs
-
 returns-3 : tie.Need-returns-3
 returns-3 c =
     differs _ _ _ _ _ _ _ _ _ (λ e. c .before .if1 .left (c .before .before .sum .ensures ∙ e)) (c .ended2 .ensures) refl
@@ -56,14 +32,14 @@ pub summed-spec : {M : Type 1} → statement M
 summed-spec =
     tie.close
     (tie.spec
-    sum-requires
-    cast-if1
-    take-requires
-    heard-one-requires
-    same-length
+    (λ c κs. search needs)
+    (λ c. search needs)
+    (λ c κs. search needs)
+    (λ c κs. search needs)
+    (λ c. search needs)
     returns
-    ended-requires
-    same-length-2
+    (λ c κs. search needs)
+    (λ c. search needs)
     returns-2
-    ended-requires-2
+    (λ c κs. search needs)
     returns-3)

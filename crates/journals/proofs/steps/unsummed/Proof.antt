@@ -4,20 +4,11 @@ use borrow.Author.Needs.{needs}
 use Rattle.journals.proofs.steps.unsummed.Statement.{statement}
 use Rattle.journals.proofs.steps.unsummed.Tie as tie
 
-add-t5 : tie.Need-add-t5
-add-t5 c = search needs
-
-add-t6 : tie.Need-add-t6
-add-t6 c = search needs
-
 returns : tie.Need-returns
 returns c = block-holds _ _ (c .before .before .if1 .taken)
-
-ended-requires : tie.Need-ended-requires
-ended-requires c κs = search needs
 
 returns-2 : tie.Need-returns-2
 returns-2 c = block-full _ _ _ (c .before .if1 .left) (c .ended .ensures)
 
 pub unsummed-spec : {M : Type 1} → statement M
-unsummed-spec = tie.close (tie.spec add-t5 add-t6 returns ended-requires returns-2)
+unsummed-spec = tie.close (tie.spec (λ c. search needs) (λ c. search needs) returns (λ c κs. search needs) returns-2)

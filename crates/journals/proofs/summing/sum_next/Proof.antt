@@ -7,35 +7,11 @@ use borrow.Author.Needs.{needs}
 use Rattle.journals.proofs.summing.sum_next.Statement.{statement}
 use Rattle.journals.proofs.summing.sum_next.Tie as tie
 
-next-in-requires : tie.Need-next-in-requires
-next-in-requires c κs = search needs
-
-enum-known-found : tie.Need-enum-known-found
-enum-known-found c = search needs
-
 lay-sum-requires : tie.Need-lay-sum-requires
 lay-sum-requires c κs =
     let read = c .before .before in
     let i = inside _ _ _ _ (sym (read .before .before .next-in .ensures .is) ∙ read .found .given .1) in
     (omega (arith, i .ahead), (i .within, read .before .before .before .before .before .pre))
-
-add-t12 : tie.Need-add-t12
-add-t12 c = search needs
-
-enum-told : tie.Need-enum-told
-enum-told c = search needs
-
-no-more-requires : tie.Need-no-more-requires
-no-more-requires c κs = search needs
-
-enum-told-2 : tie.Need-enum-told-2
-enum-told-2 c = search needs
-
-no-more-requires-2 : tie.Need-no-more-requires-2
-no-more-requires-2 c κs = search needs
-
-same-length : tie.Need-same-length
-same-length c = search needs
 
 returns : tie.Need-returns
 returns c =
@@ -55,15 +31,15 @@ pub sum-next-spec : {M : Type 1} → statement M
 sum-next-spec =
     tie.close
     (tie.spec
-    next-in-requires
-    enum-known-found
+    (λ c κs. search needs)
+    (λ c. search needs)
     lay-sum-requires
-    add-t12
-    enum-told
-    no-more-requires
-    enum-told-2
-    no-more-requires-2
-    same-length
+    (λ c. search needs)
+    (λ c. search needs)
+    (λ c κs. search needs)
+    (λ c. search needs)
+    (λ c κs. search needs)
+    (λ c. search needs)
     returns
     returns-2
     returns-3)

@@ -19,15 +19,6 @@ loop-holds : tie.Need-loop-holds Inv-loop μ-loop
 unfolding some
 loop-holds c = (omega arith, refl)
 
-is-kind-requires : tie.Need-is-kind-requires Inv-loop μ-loop
-is-kind-requires c κs = search needs
-
-either-requires : tie.Need-either-requires Inv-loop μ-loop
-either-requires c κs = search needs
-
-add-kind : tie.Need-add-kind Inv-loop μ-loop
-add-kind c = search needs
-
 loop-less : tie.Need-loop-less Inv-loop μ-loop
 loop-less c = omega arith
 
@@ -48,9 +39,9 @@ had-kind-spec =
     Inv-loop
     μ-loop
     loop-holds
-    is-kind-requires
-    either-requires
-    add-kind
+    (λ c κs. search needs)
+    (λ c κs. search needs)
+    (λ c. search needs)
     loop-less
     loop-again
     returns)

@@ -9,19 +9,10 @@ use borrow.Author.Needs.{needs}
 use Rattle.journals.proofs.torn.is_kind.Statement.{statement}
 use Rattle.journals.proofs.torn.is_kind.Tie as tie
 
-start-requires : tie.Need-start-requires
-start-requires c κs = search needs
-
-slice-aggregate-lay-over : tie.Need-slice-aggregate-lay-over
-slice-aggregate-lay-over c = search needs
-
 lay-over-requires : tie.Need-lay-over-requires
 lay-over-requires c κs =
     let test = c .before in
     omega (arith, test .if1 .taken, test .before .start .ensures, longest (test .before .before .before .args .kind))
-
-array-write-room : tie.Need-array-write-room
-array-write-room c = search needs
 
 array-share-prefix-room : tie.Need-array-share-prefix-room
 array-share-prefix-room c =
@@ -34,12 +25,6 @@ slice-aggregate-sum c =
     let test = c .before .before .before .before in
     let fits : test .before .start .result ≤ 45 = omega (arith, test .before .start .ensures, longest (test .before .before .before .args .kind)) in
     sym (length-take-le _ _ (rw length-set (kind-room (test .before .before .before .args .rest .now) (replicate 45 0) _ _ (test .if1 .taken) fits (c .before .before .lay-over .ensures))))
-
-sum-requires : tie.Need-sum-requires
-sum-requires c κs = search needs
-
-cast-result : tie.Need-cast-result
-cast-result c = search needs
 
 returns : tie.Need-returns
 returns c =
@@ -54,13 +39,13 @@ pub is-kind-spec : {M : Type 1} → statement M
 is-kind-spec =
     tie.close
     (tie.spec
-    start-requires
-    slice-aggregate-lay-over
+    (λ c κs. search needs)
+    (λ c. search needs)
     lay-over-requires
-    array-write-room
+    (λ c. search needs)
     array-share-prefix-room
     slice-aggregate-sum
-    sum-requires
-    cast-result
+    (λ c κs. search needs)
+    (λ c. search needs)
     returns
     returns-2)

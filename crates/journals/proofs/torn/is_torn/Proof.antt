@@ -9,23 +9,8 @@ use borrow.Author.Needs.{needs}
 use Rattle.journals.proofs.torn.is_torn.Statement.{statement}
 use Rattle.journals.proofs.torn.is_torn.Tie as tie
 
-kind-begun-requires : tie.Need-kind-begun-requires
-kind-begun-requires c κs = search needs
-
-start-requires : tie.Need-start-requires
-start-requires c κs = search needs
-
-slice-aggregate-put-rows : tie.Need-slice-aggregate-put-rows
-slice-aggregate-put-rows c = search needs
-
-cast-t10 : tie.Need-cast-t10
-cast-t10 c = search needs
-
 put-rows-requires : tie.Need-put-rows-requires
 put-rows-requires c κs = longest _
-
-slice-aggregate-lay-over : tie.Need-slice-aggregate-lay-over
-slice-aggregate-lay-over c = search needs
 
 lay-over-requires : tie.Need-lay-over-requires
 lay-over-requires c κs =
@@ -52,9 +37,6 @@ slice-aggregate-alone c =
     omega (arith, size, test .before .start .ensures, longest (test .before .before .kind-begun .result)) in
     sym (length-take-le _ _ (room-holds (test .before .before .before .before .args .rest .now) (put .put-rows .last .0) _ _ (test .if1 .taken) fits (c .before .before .lay-over .ensures)))
 
-alone-requires : tie.Need-alone-requires
-alone-requires c κs = search needs
-
 returns : tie.Need-returns
 returns c =
     let laid = c .before .before .before in
@@ -71,15 +53,15 @@ pub is-torn-spec : {M : Type 1} → statement M
 is-torn-spec =
     tie.close
     (tie.spec
-    kind-begun-requires
-    start-requires
-    slice-aggregate-put-rows
-    cast-t10
+    (λ c κs. search needs)
+    (λ c κs. search needs)
+    (λ c. search needs)
+    (λ c. search needs)
     put-rows-requires
-    slice-aggregate-lay-over
+    (λ c. search needs)
     lay-over-requires
     array-share-prefix-room
     slice-aggregate-alone
-    alone-requires
+    (λ c κs. search needs)
     returns
     returns-2)

@@ -4,9 +4,6 @@ use borrow.Author.Needs.{needs}
 use Rattle.journals.proofs.torn.kind_begun.Statement.{statement}
 use Rattle.journals.proofs.torn.kind_begun.Tie as tie
 
-shared-slice-read-result : tie.Need-shared-slice-read-result
-shared-slice-read-result c = search needs
-
 returns : tie.Need-returns
 returns c = rw (lt-ltb _ _ (c .before .if1 .taken))
 
@@ -14,4 +11,4 @@ returns-2 : tie.Need-returns-2
 returns-2 c = rw (le-ltb _ _ (c .if1 .left))
 
 pub kind-begun-spec : {M : Type 1} → statement M
-kind-begun-spec = tie.close (tie.spec shared-slice-read-result returns returns-2)
+kind-begun-spec = tie.close (tie.spec (λ c. search needs) returns returns-2)

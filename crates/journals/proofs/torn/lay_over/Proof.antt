@@ -25,14 +25,8 @@ long c =
 loop-holds : tie.Need-loop-holds Inv-loop μ-loop
 loop-holds c = (omega arith, refl)
 
-shared-slice-read-room : tie.Need-shared-slice-read-room Inv-loop μ-loop
-shared-slice-read-room c = search needs
-
 slice-write-room : tie.Need-slice-write-room Inv-loop μ-loop
 slice-write-room c = omega (arith, long (c .before .before), c .before .before .before .pre)
-
-add-i : tie.Need-add-i Inv-loop μ-loop
-add-i c = search needs
 
 loop-less : tie.Need-loop-less Inv-loop μ-loop
 loop-less c = omega arith
@@ -61,9 +55,9 @@ lay-over-spec =
     Inv-loop
     μ-loop
     loop-holds
-    shared-slice-read-room
+    (λ c. search needs)
     slice-write-room
-    add-i
+    (λ c. search needs)
     loop-less
     loop-again
     same-length

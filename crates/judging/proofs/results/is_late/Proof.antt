@@ -17,15 +17,6 @@ mul-if1 c =
     let most : a .cell * a .tick ≤ planPlaces * lengthMax = mul-le-mul within (c .pre .1 .0) in
     record { fits = omega arith }
 
-add-result : tie.Need-add-result
-add-result c = search needs
-
-mul-result : tie.Need-mul-result
-mul-result c = search needs
-
-shared-slice-read-result : tie.Need-shared-slice-read-result
-shared-slice-read-result c = search needs
-
 cast-result : tie.Need-cast-result
 cast-result c = omega (arith, c .shared-slice-known .given (c .before .before .args .cell))
 
@@ -40,4 +31,4 @@ returns-2 c = simp (le-ltb _ _ (c .if1 .left))
 pub is-late-spec : {M : Type 1} → statement M
 is-late-spec =
     tie.close
-    (tie.spec mul-if1 add-result mul-result shared-slice-read-result cast-result returns returns-2)
+    (tie.spec mul-if1 (λ c. search needs) (λ c. search needs) (λ c. search needs) cast-result returns returns-2)

@@ -20,22 +20,10 @@ abbrev μ-loop : tie.MeasureT-loop
 loop-holds : tie.Need-loop-holds Inv-loop μ-loop
 loop-holds c = (omega arith, λ i l. absurd (omega arith))
 
-is-late-requires : tie.Need-is-late-requires Inv-loop μ-loop
-is-late-requires c κs = search needs
-
-cast-result : tie.Need-cast-result Inv-loop μ-loop
-cast-result c = search needs
-
 returns : tie.Need-returns Inv-loop μ-loop
 returns c =
     let l = c .before .before .before .loop in
     sym (lowest-hit _ _ (l .cell) (c .before .before .loop-test .taken) (sym (c .before .is-late .ensures) ∙ c .if1 .taken) (l .inv .1))
-
-add-cell : tie.Need-add-cell Inv-loop μ-loop
-add-cell c = search needs
-
-loop-less : tie.Need-loop-less Inv-loop μ-loop
-loop-less c = search needs
 
 loop-again : tie.Need-loop-again Inv-loop μ-loop
 loop-again c =
@@ -54,10 +42,10 @@ lowest-late-spec =
     Inv-loop
     μ-loop
     loop-holds
-    is-late-requires
-    cast-result
+    (λ c κs. search needs)
+    (λ c. search needs)
     returns
-    add-cell
-    loop-less
+    (λ c. search needs)
+    (λ c. search needs)
     loop-again
     returns-2)

@@ -19,43 +19,10 @@ Inv-loop air cells length tick ticks next₀ results₀ start₀ next results st
 abbrev μ-loop : tie.MeasureT-loop
 μ-loop air cells length tick ticks next₀ results₀ start₀ next results start = start
 
-never-requires : tie.Need-never-requires Inv-loop μ-loop
-never-requires c κs = search needs
-
-blank-requires : tie.Need-blank-requires Inv-loop μ-loop
-blank-requires c κs = search needs
-
 loop-holds : tie.Need-loop-holds Inv-loop μ-loop
 loop-holds c =
     let a = c .before .before .before .args in
     (omega arith, (c .before .never .ensures, found-end _ _ _ _ (ticksIn (a .air .now)) (c .blank .result) (omega arith) (c .blank .ensures)))
-
-sub-start : tie.Need-sub-start Inv-loop μ-loop
-sub-start c = search needs
-
-slice-aggregate-note : tie.Need-slice-aggregate-note Inv-loop μ-loop
-slice-aggregate-note c = search needs
-
-note-requires : tie.Need-note-requires Inv-loop μ-loop
-note-requires c κs = search needs
-
-is-whole-requires : tie.Need-is-whole-requires Inv-loop μ-loop
-is-whole-requires c κs = search needs
-
-slice-aggregate-lowest-late : tie.Need-slice-aggregate-lowest-late Inv-loop μ-loop
-slice-aggregate-lowest-late c = search needs
-
-lowest-late-requires : tie.Need-lowest-late-requires Inv-loop μ-loop
-lowest-late-requires c κs = search needs
-
-mul-results : tie.Need-mul-results Inv-loop μ-loop
-mul-results c = search needs
-
-array-write-results : tie.Need-array-write-results Inv-loop μ-loop
-array-write-results c = search needs
-
-loop-less : tie.Need-loop-less Inv-loop μ-loop
-loop-less c = search needs
 
 loop-again : tie.Need-loop-again Inv-loop μ-loop
 loop-again c =
@@ -77,9 +44,6 @@ loop-again c =
             (l .inv .1 .1) _ _ N (pre .0 .0) (pre .1) (omega arith) whole (c .lowest-late .ensures),
       ),
     )
-
-loop-less-2 : tie.Need-loop-less-2 Inv-loop μ-loop
-loop-less-2 c = search needs
 
 loop-again-2 : tie.Need-loop-again-2 Inv-loop μ-loop
 loop-again-2 c =
@@ -110,19 +74,19 @@ results-spec =
     (tie.spec
     Inv-loop
     μ-loop
-    never-requires
-    blank-requires
+    (λ c κs. search needs)
+    (λ c κs. search needs)
     loop-holds
-    sub-start
-    slice-aggregate-note
-    note-requires
-    is-whole-requires
-    slice-aggregate-lowest-late
-    lowest-late-requires
-    mul-results
-    array-write-results
-    loop-less
+    (λ c. search needs)
+    (λ c. search needs)
+    (λ c κs. search needs)
+    (λ c κs. search needs)
+    (λ c. search needs)
+    (λ c κs. search needs)
+    (λ c. search needs)
+    (λ c. search needs)
+    (λ c. search needs)
     loop-again
-    loop-less-2
+    (λ c. search needs)
     loop-again-2
     returns)

@@ -23,12 +23,6 @@ Inv-loop t tick cap active n₀ lane₀ n lane =
 abbrev μ-loop : tie.MeasureT-loop
 μ-loop t tick cap active n₀ lane₀ n lane = cap - lane
 
-ruling-requires : tie.Need-ruling-requires Inv-loop μ-loop
-ruling-requires c κs = search needs
-
-smaller-requires : tie.Need-smaller-requires Inv-loop μ-loop
-smaller-requires c κs = search needs
-
 loop-holds : tie.Need-loop-holds Inv-loop μ-loop
 loop-holds c =
     let t = c .before .before .args .t in
@@ -37,20 +31,8 @@ loop-holds c =
     c .smaller .ensures ∙ ap (λ k. min k (t .film .cap)) (c .before .ruling .ensures) in
     (omega arith, sym (active-held t (c .before .before .args .tick) active (omega arith)), omega arith, refl, is, omega arith)
 
-is-sending-requires : tie.Need-is-sending-requires Inv-loop μ-loop
-is-sending-requires c κs = search needs
-
-one-if-requires : tie.Need-one-if-requires Inv-loop μ-loop
-one-if-requires c κs = search needs
-
 add-n : tie.Need-add-n Inv-loop μ-loop
 add-n c = omega arith
-
-add-lane : tie.Need-add-lane Inv-loop μ-loop
-add-lane c = search needs
-
-loop-less : tie.Need-loop-less Inv-loop μ-loop
-loop-less c = search needs
 
 loop-again : tie.Need-loop-again Inv-loop μ-loop
 unfolding howMany
@@ -71,13 +53,13 @@ held-at-spec =
     (tie.spec
     Inv-loop
     μ-loop
-    ruling-requires
-    smaller-requires
+    (λ c κs. search needs)
+    (λ c κs. search needs)
     loop-holds
-    is-sending-requires
-    one-if-requires
+    (λ c κs. search needs)
+    (λ c κs. search needs)
     add-n
-    add-lane
-    loop-less
+    (λ c. search needs)
+    (λ c. search needs)
     loop-again
     returns)

@@ -9,18 +9,6 @@ use borrow.Author.Needs.{needs}
 use Rattle.measures.proofs.lanes.is_sending.Statement.{statement}
 use Rattle.measures.proofs.lanes.is_sending.Tie as tie
 
-mul-from : tie.Need-mul-from
-mul-from c = search needs
-
-element-copy-out-from : tie.Need-element-copy-out-from
-element-copy-out-from c = search needs
-
-mul-owed : tie.Need-mul-owed
-mul-owed c = search needs
-
-element-copy-out-owed : tie.Need-element-copy-out-owed
-element-copy-out-owed c = search needs
-
 returns : tie.Need-returns
 returns c =
     let a = c .before .before .before .args in
@@ -32,4 +20,4 @@ returns-2 c = sub-ltb _ _ _ (c .if1 .left)
 pub is-sending-spec : {M : Type 1} → statement M
 is-sending-spec =
     tie.close
-    (tie.spec mul-from element-copy-out-from mul-owed element-copy-out-owed returns returns-2)
+    (tie.spec (λ c. search needs) (λ c. search needs) (λ c. search needs) (λ c. search needs) returns returns-2)

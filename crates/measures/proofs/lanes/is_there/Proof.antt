@@ -9,12 +9,9 @@ returns : tie.Need-returns
 unfolding isThere
 returns c = simp (eq-eqb _ _ (c .if1 .taken))
 
-title-held-requires : tie.Need-title-held-requires
-title-held-requires c κs = search needs
-
 returns-2 : tie.Need-returns-2
 unfolding isThere
 returns-2 c = simp (ne-eqb _ _ (c .before .if1 .left), ← c .title-held .ensures .is)
 
 pub is-there-spec : {M : Type 1} → statement M
-is-there-spec = tie.close (tie.spec returns title-held-requires returns-2)
+is-there-spec = tie.close (tie.spec returns (λ c κs. search needs) returns-2)

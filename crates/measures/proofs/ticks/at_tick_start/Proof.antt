@@ -4,18 +4,9 @@ use borrow.Author.Needs.{needs}
 use Rattle.measures.proofs.ticks.at_tick_start.Statement.{statement}
 use Rattle.measures.proofs.ticks.at_tick_start.Tie as tie
 
-since-requires : tie.Need-since-requires
-since-requires c κs = search needs
-
-tick-requires : tie.Need-tick-requires
-tick-requires c κs = search needs
-
-rem-result : tie.Need-rem-result
-rem-result c = search needs
-
 returns : tie.Need-returns
 unfolding atTickStart
 returns c = simp (c .before .since .ensures, c .tick .ensures .is)
 
 pub at-tick-start-spec : {M : Type 1} → statement M
-at-tick-start-spec = tie.close (tie.spec since-requires tick-requires rem-result returns)
+at-tick-start-spec = tie.close (tie.spec (λ c κs. search needs) (λ c κs. search needs) (λ c. search needs) returns)

@@ -6,12 +6,6 @@ use borrow.Author.Needs.{needs}
 use Rattle.measures.proofs.ticks.settled_at.Statement.{statement}
 use Rattle.measures.proofs.ticks.settled_at.Tie as tie
 
-slot-requires : tie.Need-slot-requires
-slot-requires c κs = search needs
-
-tick-requires : tie.Need-tick-requires
-tick-requires c κs = search needs
-
 mul-slot : tie.Need-mul-slot
 mul-slot c =
     let slot = c .before .slot .ensures in
@@ -30,4 +24,4 @@ unfolding settledAt
 returns c = simp (c .before .before .slot .ensures .is, c .before .tick .ensures .is)
 
 pub settled-at-spec : {M : Type 1} → statement M
-settled-at-spec = tie.close (tie.spec slot-requires tick-requires mul-slot add-result returns)
+settled-at-spec = tie.close (tie.spec (λ c κs. search needs) (λ c κs. search needs) mul-slot add-result returns)

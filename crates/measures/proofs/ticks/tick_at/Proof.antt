@@ -7,15 +7,6 @@ use borrow.Author.Needs.{needs}
 use Rattle.measures.proofs.ticks.tick_at.Statement.{statement}
 use Rattle.measures.proofs.ticks.tick_at.Tie as tie
 
-since-requires : tie.Need-since-requires
-since-requires c κs = search needs
-
-tick-requires : tie.Need-tick-requires
-tick-requires c κs = search needs
-
-div-result : tie.Need-div-result
-div-result c = search needs
-
 returns : tie.Need-returns
 unfolding tickAt
 returns c =
@@ -24,4 +15,4 @@ returns c =
     record { is = simp (a .ensures, c .tick .ensures .is); low = omega arith; high = omega (arith, a .ensures) }
 
 pub tick-at-spec : {M : Type 1} → statement M
-tick-at-spec = tie.close (tie.spec since-requires tick-requires div-result returns)
+tick-at-spec = tie.close (tie.spec (λ c κs. search needs) (λ c κs. search needs) (λ c. search needs) returns)

@@ -13,18 +13,6 @@ use Rattle.moments.proofs.releases.release_of.Tie as tie
 list-ms : (n p : ℕ) → n ≤ suc eventTimeMax → p ≤ lengthMax → n * p ≤ suc eventTimeMax * lengthMax
 list-ms n p a b = mul-le-mul {n₁ = n} {m₁ = p} {n₂ = suc eventTimeMax} {m₂ = lengthMax} a b
 
-mul-from : tie.Need-mul-from
-mul-from c = search needs
-
-element-copy-out-from : tie.Need-element-copy-out-from
-element-copy-out-from c = search needs
-
-mul-owed : tie.Need-mul-owed
-mul-owed c = search needs
-
-element-copy-out-owed : tie.Need-element-copy-out-owed
-element-copy-out-owed c = search needs
-
 add-smaller : tie.Need-add-smaller
 add-smaller c =
     let start = c .before .before in
@@ -33,9 +21,6 @@ add-smaller c =
     let below = start .pre .1 .0 in
     let from = in-row (t .dropped) lanePlaces lane (start .pre .0 .dropped) below in
     record { fits = omega (arith, from, in-row (t .owed) lanePlaces lane (start .pre .0 .owed) below) }
-
-smaller-requires : tie.Need-smaller-requires
-smaller-requires c κs = search needs
 
 mul-result : tie.Need-mul-result
 mul-result c =
@@ -57,12 +42,12 @@ pub release-of-spec : {M : Type 1} → statement M
 release-of-spec =
     tie.close
     (tie.spec
-    mul-from
-    element-copy-out-from
-    mul-owed
-    element-copy-out-owed
+    (λ c. search needs)
+    (λ c. search needs)
+    (λ c. search needs)
+    (λ c. search needs)
     add-smaller
-    smaller-requires
+    (λ c κs. search needs)
     mul-result
     add-result
     returns)

@@ -9,12 +9,9 @@ returns : tie.Need-returns
 unfolding soonerOf
 returns c = simp (le-leb _ _ (c .if1 .taken))
 
-smaller-requires : tie.Need-smaller-requires
-smaller-requires c κs = search needs
-
 returns-2 : tie.Need-returns-2
 unfolding soonerOf
 returns-2 c = simp (lt-leb _ _ (c .before .if1 .left)) (c .smaller .ensures)
 
 pub sooner-spec : {M : Type 1} → statement M
-sooner-spec = tie.close (tie.spec returns smaller-requires returns-2)
+sooner-spec = tie.close (tie.spec returns (λ c κs. search needs) returns-2)

@@ -6,15 +6,6 @@ use borrow.Author.Needs.{needs}
 use Rattle.moments.proofs.starts.next_start.Statement.{statement}
 use Rattle.moments.proofs.starts.next_start.Tie as tie
 
-slot-ms-requires : tie.Need-slot-ms-requires
-slot-ms-requires c κs = search needs
-
-since-requires : tie.Need-since-requires
-since-requires c κs = search needs
-
-rem-over : tie.Need-rem-over
-rem-over c = search needs
-
 returns : tie.Need-returns
 returns c =
     let start = c .before .before .before in
@@ -27,9 +18,6 @@ sub-result c =
     let slot = c .before .before .slot-ms in
     omega (arith, mod-lt (c .before .since .result) {m = slot .result} (slot .ensures .low))
 
-add-result : tie.Need-add-result
-add-result c = search needs
-
 returns-2 : tie.Need-returns-2
 returns-2 c =
     let start = c .before .before .before in
@@ -40,4 +28,4 @@ returns-2 c =
 pub next-start-spec : {M : Type 1} → statement M
 next-start-spec =
     tie.close
-    (tie.spec slot-ms-requires since-requires rem-over returns sub-result add-result returns-2)
+    (tie.spec (λ c κs. search needs) (λ c κs. search needs) (λ c. search needs) returns sub-result (λ c. search needs) returns-2)

@@ -5,12 +5,6 @@ use borrow.Author.Needs.{needs}
 use Rattle.moments.proofs.starts.permitted_from.Statement.{statement}
 use Rattle.moments.proofs.starts.permitted_from.Tie as tie
 
-settled-at-requires : tie.Need-settled-at-requires
-settled-at-requires c κs = search needs
-
-larger-requires : tie.Need-larger-requires
-larger-requires c κs = search needs
-
 turn-from-requires : tie.Need-turn-from-requires
 turn-from-requires c κs =
     let start = c .before .before in
@@ -26,4 +20,4 @@ returns c =
 pub permitted-from-spec : {M : Type 1} → statement M
 permitted-from-spec =
     tie.close
-    (tie.spec settled-at-requires larger-requires turn-from-requires returns)
+    (tie.spec (λ c κs. search needs) (λ c κs. search needs) turn-from-requires returns)

@@ -5,12 +5,6 @@ use borrow.Author.Needs.{needs}
 use Rattle.moments.proofs.starts.slot_ms.Statement.{statement}
 use Rattle.moments.proofs.starts.slot_ms.Tie as tie
 
-slot-requires : tie.Need-slot-requires
-slot-requires c κs = search needs
-
-tick-requires : tie.Need-tick-requires
-tick-requires c κs = search needs
-
 mul-result : tie.Need-mul-result
 mul-result c =
     let slot = c .before .slot .ensures in
@@ -26,4 +20,4 @@ returns c =
     record { is = simp (slot .is, tick .is); low = ms .0; high = ms .1 }
 
 pub slot-ms-spec : {M : Type 1} → statement M
-slot-ms-spec = tie.close (tie.spec slot-requires tick-requires mul-result returns)
+slot-ms-spec = tie.close (tie.spec (λ c κs. search needs) (λ c κs. search needs) mul-result returns)

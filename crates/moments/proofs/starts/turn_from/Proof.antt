@@ -8,12 +8,6 @@ use Rattle.moments.proofs.starts.turn_from.Tie as tie
 next-start-requires : tie.Need-next-start-requires
 next-start-requires c κs = (c .pre .0, (c .pre .1 .0, c .pre .1 .1 .1))
 
-add-next-start : tie.Need-add-next-start
-add-next-start c = search needs
-
-next-start-requires-2 : tie.Need-next-start-requires-2
-next-start-requires-2 c κs = search needs
-
 returns : tie.Need-returns
 returns c =
     let start = c .before .before .before .before in
@@ -30,4 +24,4 @@ returns-2 c =
 pub turn-from-spec : {M : Type 1} → statement M
 turn-from-spec =
     tie.close
-    (tie.spec next-start-requires add-next-start next-start-requires-2 returns returns-2)
+    (tie.spec next-start-requires (λ c. search needs) (λ c κs. search needs) returns returns-2)

@@ -10,9 +10,6 @@ use Rattle.notice.proofs.Common.{no-shorter, as-close}
 use Rattle.notice.proofs.decode.notice_in.Statement.{statement}
 use Rattle.notice.proofs.decode.notice_in.Tie as tie
 
-kind-in-requires : tie.Need-kind-in-requires
-kind-in-requires c κs = search needs
-
 value-requires : tie.Need-value-requires
 unfolding table
 value-requires c κs =
@@ -60,7 +57,7 @@ pub notice-in-spec : {M : Type 1} → statement M
 notice-in-spec =
     tie.close
     (tie.spec
-    kind-in-requires
+    (λ c κs. search needs)
     value-requires
     cast-sequence
     value-requires-2

@@ -7,20 +7,8 @@ use Rattle.notice_bytes.proofs.Laid.{field-laid}
 use Rattle.notice_bytes.proofs.laying.put_field.Statement.{statement}
 use Rattle.notice_bytes.proofs.laying.put_field.Tie as tie
 
-entry-requires : tie.Need-entry-requires
-entry-requires c κs = search needs
-
-slice-write-room : tie.Need-slice-write-room
-slice-write-room c = search needs
-
-add-put : tie.Need-add-put
-add-put c = search needs
-
 put-requires : tie.Need-put-requires
 put-requires c κs = simp length-set (omega arith)
-
-add-put-2 : tie.Need-add-put-2
-add-put-2 c = search needs
 
 put-requires-2 : tie.Need-put-requires-2
 put-requires-2 c κs =
@@ -43,11 +31,11 @@ pub put-field-spec : {M : Type 1} → statement M
 put-field-spec =
     tie.close
     (tie.spec
-    entry-requires
-    slice-write-room
-    add-put
+    (λ c κs. search needs)
+    (λ c. search needs)
+    (λ c. search needs)
     put-requires
-    add-put-2
+    (λ c. search needs)
     put-requires-2
     same-length
     returns)

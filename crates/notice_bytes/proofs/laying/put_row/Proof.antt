@@ -5,18 +5,12 @@ use Rattle.notice_bytes.specs.Laying.{rowBytes}
 use Rattle.notice_bytes.proofs.laying.put_row.Statement.{statement}
 use Rattle.notice_bytes.proofs.laying.put_row.Tie as tie
 
-carried-requires : tie.Need-carried-requires
-carried-requires c κs = search needs
-
 put-field-requires : tie.Need-put-field-requires
 unfolding spanOf
 put-field-requires c κs = (
   c .before .before .before .before .pre .0,
   rw (← c .before .before .carried .ensures, c .before .if1 .taken) at (c .before .before .before .before .pre .1),
 )
-
-same-length : tie.Need-same-length
-same-length c = search needs
 
 returns : tie.Need-returns
 unfolding rowBytes
@@ -30,4 +24,4 @@ returns-2 c = rw (← c .before .carried .ensures, c .if1 .left)
 
 pub put-row-spec : {M : Type 1} → statement M
 put-row-spec =
-    tie.close (tie.spec carried-requires put-field-requires same-length returns returns-2)
+    tie.close (tie.spec (λ c κs. search needs) put-field-requires (λ c. search needs) returns returns-2)

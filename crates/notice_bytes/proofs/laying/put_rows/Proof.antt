@@ -25,12 +25,6 @@ loop-holds : tie.Need-loop-holds Inv-loop μ-loop
 unfolding startOf bytesTo
 loop-holds c = (omega arith, (refl, refl))
 
-mul-put-row : tie.Need-mul-put-row Inv-loop μ-loop
-mul-put-row c = search needs
-
-array-read-put-row : tie.Need-array-read-put-row Inv-loop μ-loop
-array-read-put-row c = search needs
-
 put-row-requires : tie.Need-put-row-requires Inv-loop μ-loop
 put-row-requires c κs =
     let at = c .before .before in
@@ -38,9 +32,6 @@ put-row-requires c κs =
     let start = at .before .before in
     let inside = row-inside (start .args .kind) (at .loop .i) (omega arith) in
     (omega arith, rw (l .1 .1, length-sets) (omega (arith, l .1 .0, inside, start .pre)))
-
-span-requires : tie.Need-span-requires Inv-loop μ-loop
-span-requires c κs = search needs
 
 add-at : tie.Need-add-at Inv-loop μ-loop
 add-at c =
@@ -81,10 +72,10 @@ put-rows-spec =
     Inv-loop
     μ-loop
     loop-holds
-    mul-put-row
-    array-read-put-row
+    (λ c. search needs)
+    (λ c. search needs)
     put-row-requires
-    span-requires
+    (λ c κs. search needs)
     add-at
     add-i
     loop-less

@@ -7,17 +7,11 @@ use Rattle.notice_bytes.proofs.Whole.{stood}
 use Rattle.notice_bytes.proofs.standing.alone.Statement.{statement}
 use Rattle.notice_bytes.proofs.standing.alone.Tie as tie
 
-whole-at-requires : tie.Need-whole-at-requires
-whole-at-requires c κs = search needs
-
 shared-slice-read-kind : tie.Need-shared-slice-read-kind
 shared-slice-read-kind c =
     let tested = c .before in
     let s = stood (now (tested .before .before .before .args .bytes)) 0 (sym (tested .before .whole-at .ensures) ∙ tested .if1 .taken) in
     omega (arith, s .fits, s .headed)
-
-start-requires : tie.Need-start-requires
-start-requires c κs = search needs
 
 returns : tie.Need-returns
 returns c =
@@ -29,4 +23,4 @@ returns-2 c = rw (← c .before .whole-at .ensures, c .if1 .left)
 
 pub alone-spec : {M : Type 1} → statement M
 alone-spec =
-    tie.close (tie.spec whole-at-requires shared-slice-read-kind start-requires returns returns-2)
+    tie.close (tie.spec (λ c κs. search needs) shared-slice-read-kind (λ c κs. search needs) returns returns-2)

@@ -6,9 +6,6 @@ use Rattle.notice_bytes.specs.Standing.{rowStands}
 use Rattle.notice_bytes.proofs.standing.row_stands.Statement.{statement}
 use Rattle.notice_bytes.proofs.standing.row_stands.Tie as tie
 
-carried-requires : tie.Need-carried-requires
-carried-requires c κs = search needs
-
 head-stands-requires : tie.Need-head-stands-requires
 unfolding spanOf
 head-stands-requires c κs =
@@ -24,4 +21,4 @@ unfolding rowStands
 returns-2 c = rw (← c .before .carried .ensures, c .if1 .left)
 
 pub row-stands-spec : {M : Type 1} → statement M
-row-stands-spec = tie.close (tie.spec carried-requires head-stands-requires returns returns-2)
+row-stands-spec = tie.close (tie.spec (λ c κs. search needs) head-stands-requires returns returns-2)

@@ -30,9 +30,6 @@ row-stands-requires c κs =
     let inside = row-inside (c .before .before .before .args .kind) (c .before .loop .i) (omega arith) in
     (omega arith, omega (arith, c .before .loop .inv .1 .0, c .before .before .before .pre))
 
-span-requires : tie.Need-span-requires Inv-loop μ-loop
-span-requires c κs = search needs
-
 add-at : tie.Need-add-at Inv-loop μ-loop
 add-at c =
     let at = c .before .before .before .before in
@@ -75,7 +72,7 @@ rows-stand-spec =
     μ-loop
     loop-holds
     row-stands-requires
-    span-requires
+    (λ c κs. search needs)
     add-at
     add-i
     loop-less

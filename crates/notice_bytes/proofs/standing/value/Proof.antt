@@ -8,12 +8,6 @@ use Rattle.notice_fields.proofs.Table.{sound, value-inside}
 use Rattle.notice_bytes.proofs.standing.value.Statement.{statement}
 use Rattle.notice_bytes.proofs.standing.value.Tie as tie
 
-entry-requires : tie.Need-entry-requires
-entry-requires c κs = search needs
-
-start-requires : tie.Need-start-requires
-start-requires c κs = search needs
-
 add-get : tie.Need-add-get
 add-get c =
     let inside = value-inside _ _ (c .before .before .before .pre .0) (c .before .before .before .pre .1 .1) in
@@ -41,4 +35,4 @@ returns c = (
 
 pub value-spec : {M : Type 1} → statement M
 value-spec =
-    tie.close (tie.spec entry-requires start-requires add-get add-get-2 get-requires returns)
+    tie.close (tie.spec (λ c κs. search needs) (λ c κs. search needs) add-get add-get-2 get-requires returns)

@@ -12,28 +12,10 @@ returns c =
     let a = c .before .before .args in
     sym (no-kind (now (a .bytes)) (a .place) (omega arith))
 
-sub-left : tie.Need-sub-left
-sub-left c = search needs
-
 returns-2 : tie.Need-returns-2
 returns-2 c =
     let a = c .before .before .before .args in
     sym (no-kind (now (a .bytes)) (a .place) (omega arith))
-
-add-kind : tie.Need-add-kind
-add-kind c = search needs
-
-shared-slice-read-kind : tie.Need-shared-slice-read-kind
-shared-slice-read-kind c = search needs
-
-carried-requires : tie.Need-carried-requires
-carried-requires c κs = search needs
-
-start-requires : tie.Need-start-requires
-start-requires c κs = search needs
-
-rows-stand-requires : tie.Need-rows-stand-requires
-rows-stand-requires c κs = search needs
 
 returns-3 : tie.Need-returns-3
 returns-3 c =
@@ -56,13 +38,13 @@ whole-at-spec =
     tie.close
     (tie.spec
     returns
-    sub-left
+    (λ c. search needs)
     returns-2
-    add-kind
-    shared-slice-read-kind
-    carried-requires
-    start-requires
-    rows-stand-requires
+    (λ c. search needs)
+    (λ c. search needs)
+    (λ c κs. search needs)
+    (λ c κs. search needs)
+    (λ c κs. search needs)
     returns-3
     returns-4
     returns-5)

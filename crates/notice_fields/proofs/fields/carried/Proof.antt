@@ -5,12 +5,6 @@ use Rattle.notice_fields.proofs.Table.{no-bit}
 use Rattle.notice_fields.proofs.fields.carried.Statement.{statement}
 use Rattle.notice_fields.proofs.fields.carried.Tie as tie
 
-entry-requires : tie.Need-entry-requires
-entry-requires c κs = search needs
-
-shr-bit : tie.Need-shr-bit
-shr-bit c = search needs
-
 returns : tie.Need-returns
 returns c = rw (c .before .entry .ensures)
 
@@ -18,4 +12,4 @@ returns-2 : tie.Need-returns-2
 returns-2 c = sym (no-bit _ _ (c .before .before .pre) (c .if1 .left))
 
 pub carried-spec : {M : Type 1} → statement M
-carried-spec = tie.close (tie.spec entry-requires shr-bit returns returns-2)
+carried-spec = tie.close (tie.spec (λ c κs. search needs) (λ c. search needs) returns returns-2)

@@ -7,12 +7,6 @@ use Rattle.notice_fields.proofs.Table.{sound}
 use Rattle.notice_fields.proofs.fields.span.Statement.{statement}
 use Rattle.notice_fields.proofs.fields.span.Tie as tie
 
-entry-requires : tie.Need-entry-requires
-entry-requires c κs = search needs
-
-carried-requires : tie.Need-carried-requires
-carried-requires c κs = search needs
-
 add-result : tie.Need-add-result
 add-result c = rw (c .before .before .before .entry .ensures) (omega (arith, sound _ (c .before .before .before .before .pre)))
 
@@ -25,4 +19,4 @@ unfolding spanOf
 returns-2 c = simp (← c .before .carried .ensures, c .if1 .left)
 
 pub span-spec : {M : Type 1} → statement M
-span-spec = tie.close (tie.spec entry-requires carried-requires add-result returns returns-2)
+span-spec = tie.close (tie.spec (λ c κs. search needs) (λ c κs. search needs) add-result returns returns-2)

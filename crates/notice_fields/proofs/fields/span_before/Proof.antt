@@ -7,9 +7,6 @@ use Rattle.notice_fields.proofs.Table.{span-small}
 use Rattle.notice_fields.proofs.fields.span_before.Statement.{statement}
 use Rattle.notice_fields.proofs.fields.span_before.Tie as tie
 
-span-requires : tie.Need-span-requires
-span-requires c κs = search needs
-
 returns : tie.Need-returns
 returns c = (
   rw (lt-ltb _ _ (c .before .if1 .taken)) (c .span .ensures),
@@ -20,4 +17,4 @@ returns-2 : tie.Need-returns-2
 returns-2 c = (rw (le-ltb _ _ (c .if1 .left)), omega arith)
 
 pub span-before-spec : {M : Type 1} → statement M
-span-before-spec = tie.close (tie.spec span-requires returns returns-2)
+span-before-spec = tie.close (tie.spec (λ c κs. search needs) returns returns-2)

@@ -7,24 +7,6 @@ use Rattle.notice_fields.proofs.Table.{no-start}
 use Rattle.notice_fields.proofs.fields.start.Statement.{statement}
 use Rattle.notice_fields.proofs.fields.start.Tie as tie
 
-spans-before-requires : tie.Need-spans-before-requires
-spans-before-requires c κs = search needs
-
-spans-before-requires-2 : tie.Need-spans-before-requires-2
-spans-before-requires-2 c κs = search needs
-
-spans-before-requires-3 : tie.Need-spans-before-requires-3
-spans-before-requires-3 c κs = search needs
-
-spans-before-requires-4 : tie.Need-spans-before-requires-4
-spans-before-requires-4 c κs = search needs
-
-spans-before-requires-5 : tie.Need-spans-before-requires-5
-spans-before-requires-5 c κs = search needs
-
-spans-before-requires-6 : tie.Need-spans-before-requires-6
-spans-before-requires-6 c κs = search needs
-
 returns : tie.Need-returns
 returns c = c .spans-before .ensures ∙ rw (c .before .match .keys1)
 
@@ -52,12 +34,12 @@ pub start-spec : {M : Type 1} → statement M
 start-spec =
     tie.close
     (tie.spec
-    spans-before-requires
-    spans-before-requires-2
-    spans-before-requires-3
-    spans-before-requires-4
-    spans-before-requires-5
-    spans-before-requires-6
+    (λ c κs. search needs)
+    (λ c κs. search needs)
+    (λ c κs. search needs)
+    (λ c κs. search needs)
+    (λ c κs. search needs)
+    (λ c κs. search needs)
     returns
     returns-2
     returns-3

@@ -8,21 +8,6 @@ use Rattle.notice_fields.proofs.Digits.{number-split}
 use Rattle.notice_fields.proofs.numbers.get.Statement.{statement}
 use Rattle.notice_fields.proofs.numbers.get.Tie as tie
 
-gathered-requires : tie.Need-gathered-requires
-gathered-requires c κs = search needs
-
-add-gathered : tie.Need-add-gathered
-add-gathered c = search needs
-
-gathered-requires-2 : tie.Need-gathered-requires-2
-gathered-requires-2 c κs = search needs
-
-mul-result : tie.Need-mul-result
-mul-result c = search needs
-
-add-result : tie.Need-add-result
-add-result c = search needs
-
 returns : tie.Need-returns
 returns c =
     let high = c .before in
@@ -33,21 +18,15 @@ returns c =
       omega (arith, high .gathered .ensures .1, c .gathered2 .ensures .1),
     )
 
-gathered-requires-3 : tie.Need-gathered-requires-3
-gathered-requires-3 c κs = search needs
-
-returns-2 : tie.Need-returns-2
-returns-2 c = search needs
-
 pub get-spec : {M : Type 1} → statement M
 get-spec =
     tie.close
     (tie.spec
-    gathered-requires
-    add-gathered
-    gathered-requires-2
-    mul-result
-    add-result
+    (λ c κs. search needs)
+    (λ c. search needs)
+    (λ c κs. search needs)
+    (λ c. search needs)
+    (λ c. search needs)
     returns
-    gathered-requires-3
-    returns-2)
+    (λ c κs. search needs)
+    (λ c. search needs))

@@ -24,9 +24,6 @@ loop-holds c =
     let none : c .args .width - c .args .width ≡ 0 = omega arith in
     (omega arith, rw none (sym (div-one _), refl))
 
-sub-i : tie.Need-sub-i Inv-loop μ-loop
-sub-i c = search needs
-
 cast-room : tie.Need-cast-room Inv-loop μ-loop
 cast-room c = omega arith
 
@@ -65,7 +62,7 @@ put-spec =
     Inv-loop
     μ-loop
     loop-holds
-    sub-i
+    (λ c. search needs)
     cast-room
     add-room
     slice-write-room

@@ -17,9 +17,6 @@ abbrev μ-loop : tie.MeasureT-loop
 loop-holds : tie.Need-loop-holds Inv-loop μ-loop
 loop-holds c = tried-none (c .args .s) (c .args .e)
 
-is-refused-requires : tie.Need-is-refused-requires Inv-loop μ-loop
-is-refused-requires c κs = search needs
-
 next-try-requires : tie.Need-next-try-requires Inv-loop μ-loop
 next-try-requires c κs =
     let l = c .before .before in
@@ -32,9 +29,6 @@ add-larger c =
     let a = l .before .args in
     let early = tried-early (a .s) (a .e) (l .loop .time) (sym (c .before .before .is-refused .ensures) ∙ c .before .if1 .taken) in
     record { fits = omega (arith, early) }
-
-larger-requires : tie.Need-larger-requires Inv-loop μ-loop
-larger-requires c κs = search needs
 
 loop-less : tie.Need-loop-less Inv-loop μ-loop
 loop-less c =
@@ -63,10 +57,10 @@ accepted-from-spec =
     Inv-loop
     μ-loop
     loop-holds
-    is-refused-requires
+    (λ c κs. search needs)
     next-try-requires
     add-larger
-    larger-requires
+    (λ c κs. search needs)
     loop-less
     loop-again
     returns)

@@ -9,15 +9,6 @@ use borrow.Author.Needs.{needs}
 use Rattle.outlook.proofs.trying.allowed_from.Statement.{statement}
 use Rattle.outlook.proofs.trying.allowed_from.Tie as tie
 
-enum-told : tie.Need-enum-told
-enum-told c = search needs
-
-enum-known-act : tie.Need-enum-known-act
-enum-known-act c = search needs
-
-smaller-requires : tie.Need-smaller-requires
-smaller-requires c κs = search needs
-
 permitted-from-requires : tie.Need-permitted-from-requires
 permitted-from-requires c κs =
     let start = c .before .before .before .before in
@@ -27,9 +18,6 @@ permitted-from-requires c κs =
     let low : c .smaller .result ≤ t .film .cap = omega (arith, c .smaller .ensures, count-fit t ok there) in
     (readable t ok there, ((low, (last-high t ok, tuned-high t ok)), omega (arith, start .pre .1)))
 
-enum-told-2 : tie.Need-enum-told-2
-enum-told-2 c = search needs
-
 turn-from-requires : tie.Need-turn-from-requires
 turn-from-requires c κs =
     let start = c .before .before in
@@ -37,9 +25,6 @@ turn-from-requires c κs =
     let ok = start .pre .0 .0 in
     let film = readable t ok (start .pre .0 .1) in
     (film, (film .cut .fit, (last-high t ok, omega (arith, start .pre .1))))
-
-enum-told-3 : tie.Need-enum-told-3
-enum-told-3 c = search needs
 
 turn-from-requires-2 : tie.Need-turn-from-requires-2
 turn-from-requires-2 c κs =
@@ -71,13 +56,13 @@ pub allowed-from-spec : {M : Type 1} → statement M
 allowed-from-spec =
     tie.close
     (tie.spec
-    enum-told
-    enum-known-act
-    smaller-requires
+    (λ c. search needs)
+    (λ c. search needs)
+    (λ c κs. search needs)
     permitted-from-requires
-    enum-told-2
+    (λ c. search needs)
     turn-from-requires
-    enum-told-3
+    (λ c. search needs)
     turn-from-requires-2
     returns
     returns-2

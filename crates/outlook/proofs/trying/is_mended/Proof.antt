@@ -4,18 +4,6 @@ use borrow.Author.Needs.{needs}
 use Rattle.outlook.proofs.trying.is_mended.Statement.{statement}
 use Rattle.outlook.proofs.trying.is_mended.Tie as tie
 
-either-requires : tie.Need-either-requires
-either-requires c κs = search needs
-
-either-requires-2 : tie.Need-either-requires-2
-either-requires-2 c κs = search needs
-
-either-requires-3 : tie.Need-either-requires-3
-either-requires-3 c κs = search needs
-
-either-requires-4 : tie.Need-either-requires-4
-either-requires-4 c κs = search needs
-
 returns : tie.Need-returns
 returns c =
     rw (c .either4 .ensures, c .before .either3 .ensures, c .before .before .either2 .ensures, c .before .before .before .either .ensures) refl
@@ -23,4 +11,4 @@ returns c =
 pub is-mended-spec : {M : Type 1} → statement M
 is-mended-spec =
     tie.close
-    (tie.spec either-requires either-requires-2 either-requires-3 either-requires-4 returns)
+    (tie.spec (λ c κs. search needs) (λ c κs. search needs) (λ c κs. search needs) (λ c κs. search needs) returns)

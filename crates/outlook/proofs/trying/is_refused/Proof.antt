@@ -4,12 +4,6 @@ use borrow.Author.Needs.{needs}
 use Rattle.outlook.proofs.trying.is_refused.Statement.{statement}
 use Rattle.outlook.proofs.trying.is_refused.Tie as tie
 
-event-at-requires : tie.Need-event-at-requires
-event-at-requires c κs = search needs
-
-call-requires : tie.Need-call-requires
-call-requires c κs = search needs
-
 returns : tie.Need-returns
 returns c =
     let at-call = c .before in
@@ -19,4 +13,4 @@ returns-2 : tie.Need-returns-2
 returns-2 c = simp (lt-leb _ _ (c .if1 .left))
 
 pub is-refused-spec : {M : Type 1} → statement M
-is-refused-spec = tie.close (tie.spec event-at-requires call-requires returns returns-2)
+is-refused-spec = tie.close (tie.spec (λ c κs. search needs) (λ c κs. search needs) returns returns-2)

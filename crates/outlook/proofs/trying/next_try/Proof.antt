@@ -8,24 +8,6 @@ use borrow.Author.Needs.{needs}
 use Rattle.outlook.proofs.trying.next_try.Statement.{statement}
 use Rattle.outlook.proofs.trying.next_try.Tie as tie
 
-event-at-requires : tie.Need-event-at-requires
-event-at-requires c κs = search needs
-
-call-requires : tie.Need-call-requires
-call-requires c κs = search needs
-
-is-mended-requires : tie.Need-is-mended-requires
-is-mended-requires c κs = search needs
-
-start-from-requires : tie.Need-start-from-requires
-start-from-requires c κs = search needs
-
-room-from-requires : tie.Need-room-from-requires
-room-from-requires c κs = search needs
-
-larger-requires : tie.Need-larger-requires
-larger-requires c κs = search needs
-
 returns : tie.Need-returns
 returns c =
     let at-room = c .before in
@@ -36,17 +18,11 @@ returns c =
     moment-skips (a .s) (a .e) (a .time) (start .pre) (at-event .event-at .ensures) (at-start .start-from .ensures) (at-room .room-from .ensures)
     (c .larger .ensures)
 
-smaller-requires : tie.Need-smaller-requires
-smaller-requires c κs = search needs
-
 returns-2 : tie.Need-returns-2
 returns-2 c =
     let start = c .before .before .before .before .before .before in
     let a = start .args in
     early-skips (a .s) (a .e) (a .time) (start .pre) (c .smaller .result) (c .smaller .ensures)
-
-id-free-from-requires : tie.Need-id-free-from-requires
-id-free-from-requires c κs = search needs
 
 returns-3 : tie.Need-returns-3
 returns-3 c =
@@ -73,15 +49,15 @@ pub next-try-spec : {M : Type 1} → statement M
 next-try-spec =
     tie.close
     (tie.spec
-    event-at-requires
-    call-requires
-    is-mended-requires
-    start-from-requires
-    room-from-requires
-    larger-requires
+    (λ c κs. search needs)
+    (λ c κs. search needs)
+    (λ c κs. search needs)
+    (λ c κs. search needs)
+    (λ c κs. search needs)
+    (λ c κs. search needs)
     returns
-    smaller-requires
+    (λ c κs. search needs)
     returns-2
-    id-free-from-requires
+    (λ c κs. search needs)
     returns-3
     returns-4)

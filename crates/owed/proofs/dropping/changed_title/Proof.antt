@@ -4,12 +4,9 @@ use Rattle.story.specs.Next.{changedTitle}
 use Rattle.owed.proofs.dropping.changed_title.Statement.{statement}
 use Rattle.owed.proofs.dropping.changed_title.Tie as tie
 
-turned-title-requires : tie.Need-turned-title-requires
-turned-title-requires c κs = search needs
-
 returns : tie.Need-returns
 unfolding changedTitle
 returns c = c .turned-title .ensures
 
 pub changed-title-spec : {M : Type 1} → statement M
-changed-title-spec = tie.close (tie.spec turned-title-requires returns)
+changed-title-spec = tie.close (tie.spec (λ c κs. search needs) returns)

@@ -4,12 +4,9 @@ use Rattle.story.specs.Next.{closedTitle}
 use Rattle.owed.proofs.dropping.closed_title.Statement.{statement}
 use Rattle.owed.proofs.dropping.closed_title.Tie as tie
 
-turned-title-requires : tie.Need-turned-title-requires
-turned-title-requires c κs = search needs
-
 returns : tie.Need-returns
 unfolding closedTitle
 returns c = c .turned-title .ensures
 
 pub closed-title-spec : {M : Type 1} → statement M
-closed-title-spec = tie.close (tie.spec turned-title-requires returns)
+closed-title-spec = tie.close (tie.spec (λ c κs. search needs) returns)

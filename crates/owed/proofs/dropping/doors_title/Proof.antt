@@ -5,18 +5,6 @@ use borrow.Author.Needs.{needs}
 use Rattle.owed.proofs.dropping.doors_title.Statement.{statement}
 use Rattle.owed.proofs.dropping.doors_title.Tie as tie
 
-tick-at-requires : tie.Need-tick-at-requires
-tick-at-requires c κs = search needs
-
-end-count-requires : tie.Need-end-count-requires
-end-count-requires c κs = search needs
-
-mark-of-requires : tie.Need-mark-of-requires
-mark-of-requires c κs = search needs
-
-turn-requires : tie.Need-turn-requires
-turn-requires c κs = search needs
-
 returns : tie.Need-returns
 unfolding doorsTitle
 returns c =
@@ -25,4 +13,4 @@ returns c =
 
 pub doors-title-spec : {M : Type 1} → statement M
 doors-title-spec =
-    tie.close (tie.spec tick-at-requires end-count-requires mark-of-requires turn-requires returns)
+    tie.close (tie.spec (λ c κs. search needs) (λ c κs. search needs) (λ c κs. search needs) (λ c κs. search needs) returns)

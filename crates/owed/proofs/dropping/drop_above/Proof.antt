@@ -4,9 +4,6 @@ use borrow.Author.Needs.{needs}
 use Rattle.owed.proofs.dropping.drop_above.Statement.{statement}
 use Rattle.owed.proofs.dropping.drop_above.Tie as tie
 
-drop-lane-requires : tie.Need-drop-lane-requires
-drop-lane-requires c κs = search needs
-
 returns : tie.Need-returns
 returns c = simp (le-leb _ _ (c .before .if1 .taken)) (c .drop-lane .ensures)
 
@@ -14,4 +11,4 @@ returns-2 : tie.Need-returns-2
 returns-2 c = simp (lt-leb _ _ (c .if1 .left))
 
 pub drop-above-spec : {M : Type 1} → statement M
-drop-above-spec = tie.close (tie.spec drop-lane-requires returns returns-2)
+drop-above-spec = tie.close (tie.spec (λ c κs. search needs) returns returns-2)

@@ -27,12 +27,6 @@ drop-above-requires c κs =
     let f = fixed-drops (a .args .t) (a .args .tick) (a .args .count) (l .lane) in
     rw (l .inv .1) (fixed-owing (a .args .t) (dropLanes (a .args .t) (a .args .tick) (a .args .count) (l .lane)) f (a .pre .0), (rw (f .film) (omega arith), a .pre .1 .1))
 
-add-lane : tie.Need-add-lane Inv-loop μ-loop
-add-lane c = search needs
-
-loop-less : tie.Need-loop-less Inv-loop μ-loop
-loop-less c = search needs
-
 loop-again : tie.Need-loop-again Inv-loop μ-loop
 loop-again c =
     let a = c .before .before .before in
@@ -48,4 +42,4 @@ returns c =
 pub drop-lanes-spec : {M : Type 1} → statement M
 drop-lanes-spec =
     tie.close
-    (tie.spec Inv-loop μ-loop loop-holds drop-above-requires add-lane loop-less loop-again returns)
+    (tie.spec Inv-loop μ-loop loop-holds drop-above-requires (λ c. search needs) (λ c. search needs) loop-again returns)

@@ -7,14 +7,8 @@ use Rattle.owed.proofs.dropping.end_count.Tie as tie
 returns : tie.Need-returns
 returns c = rw (eq-eqb _ _ (c .if1 .taken))
 
-mul-q : tie.Need-mul-q
-mul-q c = search needs
-
-element-write-q : tie.Need-element-write-q
-element-write-q c = search needs
-
 returns-2 : tie.Need-returns-2
 returns-2 c = rw (ne-eqb _ _ (c .if1 .left))
 
 pub end-count-spec : {M : Type 1} → statement M
-end-count-spec = tie.close (tie.spec returns mul-q element-write-q returns-2)
+end-count-spec = tie.close (tie.spec returns (λ c. search needs) (λ c. search needs) returns-2)

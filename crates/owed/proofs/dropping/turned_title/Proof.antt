@@ -8,12 +8,6 @@ use borrow.Author.Needs.{needs}
 use Rattle.owed.proofs.dropping.turned_title.Statement.{statement}
 use Rattle.owed.proofs.dropping.turned_title.Tie as tie
 
-tick-at-requires : tie.Need-tick-at-requires
-tick-at-requires c κs = search needs
-
-end-count-requires : tie.Need-end-count-requires
-end-count-requires c κs = search needs
-
 drop-lanes-requires : tie.Need-drop-lanes-requires
 drop-lanes-requires c κs =
     let a = c .before .before in
@@ -21,13 +15,10 @@ drop-lanes-requires c κs =
     let early : n .result ≤ askedMax = omega arith in
     rw (c .end-count .ensures) (ended-owing (a .args .t) (n .result) early (a .pre .0 .owing), (a .pre .0 .ruled, early))
 
-turn-requires : tie.Need-turn-requires
-turn-requires c κs = search needs
-
 returns : tie.Need-returns
 returns c = c .turn .ensures ∙ simp (c .before .drop-lanes .ensures, c .before .before .end-count .ensures, c .before .before .before .tick-at .ensures .is)
 
 pub turned-title-spec : {M : Type 1} → statement M
 turned-title-spec =
     tie.close
-    (tie.spec tick-at-requires end-count-requires drop-lanes-requires turn-requires returns)
+    (tie.spec (λ c κs. search needs) (λ c κs. search needs) drop-lanes-requires (λ c κs. search needs) returns)

@@ -26,9 +26,6 @@ Inv-loop lane cell tick t cap floor found₀ count₀ found count =
 abbrev μ-loop : tie.MeasureT-loop
 μ-loop lane cell tick t cap floor found₀ count₀ found count = suc cap - count
 
-add-count : tie.Need-add-count Inv-loop μ-loop
-add-count c = search needs
-
 loop-holds : tie.Need-loop-holds Inv-loop μ-loop
 loop-holds c =
     let a = c .args in
@@ -40,12 +37,6 @@ loop-holds c =
           (a .lane + 1)
           (λ k l. rw (le-ltb (a .lane) k (omega arith)) refl)),
     )
-
-mul-end : tie.Need-mul-end Inv-loop μ-loop
-mul-end c = search needs
-
-element-copy-out-end : tie.Need-element-copy-out-end Inv-loop μ-loop
-element-copy-out-end c = search needs
 
 owed-to-requires : tie.Need-owed-to-requires Inv-loop μ-loop
 owed-to-requires c κs =
@@ -61,15 +52,6 @@ owed-to-requires c κs =
         λ floor. own-cell (a .t1 .film .floor) (a .t1 .film .cap) (a .lane) k (a .tick) (a .cell) low has (s .pre .1 .1 .0 .is) floor,
       ),
     )
-
-either-requires : tie.Need-either-requires Inv-loop μ-loop
-either-requires c κs = search needs
-
-add-count-2 : tie.Need-add-count-2 Inv-loop μ-loop
-add-count-2 c = search needs
-
-loop-less : tie.Need-loop-less Inv-loop μ-loop
-loop-less c = search needs
 
 loop-again : tie.Need-loop-again Inv-loop μ-loop
 unfolding some
@@ -97,13 +79,13 @@ awaited-by-some-spec =
     (tie.spec
     Inv-loop
     μ-loop
-    add-count
+    (λ c. search needs)
     loop-holds
-    mul-end
-    element-copy-out-end
+    (λ c. search needs)
+    (λ c. search needs)
     owed-to-requires
-    either-requires
-    add-count-2
-    loop-less
+    (λ c κs. search needs)
+    (λ c. search needs)
+    (λ c. search needs)
     loop-again
     returns)

@@ -8,19 +8,10 @@ use Rattle.owed.proofs.owing.awaited_on.Tie as tie
 returns : tie.Need-returns
 returns c = simp (c .if1 .taken)
 
-add-result : tie.Need-add-result
-add-result c = search needs
-
-period-requires : tie.Need-period-requires
-period-requires c κs = search needs
-
-add-result-2 : tie.Need-add-result-2
-add-result-2 c = search needs
-
 returns-2 : tie.Need-returns-2
 returns-2 c =
     let at-if1 = c .before .before in
     simp (lt-ltb _ _ (pos-of-ne-zero (c .before .if1 .left)), ← c .period .ensures .is)
 
 pub awaited-on-spec : {M : Type 1} → statement M
-awaited-on-spec = tie.close (tie.spec returns add-result period-requires add-result-2 returns-2)
+awaited-on-spec = tie.close (tie.spec returns (λ c. search needs) (λ c κs. search needs) (λ c. search needs) returns-2)

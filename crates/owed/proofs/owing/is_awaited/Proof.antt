@@ -10,12 +10,6 @@ use borrow.Author.Needs.{needs}
 use Rattle.owed.proofs.owing.is_awaited.Statement.{statement}
 use Rattle.owed.proofs.owing.is_awaited.Tie as tie
 
-mul-end : tie.Need-mul-end
-mul-end c = search needs
-
-element-copy-out-end : tie.Need-element-copy-out-end
-element-copy-out-end c = search needs
-
 awaited-on-requires : tie.Need-awaited-on-requires
 awaited-on-requires c κs =
     let s = c .before .before in
@@ -35,16 +29,13 @@ awaited-by-some-requires c κs =
     let a = s .args in
     (s .pre .0, (s .pre .1 .0, (rw (padded-scheme (a .t1 .film .kind) (a .t1 .film .floor) (a .t1 .film .cap) (c .if1 .left)) at (s .pre .1 .1), c .if1 .left)))
 
-returns-2 : tie.Need-returns-2
-returns-2 c = search needs
-
 pub is-awaited-spec : {M : Type 1} → statement M
 is-awaited-spec =
     tie.close
     (tie.spec
-    mul-end
-    element-copy-out-end
+    (λ c. search needs)
+    (λ c. search needs)
     awaited-on-requires
     returns
     awaited-by-some-requires
-    returns-2)
+    (λ c. search needs))

@@ -4,15 +4,6 @@ use Rattle.story.specs.Kept.{keptOwed}
 use Rattle.owed.proofs.owing.is_owed.Statement.{statement}
 use Rattle.owed.proofs.owing.is_owed.Tie as tie
 
-lane-cell-requires : tie.Need-lane-cell-requires
-lane-cell-requires c κs = search needs
-
-holds-film-requires : tie.Need-holds-film-requires
-holds-film-requires c κs = search needs
-
-is-awaited-requires : tie.Need-is-awaited-requires
-is-awaited-requires c κs = search needs
-
 returns : tie.Need-returns
 unfolding keptOwed
 returns c = simp (← c .before .before .before .lane-cell .ensures .is, ← c .before .before .holds-film .ensures, c .before .if1 .taken) (c .is-awaited .ensures)
@@ -24,4 +15,4 @@ returns-2 c = simp (← c .before .before .lane-cell .ensures .is, ← c .before
 pub is-owed-spec : {M : Type 1} → statement M
 is-owed-spec =
     tie.close
-    (tie.spec lane-cell-requires holds-film-requires is-awaited-requires returns returns-2)
+    (tie.spec (λ c κs. search needs) (λ c κs. search needs) (λ c κs. search needs) returns returns-2)

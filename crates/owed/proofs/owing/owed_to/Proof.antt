@@ -22,20 +22,11 @@ returns-2 : tie.Need-returns-2
 unfolding wants
 returns-2 c = simp (le-leb _ _ (c .before .if1 .left), c .if2 .taken)
 
-slot-requires : tie.Need-slot-requires
-slot-requires c κs = search needs
-
-carrier-requires : tie.Need-carrier-requires
-carrier-requires c κs = search needs
-
 -- the cell goes out under the count
 goes-out : (c : tie.After-carrier) →
     let a = c .before .before .before .before .args in
     isInG (a .floor) (a .cap) (a .count) (a .tick) (a .cell) ≡ true
 goes-out c = c .before .before .before .before .pre .1 .1 (c .before .before .before .if1 .left)
-
-add-result : tie.Need-add-result
-add-result c = search needs
 
 pow2-requires : tie.Need-pow2-requires
 pow2-requires c κs =
@@ -70,9 +61,9 @@ owed-to-spec =
     (tie.spec
     returns
     returns-2
-    slot-requires
-    carrier-requires
-    add-result
+    (λ c κs. search needs)
+    (λ c κs. search needs)
+    (λ c. search needs)
     pow2-requires
     mul-result
     add-result-2

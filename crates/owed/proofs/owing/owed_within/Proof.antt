@@ -22,24 +22,6 @@ loop-holds : tie.Need-loop-holds Inv-loop μ-loop
 unfolding keptWithin howMany
 loop-holds c = (omega arith, refl, omega arith)
 
-add-is-owed : tie.Need-add-is-owed Inv-loop μ-loop
-add-is-owed c = search needs
-
-is-owed-requires : tie.Need-is-owed-requires Inv-loop μ-loop
-is-owed-requires c κs = search needs
-
-one-if-requires : tie.Need-one-if-requires Inv-loop μ-loop
-one-if-requires c κs = search needs
-
-add-owed : tie.Need-add-owed Inv-loop μ-loop
-add-owed c = search needs
-
-add-i : tie.Need-add-i Inv-loop μ-loop
-add-i c = search needs
-
-loop-less : tie.Need-loop-less Inv-loop μ-loop
-loop-less c = search needs
-
 loop-again : tie.Need-loop-again Inv-loop μ-loop
 unfolding keptWithin howMany
 loop-again c =
@@ -65,11 +47,11 @@ owed-within-spec =
     Inv-loop
     μ-loop
     loop-holds
-    add-is-owed
-    is-owed-requires
-    one-if-requires
-    add-owed
-    add-i
-    loop-less
+    (λ c. search needs)
+    (λ c κs. search needs)
+    (λ c κs. search needs)
+    (λ c. search needs)
+    (λ c. search needs)
+    (λ c. search needs)
     loop-again
     returns)

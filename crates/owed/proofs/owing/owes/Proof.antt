@@ -6,12 +6,6 @@ use borrow.Author.Needs.{needs}
 use Rattle.owed.proofs.owing.owes.Statement.{statement}
 use Rattle.owed.proofs.owing.owes.Tie as tie
 
-latest-above-requires : tie.Need-latest-above-requires
-latest-above-requires c κs = search needs
-
-is-reached-requires : tie.Need-is-reached-requires
-is-reached-requires c κs = search needs
-
 -- the lane is one that events dropped
 reached : (c : tie.Then1) →
     let a = c .before .before .before .before .before .before .args in
@@ -44,9 +38,6 @@ returns c =
     rw (c .before .walk-of .ensures) at (c .owed-in .ensures)
     ∙ sym (owes-in (a .t1) (a .lane) (a .at) (l .until) (l .end) (reached (c .before .before)) (s .pre .0 .film))
 
-owes-else-requires : tie.Need-owes-else-requires
-owes-else-requires c κs = search needs
-
 returns-2 : tie.Need-returns-2
 returns-2 c = c .owes-else .ensures
 
@@ -54,10 +45,10 @@ pub owes-spec : {M : Type 1} → statement M
 owes-spec =
     tie.close
     (tie.spec
-    latest-above-requires
-    is-reached-requires
+    (λ c κs. search needs)
+    (λ c κs. search needs)
     walk-of-requires
     owed-in-requires
     returns
-    owes-else-requires
+    (λ c κs. search needs)
     returns-2)

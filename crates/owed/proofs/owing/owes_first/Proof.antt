@@ -6,9 +6,6 @@ use borrow.Author.Needs.{needs}
 use Rattle.owed.proofs.owing.owes_first.Statement.{statement}
 use Rattle.owed.proofs.owing.owes_first.Tie as tie
 
-is-idle-requires : tie.Need-is-idle-requires
-is-idle-requires c κs = search needs
-
 returns : tie.Need-returns
 returns c =
     let s = c .before .before .before .before .before in
@@ -29,4 +26,4 @@ returns-2 c = rw (← c .before .reach .ensures .is) (c .owed-within .ensures .i
 
 pub owes-first-spec : {M : Type 1} → statement M
 owes-first-spec =
-    tie.close (tie.spec is-idle-requires returns reach-requires owed-within-requires returns-2)
+    tie.close (tie.spec (λ c κs. search needs) returns reach-requires owed-within-requires returns-2)

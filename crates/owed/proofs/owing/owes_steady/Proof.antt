@@ -10,15 +10,6 @@ use borrow.Author.Needs.{needs}
 use Rattle.owed.proofs.owing.owes_steady.Statement.{statement}
 use Rattle.owed.proofs.owing.owes_steady.Tie as tie
 
-mul-ended : tie.Need-mul-ended
-mul-ended c = search needs
-
-element-copy-out-ended : tie.Need-element-copy-out-ended
-element-copy-out-ended c = search needs
-
-reach-requires : tie.Need-reach-requires
-reach-requires c κs = search needs
-
 owed-within-requires : tie.Need-owed-within-requires
 owed-within-requires c κs =
     let s = c .before .before .before .before in
@@ -54,9 +45,9 @@ pub owes-steady-spec : {M : Type 1} → statement M
 owes-steady-spec =
     tie.close
     (tie.spec
-    mul-ended
-    element-copy-out-ended
-    reach-requires
+    (λ c. search needs)
+    (λ c. search needs)
+    (λ c κs. search needs)
     owed-within-requires
     returns
     turns-at-requires

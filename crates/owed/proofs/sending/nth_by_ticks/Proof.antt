@@ -17,17 +17,8 @@ Inv-loop t lane from nth end owed₀ i₀ owed i = (i ≤ end) × Unmet t lane f
 abbrev μ-loop : tie.MeasureT-loop
 μ-loop t lane from nth end owed₀ i₀ owed i = end - i
 
-reach-requires : tie.Need-reach-requires Inv-loop μ-loop
-reach-requires c κs = search needs
-
 loop-holds : tie.Need-loop-holds Inv-loop μ-loop
 loop-holds c = let a = c .before .args in (omega arith, unmet-yet (a .t) (a .lane) (a .from) (a .nth))
-
-add-is-owed : tie.Need-add-is-owed Inv-loop μ-loop
-add-is-owed c = search needs
-
-is-owed-requires : tie.Need-is-owed-requires Inv-loop μ-loop
-is-owed-requires c κs = search needs
 
 returns : tie.Need-returns Inv-loop μ-loop
 returns c =
@@ -49,9 +40,6 @@ add-owed c =
     let l = c .before .before .before .before .loop in
     let end = c .before .before .before .before .before .reach in
     record { fits = omega (arith, l .inv .1 .few, c .before .before .before .loop-test .taken, end .ensures .high) }
-
-add-i : tie.Need-add-i Inv-loop μ-loop
-add-i c = search needs
 
 loop-less : tie.Need-loop-less Inv-loop μ-loop
 loop-less c = omega arith
@@ -88,13 +76,13 @@ nth-by-ticks-spec =
     (tie.spec
     Inv-loop
     μ-loop
-    reach-requires
+    (λ c κs. search needs)
     loop-holds
-    add-is-owed
-    is-owed-requires
+    (λ c. search needs)
+    (λ c κs. search needs)
     returns
     add-owed
-    add-i
+    (λ c. search needs)
     loop-less
     loop-again
     returns-2)

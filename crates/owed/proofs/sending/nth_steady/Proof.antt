@@ -13,12 +13,6 @@ use borrow.Author.Needs.{needs}
 use Rattle.owed.proofs.sending.nth_steady.Statement.{statement}
 use Rattle.owed.proofs.sending.nth_steady.Tie as tie
 
-mul-ended : tie.Need-mul-ended
-mul-ended c = search needs
-
-element-copy-out-ended : tie.Need-element-copy-out-ended
-element-copy-out-ended c = search needs
-
 nth-by-ticks-requires : tie.Need-nth-by-ticks-requires
 nth-by-ticks-requires c κs = let s = c .before .before .before in (s .pre .0, s .pre .1 .0)
 
@@ -88,8 +82,8 @@ pub nth-steady-spec : {M : Type 1} → statement M
 nth-steady-spec =
     tie.close
     (tie.spec
-    mul-ended
-    element-copy-out-ended
+    (λ c. search needs)
+    (λ c. search needs)
     nth-by-ticks-requires
     returns
     turns-at-requires

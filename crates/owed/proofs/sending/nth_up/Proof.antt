@@ -5,12 +5,6 @@ use borrow.Author.Needs.{needs}
 use Rattle.owed.proofs.sending.nth_up.Statement.{statement}
 use Rattle.owed.proofs.sending.nth_up.Tie as tie
 
-latest-above-requires : tie.Need-latest-above-requires
-latest-above-requires c κs = search needs
-
-is-reached-requires : tie.Need-is-reached-requires
-is-reached-requires c κs = search needs
-
 -- the lane is one that events dropped
 reached : (c : tie.Then1) →
     let a = c .before .before .before .before .before .before .args in
@@ -42,20 +36,14 @@ returns c =
     nth-exactly (a .t1) (a .lane) (a .from) (l .until) (l .end) (reached (c .before .before)) (s .pre .0 .film) (a .nth) (c .nth-in .result)
     (rw (c .before .walk-of .ensures) at (c .nth-in .ensures))
 
-nth-by-ticks-requires : tie.Need-nth-by-ticks-requires
-nth-by-ticks-requires c κs = search needs
-
-returns-2 : tie.Need-returns-2
-returns-2 c = search needs
-
 pub nth-up-spec : {M : Type 1} → statement M
 nth-up-spec =
     tie.close
     (tie.spec
-    latest-above-requires
-    is-reached-requires
+    (λ c κs. search needs)
+    (λ c κs. search needs)
     walk-of-requires
     nth-in-requires
     returns
-    nth-by-ticks-requires
-    returns-2)
+    (λ c κs. search needs)
+    (λ c. search needs))

@@ -7,17 +7,11 @@ use Rattle.owed.proofs.Shown.{tick-active, tick-sending}
 use Rattle.owed.proofs.sending.shown_tick.Statement.{statement}
 use Rattle.owed.proofs.sending.shown_tick.Tie as tie
 
-ruling-requires : tie.Need-ruling-requires
-ruling-requires c κs = search needs
-
 returns : tie.Need-returns
 returns c =
     let s = c .before .before in
     let active = rw (c .before .ruling .ensures) at (lt-ltb _ _ (c .if1 .taken)) in
     record { is = sym (tick-active (s .args .t) (s .args .lane) (s .args .tick) active); low = omega arith; high = omega (arith, s .pre .1 .1) }
-
-sending-tick-requires : tie.Need-sending-tick-requires
-sending-tick-requires c κs = search needs
 
 returns-2 : tie.Need-returns-2
 returns-2 c =
@@ -27,4 +21,4 @@ returns-2 c =
     record { is = u .is ∙ sym (tick-sending (a .t) (a .lane) (a .tick) sends); low = u .low; high = u .high }
 
 pub shown-tick-spec : {M : Type 1} → statement M
-shown-tick-spec = tie.close (tie.spec ruling-requires returns sending-tick-requires returns-2)
+shown-tick-spec = tie.close (tie.spec (λ c κs. search needs) returns (λ c κs. search needs) returns-2)

@@ -6,12 +6,6 @@ use borrow.Author.Needs.{needs}
 use Rattle.owed.proofs.sending.shows.Statement.{statement}
 use Rattle.owed.proofs.sending.shows.Tie as tie
 
-shown-tick-requires : tie.Need-shown-tick-requires
-shown-tick-requires c κs = search needs
-
-lane-cell-requires : tie.Need-lane-cell-requires
-lane-cell-requires c κs = search needs
-
 returns : tie.Need-returns
 returns c =
     let a = c .before .before .args in
@@ -20,4 +14,4 @@ returns c =
     ∙ sym (shown-cell (a .t) (a .lane) (a .tick))
 
 pub shows-spec : {M : Type 1} → statement M
-shows-spec = tie.close (tie.spec shown-tick-requires lane-cell-requires returns)
+shows-spec = tie.close (tie.spec (λ c κs. search needs) (λ c κs. search needs) returns)

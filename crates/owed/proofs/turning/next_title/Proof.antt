@@ -3,26 +3,11 @@ use borrow.Author.Needs.{needs}
 use Rattle.owed.proofs.turning.next_title.Statement.{statement}
 use Rattle.owed.proofs.turning.next_title.Tie as tie
 
-enum-known-act : tie.Need-enum-known-act
-enum-known-act c = search needs
-
-opened-title-requires : tie.Need-opened-title-requires
-opened-title-requires c κs = search needs
-
-enum-known-act-2 : tie.Need-enum-known-act-2
-enum-known-act-2 c = search needs
-
 changed-title-requires : tie.Need-changed-title-requires
 changed-title-requires c κs = let s = c .before .before .before in (rw (c .before .act2 .given .1) at (s .pre .0), s .pre .1)
 
-enum-told : tie.Need-enum-told
-enum-told c = search needs
-
 closed-title-requires : tie.Need-closed-title-requires
 closed-title-requires c κs = let s = c .before .before in (rw (c .enum-told .given .1) at (s .pre .0), s .pre .1)
-
-enum-known-act-3 : tie.Need-enum-known-act-3
-enum-known-act-3 c = search needs
 
 doors-title-requires : tie.Need-doors-title-requires
 doors-title-requires c κs = let s = c .before .before .before in (rw (c .before .act3 .given .1) at (s .pre .0), s .pre .1)
@@ -43,13 +28,13 @@ pub next-title-spec : {M : Type 1} → statement M
 next-title-spec =
     tie.close
     (tie.spec
-    enum-known-act
-    opened-title-requires
-    enum-known-act-2
+    (λ c. search needs)
+    (λ c κs. search needs)
+    (λ c. search needs)
     changed-title-requires
-    enum-told
+    (λ c. search needs)
     closed-title-requires
-    enum-known-act-3
+    (λ c. search needs)
     doors-title-requires
     returns
     returns-2

@@ -5,18 +5,6 @@ use borrow.Author.Needs.{needs}
 use Rattle.planner.proofs.standing.numbers_ok.Statement.{statement}
 use Rattle.planner.proofs.standing.numbers_ok.Tie as tie
 
-state-ok-requires : tie.Need-state-ok-requires
-state-ok-requires c κs = search needs
-
-rates-ok-requires : tie.Need-rates-ok-requires
-rates-ok-requires c κs = search needs
-
-also-requires : tie.Need-also-requires
-also-requires c κs = search needs
-
-also-requires-2 : tie.Need-also-requires-2
-also-requires-2 c κs = search needs
-
 returns : tie.Need-returns
 unfolding questionOk
 returns c =
@@ -25,4 +13,4 @@ returns c =
 
 pub numbers-ok-spec : {M : Type 1} → statement M
 numbers-ok-spec =
-    tie.close (tie.spec state-ok-requires rates-ok-requires also-requires also-requires-2 returns)
+    tie.close (tie.spec (λ c κs. search needs) (λ c κs. search needs) (λ c κs. search needs) (λ c κs. search needs) returns)

@@ -8,9 +8,6 @@ use borrow.Author.Needs.{needs}
 use Rattle.planner.proofs.standing.standing.Statement.{statement}
 use Rattle.planner.proofs.standing.standing.Tie as tie
 
-numbers-ok-requires : tie.Need-numbers-ok-requires
-numbers-ok-requires c κs = search needs
-
 returns : tie.Need-returns
 unfolding standingAnswer firstHit
 returns c =
@@ -63,4 +60,4 @@ returns-4 c = simp (← c .before .numbers-ok .ensures, c .if1 .left)
 
 pub standing-spec : {M : Type 1} → statement M
 standing-spec =
-    tie.close (tie.spec numbers-ok-requires returns shared-pool-requires floors-requires returns-2 returns-3 returns-4)
+    tie.close (tie.spec (λ c κs. search needs) returns shared-pool-requires floors-requires returns-2 returns-3 returns-4)

@@ -32,18 +32,6 @@ loop-holds c =
     let start = c .before .before in
     (omega arith, refl, running-none (start .args .s) (start .args .time) (start .pre .0) (start .pre .1 .1 .0), refl)
 
-mul-id : tie.Need-mul-id Inv-loop μ-loop
-mul-id c = search needs
-
-array-read-id : tie.Need-array-read-id Inv-loop μ-loop
-array-read-id c = search needs
-
-mul-count : tie.Need-mul-count Inv-loop μ-loop
-mul-count c = search needs
-
-array-read-count : tie.Need-array-read-count Inv-loop μ-loop
-array-read-count c = search needs
-
 due-at-requires : tie.Need-due-at-requires Inv-loop μ-loop
 due-at-requires c κs =
     let l = c .before .loop in
@@ -54,12 +42,6 @@ due-at-requires c κs =
     let f = still-fits (a .s) (l .q) w (r .framed) (start .pre .1 .0 (l .j) (c .loop-test .taken)) in
     (r .ok, ((f .an-id, (f .is-open, f .high)), (f .low, omega (arith, r .high, start .pre .1 .1 .0))))
 
-mul-row : tie.Need-mul-row Inv-loop μ-loop
-mul-row c = search needs
-
-array-write-row : tie.Need-array-write-row Inv-loop μ-loop
-array-write-row c = search needs
-
 moved-requires : tie.Need-moved-requires Inv-loop μ-loop
 moved-requires c κs =
     let l = c .before .before .loop in
@@ -69,12 +51,6 @@ moved-requires c κs =
     let r = l .inv .2 in
     let f = still-fits (a .s) (l .q) w (r .framed) (start .pre .1 .0 (l .j) (c .before .loop-test .taken)) in
     ((f .an-id, omega (arith, c .due-at .ensures .high)), fit-changeable (l .q) w (r .ok) f)
-
-add-j : tie.Need-add-j Inv-loop μ-loop
-add-j c = search needs
-
-loop-less : tie.Need-loop-less Inv-loop μ-loop
-loop-less c = search needs
 
 loop-again : tie.Need-loop-again Inv-loop μ-loop
 unfolding wishesTo
@@ -115,15 +91,15 @@ times-of-spec =
     Inv-loop
     μ-loop
     loop-holds
-    mul-id
-    array-read-id
-    mul-count
-    array-read-count
+    (λ c. search needs)
+    (λ c. search needs)
+    (λ c. search needs)
+    (λ c. search needs)
     due-at-requires
-    mul-row
-    array-write-row
+    (λ c. search needs)
+    (λ c. search needs)
     moved-requires
-    add-j
-    loop-less
+    (λ c. search needs)
+    (λ c. search needs)
     loop-again
     returns)

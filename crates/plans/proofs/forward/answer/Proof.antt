@@ -9,9 +9,6 @@ use Rattle.plans.proofs.forward.Refusals.{refused-limits, refused-rows,
 use Rattle.plans.proofs.forward.answer.Statement.{statement}
 use Rattle.plans.proofs.forward.answer.Tie as tie
 
-in-limits-requires : tie.Need-in-limits-requires
-in-limits-requires c κs = search needs
-
 -- past the first test the numbers are within their limits
 inside : (c : tie.Then1) → let a = c .before .before .args in skipPlanLimits (a .count) (a .arrival) ≡ true
 inside c = sym (c .before .in-limits .ensures) ∙ c .if1 .taken
@@ -39,4 +36,4 @@ returns-3 : tie.Need-returns-3
 returns-3 c = sym (refused-limits _ _ _ (sym (c .before .in-limits .ensures) ∙ c .if1 .left))
 
 pub answer-spec : {M : Type 1} → statement M
-answer-spec = tie.close (tie.spec in-limits-requires sub-pow2 pow2-requires returns returns-2 returns-3)
+answer-spec = tie.close (tie.spec (λ c κs. search needs) sub-pow2 pow2-requires returns returns-2 returns-3)

@@ -15,9 +15,6 @@ slice-write-row c =
     let o : 0 < 2 ^ (c .before .args .count - 1) = pow-pos (c .before .args .count - 1) in
     omega (arith, c .before .pre .1)
 
-sub-runs : tie.Need-sub-runs
-sub-runs c = search needs
-
 runs-requires : tie.Need-runs-requires
 runs-requires c κs =
     let s = c .before .before in
@@ -38,4 +35,4 @@ returns c =
     runs-plan (a .count) (a .arrival) (s .pre .0 .0) (s .pre .0 .1) (a .row .now) _ (c .before .before .runs .ensures)
 
 pub fill-spec : {M : Type 1} → statement M
-fill-spec = tie.close (tie.spec slice-write-row sub-runs runs-requires same-length returns)
+fill-spec = tie.close (tie.spec slice-write-row (λ c. search needs) runs-requires same-length returns)

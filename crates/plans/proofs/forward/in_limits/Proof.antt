@@ -17,9 +17,6 @@ module _ (k a : ℕ) where
   first : within countMin steadyMax k ≡ false → false ≡ skipPlanLimits k a
   first p = rw p refl
 
-within-requires : tie.Need-within-requires
-within-requires c κs = search needs
-
 returns : tie.Need-returns
 returns c =
     let a = c .before .before .args in
@@ -31,4 +28,4 @@ returns-2 c =
     first (a .count) (a .arrival) (sym (c .before .within .ensures) ∙ c .if1 .left)
 
 pub in-limits-spec : {M : Type 1} → statement M
-in-limits-spec = tie.close (tie.spec within-requires returns returns-2)
+in-limits-spec = tie.close (tie.spec (λ c κs. search needs) returns returns-2)

@@ -13,9 +13,6 @@ use Rattle.plans.proofs.padded.Refusals.{refused-rows, accepted, counte
 use Rattle.plans.proofs.padded.answer.Statement.{statement}
 use Rattle.plans.proofs.padded.answer.Tie as tie
 
-in-limits-requires : tie.Need-in-limits-requires
-in-limits-requires c κs = search needs
-
 -- past the first test the numbers are within their limits
 inside : (c : tie.Then1) →
     let a = c .before .before .args in
@@ -97,7 +94,7 @@ pub answer-spec : {M : Type 1} → statement M
 answer-spec =
     tie.close
     (tie.spec
-    in-limits-requires
+    (λ c κs. search needs)
     returns
     returns-2
     returns-3

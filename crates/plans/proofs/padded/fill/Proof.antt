@@ -36,32 +36,11 @@ filled : (A K k a : ℕ) → Counted A K k → starts (padded A K) k a ≡ true 
 filled A K k a count start w p q r e f g h row x y i j =
     runs-plan A K k a count start row x y (rw (e, f, g) at i) (rw (e, h) at j)
 
-slot-requires : tie.Need-slot-requires
-slot-requires c κs = search needs
-
-add-phase : tie.Need-add-phase
-add-phase c = search needs
-
-pow2-requires : tie.Need-pow2-requires
-pow2-requires c κs = search needs
-
-sub-pow2 : tie.Need-sub-pow2
-sub-pow2 c = search needs
-
-pow2-requires-2 : tie.Need-pow2-requires-2
-pow2-requires-2 c κs = search needs
-
 sub-phase : tie.Need-sub-phase
 sub-phase c =
     let a = c .before .before .before .before .args in
     let m : 2 ^ (a .cap - a .floor) ≤ 2 ^ a .cap = pow-mono {i = a .cap - a .floor} {j = a .cap} (omega arith) in
     omega (arith, c .pow22 .ensures .is, c .before .pow2 .ensures .is)
-
-add-phase-2 : tie.Need-add-phase-2
-add-phase-2 c = search needs
-
-sub-runs : tie.Need-sub-runs
-sub-runs c = search needs
 
 runs-requires : tie.Need-runs-requires
 runs-requires c κs =
@@ -70,9 +49,6 @@ runs-requires c κs =
       (omega arith, s .pre .0 .high),
       (width (s .args .cap) (s .args .count) (w .result) (w .ensures .is), omega (arith, s .pre .1 .1 .1)),
     )
-
-pow2-requires-3 : tie.Need-pow2-requires-3
-pow2-requires-3 c κs = search needs
 
 sub-level : tie.Need-sub-level
 sub-level c =
@@ -87,9 +63,6 @@ level-requires c κs =
     let a = s .args in
     let n = ap length (c .before .before .before .before .runs .ensures) ∙ from-length _ _ _ _ in
     omega (arith, n, c .before .pow23 .ensures .is, within (a .cap) (a .count) (w .slot .result) (w .slot .ensures .is), s .pre .1 .1 .1)
-
-same-length : tie.Need-same-length
-same-length c = search needs
 
 returns : tie.Need-returns
 returns c =
@@ -109,17 +82,17 @@ pub fill-spec : {M : Type 1} → statement M
 fill-spec =
     tie.close
     (tie.spec
-    slot-requires
-    add-phase
-    pow2-requires
-    sub-pow2
-    pow2-requires-2
+    (λ c κs. search needs)
+    (λ c. search needs)
+    (λ c κs. search needs)
+    (λ c. search needs)
+    (λ c κs. search needs)
     sub-phase
-    add-phase-2
-    sub-runs
+    (λ c. search needs)
+    (λ c. search needs)
     runs-requires
-    pow2-requires-3
+    (λ c κs. search needs)
     sub-level
     level-requires
-    same-length
+    (λ c. search needs)
     returns)

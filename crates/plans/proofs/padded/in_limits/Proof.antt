@@ -25,15 +25,6 @@ module _ (A K k a : ℕ) where
   first : within floorMin floorMax A ≡ false → false ≡ planLimits A K k a
   first p = rw p refl
 
-within-requires : tie.Need-within-requires
-within-requires c κs = search needs
-
-within-requires-2 : tie.Need-within-requires-2
-within-requires-2 c κs = search needs
-
-within-requires-3 : tie.Need-within-requires-3
-within-requires-3 c κs = search needs
-
 returns : tie.Need-returns
 returns c =
     last (c .before .before .before .before .before .before .args .floor) (c .before .before .before .before .before .before .args .cap) (c .before .before .before .before .before .before .args .count) (c .before .before .before .before .before .before .args .arrival) (sym (c .before .before .before .before .before .within .ensures) ∙ c .before .before .before .before .if1 .taken)
@@ -58,9 +49,9 @@ pub in-limits-spec : {M : Type 1} → statement M
 in-limits-spec =
     tie.close
     (tie.spec
-    within-requires
-    within-requires-2
-    within-requires-3
+    (λ c κs. search needs)
+    (λ c κs. search needs)
+    (λ c κs. search needs)
     returns
     returns-2
     returns-3

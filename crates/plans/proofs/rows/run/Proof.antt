@@ -4,24 +4,6 @@ use Rattle.plans.proofs.rows.Places.{two-rises}
 use Rattle.plans.proofs.rows.run.Statement.{statement}
 use Rattle.plans.proofs.rows.run.Tie as tie
 
-sub-rise : tie.Need-sub-rise
-sub-rise c = search needs
-
-rise-requires : tie.Need-rise-requires
-rise-requires c κs = search needs
-
-add-rise : tie.Need-add-rise
-add-rise c = search needs
-
-sub-rise-2 : tie.Need-sub-rise-2
-sub-rise-2 c = search needs
-
-rise-requires-2 : tie.Need-rise-requires-2
-rise-requires-2 c κs = search needs
-
-same-length : tie.Need-same-length
-same-length c = search needs
-
 returns : tie.Need-returns
 returns c =
     let one = c .before .before .before .before .before .before in
@@ -32,4 +14,4 @@ returns c =
 pub run-spec : {M : Type 1} → statement M
 run-spec =
     tie.close
-    (tie.spec sub-rise rise-requires add-rise sub-rise-2 rise-requires-2 same-length returns)
+    (tie.spec (λ c. search needs) (λ c κs. search needs) (λ c. search needs) (λ c. search needs) (λ c κs. search needs) (λ c. search needs) returns)

@@ -43,9 +43,6 @@ sub-run c =
     let m : 2 ^ s .args .low ≤ 2 ^ l .power = pow-mono (l .inv .0) in
     omega (arith, c .pow2 .ensures .is, s .pre .1 .0)
 
-rem-run : tie.Need-rem-run Inv-loop μ-loop
-rem-run c = search needs
-
 run-requires : tie.Need-run-requires Inv-loop μ-loop
 run-requires c κs =
     let p = c .before .pow2 in
@@ -105,7 +102,7 @@ runs-spec =
     loop-holds
     pow2-requires
     sub-run
-    rem-run
+    (λ c. search needs)
     run-requires
     add-power
     loop-less

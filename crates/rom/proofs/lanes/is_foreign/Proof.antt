@@ -10,11 +10,8 @@ returns c = simp (eq-eqb _ _ (c .if1 .taken))
 returns-2 : tie.Need-returns-2
 returns-2 c = simp (ne-eqb _ _ (c .before .before .if1 .left), eq-eqb _ _ (c .if2 .taken))
 
-is-other-requires : tie.Need-is-other-requires
-is-other-requires c κs = search needs
-
 returns-3 : tie.Need-returns-3
 returns-3 c = simp (ne-eqb _ _ (c .before .before .before .if1 .left), ne-eqb _ _ (c .before .if2 .left)) (c .is-other .ensures)
 
 pub is-foreign-spec : {M : Type 1} → statement M
-is-foreign-spec = tie.close (tie.spec returns returns-2 is-other-requires returns-3)
+is-foreign-spec = tie.close (tie.spec returns returns-2 (λ c κs. search needs) returns-3)

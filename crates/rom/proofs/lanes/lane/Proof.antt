@@ -18,9 +18,6 @@ none : (c : tie.Then1) →
     tableLaneAnswer (a .table .now) (a .s) (a .id) (a .lane) (a .time) ≡ 0
 none c = sym (c .before .verdict .ensures) ∙ c .if1 .taken
 
-verdict-requires : tie.Need-verdict-requires
-verdict-requires c κs = search needs
-
 title-of-requires : tie.Need-title-of-requires
 title-of-requires c κs =
     let a = c .before .before .before .args in
@@ -50,9 +47,6 @@ cell-at-requires c κs =
       own-capped _ own (a .lane) (lane-capped (a .s) (a .id) (a .lane) (a .time) (rom-answered (a .s) (a .id) (a .lane) (a .time) asked)),
     )
 
-cast-t10 : tie.Need-cast-t10
-cast-t10 c = search needs
-
 returns : tie.Need-returns
 returns c =
     let e = c .before .before .before .before in
@@ -75,11 +69,11 @@ pub lane-spec : {M : Type 1} → statement M
 lane-spec =
     tie.close
     (tie.spec
-    verdict-requires
+    (λ c κs. search needs)
     title-of-requires
     tick-at-requires
     shown-tick-requires
     cell-at-requires
-    cast-t10
+    (λ c. search needs)
     returns
     returns-2)

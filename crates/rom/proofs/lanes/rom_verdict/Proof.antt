@@ -9,12 +9,6 @@ use Rattle.rom.proofs.Answered.{rule-hits, rule-passed, far-id, foreign
 use Rattle.rom.proofs.lanes.rom_verdict.Statement.{statement}
 use Rattle.rom.proofs.lanes.rom_verdict.Tie as tie
 
-title-of-requires : tie.Need-title-of-requires
-title-of-requires c κs = search needs
-
-is-foreign-requires : tie.Need-is-foreign-requires
-is-foreign-requires c κs = search needs
-
 returns : tie.Need-returns
 returns c =
     let a = c .before .before .before .before .args in
@@ -22,9 +16,6 @@ returns c =
     sym (rule-hits (a .s) (a .id) (a .lane) (a .time)
     (foreign-id (a .s) (a .id) (a .lane) (a .time) (c .before .before .before .if1 .taken) true
     (ap isForeign (sym (t .ensures)) ∙ sym (c .before .is-foreign .ensures) ∙ c .if2 .taken)))
-
-lane-verdict-requires : tie.Need-lane-verdict-requires
-lane-verdict-requires c κs = search needs
 
 returns-2 : tie.Need-returns-2
 returns-2 c =
@@ -40,4 +31,4 @@ returns-2 c =
 pub rom-verdict-spec : {M : Type 1} → statement M
 rom-verdict-spec =
     tie.close
-    (tie.spec title-of-requires is-foreign-requires returns lane-verdict-requires returns-2)
+    (tie.spec (λ c κs. search needs) (λ c κs. search needs) returns (λ c κs. search needs) returns-2)

@@ -5,9 +5,6 @@ use Rattle.rom.proofs.Answered.{table-asked, table-refused}
 use Rattle.rom.proofs.lanes.verdict.Statement.{statement}
 use Rattle.rom.proofs.lanes.verdict.Tie as tie
 
-rom-verdict-requires : tie.Need-rom-verdict-requires
-rom-verdict-requires c κs = search needs
-
 returns : tie.Need-returns
 returns c = c .rom-verdict .ensures ∙ table-asked _ _ _ _ _ (c .before .if1 .taken)
 
@@ -15,4 +12,4 @@ returns-2 : tie.Need-returns-2
 returns-2 c = table-refused _ _ _ _ _ (c .if1 .left)
 
 pub verdict-spec : {M : Type 1} → statement M
-verdict-spec = tie.close (tie.spec rom-verdict-requires returns returns-2)
+verdict-spec = tie.close (tie.spec (λ c κs. search needs) returns returns-2)

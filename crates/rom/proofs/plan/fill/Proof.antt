@@ -7,15 +7,6 @@ use Rattle.rom.proofs.Noted.{ticks-seen}
 use Rattle.rom.proofs.plan.fill.Statement.{statement}
 use Rattle.rom.proofs.plan.fill.Tie as tie
 
-clear-requires : tie.Need-clear-requires
-clear-requires c κs = search needs
-
-note-ticks-requires : tie.Need-note-ticks-requires
-note-ticks-requires c κs = search needs
-
-same-length : tie.Need-same-length
-same-length c = search needs
-
 returns : tie.Need-returns
 returns c =
     let n = c .before .before .note-ticks in
@@ -26,4 +17,4 @@ returns c =
     ∙ ticks-seen (a .table .now) (a .count) (a .arrival) (a .row .now)
 
 pub fill-spec : {M : Type 1} → statement M
-fill-spec = tie.close (tie.spec clear-requires note-ticks-requires same-length returns)
+fill-spec = tie.close (tie.spec (λ c κs. search needs) (λ c κs. search needs) (λ c. search needs) returns)

@@ -6,18 +6,6 @@ use borrow.Author.Needs.{needs}
 use Rattle.rom.proofs.plan.note.Statement.{statement}
 use Rattle.rom.proofs.plan.note.Tie as tie
 
-cast-row : tie.Need-cast-row
-cast-row c = search needs
-
-mul-row : tie.Need-mul-row
-mul-row c = search needs
-
-slice-write-row : tie.Need-slice-write-row
-slice-write-row c = search needs
-
-same-length : tie.Need-same-length
-same-length c = search needs
-
 returns : tie.Need-returns
 unfolding notedOf
 returns c = simp (lt-ltb _ _ (c .if1 .taken))
@@ -27,4 +15,4 @@ unfolding notedOf
 returns-2 c = simp (le-ltb _ _ (c .if1 .left))
 
 pub note-spec : {M : Type 1} → statement M
-note-spec = tie.close (tie.spec cast-row mul-row slice-write-row same-length returns returns-2)
+note-spec = tie.close (tie.spec (λ c. search needs) (λ c. search needs) (λ c. search needs) (λ c. search needs) returns returns-2)

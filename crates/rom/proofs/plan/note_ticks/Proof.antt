@@ -22,21 +22,6 @@ loop-holds : tie.Need-loop-holds Inv-loop μ-loop
 unfolding notedTicks
 loop-holds c = (omega arith, refl, refl)
 
-add-passed : tie.Need-add-passed Inv-loop μ-loop
-add-passed c = search needs
-
-sub-after : tie.Need-sub-after Inv-loop μ-loop
-sub-after c = search needs
-
-add-note-lanes : tie.Need-add-note-lanes Inv-loop μ-loop
-add-note-lanes c = search needs
-
-note-lanes-requires : tie.Need-note-lanes-requires Inv-loop μ-loop
-note-lanes-requires c κs = search needs
-
-loop-less : tie.Need-loop-less Inv-loop μ-loop
-loop-less c = search needs
-
 loop-again : tie.Need-loop-again Inv-loop μ-loop
 loop-again c =
     let n = c .before .before .note-lanes in
@@ -62,11 +47,11 @@ note-ticks-spec =
     Inv-loop
     μ-loop
     loop-holds
-    add-passed
-    sub-after
-    add-note-lanes
-    note-lanes-requires
-    loop-less
+    (λ c. search needs)
+    (λ c. search needs)
+    (λ c. search needs)
+    (λ c κs. search needs)
+    (λ c. search needs)
     loop-again
     same-length
     returns)

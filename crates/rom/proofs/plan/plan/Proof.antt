@@ -17,12 +17,6 @@ answered c =
     let a = c .before .before .before .before .args in
     c .rom-answer .ensures ∙ ap (romPlanAnswer (a .floor) (a .cap) (a .count) (a .arrival)) (c .before .places-beside .ensures)
 
-places-beside-requires : tie.Need-places-beside-requires
-places-beside-requires c κs = search needs
-
-rom-answer-requires : tie.Need-rom-answer-requires
-rom-answer-requires c κs = search needs
-
 fill-requires : tie.Need-fill-requires
 fill-requires c κs =
     let a = c .before .before .before .before .before .before .args in
@@ -30,9 +24,6 @@ fill-requires c κs =
     table-accepted (a .table .now) (a .floor) (a .cap) (a .count) (a .arrival) (length (a .row .now))
     (sym (answered (c .before .before)) ∙ c .before .if1 .taken) in
     (t .long, ((t .count, t .room), t .arrival))
-
-same-length : tie.Need-same-length
-same-length c = search needs
 
 returns : tie.Need-returns
 returns c =
@@ -52,9 +43,9 @@ pub plan-spec : {M : Type 1} → statement M
 plan-spec =
     tie.close
     (tie.spec
-    places-beside-requires
-    rom-answer-requires
+    (λ c κs. search needs)
+    (λ c κs. search needs)
     fill-requires
-    same-length
+    (λ c. search needs)
     returns
     returns-2)

@@ -6,16 +6,10 @@ use Rattle.rom.proofs.Planned.{plan-own, plan-other}
 use Rattle.rom.proofs.plan.rom_answer.Statement.{statement}
 use Rattle.rom.proofs.plan.rom_answer.Tie as tie
 
-is-other-requires : tie.Need-is-other-requires
-is-other-requires c κs = search needs
-
 returns : tie.Need-returns
 returns c =
     let a = c .before .before .args in
     sym (plan-other (a .floor) (a .cap) (a .count) (a .arrival) (a .places) (sym (c .before .is-other .ensures) ∙ c .if1 .taken))
-
-answer-requires : tie.Need-answer-requires
-answer-requires c κs = search needs
 
 returns-2 : tie.Need-returns-2
 returns-2 c =
@@ -24,4 +18,4 @@ returns-2 c =
     ∙ sym (plan-own (a .floor) (a .cap) (a .count) (a .arrival) (a .places) (sym (c .before .before .is-other .ensures) ∙ c .before .if1 .left))
 
 pub rom-answer-spec : {M : Type 1} → statement M
-rom-answer-spec = tie.close (tie.spec is-other-requires returns answer-requires returns-2)
+rom-answer-spec = tie.close (tie.spec (λ c κs. search needs) returns (λ c κs. search needs) returns-2)

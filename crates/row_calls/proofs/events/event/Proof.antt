@@ -19,23 +19,14 @@ tested c =
 returns : tie.Need-returns
 returns c = let a = c .before .before .args in event-elsewhere (a .row .now) (a .e) (c .if1 .taken)
 
-row-ok-requires : tie.Need-row-ok-requires
-row-ok-requires c κs = search needs
-
 put-event-requires : tie.Need-put-event-requires
 put-event-requires c κs = tested (c .before)
-
-same-length : tie.Need-same-length
-same-length c = search needs
 
 returns-2 : tie.Need-returns-2
 returns-2 c =
     let at-if = c .before .before .before .before in
     let a = at-if .before .before .before .before .before .args in
     event-row-in (a .row .now) (a .e) (tested at-if) _ _ (c .before .before .put-event .ensures .0) (c .before .before .put-event .ensures .1)
-
-same-length-2 : tie.Need-same-length-2
-same-length-2 c = search needs
 
 returns-3 : tie.Need-returns-3
 returns-3 c =
@@ -48,9 +39,9 @@ event-spec =
     tie.close
     (tie.spec
     returns
-    row-ok-requires
+    (λ c κs. search needs)
     put-event-requires
-    same-length
+    (λ c. search needs)
     returns-2
-    same-length-2
+    (λ c. search needs)
     returns-3)

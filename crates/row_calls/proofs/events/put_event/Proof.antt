@@ -28,18 +28,6 @@ joined c =
     ∙ ap₂ both (c .before .before .also .ensures) (c .before .act-ok .ensures)
     ∙ numbers-of (unpacked (start c .args .row .now) .state) (e .title) (e .time) (e .act) (start c .pre .ok)
 
-also-requires : tie.Need-also-requires
-also-requires c κs = search needs
-
-act-ok-requires : tie.Need-act-ok-requires
-act-ok-requires c κs = search needs
-
-also-requires-2 : tie.Need-also-requires-2
-also-requires-2 c κs = search needs
-
-slice-read-if2 : tie.Need-slice-read-if2
-slice-read-if2 c = search needs
-
 returns : tie.Need-returns
 returns c =
     let at-if = c .before .before in
@@ -55,12 +43,6 @@ turn-requires c κs =
     let s = start (at-if .before) in
     (s .pre, record { numbers = sym (joined (at-if .before)) ∙ at-if .if1 .taken; late = le-ltb _ _ (c .before .if2 .left) })
 
-same-length : tie.Need-same-length
-same-length c = search needs
-
-returns-2 : tie.Need-returns-2
-returns-2 c = search needs
-
 returns-3 : tie.Need-returns-3
 returns-3 c =
     let s = start (c .before) in
@@ -72,12 +54,12 @@ pub put-event-spec : {M : Type 1} → statement M
 put-event-spec =
     tie.close
     (tie.spec
-    also-requires
-    act-ok-requires
-    also-requires-2
-    slice-read-if2
+    (λ c κs. search needs)
+    (λ c κs. search needs)
+    (λ c κs. search needs)
+    (λ c. search needs)
     returns
     turn-requires
-    same-length
-    returns-2
+    (λ c. search needs)
+    (λ c. search needs)
     returns-3)

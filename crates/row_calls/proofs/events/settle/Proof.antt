@@ -9,33 +9,12 @@ use borrow.Author.Needs.{needs}
 use Rattle.row_calls.proofs.events.settle.Statement.{statement}
 use Rattle.row_calls.proofs.events.settle.Tie as tie
 
-slice-read-if2 : tie.Need-slice-read-if2
-slice-read-if2 c = search needs
-
-others-held-requires : tie.Need-others-held-requires
-others-held-requires c κs = search needs
-
-title-held-requires : tie.Need-title-held-requires
-title-held-requires c κs = search needs
-
-add-if2 : tie.Need-add-if2
-add-if2 c = search needs
-
-same-length : tie.Need-same-length
-same-length c = search needs
-
 returns : tie.Need-returns
 returns c =
     let held = c .before in
     let s = held .before .before .before .before .before .before in
     let a = s .args in
     (rw (held .before .before .before .before .if1 .taken) (too-few (a .row .now) (a .id) (a .time) (a .next) (held .title-held .result) (s .pre .1 .0) (held .title-held .ensures .is) (rw (held .before .others-held .ensures .is) at (c .if2 .taken))), refl)
-
-put-title-requires : tie.Need-put-title-requires
-put-title-requires c κs = search needs
-
-same-length-2 : tie.Need-same-length-2
-same-length-2 c = search needs
 
 returns-2 : tie.Need-returns-2
 returns-2 c =
@@ -53,12 +32,12 @@ pub settle-spec : {M : Type 1} → statement M
 settle-spec =
     tie.close
     (tie.spec
-    slice-read-if2
-    others-held-requires
-    title-held-requires
-    add-if2
-    same-length
+    (λ c. search needs)
+    (λ c κs. search needs)
+    (λ c κs. search needs)
+    (λ c. search needs)
+    (λ c. search needs)
     returns
-    put-title-requires
-    same-length-2
+    (λ c κs. search needs)
+    (λ c. search needs)
     returns-2)

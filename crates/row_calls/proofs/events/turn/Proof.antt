@@ -60,9 +60,6 @@ next-title-requires c κs =
     rw (at-if .before .before .title-at .ensures)
     (taken-turnable (g .state) (s .args .id) (s .args .time) (s .args .act) (none at-if), event-time (g .state) (s .args .id) (s .args .time) (ok s))
 
-sets-count-requires : tie.Need-sets-count-requires
-sets-count-requires c κs = search needs
-
 settle-requires : tie.Need-settle-requires
 settle-requires c κs =
     let at-if = c .before .before .before in
@@ -74,9 +71,6 @@ settle-requires c κs =
         λ _. rw (c .before .next-title .ensures, at-if .before .before .title-at .ensures) (taken-filmed (g .state) (s .args .id) (s .args .time) (s .args .act) (none at-if)),
       ),
     )
-
-same-length : tie.Need-same-length
-same-length c = search needs
 
 returns : tie.Need-returns
 returns c =
@@ -97,9 +91,6 @@ returns c =
       settled .ensures .1 ∙ ap (λ (t : Title). pick (eqb (settled .result) 0) (packed (withState g (withTitle (g .state) i t τ))) r) next,
     )
 
-same-length-2 : tie.Need-same-length-2
-same-length-2 c = search needs
-
 returns-2 : tie.Need-returns-2
 returns-2 c =
     let s = c .before .before .before .before .before in
@@ -112,9 +103,9 @@ turn-spec =
     title-at-requires
     title-verdict-requires
     next-title-requires
-    sets-count-requires
+    (λ c κs. search needs)
     settle-requires
-    same-length
+    (λ c. search needs)
     returns
-    same-length-2
+    (λ c. search needs)
     returns-2)

@@ -35,12 +35,6 @@ fits c = sym (joined (c .before)) ∙ c .if1 .taken
 below : (c : tie.Then1) → start (c .before) .args .id < titlesMax
 below c = let f = leb-true (start (c .before) .args .id) idMax (both-l _ _ (fits c)) in omega arith
 
-also-requires : tie.Need-also-requires
-also-requires c κs = search needs
-
-also-requires-2 : tie.Need-also-requires-2
-also-requires-2 c κs = search needs
-
 title-place-requires : tie.Need-title-place-requires
 title-place-requires c κs = let f = fits c in search (both-l, both-r, leb-true)
 
@@ -73,9 +67,6 @@ returns c =
     })
     (lane-in (unpacked r .state) (s .args .id) (s .args .lane) (s .args .time) (s .pre .ok) (fits at-if))
 
-refused-requires : tie.Need-refused-requires
-refused-requires c κs = search needs
-
 returns-2 : tie.Need-returns-2
 returns-2 c =
     let s = start (c .before .before) in
@@ -86,10 +77,10 @@ pub asked-tick-spec : {M : Type 1} → statement M
 asked-tick-spec =
     tie.close
     (tie.spec
-    also-requires
-    also-requires-2
+    (λ c κs. search needs)
+    (λ c κs. search needs)
     title-place-requires
     title-tick-requires
     returns
-    refused-requires
+    (λ c κs. search needs)
     returns-2)

@@ -6,19 +6,10 @@ use borrow.Author.Needs.{needs}
 use Rattle.row_calls.proofs.lanes.counted.Statement.{statement}
 use Rattle.row_calls.proofs.lanes.counted.Tie as tie
 
-unheld-requires : tie.Need-unheld-requires
-unheld-requires c κs = search needs
-
 returns : tie.Need-returns
 returns c =
     let s = c .before .before .before in
     told (c .unheld .ensures .0) (c .unheld .ensures .1) (held-outside (unpacked (s .args .row .now) .state) (s .args .time) (s .pre .ok) (c .before .if1 .taken))
-
-shared-slice-read-last : tie.Need-shared-slice-read-last
-shared-slice-read-last c = search needs
-
-unheld-requires-2 : tie.Need-unheld-requires-2
-unheld-requires-2 c κs = search needs
 
 returns-2 : tie.Need-returns-2
 returns-2 c =
@@ -26,9 +17,6 @@ returns-2 c =
     let s = fits .before .before in
     told (c .unheld2 .ensures .0) (c .unheld2 .ensures .1)
     (held-early (unpacked (s .args .row .now) .state) (s .args .time) (s .pre .ok) (fits .if1 .left) (c .before .if2 .taken))
-
-lanes-held-requires : tie.Need-lanes-held-requires
-lanes-held-requires c κs = search needs
 
 returns-3 : tie.Need-returns-3
 returns-3 c =
@@ -41,10 +29,10 @@ pub counted-spec : {M : Type 1} → statement M
 counted-spec =
     tie.close
     (tie.spec
-    unheld-requires
+    (λ c κs. search needs)
     returns
-    shared-slice-read-last
-    unheld-requires-2
+    (λ c. search needs)
+    (λ c κs. search needs)
     returns-2
-    lanes-held-requires
+    (λ c κs. search needs)
     returns-3)

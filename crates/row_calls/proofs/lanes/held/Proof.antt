@@ -16,16 +16,10 @@ tested c =
     let ok = sym (c .before .row-ok .ensures) ∙ c .if2 .taken in
     record { long = c .before .before .if1 .left; sound = both-l (rowSound r) (stateOk (unpacked r .state)) ok; ok = both-r (rowSound r) (stateOk (unpacked r .state)) ok }
 
-unheld-requires : tie.Need-unheld-requires
-unheld-requires c κs = search needs
-
 returns : tie.Need-returns
 returns c =
     let a = c .before .before .before .args in
     told (c .unheld .ensures .0) (c .unheld .ensures .1) (held-elsewhere (a .row .now) (a .time) (c .before .if1 .taken))
-
-row-ok-requires : tie.Need-row-ok-requires
-row-ok-requires c κs = search needs
 
 counted-requires : tie.Need-counted-requires
 counted-requires c κs = tested c
@@ -34,9 +28,6 @@ returns-2 : tie.Need-returns-2
 returns-2 c =
     let a = c .before .before .before .before .before .args in
     told (c .counted .ensures .0) (c .counted .ensures .1) (held-row-in (a .row .now) (a .time) (tested (c .before)))
-
-unheld-requires-2 : tie.Need-unheld-requires-2
-unheld-requires-2 c κs = search needs
 
 returns-3 : tie.Need-returns-3
 returns-3 c =
@@ -49,10 +40,10 @@ pub held-spec : {M : Type 1} → statement M
 held-spec =
     tie.close
     (tie.spec
-    unheld-requires
+    (λ c κs. search needs)
     returns
-    row-ok-requires
+    (λ c κs. search needs)
     counted-requires
     returns-2
-    unheld-requires-2
+    (λ c κs. search needs)
     returns-3)

@@ -28,9 +28,6 @@ below c =
     let low = lane-id (unpacked (a .row .now) .state) (a .id) (a .lane) (a .time) (lane-answered _ _ _ _ (none c)) in
     omega (arith, low)
 
-shown-tick-requires : tie.Need-shown-tick-requires
-shown-tick-requires c κs = search needs
-
 title-place-requires : tie.Need-title-place-requires
 title-place-requires c κs =
     let a = c .before .before .before .args in
@@ -78,4 +75,4 @@ returns-2 c =
 pub lane-spec : {M : Type 1} → statement M
 lane-spec =
     tie.close
-    (tie.spec shown-tick-requires title-place-requires cell-of-requires returns returns-2)
+    (tie.spec (λ c κs. search needs) title-place-requires cell-of-requires returns returns-2)

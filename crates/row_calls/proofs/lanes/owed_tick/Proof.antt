@@ -9,12 +9,6 @@ use borrow.Author.Needs.{needs}
 use Rattle.row_calls.proofs.lanes.owed_tick.Statement.{statement}
 use Rattle.row_calls.proofs.lanes.owed_tick.Tie as tie
 
-is-sending-requires : tie.Need-is-sending-requires
-is-sending-requires c κs = search needs
-
-title-from-requires : tie.Need-title-from-requires
-title-from-requires c κs = search needs
-
 sending-tick-requires : tie.Need-sending-tick-requires
 sending-tick-requires c κs =
     let s = c .before .before .before .before in
@@ -38,9 +32,6 @@ returns c =
       },
     )
 
-refused-requires : tie.Need-refused-requires
-refused-requires c κs = search needs
-
 returns-2 : tie.Need-returns-2
 returns-2 c = simp (← c .before .before .is-sending .ensures, c .before .if1 .left) (c .refused .ensures)
 
@@ -48,9 +39,9 @@ pub owed-tick-spec : {M : Type 1} → statement M
 owed-tick-spec =
     tie.close
     (tie.spec
-    is-sending-requires
-    title-from-requires
+    (λ c κs. search needs)
+    (λ c κs. search needs)
     sending-tick-requires
     returns
-    refused-requires
+    (λ c κs. search needs)
     returns-2)

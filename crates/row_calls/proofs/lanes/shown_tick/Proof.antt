@@ -16,16 +16,10 @@ tested c =
     let ok = sym (c .before .row-ok .ensures) ∙ c .if2 .taken in
     record { long = c .before .before .if1 .left; sound = both-l (rowSound r) (stateOk (unpacked r .state)) ok; ok = both-r (rowSound r) (stateOk (unpacked r .state)) ok }
 
-refused-requires : tie.Need-refused-requires
-refused-requires c κs = search needs
-
 returns : tie.Need-returns
 returns c =
     let a = c .before .before .before .args in
     told-tick (c .refused .ensures .0) (c .refused .ensures .1) (lane-elsewhere (a .row .now) (a .id) (a .lane) (a .time) (c .before .if1 .taken))
-
-row-ok-requires : tie.Need-row-ok-requires
-row-ok-requires c κs = search needs
 
 asked-tick-requires : tie.Need-asked-tick-requires
 asked-tick-requires c κs = tested c
@@ -34,9 +28,6 @@ returns-2 : tie.Need-returns-2
 returns-2 c =
     let a = c .before .before .before .before .before .args in
     told-tick (c .asked-tick .ensures .0) (c .asked-tick .ensures .1) (lane-row-in (a .row .now) (a .id) (a .lane) (a .time) (tested (c .before)))
-
-refused-requires-2 : tie.Need-refused-requires-2
-refused-requires-2 c κs = search needs
 
 returns-3 : tie.Need-returns-3
 returns-3 c =
@@ -49,10 +40,10 @@ pub shown-tick-spec : {M : Type 1} → statement M
 shown-tick-spec =
     tie.close
     (tie.spec
-    refused-requires
+    (λ c κs. search needs)
     returns
-    row-ok-requires
+    (λ c κs. search needs)
     asked-tick-requires
     returns-2
-    refused-requires-2
+    (λ c κs. search needs)
     returns-3)

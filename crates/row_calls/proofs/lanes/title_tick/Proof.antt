@@ -21,52 +21,16 @@ start c = c .before .before .before .before .before .before .before
 capped-tick : (c : tie.After-tick-at) → c .tick-at .result ≤ tickMax
 capped-tick c = omega (arith, c .tick-at .ensures .high, start (c .before) .pre .1 .1)
 
-add-last : tie.Need-add-last
-add-last c = search needs
-
-mul-last : tie.Need-mul-last
-mul-last c = search needs
-
-shared-slice-read-last : tie.Need-shared-slice-read-last
-shared-slice-read-last c = search needs
-
-refused-requires : tie.Need-refused-requires
-refused-requires c κs = search needs
-
 returns : tie.Need-returns
 returns c =
     let s = c .before .before .before .before in
     told-tick (c .refused .ensures .0) (c .refused .ensures .1) (asked-early (titleFrom (s .args .row .now) (s .args .at)) (s .args .lane) (s .args .time) (c .before .if1 .taken))
-
-add-mode : tie.Need-add-mode
-add-mode c = search needs
-
-mul-mode : tie.Need-mul-mode
-mul-mode c = search needs
-
-shared-slice-read-mode : tie.Need-shared-slice-read-mode
-shared-slice-read-mode c = search needs
-
-refused-requires-2 : tie.Need-refused-requires-2
-refused-requires-2 c κs = search needs
 
 returns-2 : tie.Need-returns-2
 returns-2 c =
     let late = c .before .before .before in
     let s = late .before .before .before in
     told-tick (c .refused2 .ensures .0) (c .refused2 .ensures .1) (asked-absent (titleFrom (s .args .row .now) (s .args .at)) (s .args .lane) (s .args .time) (late .if1 .left) (c .before .if2 .taken))
-
-add-cap : tie.Need-add-cap
-add-cap c = search needs
-
-mul-cap : tie.Need-mul-cap
-mul-cap c = search needs
-
-shared-slice-read-cap : tie.Need-shared-slice-read-cap
-shared-slice-read-cap c = search needs
-
-refused-requires-3 : tie.Need-refused-requires-3
-refused-requires-3 c κs = search needs
 
 returns-3 : tie.Need-returns-3
 returns-3 c =
@@ -80,9 +44,6 @@ tick-at-requires c κs =
     let there = c .before .before in
     let s = start c in
     (s .pre .0, readable (titleFrom (s .args .row .now) (s .args .at)) (s .pre .1 .0) (there .if2 .left))
-
-ruling-requires : tie.Need-ruling-requires
-ruling-requires c κs = search needs
 
 returns-4 : tie.Need-returns-4
 returns-4 c =
@@ -126,23 +87,23 @@ pub title-tick-spec : {M : Type 1} → statement M
 title-tick-spec =
     tie.close
     (tie.spec
-    add-last
-    mul-last
-    shared-slice-read-last
-    refused-requires
+    (λ c. search needs)
+    (λ c. search needs)
+    (λ c. search needs)
+    (λ c κs. search needs)
     returns
-    add-mode
-    mul-mode
-    shared-slice-read-mode
-    refused-requires-2
+    (λ c. search needs)
+    (λ c. search needs)
+    (λ c. search needs)
+    (λ c κs. search needs)
     returns-2
-    add-cap
-    mul-cap
-    shared-slice-read-cap
-    refused-requires-3
+    (λ c. search needs)
+    (λ c. search needs)
+    (λ c. search needs)
+    (λ c κs. search needs)
     returns-3
     tick-at-requires
-    ruling-requires
+    (λ c κs. search needs)
     returns-4
     owed-tick-requires
     returns-5)

@@ -33,29 +33,11 @@ leaves c =
     (λ (e : Event). pick (eqb (c .put-event .result) 0) (packed (withState (unpacked r) (callNext (unpacked r .state) (e .title) (e .time) (e .act)))) r)
     (c .before .event-of .ensures)
 
-event-of-requires : tie.Need-event-of-requires
-event-of-requires c κs = search needs
-
-put-event-requires : tie.Need-put-event-requires
-put-event-requires c κs = search needs
-
-cast-row : tie.Need-cast-row
-cast-row c = search needs
-
-slice-write-row : tie.Need-slice-write-row
-slice-write-row c = search needs
-
-same-length : tie.Need-same-length
-same-length c = search needs
-
 returns : tie.Need-returns
 returns c =
     let put = c .before .before .before in
     let s = start put in
     turn-taken (s .args .row .now) (s .pre .0 .long) (s .args .n) (s .pre .1) (s .pre .0 .sound) (put .put-event .result) (put .put-event .last .0) (says put) (leaves put) (c .if1 .taken)
-
-same-length-2 : tie.Need-same-length-2
-same-length-2 c = search needs
 
 returns-2 : tie.Need-returns-2
 returns-2 c =
@@ -67,11 +49,11 @@ pub follow-spec : {M : Type 1} → statement M
 follow-spec =
     tie.close
     (tie.spec
-    event-of-requires
-    put-event-requires
-    cast-row
-    slice-write-row
-    same-length
+    (λ c κs. search needs)
+    (λ c κs. search needs)
+    (λ c. search needs)
+    (λ c. search needs)
+    (λ c. search needs)
     returns
-    same-length-2
+    (λ c. search needs)
     returns-2)

@@ -26,32 +26,14 @@ tested c =
     let ok = sym (c .before .row-ok .ensures) ∙ c .if2 .taken in
     record { long = s .pre; sound = both-l (rowSound r) (stateOk (unpacked r .state)) ok; ok = both-r (rowSound r) (stateOk (unpacked r .state)) ok }
 
-is-next-requires : tie.Need-is-next-requires
-is-next-requires c κs = search needs
-
-row-ok-requires : tie.Need-row-ok-requires
-row-ok-requires c κs = search needs
-
 follow-requires : tie.Need-follow-requires
 follow-requires c κs = (tested (c .before), in-turn (c .before .before .before .before))
-
-same-length : tie.Need-same-length
-same-length c = search needs
-
-returns : tie.Need-returns
-returns c = search needs
-
-same-length-2 : tie.Need-same-length-2
-same-length-2 c = search needs
 
 returns-2 : tie.Need-returns-2
 returns-2 c =
     let turn = c .before .before .before in
     let s = start turn in
     turn-out (s .args .row .now) (s .pre) (s .args .n) (in-turn turn) (sym (c .before .row-ok .ensures) ∙ c .if2 .left)
-
-same-length-3 : tie.Need-same-length-3
-same-length-3 c = search needs
 
 returns-3 : tie.Need-returns-3
 returns-3 c =
@@ -62,12 +44,12 @@ pub heed-spec : {M : Type 1} → statement M
 heed-spec =
     tie.close
     (tie.spec
-    is-next-requires
-    row-ok-requires
+    (λ c κs. search needs)
+    (λ c κs. search needs)
     follow-requires
-    same-length
-    returns
-    same-length-2
+    (λ c. search needs)
+    (λ c. search needs)
+    (λ c. search needs)
     returns-2
-    same-length-3
+    (λ c. search needs)
     returns-3)

@@ -7,24 +7,15 @@ use borrow.Author.Needs.{needs}
 use Rattle.row_calls.proofs.notices.heed_tested.Statement.{statement}
 use Rattle.row_calls.proofs.notices.heed_tested.Tie as tie
 
-is-next-requires : tie.Need-is-next-requires
-is-next-requires c κs = search needs
-
 follow-requires : tie.Need-follow-requires
 follow-requires c κs =
     let turn = c .before in
     (turn .before .before .before .before .pre, eqb-true _ _ (sym (turn .before .is-next .ensures) ∙ turn .if1 .taken))
 
-same-length : tie.Need-same-length
-same-length c = search needs
-
 returns : tie.Need-returns
 returns c =
     let s = c .before .before .before .before .before .before .before .before in
     takes-notice (s .args .row .now) (s .pre) (s .args .n) (search needs) _ _ (c .before .before .follow .ensures) (search needs)
-
-same-length-2 : tie.Need-same-length-2
-same-length-2 c = search needs
 
 returns-2 : tie.Need-returns-2
 returns-2 c =
@@ -34,4 +25,4 @@ returns-2 c =
     (s .pre .long)
 
 pub heed-tested-spec : {M : Type 1} → statement M
-heed-tested-spec = tie.close (tie.spec is-next-requires follow-requires same-length returns same-length-2 returns-2)
+heed-tested-spec = tie.close (tie.spec (λ c κs. search needs) follow-requires (λ c. search needs) returns (λ c. search needs) returns-2)

@@ -14,16 +14,10 @@ returns c =
     let a = c .before .args in
     sym (ne-eqb (a .sequence) _ (λ (e : a .sequence ≡ suc (unpacked (a .row .now) .sequence)). omega (arith, e, c .if1 .taken)))
 
-shared-slice-read-result : tie.Need-shared-slice-read-result
-shared-slice-read-result c = search needs
-
-sub-result : tie.Need-sub-result
-sub-result c = search needs
-
 returns-2 : tie.Need-returns-2
 returns-2 c =
     let a = c .before .before .args in
     same-next (unpacked (a .row .now) .sequence) (a .sequence) (c .before .if1 .left)
 
 pub is-next-spec : {M : Type 1} → statement M
-is-next-spec = tie.close (tie.spec returns shared-slice-read-result sub-result returns-2)
+is-next-spec = tie.close (tie.spec returns (λ c. search needs) (λ c. search needs) returns-2)

@@ -8,21 +8,6 @@ use Rattle.row_calls.proofs.notices.take.Tie as tie
 returns : tie.Need-returns
 returns c = notice-elsewhere _ _ (c .if1 .taken)
 
-read-requires : tie.Need-read-requires
-read-requires c κs = search needs
-
-enum-known-read : tie.Need-enum-known-read
-enum-known-read c = search needs
-
-heed-requires : tie.Need-heed-requires
-heed-requires c κs = search needs
-
-enum-told : tie.Need-enum-told
-enum-told c = search needs
-
-same-length : tie.Need-same-length
-same-length c = search needs
-
 returns-2 : tie.Need-returns-2
 returns-2 c =
     let found = c .before .before .before .before .before in
@@ -38,10 +23,10 @@ take-spec =
     tie.close
     (tie.spec
     returns
-    read-requires
-    enum-known-read
-    heed-requires
-    enum-told
-    same-length
+    (λ c κs. search needs)
+    (λ c. search needs)
+    (λ c κs. search needs)
+    (λ c. search needs)
+    (λ c. search needs)
     returns-2
     returns-3)

@@ -8,21 +8,6 @@ use Rattle.row_calls.proofs.starting.fresh.Tie as tie
 returns : tie.Need-returns
 returns c = let a = c .before .before .args in fresh-elsewhere (a .row .now) (a .pool) (c .if1 .taken)
 
-within-requires : tie.Need-within-requires
-within-requires c κs = search needs
-
-clear-requires : tie.Need-clear-requires
-clear-requires c κs = search needs
-
-slice-write-row : tie.Need-slice-write-row
-slice-write-row c = search needs
-
-slice-write-row-2 : tie.Need-slice-write-row-2
-slice-write-row-2 c = search needs
-
-same-length : tie.Need-same-length
-same-length c = search needs
-
 returns-2 : tie.Need-returns-2
 returns-2 c =
     let at-if = c .before .before .before .before in
@@ -41,10 +26,10 @@ fresh-spec =
     tie.close
     (tie.spec
     returns
-    within-requires
-    clear-requires
-    slice-write-row
-    slice-write-row-2
-    same-length
+    (λ c κs. search needs)
+    (λ c κs. search needs)
+    (λ c. search needs)
+    (λ c. search needs)
+    (λ c. search needs)
     returns-2
     returns-3)

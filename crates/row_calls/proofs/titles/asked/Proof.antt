@@ -12,12 +12,6 @@ returns c =
     let s = c .before .before .before in
     asked-outside (unpacked (s .args .row .now) .state) (s .args .time) (idsOk (s .args .ids .now)) (s .pre .ok) (c .if1 .taken)
 
-row-within-requires : tie.Need-row-within-requires
-row-within-requires c κs = search needs
-
-shared-slice-read-last : tie.Need-shared-slice-read-last
-shared-slice-read-last c = search needs
-
 returns-2 : tie.Need-returns-2
 unfolding idsOk
 returns-2 c =
@@ -44,4 +38,4 @@ returns-4 c =
 pub asked-spec : {M : Type 1} → statement M
 asked-spec =
     tie.close
-    (tie.spec returns row-within-requires shared-slice-read-last returns-2 returns-3 returns-4)
+    (tie.spec returns (λ c κs. search needs) (λ c. search needs) returns-2 returns-3 returns-4)

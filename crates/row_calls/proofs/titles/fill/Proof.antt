@@ -69,20 +69,11 @@ loop-holds c =
       (λ k l. absurd (omega arith)),
     )
 
-mul-title-place : tie.Need-mul-title-place Inv-loop μ-loop
-mul-title-place c = search needs
-
-shared-slice-read-title-place : tie.Need-shared-slice-read-title-place Inv-loop μ-loop
-shared-slice-read-title-place c = search needs
-
 title-place-requires : tie.Need-title-place-requires Inv-loop μ-loop
 title-place-requires c κs = id-fits (c .before)
 
 ruling-requires : tie.Need-ruling-requires Inv-loop μ-loop
 ruling-requires c κs = placed c
-
-mul-counts : tie.Need-mul-counts Inv-loop μ-loop
-mul-counts c = search needs
 
 slice-write-counts : tie.Need-slice-write-counts Inv-loop μ-loop
 slice-write-counts c = let l = c .before .before .before .before .loop in omega (arith, l .inv .1, c .before .before .before .loop-test .taken)
@@ -95,26 +86,14 @@ title-held-requires c κs =
     let id = getD (s .args .ids .now) (turn .before .loop .i) 0 in
     (placed (c .before), rw (own (c .before)) (title-ok (unpacked r .state) (s .pre .1 .0 .ok) id (id-below-all turn)))
 
-mul-held : tie.Need-mul-held Inv-loop μ-loop
-mul-held c = search needs
-
 slice-write-held : tie.Need-slice-write-held Inv-loop μ-loop
 slice-write-held c = let l = c .before .before .before .before .before .loop in omega (arith, l .inv .2, c .before .before .before .before .loop-test .taken)
 
 shown-mark-requires : tie.Need-shown-mark-requires Inv-loop μ-loop
 shown-mark-requires c κs = placed (c .before .before)
 
-mul-marks : tie.Need-mul-marks Inv-loop μ-loop
-mul-marks c = search needs
-
 slice-write-marks : tie.Need-slice-write-marks Inv-loop μ-loop
 slice-write-marks c = let l = c .before .before .before .before .before .before .loop in omega (arith, l .inv .3, c .before .before .before .before .before .loop-test .taken)
-
-add-i : tie.Need-add-i Inv-loop μ-loop
-add-i c = search needs
-
-loop-less : tie.Need-loop-less Inv-loop μ-loop
-loop-less c = search needs
 
 loop-again : tie.Need-loop-again Inv-loop μ-loop
 loop-again c =
@@ -138,15 +117,6 @@ loop-again c =
       rw (add-one (l .i)) (filled-more (λ j. statusMark (g .state) j) (a .ids .now) (l .marks) (l .i) (c .shown-mark .result) (omega (arith, l .inv .3)) (l .inv .6) mark),
     )
 
-same-length : tie.Need-same-length Inv-loop μ-loop
-same-length c = search needs
-
-same-length-2 : tie.Need-same-length-2 Inv-loop μ-loop
-same-length-2 c = search needs
-
-same-length-3 : tie.Need-same-length-3 Inv-loop μ-loop
-same-length-3 c = search needs
-
 returns : tie.Need-returns Inv-loop μ-loop
 returns c =
     let l = c .before .loop in
@@ -167,22 +137,22 @@ fill-spec =
     Inv-loop
     μ-loop
     loop-holds
-    mul-title-place
-    shared-slice-read-title-place
+    (λ c. search needs)
+    (λ c. search needs)
     title-place-requires
     ruling-requires
-    mul-counts
+    (λ c. search needs)
     slice-write-counts
     title-held-requires
-    mul-held
+    (λ c. search needs)
     slice-write-held
     shown-mark-requires
-    mul-marks
+    (λ c. search needs)
     slice-write-marks
-    add-i
-    loop-less
+    (λ c. search needs)
+    (λ c. search needs)
     loop-again
-    same-length
-    same-length-2
-    same-length-3
+    (λ c. search needs)
+    (λ c. search needs)
+    (λ c. search needs)
     returns)

@@ -4,20 +4,8 @@ use borrow.Author.Needs.{needs}
 use Rattle.row_calls.proofs.titles.shown_mark.Statement.{statement}
 use Rattle.row_calls.proofs.titles.shown_mark.Tie as tie
 
-ruling-requires : tie.Need-ruling-requires
-ruling-requires c κs = search needs
-
 returns : tie.Need-returns
 returns c = simp (← c .before .ruling .ensures, eq-eqb _ _ (c .if1 .taken))
-
-add-result : tie.Need-add-result
-add-result c = search needs
-
-mul-result : tie.Need-mul-result
-mul-result c = search needs
-
-shared-slice-read-result : tie.Need-shared-slice-read-result
-shared-slice-read-result c = search needs
 
 returns-2 : tie.Need-returns-2
 returns-2 c = simp (← c .before .before .ruling .ensures, ne-eqb _ _ (c .before .if1 .left))
@@ -25,4 +13,4 @@ returns-2 c = simp (← c .before .before .ruling .ensures, ne-eqb _ _ (c .befor
 pub shown-mark-spec : {M : Type 1} → statement M
 shown-mark-spec =
     tie.close
-    (tie.spec ruling-requires returns add-result mul-result shared-slice-read-result returns-2)
+    (tie.spec (λ c κs. search needs) returns (λ c. search needs) (λ c. search needs) (λ c. search needs) returns-2)

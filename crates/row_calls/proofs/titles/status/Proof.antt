@@ -9,9 +9,6 @@ use borrow.Author.Needs.{needs}
 use Rattle.row_calls.proofs.titles.status.Statement.{statement}
 use Rattle.row_calls.proofs.titles.status.Tie as tie
 
-status-verdict-requires : tie.Need-status-verdict-requires
-status-verdict-requires c κs = search needs
-
 fill-requires : tie.Need-fill-requires
 fill-requires c κs =
     let tested = c .before .before .before in
@@ -30,15 +27,6 @@ fill-requires c κs =
       (done-tested (a .row .now) (a .time) (a .ids .now) m h d none, rows-ids s (a .time) (a .ids .now) m h d answer),
     )
 
-same-length : tie.Need-same-length
-same-length c = search needs
-
-same-length-2 : tie.Need-same-length-2
-same-length-2 c = search needs
-
-same-length-3 : tie.Need-same-length-3
-same-length-3 c = search needs
-
 returns : tie.Need-returns
 returns c =
     let called = c .before .before .before .before .before .before in
@@ -53,10 +41,10 @@ pub status-spec : {M : Type 1} → statement M
 status-spec =
     tie.close
     (tie.spec
-    status-verdict-requires
+    (λ c κs. search needs)
     fill-requires
-    same-length
-    same-length-2
-    same-length-3
+    (λ c. search needs)
+    (λ c. search needs)
+    (λ c. search needs)
     returns
     returns-2)

@@ -44,9 +44,6 @@ returns-4 c =
     let a = long .before .before .before .args in
     wrong-marks (a .row .now) (a .time) (a .ids .now) (a .counts) (a .held) (a .marks) (long .if1 .left) (same .if2 .left) (too .if3 .left) (c .if4 .taken)
 
-row-ok-requires : tie.Need-row-ok-requires
-row-ok-requires c κs = search needs
-
 asked-requires : tie.Need-asked-requires
 asked-requires c κs = tested c
 
@@ -76,7 +73,7 @@ status-verdict-spec =
     returns-2
     returns-3
     returns-4
-    row-ok-requires
+    (λ c κs. search needs)
     asked-requires
     returns-5
     returns-6)

@@ -27,21 +27,12 @@ answered : (c : tie.After-rom-tick) →
     c .rom-tick .result .answer ≡ rowRomLane (a .row .now) (a .table .now) (a .id) (a .lane) (a .time)
 answered c = c .rom-tick .ensures .0 ∙ rom-told _ _ _ _ _ (long c) (tabled c)
 
-refused-requires : tie.Need-refused-requires
-refused-requires c κs = search needs
-
 returns : tie.Need-returns
 returns c = told (c .refused .ensures .0) (c .refused .ensures .1) (rom-elsewhere _ _ _ _ _ (c .before .if1 .taken))
-
-refused-requires-2 : tie.Need-refused-requires-2
-refused-requires-2 c κs = search needs
 
 returns-2 : tie.Need-returns-2
 returns-2 c =
     told (c .refused2 .ensures .0) (c .refused2 .ensures .1) (rom-untabled _ _ _ _ _ (c .before .before .if1 .left) (c .before .if2 .taken))
-
-rom-tick-requires : tie.Need-rom-tick-requires
-rom-tick-requires c κs = search needs
 
 cell-at-requires : tie.Need-cell-at-requires
 cell-at-requires c κs =
@@ -51,9 +42,6 @@ cell-at-requires c κs =
     let none = told-sound (a .row .now) (a .id) (a .lane) (a .time) (sym (t .rom-tick .ensures .0) ∙ c .if3 .taken) in
     let own = rom-own s (a .id) (a .lane) (a .time) none in
     (tabled t, own-capped _ own (a .lane) (lane-capped s (a .id) (a .lane) (a .time) (rom-answered s (a .id) (a .lane) (a .time) none)))
-
-cast-t11 : tie.Need-cast-t11
-cast-t11 c = search needs
 
 returns-3 : tie.Need-returns-3
 returns-3 c =
@@ -65,9 +53,6 @@ returns-3 c =
           ∙ ap (tableCell (a .table .now) (a .lane)) (t .rom-tick .ensures .1 (c .before .if3 .taken))
           ∙ rom-shown (a .row .now) (a .table .now) (a .id) (a .lane) (a .time) none,
     )
-
-refused-requires-3 : tie.Need-refused-requires-3
-refused-requires-3 c κs = search needs
 
 returns-4 : tie.Need-returns-4
 returns-4 c =
@@ -82,13 +67,13 @@ pub rom-lane-spec : {M : Type 1} → statement M
 rom-lane-spec =
     tie.close
     (tie.spec
-    refused-requires
+    (λ c κs. search needs)
     returns
-    refused-requires-2
+    (λ c κs. search needs)
     returns-2
-    rom-tick-requires
+    (λ c κs. search needs)
     cell-at-requires
-    cast-t11
+    (λ c. search needs)
     returns-3
-    refused-requires-3
+    (λ c κs. search needs)
     returns-4)

@@ -23,9 +23,6 @@ use Rattle.row_questions.proofs.small.rom_tick.Tie as tie
 same : (r : List ℕ) (i at : ℕ) → i ≤ idMax → at ≡ titlePlace i → isForeign (titleAt (unpacked r .state) i) ≡ isForeign (titleFrom r at)
 same r i at low place = ap isForeign (title-at r i (omega arith) ∙ ap (titleFrom r) (sym place))
 
-title-place-requires : tie.Need-title-place-requires
-title-place-requires c κs = search needs
-
 is-foreign-requires : tie.Need-is-foreign-requires
 is-foreign-requires c κs = omega (arith, c .title-place .ensures, c .before .if1 .taken, c .before .before .before .pre)
 
@@ -40,9 +37,6 @@ returns c =
           (same r (a .id) (at-place .title-place .result) low (at-place .title-place .ensures) ∙ sym (c .before .is-foreign .ensures) ∙ c .if2 .taken)),
       λ e. absurd (omega (arith, e)),
     )
-
-shown-tick-requires : tie.Need-shown-tick-requires
-shown-tick-requires c κs = search needs
 
 returns-2 : tie.Need-returns-2
 returns-2 c =
@@ -61,4 +55,4 @@ returns-2 c =
     )
 
 pub rom-tick-spec : {M : Type 1} → statement M
-rom-tick-spec = tie.close (tie.spec title-place-requires is-foreign-requires returns shown-tick-requires returns-2)
+rom-tick-spec = tie.close (tie.spec (λ c κs. search needs) is-foreign-requires returns (λ c κs. search needs) returns-2)

@@ -26,26 +26,8 @@ Inv-loop row titles₀ i₀ titles i =
 abbrev μ-loop : tie.MeasureT-loop
 μ-loop row titles₀ i₀ titles i = titlesMax - i
 
-title-from-requires : tie.Need-title-from-requires Inv-loop μ-loop
-title-from-requires c κs = search needs
-
 loop-holds : tie.Need-loop-holds Inv-loop μ-loop
 loop-holds c = (omega arith, refl, refl)
-
-title-at-requires : tie.Need-title-at-requires Inv-loop μ-loop
-title-at-requires c κs = search needs
-
-mul-titles : tie.Need-mul-titles Inv-loop μ-loop
-mul-titles c = search needs
-
-array-set-from-titles : tie.Need-array-set-from-titles Inv-loop μ-loop
-array-set-from-titles c = search needs
-
-add-i : tie.Need-add-i Inv-loop μ-loop
-add-i c = search needs
-
-loop-less : tie.Need-loop-less Inv-loop μ-loop
-loop-less c = search needs
 
 loop-again : tie.Need-loop-again Inv-loop μ-loop
 loop-again c =
@@ -71,12 +53,12 @@ titles-in-spec =
     (tie.spec
     Inv-loop
     μ-loop
-    title-from-requires
+    (λ c κs. search needs)
     loop-holds
-    title-at-requires
-    mul-titles
-    array-set-from-titles
-    add-i
-    loop-less
+    (λ c κs. search needs)
+    (λ c. search needs)
+    (λ c. search needs)
+    (λ c. search needs)
+    (λ c. search needs)
     loop-again
     returns)

@@ -6,15 +6,6 @@ use Rattle.salvaging.proofs.Laying.{all-measured}
 use Rattle.salvaging.proofs.rows.measure.Statement.{statement}
 use Rattle.salvaging.proofs.rows.measure.Tie as tie
 
-begun-requires : tie.Need-begun-requires
-begun-requires c κs = search needs
-
-slice-aggregate-pour : tie.Need-slice-aggregate-pour
-slice-aggregate-pour c = search needs
-
-slice-aggregate-pour-2 : tie.Need-slice-aggregate-pour-2
-slice-aggregate-pour-2 c = search needs
-
 pour-requires : tie.Need-pour-requires
 pour-requires c κs =
     let new = c .before .before .begun .ensures in
@@ -28,4 +19,4 @@ returns c =
 pub measure-spec : {M : Type 1} → statement M
 measure-spec =
     tie.close
-    (tie.spec begun-requires slice-aggregate-pour slice-aggregate-pour-2 pour-requires returns)
+    (tie.spec (λ c κs. search needs) (λ c. search needs) (λ c. search needs) pour-requires returns)

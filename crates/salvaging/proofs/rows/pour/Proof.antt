@@ -25,9 +25,6 @@ sub-if1 c = omega (arith, c .before .loop .inv .ahead)
 sub-decided : tie.Need-sub-decided Inv-loop μ-loop
 sub-decided c = omega (arith, c .before .before .before .loop .inv .ahead)
 
-decided-requires : tie.Need-decided-requires Inv-loop μ-loop
-decided-requires c κs = search needs
-
 advance-requires : tie.Need-advance-requires Inv-loop μ-loop
 advance-requires c κs =
     let turn = c .before .before .before .before .before in
@@ -85,7 +82,7 @@ pour-spec =
     loop-holds
     sub-if1
     sub-decided
-    decided-requires
+    (λ c κs. search needs)
     advance-requires
     lay-requires
     loop-less

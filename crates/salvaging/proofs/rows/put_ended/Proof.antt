@@ -5,18 +5,6 @@ use borrow.Author.Needs.{needs}
 use Rattle.salvaging.proofs.rows.put_ended.Statement.{statement}
 use Rattle.salvaging.proofs.rows.put_ended.Tie as tie
 
-is-open-requires : tie.Need-is-open-requires
-is-open-requires c κs = search needs
-
-put-value-requires : tie.Need-put-value-requires
-put-value-requires c κs = search needs
-
-put-value-requires-2 : tie.Need-put-value-requires-2
-put-value-requires-2 c κs = search needs
-
-same-length : tie.Need-same-length
-same-length c = search needs
-
 returns : tie.Need-returns
 returns c =
     let second = c .before .before in
@@ -32,9 +20,9 @@ pub put-ended-spec : {M : Type 1} → statement M
 put-ended-spec =
     tie.close
     (tie.spec
-    is-open-requires
-    put-value-requires
-    put-value-requires-2
-    same-length
+    (λ c κs. search needs)
+    (λ c κs. search needs)
+    (λ c κs. search needs)
+    (λ c. search needs)
     returns
     returns-2)

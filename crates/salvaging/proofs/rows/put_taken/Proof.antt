@@ -4,27 +4,6 @@ use borrow.Author.Needs.{needs}
 use Rattle.salvaging.proofs.rows.put_taken.Statement.{statement}
 use Rattle.salvaging.proofs.rows.put_taken.Tie as tie
 
-sub-from : tie.Need-sub-from
-sub-from c = search needs
-
-sub-end : tie.Need-sub-end
-sub-end c = search needs
-
-sub-put : tie.Need-sub-put
-sub-put c = search needs
-
-part-put-start : tie.Need-part-put-start
-part-put-start c = search needs
-
-part-put-end : tie.Need-part-put-end
-part-put-end c = search needs
-
-put-requires : tie.Need-put-requires
-put-requires c κs = search needs
-
-same-length : tie.Need-same-length
-same-length c = search needs
-
 returns : tie.Need-returns
 returns c =
     let x = c .before .before .before .before .before .before .before .before .before .before .before .before .args in
@@ -37,4 +16,4 @@ returns-2 c =
     puts-none (x .window .now) (x .base) (x .p) (x .next) _ (c .if1 .left)
 
 pub put-taken-spec : {M : Type 1} → statement M
-put-taken-spec = tie.close (tie.spec sub-from sub-end sub-put part-put-start part-put-end put-requires same-length returns returns-2)
+put-taken-spec = tie.close (tie.spec (λ c. search needs) (λ c. search needs) (λ c. search needs) (λ c. search needs) (λ c. search needs) (λ c κs. search needs) (λ c. search needs) returns returns-2)

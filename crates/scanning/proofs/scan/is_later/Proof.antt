@@ -5,17 +5,8 @@ use Rattle.scanning.specs.Scan.{isLater}
 use Rattle.scanning.proofs.scan.is_later.Statement.{statement}
 use Rattle.scanning.proofs.scan.is_later.Tie as tie
 
-enum-told : tie.Need-enum-told
-enum-told c = search needs
-
-enum-known-last : tie.Need-enum-known-last
-enum-known-last c = search needs
-
-returns : tie.Need-returns
-returns c = search needs
-
 returns-2 : tie.Need-returns-2
 returns-2 c = sym (ap (λ l. isLater l (c .before .before .before .args .sequence)) (c .before .last .given .1))
 
 pub is-later-spec : {M : Type 1} → statement M
-is-later-spec = tie.close (tie.spec enum-told enum-known-last returns returns-2)
+is-later-spec = tie.close (tie.spec (λ c. search needs) (λ c. search needs) (λ c. search needs) returns-2)

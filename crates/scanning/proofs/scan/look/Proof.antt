@@ -5,21 +5,6 @@ use Rattle.scanning.proofs.Moves.{in-turn, out-of-turn, no-byte, no-not
 use Rattle.scanning.proofs.scan.look.Statement.{statement}
 use Rattle.scanning.proofs.scan.look.Tie as tie
 
-next-in-requires : tie.Need-next-in-requires
-next-in-requires c κs = search needs
-
-enum-known-found : tie.Need-enum-known-found
-enum-known-found c = search needs
-
-is-later-requires : tie.Need-is-later-requires
-is-later-requires c κs = search needs
-
-enum-told : tie.Need-enum-told
-enum-told c = search needs
-
-enum-told-2 : tie.Need-enum-told-2
-enum-told-2 c = search needs
-
 returns : tie.Need-returns
 returns c =
     let turn = c .before in
@@ -44,11 +29,11 @@ pub look-spec : {M : Type 1} → statement M
 look-spec =
     tie.close
     (tie.spec
-    next-in-requires
-    enum-known-found
-    is-later-requires
-    enum-told
-    enum-told-2
+    (λ c κs. search needs)
+    (λ c. search needs)
+    (λ c κs. search needs)
+    (λ c. search needs)
+    (λ c. search needs)
     returns
     returns-2
     returns-3

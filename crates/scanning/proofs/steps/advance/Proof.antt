@@ -6,15 +6,6 @@ use borrow.Author.Needs.{needs}
 use Rattle.scanning.proofs.steps.advance.Statement.{statement}
 use Rattle.scanning.proofs.steps.advance.Tie as tie
 
-sub-look : tie.Need-sub-look
-sub-look c = search needs
-
-look-requires : tie.Need-look-requires
-look-requires c κs = search needs
-
-enum-known-n : tie.Need-enum-known-n
-enum-known-n c = search needs
-
 add-take : tie.Need-add-take
 add-take c =
     let looked = c .before .before .before in
@@ -28,18 +19,12 @@ take-requires c κs =
     let pre = looked .before .before .pre in
     (pre .0, take-ends _ _ _ (pre .0) (pre .1) _ _ (sym (looked .look .ensures) ∙ c .before .n .given .1) .0)
 
-enum-told : tie.Need-enum-told
-enum-told c = search needs
-
 skip-requires : tie.Need-skip-requires
 skip-requires c κs =
     let looked = c .before .before in
     let pre = looked .before .before .pre in
     let room = skip-room _ _ _ (pre .0) (pre .1) (sym (looked .look .ensures) ∙ c .enum-told .given .1) in
     (pre .0, omega (arith, room, pre .1 .fits))
-
-enum-told-2 : tie.Need-enum-told-2
-enum-told-2 c = search needs
 
 returns : tie.Need-returns
 returns c =
@@ -65,14 +50,14 @@ pub advance-spec : {M : Type 1} → statement M
 advance-spec =
     tie.close
     (tie.spec
-    sub-look
-    look-requires
-    enum-known-n
+    (λ c. search needs)
+    (λ c κs. search needs)
+    (λ c. search needs)
     add-take
     take-requires
-    enum-told
+    (λ c. search needs)
     skip-requires
-    enum-told-2
+    (λ c. search needs)
     returns
     returns-2
     returns-3)

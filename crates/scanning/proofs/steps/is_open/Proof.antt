@@ -7,11 +7,8 @@ use Rattle.scanning.proofs.steps.is_open.Tie as tie
 returns : tie.Need-returns
 returns c = none-open _ (c .if1 .taken)
 
-add-result : tie.Need-add-result
-add-result c = search needs
-
 returns-2 : tie.Need-returns-2
 returns-2 c = some-open _ (c .before .before .if1 .left)
 
 pub is-open-spec : {M : Type 1} → statement M
-is-open-spec = tie.close (tie.spec returns add-result returns-2)
+is-open-spec = tie.close (tie.spec returns (λ c. search needs) returns-2)

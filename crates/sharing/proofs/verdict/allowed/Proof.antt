@@ -5,39 +5,6 @@ use Rattle.sharing.specs.Verdict.{allowed}
 use Rattle.sharing.proofs.verdict.allowed.Statement.{statement}
 use Rattle.sharing.proofs.verdict.allowed.Tie as tie
 
-cast-within : tie.Need-cast-within
-cast-within c = search needs
-
-within-requires : tie.Need-within-requires
-within-requires c κs = search needs
-
-cast-within-2 : tie.Need-cast-within-2
-cast-within-2 c = search needs
-
-within-requires-2 : tie.Need-within-requires-2
-within-requires-2 c κs = search needs
-
-cast-within-3 : tie.Need-cast-within-3
-cast-within-3 c = search needs
-
-within-requires-3 : tie.Need-within-requires-3
-within-requires-3 c κs = search needs
-
-cast-within-4 : tie.Need-cast-within-4
-cast-within-4 c = search needs
-
-within-requires-4 : tie.Need-within-requires-4
-within-requires-4 c κs = search needs
-
-also-requires : tie.Need-also-requires
-also-requires c κs = search needs
-
-also-requires-2 : tie.Need-also-requires-2
-also-requires-2 c κs = search needs
-
-also-requires-3 : tie.Need-also-requires-3
-also-requires-3 c κs = search needs
-
 returns : tie.Need-returns
 unfolding allowed
 returns c =
@@ -57,15 +24,15 @@ pub allowed-spec : {M : Type 1} → statement M
 allowed-spec =
     tie.close
     (tie.spec
-    cast-within
-    within-requires
-    cast-within-2
-    within-requires-2
-    cast-within-3
-    within-requires-3
-    cast-within-4
-    within-requires-4
-    also-requires
-    also-requires-2
-    also-requires-3
+    (λ c. search needs)
+    (λ c κs. search needs)
+    (λ c. search needs)
+    (λ c κs. search needs)
+    (λ c. search needs)
+    (λ c κs. search needs)
+    (λ c. search needs)
+    (λ c κs. search needs)
+    (λ c κs. search needs)
+    (λ c κs. search needs)
+    (λ c κs. search needs)
     returns)

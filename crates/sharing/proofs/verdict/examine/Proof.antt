@@ -42,9 +42,6 @@ also-requires c κs = tt
 also-requires-2 : tie.Need-also-requires-2 Inv-loop μ-loop
 also-requires-2 c κs = tt
 
-add-i : tie.Need-add-i Inv-loop μ-loop
-add-i c = search needs
-
 loop-less : tie.Need-loop-less Inv-loop μ-loop
 loop-less c = omega arith
 
@@ -90,7 +87,7 @@ examine-spec =
     allowed-requires
     also-requires
     also-requires-2
-    add-i
+    (λ c. search needs)
     loop-less
     loop-again
     returns)

@@ -12,9 +12,6 @@ use Rattle.sharing.proofs.verdict.Laws.{refused-rows, refused-limits, r
 use Rattle.sharing.proofs.verdict.verdict.Statement.{statement}
 use Rattle.sharing.proofs.verdict.verdict.Tie as tie
 
-rows-fit-requires : tie.Need-rows-fit-requires
-rows-fit-requires c κs = search needs
-
 -- the function's start, seen from where the rows fit
 abbrev start : tie.Then1 → tie.Start
 start at-if1 = at-if1 .before .before .before .before .before .before
@@ -36,12 +33,6 @@ inside c = sym (c .also .ensures ∙ ap₂ both (c .before .within .ensures) (c 
 
 examine-requires : tie.Need-examine-requires
 examine-requires c κs = fit _ _ _ _ _ (fits c) .even
-
-within-requires : tie.Need-within-requires
-within-requires c κs = search needs
-
-also-requires : tie.Need-also-requires
-also-requires c κs = search needs
 
 floor-total-requires : tie.Need-floor-total-requires
 floor-total-requires c κs =
@@ -78,10 +69,10 @@ pub verdict-spec : {M : Type 1} → statement M
 verdict-spec =
     tie.close
     (tie.spec
-    rows-fit-requires
+    (λ c κs. search needs)
     examine-requires
-    within-requires
-    also-requires
+    (λ c κs. search needs)
+    (λ c κs. search needs)
     floor-total-requires
     returns
     returns-2

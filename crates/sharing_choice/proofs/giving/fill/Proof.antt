@@ -8,21 +8,6 @@ use borrow.Author.Needs.{needs}
 use Rattle.sharing_choice.proofs.giving.fill.Statement.{statement}
 use Rattle.sharing_choice.proofs.giving.fill.Tie as tie
 
-copy-requires : tie.Need-copy-requires
-copy-requires c κs = search needs
-
-floor-total-requires : tie.Need-floor-total-requires
-floor-total-requires c κs = search needs
-
-sub-spare : tie.Need-sub-spare
-sub-spare c = search needs
-
-give-requires : tie.Need-give-requires
-give-requires c κs = search needs
-
-same-length : tie.Need-same-length
-same-length c = search needs
-
 returns : tie.Need-returns
 returns c =
     let at-give = c .before .before in
@@ -38,4 +23,4 @@ returns c =
 pub fill-spec : {M : Type 1} → statement M
 fill-spec =
     tie.close
-    (tie.spec copy-requires floor-total-requires sub-spare give-requires same-length returns)
+    (tie.spec (λ c κs. search needs) (λ c κs. search needs) (λ c. search needs) (λ c κs. search needs) (λ c. search needs) returns)

@@ -48,9 +48,6 @@ inside c =
     let n = titles-length _ _ _ _ (start at-loop .pre .0 .even) in
     (omega (arith, c .if1 .taken, n), at-loop .loop .inv .1 .way .places)
 
-mul-counts : tie.Need-mul-counts Inv-loop μ-loop
-mul-counts c = search needs
-
 slice-read-counts : tie.Need-slice-read-counts Inv-loop μ-loop
 slice-read-counts c = omega (arith, inside (c .before))
 
@@ -65,14 +62,8 @@ add-counts c =
       start at-loop .pre .0 .weighable .each at l .cap-high,
     )
 
-mul-counts-2 : tie.Need-mul-counts-2 Inv-loop μ-loop
-mul-counts-2 c = search needs
-
 slice-write-counts : tie.Need-slice-write-counts Inv-loop μ-loop
 slice-write-counts c = omega (arith, inside (c .before))
-
-add-given : tie.Need-add-given Inv-loop μ-loop
-add-given c = search needs
 
 loop-less : tie.Need-loop-less Inv-loop μ-loop
 loop-less c = omega arith
@@ -116,12 +107,12 @@ give-spec =
     μ-loop
     loop-holds
     next-title-requires
-    mul-counts
+    (λ c. search needs)
     slice-read-counts
     add-counts
-    mul-counts-2
+    (λ c. search needs)
     slice-write-counts
-    add-given
+    (λ c. search needs)
     loop-less
     loop-again
     same-length

@@ -38,9 +38,6 @@ title-at-requires c κs =
     let s = start (c .before) in
     (s .pre .0 .even, c .loop-test .taken)
 
-mul-gain : tie.Need-mul-gain Inv-loop μ-loop
-mul-gain c = search needs
-
 -- in the loop, i is a title's place
 inside : (c : tie.In-loop Inv-loop μ-loop) →
     let s = start (c .before) in
@@ -62,9 +59,6 @@ gain-requires c κs =
     let l = inside (c .before .before) in
     let w = start at-loop .pre .0 .weighable .each i l in
     subst⁻¹ Weighable (c .before .title-at .ensures) w
-
-add-i : tie.Need-add-i Inv-loop μ-loop
-add-i c = search needs
 
 loop-less : tie.Need-loop-less Inv-loop μ-loop
 loop-less c = omega arith
@@ -96,10 +90,10 @@ next-title-spec =
     μ-loop
     loop-holds
     title-at-requires
-    mul-gain
+    (λ c. search needs)
     shared-slice-read-gain
     gain-requires
-    add-i
+    (λ c. search needs)
     loop-less
     loop-again
     returns)

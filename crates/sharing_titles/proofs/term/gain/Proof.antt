@@ -10,24 +10,6 @@ use Rattle.sharing_titles.proofs.term.Laws.{fall-is, slot-fits, part-fi
 use Rattle.sharing_titles.proofs.term.gain.Statement.{statement}
 use Rattle.sharing_titles.proofs.term.gain.Tie as tie
 
-cast-cap : tie.Need-cast-cap
-cast-cap c = search needs
-
-cast-tick : tie.Need-cast-tick
-cast-tick c = search needs
-
-cast-tick-2 : tie.Need-cast-tick-2
-cast-tick-2 c = search needs
-
-tick-requires : tie.Need-tick-requires
-tick-requires c κs = search needs
-
-add-slot : tie.Need-add-slot
-add-slot c = search needs
-
-slot-requires : tie.Need-slot-requires
-slot-requires c κs = search needs
-
 -- the ms in a slot of one lane more
 room : (c : tie.After-slot) → c .before .tick .result * c .slot .result ≤ lengthMax * 2 ^ countMax
 room c =
@@ -36,9 +18,6 @@ room c =
 
 mul-slot : tie.Need-mul-slot
 mul-slot c = omega (arith, room c)
-
-cast-result : tie.Need-cast-result
-cast-result c = search needs
 
 mul-result : tie.Need-mul-result
 mul-result c =
@@ -61,14 +40,14 @@ pub gain-spec : {M : Type 1} → statement M
 gain-spec =
     tie.close
     (tie.spec
-    cast-cap
-    cast-tick
-    cast-tick-2
-    tick-requires
-    add-slot
-    slot-requires
+    (λ c. search needs)
+    (λ c. search needs)
+    (λ c. search needs)
+    (λ c κs. search needs)
+    (λ c. search needs)
+    (λ c κs. search needs)
     mul-slot
-    cast-result
+    (λ c. search needs)
     mul-result
     returns
     returns-2)

@@ -20,9 +20,6 @@ abbrev μ-loop : tie.MeasureT-loop
 loop-holds : tie.Need-loop-holds Inv-loop μ-loop
 loop-holds c = omega arith
 
-mul-sum : tie.Need-mul-sum Inv-loop μ-loop
-mul-sum c = search needs
-
 shared-slice-read-sum : tie.Need-shared-slice-read-sum Inv-loop μ-loop
 shared-slice-read-sum c = omega arith
 
@@ -54,7 +51,7 @@ floor-total-spec =
     Inv-loop
     μ-loop
     loop-holds
-    mul-sum
+    (λ c. search needs)
     shared-slice-read-sum
     cast-sum
     add-sum

@@ -20,26 +20,8 @@ Inv-loop ends cap lane width until₀ end₀ count₀ until end count = (count �
 abbrev μ-loop : tie.MeasureT-loop
 μ-loop ends cap lane width until₀ end₀ count₀ until end count = suc cap - count
 
-add-slot : tie.Need-add-slot Inv-loop μ-loop
-add-slot c = search needs
-
-slot-requires : tie.Need-slot-requires Inv-loop μ-loop
-slot-requires c κs = search needs
-
-add-count : tie.Need-add-count Inv-loop μ-loop
-add-count c = search needs
-
 loop-holds : tie.Need-loop-holds Inv-loop μ-loop
 loop-holds c = (omega arith, omega arith, latest-yet _ _ _)
-
-mul-ended : tie.Need-mul-ended Inv-loop μ-loop
-mul-ended c = search needs
-
-element-copy-out-ended : tie.Need-element-copy-out-ended Inv-loop μ-loop
-element-copy-out-ended c = search needs
-
-slot-requires-2 : tie.Need-slot-requires-2 Inv-loop μ-loop
-slot-requires-2 c κs = search needs
 
 -- the slot of the lane, and that of a count above it
 wide : (c : tie.After-slot2 Inv-loop μ-loop) →
@@ -59,18 +41,6 @@ moved-requires c κs =
     let s = c .before .before .before .before .before in
     let k = c .before .before .before .loop .count in
     omega (arith, in-row (s .args .ends .now) countPlaces k (s .pre .1) (omega (arith, s .pre .0 .1, c .before .before .loop-test .taken)), c .before .before .before .before .slot .ensures .high)
-
-larger-requires : tie.Need-larger-requires Inv-loop μ-loop
-larger-requires c κs = search needs
-
-larger-requires-2 : tie.Need-larger-requires-2 Inv-loop μ-loop
-larger-requires-2 c κs = search needs
-
-add-count-2 : tie.Need-add-count-2 Inv-loop μ-loop
-add-count-2 c = search needs
-
-loop-less : tie.Need-loop-less Inv-loop μ-loop
-loop-less c = search needs
 
 loop-again : tie.Need-loop-again Inv-loop μ-loop
 loop-again c =
@@ -98,18 +68,18 @@ latest-above-spec =
     (tie.spec
     Inv-loop
     μ-loop
-    add-slot
-    slot-requires
-    add-count
+    (λ c. search needs)
+    (λ c κs. search needs)
+    (λ c. search needs)
     loop-holds
-    mul-ended
-    element-copy-out-ended
-    slot-requires-2
+    (λ c. search needs)
+    (λ c. search needs)
+    (λ c κs. search needs)
     sub-moved
     moved-requires
-    larger-requires
-    larger-requires-2
-    add-count-2
-    loop-less
+    (λ c κs. search needs)
+    (λ c κs. search needs)
+    (λ c. search needs)
+    (λ c. search needs)
     loop-again
     returns)

@@ -7,11 +7,8 @@ use Rattle.stretches.proofs.latest.moved.Tie as tie
 returns : tie.Need-returns
 returns c = simp (eq-eqb _ _ (c .if1 .taken))
 
-add-result : tie.Need-add-result
-add-result c = search needs
-
 returns-2 : tie.Need-returns-2
 returns-2 c = simp (ne-eqb _ _ (c .if1 .left))
 
 pub moved-spec : {M : Type 1} → statement M
-moved-spec = tie.close (tie.spec returns add-result returns-2)
+moved-spec = tie.close (tie.spec returns (λ c. search needs) returns-2)

@@ -7,20 +7,8 @@ use borrow.Author.Needs.{needs}
 use Rattle.stretches.proofs.low.is_idle.Statement.{statement}
 use Rattle.stretches.proofs.low.is_idle.Tie as tie
 
-sub-latest-above : tie.Need-sub-latest-above
-sub-latest-above c = search needs
-
-latest-above-requires : tie.Need-latest-above-requires
-latest-above-requires c κs = search needs
-
 returns : tie.Need-returns
 returns c = λ b. absurd (false≢true b)
-
-slot-requires : tie.Need-slot-requires
-slot-requires c κs = search needs
-
-rem-result : tie.Need-rem-result
-rem-result c = search needs
 
 returns-2 : tie.Need-returns-2
 returns-2 c = λ b.
@@ -34,4 +22,4 @@ returns-2 c = λ b.
 pub is-idle-spec : {M : Type 1} → statement M
 is-idle-spec =
     tie.close
-    (tie.spec sub-latest-above latest-above-requires returns slot-requires rem-result returns-2)
+    (tie.spec (λ c. search needs) (λ c κs. search needs) returns (λ c κs. search needs) (λ c. search needs) returns-2)

@@ -6,24 +6,6 @@ use borrow.Author.Needs.{needs}
 use Rattle.stretches.proofs.low.length_at.Statement.{statement}
 use Rattle.stretches.proofs.low.length_at.Tie as tie
 
-left-at-requires : tie.Need-left-at-requires
-left-at-requires c κs = search needs
-
-place-at-requires : tie.Need-place-at-requires
-place-at-requires c κs = search needs
-
-returns : tie.Need-returns
-returns c = search needs
-
-sub-highest : tie.Need-sub-highest
-sub-highest c = search needs
-
-highest-requires : tie.Need-highest-requires
-highest-requires c κs = search needs
-
-sub-result : tie.Need-sub-result
-sub-result c = search needs
-
 returns-2 : tie.Need-returns-2
 returns-2 c =
     let v = c .before .before .before .before in
@@ -33,18 +15,15 @@ returns-2 c =
     (length-first (a .s .floor) (a .s .cap) (a .s .lane) (a .tick) (g .0) (c .highest .result) (g .1) (omega (arith, g .2, v .left-at .ensures .is))
     (omega (arith, g .3, v .left-at .ensures .is)) (λ e. c .before .if2 .left (v .left-at .ensures .is ∙ e)))
 
-returns-3 : tie.Need-returns-3
-returns-3 c = search needs
-
 pub length-at-spec : {M : Type 1} → statement M
 length-at-spec =
     tie.close
     (tie.spec
-    left-at-requires
-    place-at-requires
-    returns
-    sub-highest
-    highest-requires
-    sub-result
+    (λ c κs. search needs)
+    (λ c κs. search needs)
+    (λ c. search needs)
+    (λ c. search needs)
+    (λ c κs. search needs)
+    (λ c. search needs)
     returns-2
-    returns-3)
+    (λ c. search needs))

@@ -37,12 +37,6 @@ sub-pow2 c = let cut = c .before .before .before .before .before .before .before
 pow2-requires : tie.Need-pow2-requires Inv-loop μ-loop
 pow2-requires c κs = omega (arith, c .before .before .before .before .before .before .before .pre .0 .film .cut .high)
 
-since-requires : tie.Need-since-requires Inv-loop μ-loop
-since-requires c κs = search needs
-
-smaller-requires : tie.Need-smaller-requires Inv-loop μ-loop
-smaller-requires c κs = search needs
-
 loop-holds : tie.Need-loop-holds Inv-loop μ-loop
 unfolding keptWithin howMany
 loop-holds c = (omega arith, refl, omega arith, omega arith)
@@ -61,9 +55,6 @@ length-at-requires c κs = c .before .before .before .before .before .before .be
 
 sub-smaller : tie.Need-sub-smaller Inv-loop μ-loop
 sub-smaller c = c .before .before .loop .inv .0
-
-smaller-requires-2 : tie.Need-smaller-requires-2 Inv-loop μ-loop
-smaller-requires-2 c κs = search needs
 
 add-till-at : tie.Need-add-till-at Inv-loop μ-loop
 add-till-at c = record { fits = within (c .before .before .before .before .before) }
@@ -195,13 +186,13 @@ nth-low-spec =
     till-requires
     sub-pow2
     pow2-requires
-    since-requires
-    smaller-requires
+    (λ c κs. search needs)
+    (λ c κs. search needs)
     loop-holds
     add-length-at
     length-at-requires
     sub-smaller
-    smaller-requires-2
+    (λ c κs. search needs)
     add-till-at
     till-at-requires
     add-ticks-at

@@ -17,9 +17,6 @@ cell-room c q l =
 sub-cell : tie.Need-sub-cell
 sub-cell c = own-pos (c .before .args .s) (c .before .pre)
 
-place-at-requires : tie.Need-place-at-requires
-place-at-requires c κs = search needs
-
 add-cell : tie.Need-add-cell
 add-cell c =
     let s = c .before .before in
@@ -45,18 +42,6 @@ add-cell-2 c =
       );
     }
 
-since-requires : tie.Need-since-requires
-since-requires c κs = search needs
-
-since-requires-2 : tie.Need-since-requires-2
-since-requires-2 c κs = search needs
-
-smaller-requires : tie.Need-smaller-requires
-smaller-requires c κs = search needs
-
-smaller-requires-2 : tie.Need-smaller-requires-2
-smaller-requires-2 c κs = search needs
-
 returns : tie.Need-returns
 returns c =
     let s = c .before .before .before .before .before .before .before .before in
@@ -70,13 +55,13 @@ ticks-at-spec =
     tie.close
     (tie.spec
     sub-cell
-    place-at-requires
+    (λ c κs. search needs)
     add-cell
     mul-cell
     rem-cell
     add-cell-2
-    since-requires
-    since-requires-2
-    smaller-requires
-    smaller-requires-2
+    (λ c κs. search needs)
+    (λ c κs. search needs)
+    (λ c κs. search needs)
+    (λ c κs. search needs)
     returns)

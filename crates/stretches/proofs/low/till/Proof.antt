@@ -31,12 +31,6 @@ mul-long c =
     let s = c .before in
     record { fits = omega (arith, small (s .args .s .width) (s .args .s .own) (omega (arith, width-high (s .args .s) (s .pre .0))) (own-high (s .args .s) (s .pre .0))) }
 
-sub-pow2 : tie.Need-sub-pow2 Inv-loop μ-loop
-sub-pow2 c = search needs
-
-pow2-requires : tie.Need-pow2-requires Inv-loop μ-loop
-pow2-requires c κs = search needs
-
 mul-short : tie.Need-mul-short Inv-loop μ-loop
 mul-short c =
     let s = c .before .before .before .before in
@@ -45,18 +39,6 @@ mul-short c =
 
 loop-holds : tie.Need-loop-holds Inv-loop μ-loop
 loop-holds c = (omega arith, omega arith, most-yet _ _ _ _ (omega arith))
-
-mul-ended : tie.Need-mul-ended Inv-loop μ-loop
-mul-ended c = search needs
-
-element-copy-out-ended : tie.Need-element-copy-out-ended Inv-loop μ-loop
-element-copy-out-ended c = search needs
-
-slot-requires : tie.Need-slot-requires Inv-loop μ-loop
-slot-requires c κs = search needs
-
-span-by-requires : tie.Need-span-by-requires Inv-loop μ-loop
-span-by-requires c κs = search needs
 
 -- the span is the definition's
 span-is : (c : tie.After-span-by Inv-loop μ-loop) →
@@ -92,15 +74,6 @@ moved-requires c κs =
       c .span-by .ensures,
     )
 
-larger-requires : tie.Need-larger-requires Inv-loop μ-loop
-larger-requires c κs = search needs
-
-add-count : tie.Need-add-count Inv-loop μ-loop
-add-count c = search needs
-
-loop-less : tie.Need-loop-less Inv-loop μ-loop
-loop-less c = search needs
-
 loop-again : tie.Need-loop-again Inv-loop μ-loop
 loop-again c =
     let v = c .before .before in
@@ -130,18 +103,18 @@ till-spec =
     Inv-loop
     μ-loop
     mul-long
-    sub-pow2
-    pow2-requires
+    (λ c. search needs)
+    (λ c κs. search needs)
     mul-short
     loop-holds
-    mul-ended
-    element-copy-out-ended
-    slot-requires
-    span-by-requires
+    (λ c. search needs)
+    (λ c. search needs)
+    (λ c κs. search needs)
+    (λ c κs. search needs)
     sub-moved
     moved-requires
-    larger-requires
-    add-count
-    loop-less
+    (λ c κs. search needs)
+    (λ c. search needs)
+    (λ c. search needs)
     loop-again
     returns)

@@ -5,15 +5,6 @@ use borrow.Author.Needs.{needs}
 use Rattle.stretches.proofs.low.till_at.Statement.{statement}
 use Rattle.stretches.proofs.low.till_at.Tie as tie
 
-place-at-requires : tie.Need-place-at-requires
-place-at-requires c κs = search needs
-
-left-at-requires : tie.Need-left-at-requires
-left-at-requires c κs = search needs
-
-till-requires : tie.Need-till-requires
-till-requires c κs = search needs
-
 returns : tie.Need-returns
 returns c =
     let s = c .before .before .before .before in
@@ -31,4 +22,4 @@ returns-2 c =
 
 pub till-at-spec : {M : Type 1} → statement M
 till-at-spec =
-    tie.close (tie.spec place-at-requires left-at-requires till-requires returns returns-2)
+    tie.close (tie.spec (λ c κs. search needs) (λ c κs. search needs) (λ c κs. search needs) returns returns-2)

@@ -7,30 +7,6 @@ use borrow.Author.Needs.{needs}
 use Rattle.stretches.proofs.turns.due_at.Statement.{statement}
 use Rattle.stretches.proofs.turns.due_at.Tie as tie
 
-period-requires : tie.Need-period-requires
-period-requires c κs = search needs
-
-sub-moved : tie.Need-sub-moved
-sub-moved c = search needs
-
-moved-requires : tie.Need-moved-requires
-moved-requires c κs = search needs
-
-lane-cell-requires : tie.Need-lane-cell-requires
-lane-cell-requires c κs = search needs
-
-since-requires : tie.Need-since-requires
-since-requires c κs = search needs
-
-film-cells-requires : tie.Need-film-cells-requires
-film-cells-requires c κs = search needs
-
-since-requires-2 : tie.Need-since-requires-2
-since-requires-2 c κs = search needs
-
-smaller-requires : tie.Need-smaller-requires
-smaller-requires c κs = search needs
-
 returns : tie.Need-returns
 unfolding turnTill turnDue
 returns c =
@@ -53,12 +29,12 @@ pub due-at-spec : {M : Type 1} → statement M
 due-at-spec =
     tie.close
     (tie.spec
-    period-requires
-    sub-moved
-    moved-requires
-    lane-cell-requires
-    since-requires
-    film-cells-requires
-    since-requires-2
-    smaller-requires
+    (λ c κs. search needs)
+    (λ c. search needs)
+    (λ c κs. search needs)
+    (λ c κs. search needs)
+    (λ c κs. search needs)
+    (λ c κs. search needs)
+    (λ c κs. search needs)
+    (λ c κs. search needs)
     returns)

@@ -8,9 +8,6 @@ use borrow.Author.Needs.{needs}
 use Rattle.stretches.proofs.turns.turns_at.Statement.{statement}
 use Rattle.stretches.proofs.turns.turns_at.Tie as tie
 
-period-requires : tie.Need-period-requires
-period-requires c κs = search needs
-
 rem-left : tie.Need-rem-left
 rem-left c = c .period .ensures .low
 
@@ -21,12 +18,6 @@ due-at-requires : tie.Need-due-at-requires
 due-at-requires c κs =
     let s = c .before in
     (s .pre .0, (s .pre .1 .0, (s .pre .1 .1 .0, omega (arith, s .pre .1 .1 .1))))
-
-smaller-requires : tie.Need-smaller-requires
-smaller-requires c κs = search needs
-
-add-due-at : tie.Need-add-due-at
-add-due-at c = search needs
 
 due-at-requires-2 : tie.Need-due-at-requires-2
 due-at-requires-2 c κs =
@@ -46,11 +37,11 @@ pub turns-at-spec : {M : Type 1} → statement M
 turns-at-spec =
     tie.close
     (tie.spec
-    period-requires
+    (λ c κs. search needs)
     rem-left
     sub-left
     due-at-requires
-    smaller-requires
-    add-due-at
+    (λ c κs. search needs)
+    (λ c. search needs)
     due-at-requires-2
     returns)

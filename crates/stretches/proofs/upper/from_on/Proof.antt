@@ -5,18 +5,6 @@ use borrow.Author.Needs.{needs}
 use Rattle.stretches.proofs.upper.from_on.Statement.{statement}
 use Rattle.stretches.proofs.upper.from_on.Tie as tie
 
-rest-on-requires : tie.Need-rest-on-requires
-rest-on-requires c κs = search needs
-
-add-since : tie.Need-add-since
-add-since c = search needs
-
-pow2-requires : tie.Need-pow2-requires
-pow2-requires c κs = search needs
-
-since-requires : tie.Need-since-requires
-since-requires c κs = search needs
-
 mul-result : tie.Need-mul-result
 mul-result c =
     let s = c .before .before .before .before in
@@ -35,4 +23,4 @@ returns c =
 
 pub from-on-spec : {M : Type 1} → statement M
 from-on-spec =
-    tie.close (tie.spec rest-on-requires add-since pow2-requires since-requires mul-result returns)
+    tie.close (tie.spec (λ c κs. search needs) (λ c. search needs) (λ c κs. search needs) (λ c κs. search needs) mul-result returns)

@@ -18,15 +18,6 @@ returns-3 : tie.Need-returns-3
 unfolding isReached
 returns-3 c = simp (ne-eqb _ _ (c .before .before .before .if1 .left), le-leb _ _ (c .before .if2 .left), lt-leb _ _ (c .if3 .taken))
 
-add-slot : tie.Need-add-slot
-add-slot c = search needs
-
-slot-requires : tie.Need-slot-requires
-slot-requires c κs = search needs
-
-rem-result : tie.Need-rem-result
-rem-result c = search needs
-
 returns-4 : tie.Need-returns-4
 unfolding isReached
 returns-4 c =
@@ -34,4 +25,4 @@ returns-4 c =
 
 pub is-reached-spec : {M : Type 1} → statement M
 is-reached-spec =
-    tie.close (tie.spec returns returns-2 returns-3 add-slot slot-requires rem-result returns-4)
+    tie.close (tie.spec returns returns-2 returns-3 (λ c. search needs) (λ c κs. search needs) (λ c. search needs) returns-4)

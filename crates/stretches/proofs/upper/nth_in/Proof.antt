@@ -23,27 +23,6 @@ loop-holds : tie.Need-loop-holds Inv-loop μ-loop
 unfolding ticksTo total
 loop-holds c = (omega arith, refl, omega arith, omega arith, refl)
 
-add-ticks-on : tie.Need-add-ticks-on Inv-loop μ-loop
-add-ticks-on c = search needs
-
-ticks-on-requires : tie.Need-ticks-on-requires Inv-loop μ-loop
-ticks-on-requires c κs = search needs
-
-add-if1 : tie.Need-add-if1 Inv-loop μ-loop
-add-if1 c = search needs
-
-add-from-on : tie.Need-add-from-on Inv-loop μ-loop
-add-from-on c = search needs
-
-from-on-requires : tie.Need-from-on-requires Inv-loop μ-loop
-from-on-requires c κs = search needs
-
-sub-result : tie.Need-sub-result Inv-loop μ-loop
-sub-result c = search needs
-
-add-result : tie.Need-add-result Inv-loop μ-loop
-add-result c = search needs
-
 returns : tie.Need-returns Inv-loop μ-loop
 returns c =
     let l = c .before .before .before .before .loop in
@@ -58,24 +37,12 @@ returns c =
       rw (c .from-on .ensures .is, add-one (l .i), l .inv .1) refl,
     )
 
-add-owed : tie.Need-add-owed Inv-loop μ-loop
-add-owed c = search needs
-
-add-i : tie.Need-add-i Inv-loop μ-loop
-add-i c = search needs
-
-loop-less : tie.Need-loop-less Inv-loop μ-loop
-loop-less c = search needs
-
 loop-again : tie.Need-loop-again Inv-loop μ-loop
 loop-again c =
     let l = c .before .before .before .loop in
     let s = c .before .before .before .before .args .s in
     let t = c .before .ticks-on in
     (omega arith, ticks-more s (l .i) (l .owed) (t .result) (l .inv .1) (t .ensures .is), omega (arith, t .ensures .high), omega arith, search needs)
-
-pow2-requires : tie.Need-pow2-requires Inv-loop μ-loop
-pow2-requires c κs = search needs
 
 mul-result : tie.Need-mul-result Inv-loop μ-loop
 mul-result c =
@@ -95,18 +62,18 @@ nth-in-spec =
     Inv-loop
     μ-loop
     loop-holds
-    add-ticks-on
-    ticks-on-requires
-    add-if1
-    add-from-on
-    from-on-requires
-    sub-result
-    add-result
+    (λ c. search needs)
+    (λ c κs. search needs)
+    (λ c. search needs)
+    (λ c. search needs)
+    (λ c κs. search needs)
+    (λ c. search needs)
+    (λ c. search needs)
     returns
-    add-owed
-    add-i
-    loop-less
+    (λ c. search needs)
+    (λ c. search needs)
+    (λ c. search needs)
     loop-again
-    pow2-requires
+    (λ c κs. search needs)
     mul-result
     returns-2)

@@ -21,21 +21,6 @@ loop-holds : tie.Need-loop-holds Inv-loop μ-loop
 unfolding ticksTo total
 loop-holds c = (omega arith, refl, omega arith, refl)
 
-add-ticks-on : tie.Need-add-ticks-on Inv-loop μ-loop
-add-ticks-on c = search needs
-
-ticks-on-requires : tie.Need-ticks-on-requires Inv-loop μ-loop
-ticks-on-requires c κs = search needs
-
-add-owed : tie.Need-add-owed Inv-loop μ-loop
-add-owed c = search needs
-
-add-i : tie.Need-add-i Inv-loop μ-loop
-add-i c = search needs
-
-loop-less : tie.Need-loop-less Inv-loop μ-loop
-loop-less c = search needs
-
 loop-again : tie.Need-loop-again Inv-loop μ-loop
 loop-again c =
     let l = c .before .before .loop in
@@ -52,10 +37,10 @@ owed-in-spec =
     Inv-loop
     μ-loop
     loop-holds
-    add-ticks-on
-    ticks-on-requires
-    add-owed
-    add-i
-    loop-less
+    (λ c. search needs)
+    (λ c κs. search needs)
+    (λ c. search needs)
+    (λ c. search needs)
+    (λ c. search needs)
     loop-again
     returns)

@@ -6,18 +6,6 @@ use Rattle.stretches.proofs.Steps.{rest-low}
 use Rattle.stretches.proofs.upper.rest_on.Statement.{statement}
 use Rattle.stretches.proofs.upper.rest_on.Tie as tie
 
-add-smaller : tie.Need-add-smaller
-add-smaller c = search needs
-
-smaller-requires : tie.Need-smaller-requires
-smaller-requires c κs = search needs
-
-pow2-requires : tie.Need-pow2-requires
-pow2-requires c κs = search needs
-
-rem-result : tie.Need-rem-result
-rem-result c = search needs
-
 returns : tie.Need-returns
 unfolding restOn
 returns c =
@@ -29,4 +17,4 @@ returns c =
     }
 
 pub rest-on-spec : {M : Type 1} → statement M
-rest-on-spec = tie.close (tie.spec add-smaller smaller-requires pow2-requires rem-result returns)
+rest-on-spec = tie.close (tie.spec (λ c. search needs) (λ c κs. search needs) (λ c κs. search needs) (λ c. search needs) returns)

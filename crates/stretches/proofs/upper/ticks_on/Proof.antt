@@ -7,12 +7,6 @@ use borrow.Author.Needs.{needs}
 use Rattle.stretches.proofs.upper.ticks_on.Statement.{statement}
 use Rattle.stretches.proofs.upper.ticks_on.Tie as tie
 
-rest-on-requires : tie.Need-rest-on-requires
-rest-on-requires c κs = search needs
-
-pow2-requires : tie.Need-pow2-requires
-pow2-requires c κs = search needs
-
 returns : tie.Need-returns
 returns c =
     let a = c .before .before .before .args in
@@ -36,29 +30,11 @@ returns-2 c =
     let r = c .before .before .before .before .before .before .rest-on in
     record { is = ticks-past (a .s) (a .channel) (rw (r .ensures .is) at (c .if2 .taken)); low = omega arith; high = omega arith }
 
-mul-since : tie.Need-mul-since
-mul-since c = search needs
-
-sub-since : tie.Need-sub-since
-sub-since c = search needs
-
 mul-since-2 : tie.Need-mul-since-2
 mul-since-2 c =
     let p = c .before .before .before .before .before .before .pow2 in
     let s = c .before .before .before .before .before .before .before .before in
     record { fits = omega (arith, small (2 * p .result - 2) (s .args .s .width) (omega (arith, p .ensures .high)) (s .pre .walk .width)) }
-
-since-requires : tie.Need-since-requires
-since-requires c κs = search needs
-
-sub-smaller : tie.Need-sub-smaller
-sub-smaller c = search needs
-
-smaller-requires : tie.Need-smaller-requires
-smaller-requires c κs = search needs
-
-smaller-requires-2 : tie.Need-smaller-requires-2
-smaller-requires-2 c κs = search needs
 
 returns-3 : tie.Need-returns-3
 returns-3 c =
@@ -81,17 +57,17 @@ pub ticks-on-spec : {M : Type 1} → statement M
 ticks-on-spec =
     tie.close
     (tie.spec
-    rest-on-requires
-    pow2-requires
+    (λ c κs. search needs)
+    (λ c κs. search needs)
     returns
     mul-until
     add-until
     returns-2
-    mul-since
-    sub-since
+    (λ c. search needs)
+    (λ c. search needs)
     mul-since-2
-    since-requires
-    sub-smaller
-    smaller-requires
-    smaller-requires-2
+    (λ c κs. search needs)
+    (λ c. search needs)
+    (λ c κs. search needs)
+    (λ c κs. search needs)
     returns-3)

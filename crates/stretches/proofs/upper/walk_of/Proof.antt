@@ -14,33 +14,9 @@ use borrow.Author.Needs.{needs}
 use Rattle.stretches.proofs.upper.walk_of.Statement.{statement}
 use Rattle.stretches.proofs.upper.walk_of.Tie as tie
 
-add-slot : tie.Need-add-slot
-add-slot c = search needs
-
-slot-requires : tie.Need-slot-requires
-slot-requires c κs = search needs
-
-div-turn : tie.Need-div-turn
-div-turn c = search needs
-
 add-turn : tie.Need-add-turn
 add-turn c =
     record { fits = omega (arith, div-le-self (c .before .args .at) (c .slot .result), c .before .pre .1 .1) }
-
-add-pow2 : tie.Need-add-pow2
-add-pow2 c = search needs
-
-pow2-requires : tie.Need-pow2-requires
-pow2-requires c κs = search needs
-
-add-pow2-2 : tie.Need-add-pow2-2
-add-pow2-2 c = search needs
-
-sub-pow2 : tie.Need-sub-pow2
-sub-pow2 c = search needs
-
-pow2-requires-2 : tie.Need-pow2-requires-2
-pow2-requires-2 c κs = search needs
 
 sub-turn : tie.Need-sub-turn
 sub-turn c =
@@ -55,9 +31,6 @@ add-turn-2 c =
       fits = omega
           (arith, div-le-self (s .args .at) (c .before .before .before .slot .result), s .pre .1 .1, c .before .before .pow2 .ensures .high);
     }
-
-film-cells-requires : tie.Need-film-cells-requires
-film-cells-requires c κs = search needs
 
 returns : tie.Need-returns
 returns c =
@@ -81,17 +54,17 @@ pub walk-of-spec : {M : Type 1} → statement M
 walk-of-spec =
     tie.close
     (tie.spec
-    add-slot
-    slot-requires
-    div-turn
+    (λ c. search needs)
+    (λ c κs. search needs)
+    (λ c. search needs)
     add-turn
-    add-pow2
-    pow2-requires
-    add-pow2-2
-    sub-pow2
-    pow2-requires-2
+    (λ c. search needs)
+    (λ c κs. search needs)
+    (λ c. search needs)
+    (λ c. search needs)
+    (λ c κs. search needs)
     sub-turn
     add-turn-2
-    film-cells-requires
+    (λ c κs. search needs)
     returns
     returns-2)

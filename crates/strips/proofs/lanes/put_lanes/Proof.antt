@@ -48,9 +48,6 @@ same-length c =
     let at-loop = c .before in
     same-room _ _ (at-loop .loop .inv .1) refl
 
-same-length-2 : tie.Need-same-length-2 Inv-loop μ-loop
-same-length-2 c = search needs
-
 returns : tie.Need-returns Inv-loop μ-loop
 returns c =
     let at-loop = c .before in
@@ -73,5 +70,5 @@ put-lanes-spec =
     (λ c. omega arith)
     loop-again
     same-length
-    same-length-2
+    (λ c. search needs)
     returns)

@@ -17,9 +17,6 @@ below n p l =
     let e : 64 - leadingZeros 64 n ≡ suc (r .0) = omega (arith, r .1) in
     rw e (r .3)
 
-returns : tie.Need-returns
-returns c = search needs
-
 cast-result : tie.Need-cast-result
 cast-result c = record { fits = omega (arith, few (c .before .args .n) (c .if1 .left) (c .before .fits .n .fits)) }
 
@@ -30,4 +27,4 @@ returns-2 : tie.Need-returns-2
 returns-2 c = (below (c .before .args .n) (c .if1 .left) (c .before .fits .n .fits), omega arith)
 
 pub bits-of-spec : {M : Type 1} → statement M
-bits-of-spec = tie.close (tie.spec returns cast-result sub-result returns-2)
+bits-of-spec = tie.close (tie.spec (λ c. search needs) cast-result sub-result returns-2)

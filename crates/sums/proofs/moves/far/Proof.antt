@@ -37,20 +37,8 @@ step n l k s z p e small f g =
     let o : 8 * (q % 2) + (m + m) ≡ 8 * q = omega arith in
     g ∙ ap (shiftedBy (8 * (q % 2))) j ∙ by-add (8 * (q % 2)) (m + m) highest ∙ ap (λ x. shiftedBy x highest) o
 
-bits-of-requires : tie.Need-bits-of-requires Inv-loop μ-loop
-bits-of-requires c κs = search needs
-
 loop-holds : tie.Need-loop-holds Inv-loop μ-loop
 loop-holds c = (c .bits-of .ensures .1, start (c .before .args .bytes) (c .bits-of .result) (c .bits-of .ensures .0))
-
-sub-left : tie.Need-sub-left Inv-loop μ-loop
-sub-left c = search needs
-
-moved-requires : tie.Need-moved-requires Inv-loop μ-loop
-moved-requires c κs = search needs
-
-shr-with-zero : tie.Need-shr-with-zero Inv-loop μ-loop
-shr-with-zero c = search needs
 
 with-zero-requires : tie.Need-with-zero-requires Inv-loop μ-loop
 with-zero-requires c κs = mod-lt (c .before .before .before .before .args .bytes / 2 ^ (c .before .before .loop .left - 1)) (omega arith)
@@ -81,11 +69,11 @@ far-spec =
     (tie.spec
     Inv-loop
     μ-loop
-    bits-of-requires
+    (λ c κs. search needs)
     loop-holds
-    sub-left
-    moved-requires
-    shr-with-zero
+    (λ c. search needs)
+    (λ c κs. search needs)
+    (λ c. search needs)
     with-zero-requires
     loop-less
     loop-again

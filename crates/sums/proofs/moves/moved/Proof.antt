@@ -21,21 +21,6 @@ loop-holds : tie.Need-loop-holds Inv-loop μ-loop
 unfolding movedTo
 loop-holds c = (omega arith, refl)
 
-shift-requires : tie.Need-shift-requires Inv-loop μ-loop
-shift-requires c κs = search needs
-
-shr-chosen : tie.Need-shr-chosen Inv-loop μ-loop
-shr-chosen c = search needs
-
-chosen-requires : tie.Need-chosen-requires Inv-loop μ-loop
-chosen-requires c κs = search needs
-
-add-i : tie.Need-add-i Inv-loop μ-loop
-add-i c = search needs
-
-loop-less : tie.Need-loop-less Inv-loop μ-loop
-loop-less c = search needs
-
 loop-again : tie.Need-loop-again Inv-loop μ-loop
 unfolding movedTo
 loop-again c =
@@ -57,10 +42,10 @@ moved-spec =
     Inv-loop
     μ-loop
     loop-holds
-    shift-requires
-    shr-chosen
-    chosen-requires
-    add-i
-    loop-less
+    (λ c κs. search needs)
+    (λ c. search needs)
+    (λ c κs. search needs)
+    (λ c. search needs)
+    (λ c. search needs)
     loop-again
     returns)

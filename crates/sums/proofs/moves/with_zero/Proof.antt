@@ -8,9 +8,6 @@ use Rattle.sums.specs.Crc.{shiftedBy}
 use Rattle.sums.proofs.moves.with_zero.Statement.{statement}
 use Rattle.sums.proofs.moves.with_zero.Tie as tie
 
-with-byte-requires : tie.Need-with-byte-requires
-with-byte-requires c κs = search needs
-
 none : (b r : ℕ) → b < 2 → (b ≡ 1 → ⊥) → r ≡ shiftedBy (8 * b) r
 unfolding shiftedBy
 none b r l f = let e : b ≡ 0 = omega arith in rw e refl
@@ -24,4 +21,4 @@ returns-2 : tie.Need-returns-2
 returns-2 c = none (c .before .args .bit) (c .before .args .r) (c .before .pre) (c .if1 .left)
 
 pub with-zero-spec : {M : Type 1} → statement M
-with-zero-spec = tie.close (tie.spec with-byte-requires returns returns-2)
+with-zero-spec = tie.close (tie.spec (λ c κs. search needs) returns returns-2)

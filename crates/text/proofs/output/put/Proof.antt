@@ -18,9 +18,6 @@ Inv-loop out₀ at bytes n i₀ out i =
 abbrev μ-loop : tie.MeasureT-loop
 μ-loop out₀ at bytes n i₀ out i = n - i
 
-fitting-requires : tie.Need-fitting-requires Inv-loop μ-loop
-fitting-requires c κs = search needs
-
 loop-holds : tie.Need-loop-holds Inv-loop μ-loop
 loop-holds c = (omega arith, (rw add-zero, refl))
 
@@ -83,7 +80,7 @@ put-spec =
     (tie.spec
     Inv-loop
     μ-loop
-    fitting-requires
+    (λ c κs. search needs)
     loop-holds
     shared-slice-read-out
     add-out

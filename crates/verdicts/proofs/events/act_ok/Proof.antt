@@ -4,24 +4,6 @@ use borrow.Author.Needs.{needs}
 use Rattle.verdicts.proofs.events.act_ok.Statement.{statement}
 use Rattle.verdicts.proofs.events.act_ok.Tie as tie
 
-enum-known-act : tie.Need-enum-known-act
-enum-known-act c = search needs
-
-film-ok-requires : tie.Need-film-ok-requires
-film-ok-requires c κs = search needs
-
-enum-known-act-2 : tie.Need-enum-known-act-2
-enum-known-act-2 c = search needs
-
-within-requires : tie.Need-within-requires
-within-requires c κs = search needs
-
-enum-told : tie.Need-enum-told
-enum-told c = search needs
-
-enum-told-2 : tie.Need-enum-told-2
-enum-told-2 c = search needs
-
 returns : tie.Need-returns
 returns c = rw (c .before .before .act .given .1) (c .film-ok .ensures)
 
@@ -38,12 +20,12 @@ pub act-ok-spec : {M : Type 1} → statement M
 act-ok-spec =
     tie.close
     (tie.spec
-    enum-known-act
-    film-ok-requires
-    enum-known-act-2
-    within-requires
-    enum-told
-    enum-told-2
+    (λ c. search needs)
+    (λ c κs. search needs)
+    (λ c. search needs)
+    (λ c κs. search needs)
+    (λ c. search needs)
+    (λ c. search needs)
     returns
     returns-2
     returns-3

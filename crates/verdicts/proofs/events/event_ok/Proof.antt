@@ -4,17 +4,8 @@ use borrow.Author.Needs.{needs}
 use Rattle.verdicts.proofs.events.event_ok.Statement.{statement}
 use Rattle.verdicts.proofs.events.event_ok.Tie as tie
 
-state-ok-requires : tie.Need-state-ok-requires
-state-ok-requires c κs = search needs
-
-also-requires : tie.Need-also-requires
-also-requires c κs = search needs
-
-also-requires-2 : tie.Need-also-requires-2
-also-requires-2 c κs = search needs
-
 returns : tie.Need-returns
 returns c = rw (c .also2 .ensures, c .before .also .ensures, c .before .before .state-ok .ensures) refl
 
 pub event-ok-spec : {M : Type 1} → statement M
-event-ok-spec = tie.close (tie.spec state-ok-requires also-requires also-requires-2 returns)
+event-ok-spec = tie.close (tie.spec (λ c κs. search needs) (λ c κs. search needs) (λ c κs. search needs) returns)

@@ -7,17 +7,11 @@ use Rattle.verdicts.proofs.events.film_ok.Tie as tie
 returns : tie.Need-returns
 returns c = simp (lt-leb _ _ (c .if1 .taken))
 
-steady-ok-requires : tie.Need-steady-ok-requires
-steady-ok-requires c κs = search needs
-
 returns-2 : tie.Need-returns-2
 returns-2 c = simp (le-leb _ _ (c .before .before .before .if1 .left), eq-eqb _ _ (c .before .if2 .taken)) (c .steady-ok .ensures)
-
-padded-ok-requires : tie.Need-padded-ok-requires
-padded-ok-requires c κs = search needs
 
 returns-3 : tie.Need-returns-3
 returns-3 c = simp (le-leb _ _ (c .before .before .before .if1 .left), ne-eqb _ _ (c .before .if2 .left)) (c .padded-ok .ensures)
 
 pub film-ok-spec : {M : Type 1} → statement M
-film-ok-spec = tie.close (tie.spec returns steady-ok-requires returns-2 padded-ok-requires returns-3)
+film-ok-spec = tie.close (tie.spec returns (λ c κs. search needs) returns-2 (λ c κs. search needs) returns-3)

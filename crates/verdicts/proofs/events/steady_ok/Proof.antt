@@ -4,21 +4,6 @@ use borrow.Author.Needs.{needs}
 use Rattle.verdicts.proofs.events.steady_ok.Statement.{statement}
 use Rattle.verdicts.proofs.events.steady_ok.Tie as tie
 
-within-requires : tie.Need-within-requires
-within-requires c κs = search needs
-
-within-requires-2 : tie.Need-within-requires-2
-within-requires-2 c κs = search needs
-
-also-requires : tie.Need-also-requires
-also-requires c κs = search needs
-
-also-requires-2 : tie.Need-also-requires-2
-also-requires-2 c κs = search needs
-
-also-requires-3 : tie.Need-also-requires-3
-also-requires-3 c κs = search needs
-
 returns : tie.Need-returns
 returns c =
     let at-also = c .before .before in
@@ -35,9 +20,9 @@ pub steady-ok-spec : {M : Type 1} → statement M
 steady-ok-spec =
     tie.close
     (tie.spec
-    within-requires
-    within-requires-2
-    also-requires
-    also-requires-2
-    also-requires-3
+    (λ c κs. search needs)
+    (λ c κs. search needs)
+    (λ c κs. search needs)
+    (λ c κs. search needs)
+    (λ c κs. search needs)
     returns)

@@ -14,15 +14,6 @@ use Rattle.verdicts.proofs.Event.{out-by-numbers, out-by-clock, out-by-
 use Rattle.verdicts.proofs.events.verdict.Statement.{statement}
 use Rattle.verdicts.proofs.events.verdict.Tie as tie
 
-event-ok-requires : tie.Need-event-ok-requires
-event-ok-requires c κs = search needs
-
-act-ok-requires : tie.Need-act-ok-requires
-act-ok-requires c κs = search needs
-
-also-requires : tie.Need-also-requires
-also-requires c κs = search needs
-
 -- past the first test all numbers are within their limits
 fits : (c : tie.Then1) →
     let e = c .before .before .before .before .args .e in
@@ -65,9 +56,9 @@ pub verdict-spec : {M : Type 1} → statement M
 verdict-spec =
     tie.close
     (tie.spec
-    event-ok-requires
-    act-ok-requires
-    also-requires
+    (λ c κs. search needs)
+    (λ c κs. search needs)
+    (λ c κs. search needs)
     returns
     title-of-requires
     title-verdict-requires

@@ -5,17 +5,8 @@ use borrow.Author.Needs.{needs}
 use Rattle.wishes.proofs.shares.shares_of.Statement.{statement}
 use Rattle.wishes.proofs.shares.shares_of.Tie as tie
 
-shared-pool-requires : tie.Need-shared-pool-requires
-shared-pool-requires c κs = search needs
-
-rows-of-requires : tie.Need-rows-of-requires
-rows-of-requires c κs = search needs
-
 shared-counts-requires : tie.Need-shared-counts-requires
 shared-counts-requires c κs = rw (c .rows-of .ensures) (rows-whole _ _)
-
-by-id-requires : tie.Need-by-id-requires
-by-id-requires c κs = search needs
 
 returns : tie.Need-returns
 returns c =
@@ -27,4 +18,4 @@ returns c =
     (by-share (start .args .s) (start .args .rates .now) (start .pre .0) (rules .0) (rules .1 .0) (rules .1 .1))
 
 pub shares-of-spec : {M : Type 1} → statement M
-shares-of-spec = tie.close (tie.spec shared-pool-requires rows-of-requires shared-counts-requires by-id-requires returns)
+shares-of-spec = tie.close (tie.spec (λ c κs. search needs) (λ c κs. search needs) shared-counts-requires (λ c κs. search needs) returns)
