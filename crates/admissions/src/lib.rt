@@ -1,6 +1,7 @@
 // How long arrivals wait for a title's next admission, stretch by stretch. Between two events of a title its admissions are
 // evenly spaced, unless its doors are held: those who come after the last admission of the stretches before and not after the last of this one get
 // in here. These functions are for the crate above, and say in a `requires` what they build on.
+#![tactic(auto)]
 
 ghost use Rattle.std.specs.Prelude.{◌≤◌, max, ◌≡◌, length};
 ghost use Rattle.rules.specs.Limits.{asked_max, event_time_max};
@@ -24,7 +25,7 @@ use rules::truth::also;
 use story::{HELD, OPEN, Title};
 
 // What a row of arrivals comes to: how many got in, the longest wait and the sum of the waits, in ms.
-#[derive(Drop)]
+#[derive(Clone, Copy)]
 pub struct Waits {
     pub admitted: u64,
     pub longest: u64,
@@ -32,7 +33,7 @@ pub struct Waits {
 }
 
 // A stretch between two events: an admission every `slot` ms, counted from the opening, from `start` on.
-#[derive(Drop)]
+#[derive(Clone, Copy)]
 pub struct Stretch {
     pub opened: u64,
     pub slot: u64,
@@ -40,7 +41,7 @@ pub struct Stretch {
 }
 
 // The arrivals so far: those before `from` are settled.
-#[derive(Drop)]
+#[derive(Clone, Copy)]
 pub struct Tally {
     pub from: u64,
     pub waits: Waits,

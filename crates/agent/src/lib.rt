@@ -1,5 +1,6 @@
 // The agent that follows a head-end in each set-top box: a scheduler that takes notices, each in its turn.
 // No public function has a `requires`: any bytes have an answer, and a refusal gives back the agent as it came in.
+#![tactic(auto)]
 
 ghost use Rattle.std.specs.Prelude.{◌≡◌};
 ghost use Rattle.notice.specs.declared.Reading.TheVariants as reading;
@@ -14,7 +15,7 @@ use scheduler::{Outcome, call, event_at, opening};
 use scheme::{PADDED, STEADY};
 use story::{Act, Event, State};
 
-#[derive(Drop)]
+#[derive(Clone, Copy)]
 pub struct Agent {
     // the sequence of the last notice that it accepted, 0 when fresh
     pub sequence: u32,
@@ -22,7 +23,7 @@ pub struct Agent {
 }
 
 // What a call gives back: the answer, and the agent after it.
-#[derive(Drop)]
+#[derive(Clone, Copy)]
 pub struct Followed {
     pub answer: u8,
     pub agent: Agent,

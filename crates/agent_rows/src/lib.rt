@@ -1,5 +1,6 @@
 // An agent as a row of 64-bit numbers that a caller lends: plain data, which may be copied, stored and compared. A title is read out of
 // its places and put back there; the limits of all numbers are tested, and lanes held are counted, in place.
+#![tactic(auto)]
 
 use rules::{COUNT_PLACES, LANE_PLACES, TITLES_MAX};
 

@@ -7,7 +7,7 @@ use air_record::record::one_more;
 use text::bytes::is_separator;
 
 // A text as far as it was passed: how many words have begun, whether one has not ended, and the line, counted from 1.
-#[derive(Drop)]
+#[derive(Clone, Copy)]
 struct Passed {
     words: u64,
     inside: bool,

@@ -22,7 +22,7 @@ pub const NOT_TWELVE: u8 = 2;
 
 // A text as far as it was read: how many numbers of it are in the row; the number being spelt, whether one is, and whether by a
 // dash; the line, counted from 1, and how many words of it have ended; and what is wrong, if anything is, with that word and line.
-#[derive(Drop)]
+#[derive(Clone, Copy)]
 pub struct Scan {
     pub count: usize,
     pub value: u64,

@@ -19,7 +19,7 @@ use scheme::PADDED;
 use story::{OPEN, Title};
 
 // What a log answers, and the title as it stands at its end.
-#[derive(Drop)]
+#[derive(Clone, Copy)]
 pub struct Ending {
     pub answer: u8,
     pub title: Title,

@@ -1,5 +1,6 @@
 // What the air really carried (02, 13): at which ticks of its latest opening in a log of notices a title has admissions, and what
 // becomes of each by a record of its lanes. No public function has a `requires`: any pool, bytes, title and rows have an answer.
+#![tactic(auto)]
 
 mod follow;
 mod marks;
@@ -24,7 +25,7 @@ use rules::{DONE, OUTSIDE_LIMITS};
 
 // What the call gives back: how many admissions the record judges, how many of those were played through, and how many begin in
 // it but outlast it. Beside a refusal the counts are 0.
-#[derive(Drop)]
+#[derive(Clone, Copy)]
 pub struct Judgement {
     pub answer: u8,
     pub judged: u64,

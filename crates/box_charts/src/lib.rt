@@ -1,5 +1,6 @@
 // The picture of a box, over the places at which it takes its cells. These functions are for the crate above, and say in a `requires`
 // what they build on; what has no room in the lent row is left out.
+#![tactic(auto)]
 
 pub mod axes;
 pub mod curve;
@@ -23,7 +24,7 @@ const CHART_WIDTH: u64 = 13_600;
 const CHART_HEIGHT: u64 = 9_300;
 
 // A box that has begun: its title, the moment, the title's tick in ms and how many lanes it may have.
-#[derive(Drop)]
+#[derive(Clone, Copy)]
 pub struct Begun {
     pub title: u64,
     pub moment: u64,

@@ -15,7 +15,7 @@ use unheard_io::put_unheard;
 pub const PICTURE_ROOM: usize = 4_999_999;
 
 // The box that was asked for.
-#[derive(Drop)]
+#[derive(Clone, Copy)]
 struct Asked {
     pool: u64,
     title: u64,
@@ -23,7 +23,7 @@ struct Asked {
 }
 
 // It, or that standard error says what is wrong.
-#[derive(Drop)]
+#[derive(Clone, Copy)]
 enum Box {
     Of(Asked),
     Nothing,

@@ -1,5 +1,6 @@
 // Pictures of a log on standard input: that of the whole log, with POOL as its argument or none, or with POOL ID TIME that of the box that
 // begins at an admission.
+#![tactic(auto)]
 
 mod boxed;
 mod complaints;

@@ -1,5 +1,6 @@
 // The picture of a whole log of notices, as the text of an SVG: the log is played twice into a fresh agent, once for what is drawn, once
 // for its marks. No public function has a `requires`: any pool and any bytes have a picture.
+#![tactic(auto)]
 
 mod whole;
 

@@ -1,5 +1,6 @@
 // Times as people write them: hours, minutes, seconds and thousandths, written (`put_clock`) and read (`reading`). Nothing is
 // written past the end of a lent row. No public function has a `requires`.
+#![tactic(auto)]
 
 ghost use Rattle.std.specs.Prelude.{◌≡◌};
 ghost use Rattle.text.specs.Output.{Written};

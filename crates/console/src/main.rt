@@ -1,5 +1,6 @@
 // The operator's console: commands as lines on standard input, an answer for each on standard output. `help` lists them. It takes no
 // argument.
+#![tactic(auto)]
 
 use agent::Agent;
 use console_desk::{ANSWER_MAX, Answered};

@@ -1,6 +1,8 @@
 // The changes that bring a pool to its sharing, as lines that can be entered: the planner's list over rates that a line gives
 // by id. `put_balance` takes a lent row and a place in it and gives back the place behind what it wrote; nothing is written
 // past the row's end.
+#![tactic(auto)]
+
 mod changes;
 mod rates;
 

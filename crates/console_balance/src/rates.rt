@@ -45,7 +45,7 @@ pub fn ids_ok(numbers: &[u64; NUMBERS_MOST], pairs: usize) -> bool
 }
 
 // The rates of all titles, by id.
-#[derive(Drop)]
+#[derive(Clone, Copy)]
 struct Rates {
     row: [u32; TITLES_MAX],
 }

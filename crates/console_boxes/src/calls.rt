@@ -14,7 +14,7 @@ use console_lines::lines::Line;
 use rules::DONE;
 
 // The answer, the number that the words of a refusal name, and how many cells were written into the row.
-#[derive(Drop)]
+#[derive(Clone, Copy)]
 pub struct Told {
     pub answer: u8,
     pub named: u64,

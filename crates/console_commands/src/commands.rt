@@ -180,7 +180,7 @@ const LIMITED: usize = 7;
 // the most, where read and notice have no number, but HEX, which is a word; at which place, from 0, the numbers that are times
 // or lengths begin, and how many they are; and by place the largest value of a number, where a larger one is an error of the
 // line.
-#[derive(Drop)]
+#[derive(Clone, Copy)]
 pub struct Command {
     pub word: [u8; WORD_ROOM],
     pub least: usize,

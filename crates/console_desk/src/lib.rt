@@ -3,6 +3,7 @@
 // specs/Desk.antt defines them. It has no `requires`: any agent and any bytes have an answer, and no answer goes past
 // the row's end. `reply`, `ends`, `put_followed` and `put_fault_line` are for the head-end's desk, which reads lines alike,
 // and so is `behind`, what stands behind the refusal of a line that would change the agent.
+#![tactic(auto)]
 
 mod asks;
 pub mod behind;
@@ -45,14 +46,14 @@ const NUMBER_BYTES: usize = 6;
 pub const ANSWER_MAX: usize = 2 + NUMBER_BYTES * commands::PLACES_MOST;
 
 // What a line leaves: the agent, and the place behind what was answered.
-#[derive(Drop)]
+#[derive(Clone, Copy)]
 pub struct Turned {
     pub agent: Agent,
     pub at: usize,
 }
 
 // The same, and whether the session is over.
-#[derive(Drop)]
+#[derive(Clone, Copy)]
 pub struct Answered {
     pub agent: Agent,
     pub at: usize,

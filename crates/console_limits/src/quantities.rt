@@ -61,7 +61,7 @@ pub const TICKS_MIN: u64 = 1;
 pub const TICKS_MOST: u64 = 32;
 
 // From a least number to a largest, both allowed.
-#[derive(Drop)]
+#[derive(Clone, Copy)]
 pub struct Bounds {
     pub low: u64,
     pub high: u64,
@@ -161,7 +161,7 @@ pub fn put_name(out: &mut [u8], at: usize, quantity: u8) -> usize
 const WIDTH: usize = 6;
 
 // The quantities behind a command, in their order; what repeats stands once.
-#[derive(Drop)]
+#[derive(Clone, Copy)]
 pub struct Row {
     pub quantities: [u8; WIDTH],
 }

@@ -36,7 +36,7 @@ pub const NUMBERS_MOST: usize = 72;
 // What a line asks. Where fault is 0 the command is one of `commands`, NONE for a line that answers nothing, and its
 // numbers are the first count of numbers, each at most the largest 64-bit number; of HEX the first two numbers are the
 // places where its digits begin and end. Otherwise fault says what is wrong, and place at which byte, from 0.
-#[derive(Drop)]
+#[derive(Clone, Copy)]
 pub struct Line {
     pub command: u8,
     pub fault: u8,

@@ -1,5 +1,6 @@
 // Lanes held as a step curve: the steps between two events, at the releases of lanes. These functions are for the crates above, and say in
 // a `requires` what they build on.
+#![tactic(auto)]
 
 ghost use Rattle.std.specs.Prelude.{◌≤◌, ◌<◌, ◌≡◌, length};
 ghost use Rattle.rules.specs.Limits.{titles_max};
@@ -23,7 +24,7 @@ use strips::kept::LEVEL;
 use strips::scale::{Scale, place};
 
 // Where a curve is drawn: its scale, the lanes of the pool, and the place of no lanes.
-#[derive(Drop)]
+#[derive(Clone, Copy)]
 pub struct Curve {
     pub scale: Scale,
     pub pool: u64,

@@ -18,7 +18,7 @@ use text::digits::put_number;
 use text::output::{put, put_byte};
 
 // A rectangle's left upper corner and its sizes.
-#[derive(Drop)]
+#[derive(Clone, Copy)]
 pub struct Area {
     pub x: u64,
     pub y: u64,

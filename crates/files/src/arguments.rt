@@ -12,21 +12,21 @@ use text::numbers::spelt;
 const ARGUMENT_ROOM: usize = 131_072;
 
 // What an argument is.
-#[derive(Drop)]
+#[derive(Clone, Copy)]
 pub enum Given {
     Number(u64),
     NoNumber,
 }
 
 // The pool and the title that were given, or that standard error says what is wrong.
-#[derive(Drop)]
+#[derive(Clone, Copy)]
 pub enum Asked {
     About(u64, u64),
     Nothing,
 }
 
 // The pool that was given, or that standard error says what is wrong.
-#[derive(Drop)]
+#[derive(Clone, Copy)]
 pub enum Pool {
     Lanes(u64),
     Nothing,

@@ -14,7 +14,7 @@ const LOG_ARGUMENT: usize = 3;
 const OWN_ARGUMENT: usize = 4;
 
 // What became of a file: so many bytes of it, at the room's start, or why it has none.
-#[derive(Drop)]
+#[derive(Clone, Copy)]
 struct File {
     size: usize,
     ok: bool,
@@ -22,7 +22,7 @@ struct File {
 }
 
 // What became of a program's two files: so many bytes of each, at its room's start, once both are loaded.
-#[derive(Drop)]
+#[derive(Clone, Copy)]
 pub struct Files {
     pub log: usize,
     pub own: usize,
@@ -30,14 +30,14 @@ pub struct Files {
 }
 
 // What became of the log where a program has no other file: so many bytes of it, at its room's start, once it is loaded.
-#[derive(Drop)]
+#[derive(Clone, Copy)]
 pub struct Log {
     pub size: usize,
     pub ok: bool,
 }
 
 // What one read gave.
-#[derive(Drop)]
+#[derive(Clone, Copy)]
 struct Part {
     size: usize,
     failed: bool,

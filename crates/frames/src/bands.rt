@@ -16,7 +16,7 @@ use text::digits::put_number;
 use text::output::put;
 
 // How a log is drawn: its curve, with the scale, and of each id the lanes that have a row.
-#[derive(Drop)]
+#[derive(Clone, Copy)]
 pub struct View {
     pub curve: Curve,
     pub caps: [u8; TITLES_MAX],

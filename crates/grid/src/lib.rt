@@ -1,5 +1,6 @@
 // Which cell each channel and lane carries at a tick. These functions are for the crates above, and say in a `requires`
 // what they build on; the calls that a customer makes have none and stand in those crates.
+#![tactic(auto)]
 
 ghost use Rattle.std.specs.Prelude.{suc, ◌+◌, ◌*◌, ◌-◌, ◌^◌, ◌≤◌, ◌<◌, ◌≡◌, pos, ◌-ℤ◌};
 ghost use Rattle.std.specs.Int.Count.{count_trailing_zeros};

@@ -8,7 +8,7 @@ use files::pages::within_row;
 use journal_files::opening::NAME_MOST;
 use streams::usage::{are_right, complain};
 
-#[derive(Drop)]
+#[derive(Clone, Copy)]
 pub enum Task {
     Serve,
     Check,
@@ -16,7 +16,7 @@ pub enum Task {
 }
 
 // The journal's name is so many bytes at the start of a room: none where standard error says what is wrong with the arguments.
-#[derive(Drop)]
+#[derive(Clone, Copy)]
 pub struct Asked {
     pub task: Task,
     pub pool: u64,

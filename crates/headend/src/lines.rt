@@ -77,7 +77,7 @@ fn keep(pair: Pair, desk: Desk, notices: &[u8], sums: &[u8]) -> bool {
 }
 
 // What one line leaves.
-#[derive(Drop)]
+#[derive(Clone, Copy)]
 struct Turn {
     desk: Desk,
     session: Session,

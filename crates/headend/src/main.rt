@@ -1,5 +1,6 @@
 // The head-end: the console's lines on standard input, and a journal of notices that is its memory. Arguments POOL JOURNAL; with
 // --check before them it only looks at the journal, with --sums it makes the sums of its notices anew.
+#![tactic(auto)]
 
 mod asked;
 mod lines;

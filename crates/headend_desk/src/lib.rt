@@ -1,6 +1,7 @@
 // The head-end's desk: one line, answered over an agent. `answer` takes the desk, the line's bytes and three lent rows: for answers,
 // for notices and for their sums. It gives back the desk after the line, as specs/Desk.antt defines it. It has no `requires`: any desk and
 // any bytes have an answer, and nothing goes past a row's end. What the notices of a run of lines come to is specs/Journal.antt.
+#![tactic(auto)]
 
 ghost use Rattle.std.specs.Prelude.{◌≡◌, ◌≤◌, length};
 ghost use Rattle.text.specs.Output.{Written};
@@ -50,7 +51,7 @@ pub const SUM_BYTES: usize = sums::SIZE;
 const LAST_SEQUENCE: u32 = 4_294_967_295;
 
 // The agent, and the places behind what is written in the rows of answers, notices and sums.
-#[derive(Drop)]
+#[derive(Clone, Copy)]
 pub struct Desk {
     pub agent: Agent,
     pub at: usize,
@@ -59,14 +60,14 @@ pub struct Desk {
 }
 
 // What a line leaves: the desk, and whether the session is over.
-#[derive(Drop)]
+#[derive(Clone, Copy)]
 pub struct Answered {
     pub desk: Desk,
     pub over: bool,
 }
 
 // The places behind a notice and its sum.
-#[derive(Drop)]
+#[derive(Clone, Copy)]
 struct Kept {
     noticed: usize,
     summed: usize,

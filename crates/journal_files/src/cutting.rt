@@ -6,7 +6,7 @@ use libc::SEEK_END;
 const SIZE_MOST: usize = 9_223_372_036_854_775_807;
 
 // How many bytes a file has.
-#[derive(Drop)]
+#[derive(Clone, Copy)]
 pub enum Size {
     Bytes(usize),
     // standard error says why

@@ -21,7 +21,7 @@ use text::bytes::{Sort, run_end};
 const RECORD_ROOM: usize = 128;
 
 // Where our own record begins in JOURNAL.lock.
-#[derive(Drop)]
+#[derive(Clone, Copy)]
 struct Entered {
     at: usize,
     ok: bool,
@@ -32,7 +32,7 @@ fn not_entered() -> Entered {
 }
 
 // Who holds the journal: nobody before us is 0. `next` is the place behind what was looked at.
-#[derive(Drop)]
+#[derive(Clone, Copy)]
 struct Seen {
     process: u64,
     next: usize,
@@ -88,7 +88,7 @@ fn look(window: &[u8], boot: &[u8], name: &[u8]) -> Seen {
 }
 
 // Who holds a journal.
-#[derive(Drop)]
+#[derive(Clone, Copy)]
 enum Holder {
     Nobody,
     Process(u64),

@@ -2,6 +2,8 @@
 // is kept out. What goes wrong is one line on standard error that begins with a question mark and ends in the system's words. No
 // contract can say what is read and written: these functions are safe and end, and say of places and lengths what they can. No
 // public function has a `requires`.
+#![tactic(auto)]
+
 pub mod appending;
 pub mod cutting;
 pub mod folders;

@@ -15,7 +15,7 @@ const ENDING_MOST: usize = 9;
 pub const NAME_MOST: usize = PATH_MOST - ENDING_MOST;
 
 // How a file is opened.
-#[derive(Drop)]
+#[derive(Clone, Copy)]
 pub enum Way {
     // to read
     Look,

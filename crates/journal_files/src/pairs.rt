@@ -4,7 +4,7 @@ use crate::cutting::{Size, size_of};
 use crate::opening::{Way, open, open_or_make};
 use libc::ENOENT;
 
-#[derive(Drop)]
+#[derive(Clone, Copy)]
 pub struct Pair {
     pub journal: i32,
     pub sums: i32,

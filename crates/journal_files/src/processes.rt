@@ -19,7 +19,7 @@ pub const BOOT_ROOM: usize = 64;
 const PROCESS_MOST: u64 = 2_147_483_647;
 
 // So many bytes at a room's start, or that there are none to be had.
-#[derive(Drop)]
+#[derive(Clone, Copy)]
 pub struct Told {
     pub size: usize,
     pub ok: bool,

@@ -11,14 +11,14 @@ use text::bytes::{Sort, run_end};
 use text::numbers::spelt;
 use text::output::put;
 
-#[derive(Drop)]
+#[derive(Clone, Copy)]
 pub struct Record {
     pub process: u64,
     pub descriptor: u64,
 }
 
 // What a line is.
-#[derive(Drop)]
+#[derive(Clone, Copy)]
 pub enum Line {
     Held(Record),
     Passed,

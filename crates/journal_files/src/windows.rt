@@ -5,7 +5,7 @@ ghost use Rattle.std.specs.Prelude.{◌≤◌, length};
 use crate::cutting::offset;
 
 // So many bytes at the room's start, or that the read failed and standard error says why.
-#[derive(Drop)]
+#[derive(Clone, Copy)]
 pub struct Window {
     pub size: usize,
     pub failed: bool,

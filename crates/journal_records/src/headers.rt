@@ -43,7 +43,7 @@ const LEAST_AT: usize = LEAD_AT + WIDE;
 const ZEROS_AT: usize = LEAST_AT + WIDE;
 
 // The numbers of a journal: the Unix time of its time 0, its pool, LEAD and LEAST, times in ms.
-#[derive(Drop)]
+#[derive(Clone, Copy)]
 pub struct Origin {
     pub zero: u64,
     pub pool: u64,
@@ -52,7 +52,7 @@ pub struct Origin {
 }
 
 // What a header reads as.
-#[derive(Drop)]
+#[derive(Clone, Copy)]
 pub enum Header {
     Good(Origin),
     // fewer bytes than a header has

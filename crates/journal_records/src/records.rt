@@ -37,7 +37,7 @@ pub const RECORDS_MAX: u64 = 281_474_976_710_655;
 pub const NOTICE: u8 = 1;
 
 // What stands at a place.
-#[derive(Drop)]
+#[derive(Clone, Copy)]
 pub enum Standing {
     // a record: its number, its kind, and the bytes of its payload
     Record(u64, u8, usize),

@@ -25,7 +25,7 @@ pub fn less(a: usize, b: usize) -> usize
 }
 
 // How far the journal was played, and whether its files could be read.
-#[derive(Drop)]
+#[derive(Clone, Copy)]
 pub struct Played {
     pub start: Start,
     pub ok: bool,

@@ -18,7 +18,7 @@ use row_calls::starting::fresh;
 use streams::write_to;
 
 // The open journal and its size, and the open file of its new sums.
-#[derive(Drop)]
+#[derive(Clone, Copy)]
 struct Renewal {
     journal: i32,
     size: usize,

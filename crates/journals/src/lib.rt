@@ -1,5 +1,6 @@
 // The start of a head-end: its journal, which comes in windows, is played into an agent that is lent as a row, in place, and each notice is
 // held against its sum. No public function has a `requires`: any numbers, any row and any bytes have an answer.
+#![tactic(auto)]
 
 ghost use Rattle.std.specs.Prelude.{◌≡◌, true, length};
 ghost use Rattle.journals.specs.Start.{begun_with, is_going, is_good, is_ready_at, sum_at, sums_length, stage, view, hears_in};
@@ -25,7 +26,7 @@ pub const BLOCK: usize = 65_536;
 pub const BLOCK_EVENTS: usize = BLOCK / 9;
 
 // What a start has found.
-#[derive(Drop)]
+#[derive(Clone, Copy)]
 pub enum Verdict {
     // nothing yet: it goes on
     Hearing,
@@ -46,7 +47,7 @@ pub enum Verdict {
 }
 
 // How far a start has come.
-#[derive(Drop)]
+#[derive(Clone, Copy)]
 pub struct Start {
     // the byte of the journal at which it stands
     pub place: usize,

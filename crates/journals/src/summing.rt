@@ -19,7 +19,7 @@ use rules::truth::also;
 use sums::sum;
 
 // How far the notices were summed, how far the row is written, and whether a notice may follow.
-#[derive(Drop)]
+#[derive(Clone, Copy)]
 struct Summed {
     place: usize,
     at: usize,

@@ -1,5 +1,6 @@
 // What a record of the air shows, and what becomes of the boxes that begin in it (02, 13). These functions are for the crate
 // above, and say in a `requires` what they build on.
+#![tactic(auto)]
 
 pub mod next;
 pub mod results;
@@ -19,7 +20,7 @@ pub const TICKS_MAX: usize = 4_096;
 pub const NOTHING_SEEN: u16 = 65_535;
 
 // How many admissions were judged, how many of those played through, and how many outlast the record.
-#[derive(Drop)]
+#[derive(Clone, Copy)]
 pub struct Counts {
     pub judged: u64,
     pub played: u64,

@@ -1,4 +1,5 @@
 // The limits of every stored number (01, "Numbers that calls give back").
+#![tactic(auto)]
 
 ghost use Rattle.std.specs.Prelude.{◌≡◌, not, leb, eqb};
 ghost use Rattle.rules.specs.Limits.{both, either, pool_min, titles_max, floor_max, steady_max};

@@ -1,4 +1,5 @@
 // Lists the notices on standard input, back to back, as a fresh agent hears them (01, "Numbers worked through"): argument POOL.
+#![tactic(auto)]
 
 use files::arguments::{Pool, pool_or};
 

@@ -18,7 +18,7 @@ use streams::{Filled, refill};
 use text::feed::compact;
 
 // What a read leaves: the agent, the bytes kept at the buffer's front, and whether to go on.
-#[derive(Drop)]
+#[derive(Clone, Copy)]
 struct Fed {
     agent: Agent,
     kept: usize,
@@ -26,14 +26,14 @@ struct Fed {
 }
 
 // A step with its whole line.
-#[derive(Drop)]
+#[derive(Clone, Copy)]
 struct Shown {
     listed: ListedStep,
     row: [u8; LINE_ROOM],
 }
 
 // A step, and whether its line was written.
-#[derive(Drop)]
+#[derive(Clone, Copy)]
 struct Printed {
     listed: ListedStep,
     written: bool,

@@ -12,7 +12,7 @@ use rules::{DONE, MALFORMED};
 use scheduler::held;
 
 // What a step gives back.
-#[derive(Drop)]
+#[derive(Clone, Copy)]
 pub struct ListedStep {
     pub agent: Agent,
     // where the listing goes on

@@ -1,5 +1,6 @@
 // The box that begins at a moment of a title, over its latest opening in a log: whether it may begin then, when it could at the earliest,
 // and its picture. No public function has a `requires`.
+#![tactic(auto)]
 
 mod begin;
 mod draw;
@@ -16,7 +17,7 @@ use rules::truth::also;
 
 // What is told of a moment: the answer, whether an admission follows, from when on it is waited for, which is the opening at the earliest,
 // and how long, in ms. Beside a refusal the others tell nothing.
-#[derive(Drop)]
+#[derive(Clone, Copy)]
 pub struct Beginning {
     pub answer: u8,
     pub follows: bool,

@@ -16,7 +16,7 @@ use logs::{PlayedLog, not_begun};
 use notice::{Found, next_in};
 
 // A log as far as it was played, and the place up to which its marks are written.
-#[derive(Drop)]
+#[derive(Clone, Copy)]
 pub struct Drawing {
     pub played: PlayedLog,
     pub at: usize,

@@ -1,5 +1,6 @@
 // A log of notices, played read by read into a fresh agent that is kept in a row and changed in place, and what each read does to one
 // title. These functions are for the crates above, and say in a `requires` what they build on.
+#![tactic(auto)]
 
 ghost use Rattle.std.specs.Prelude.{◌≤◌, ◌≡◌, true, length};
 ghost use Rattle.rules.specs.Limits.{within, pool_min, pool_max, id_max};
@@ -17,14 +18,14 @@ use rules::{DONE, MALFORMED};
 use story::Title;
 
 // A log as far as it was played into the agent of a row: the place of the next notice, and whether one may follow.
-#[derive(Drop)]
+#[derive(Clone, Copy)]
 pub struct PlayedLog {
     pub place: usize,
     pub more: bool,
 }
 
 // One read more: the log as far as it is then played, what the agent answered, and of a notice its title and its time.
-#[derive(Drop)]
+#[derive(Clone, Copy)]
 pub struct ReadOn {
     pub played: PlayedLog,
     pub answer: u8,
@@ -33,7 +34,7 @@ pub struct ReadOn {
 }
 
 // What one read more does to a title: whether it was an accepted event of its own, the title as it stood before, and the time.
-#[derive(Drop)]
+#[derive(Clone, Copy)]
 pub struct OwnRead {
     pub played: PlayedLog,
     pub own: bool,

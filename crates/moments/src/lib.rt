@@ -1,5 +1,6 @@
 // The earliest moment at which a title can change to a count (02, 11): the first that its rules permit once the lanes are
 // free. Times are reached by jumps, from slot start to slot start and from release to release, and never counted up.
+#![tactic(auto)]
 
 pub mod releases;
 pub mod starts;

@@ -2,6 +2,7 @@
 // opening of a skip-forward title by request 12): one record in memory, its bytes, and a reader of logs. Every record can be
 // written, since each part has exactly the width of its field in the table.
 // No public function has a `requires`: any bytes and any place have an answer.
+#![tactic(auto)]
 
 ghost use Rattle.std.specs.Prelude.{◌≡◌, ◌+◌, ◌<◌, ◌^◌, length, drop};
 ghost use Rattle.notice.specs.Encode.{kind_of, bytes_of, Writes};
@@ -18,7 +19,7 @@ pub mod encode;
 
 pub use notice_bytes::window;
 
-#[derive(Drop)]
+#[derive(Clone, Copy)]
 pub struct Notice {
     pub sequence: u32,
     pub title: u8,
@@ -27,7 +28,7 @@ pub struct Notice {
 }
 
 // A kind carries only its own data.
-#[derive(Drop)]
+#[derive(Clone, Copy)]
 pub enum Kind {
     Open {
         length: u32,
@@ -86,14 +87,14 @@ pub fn kind_number(kind: Kind) -> u8
 }
 
 // What one notice's bytes read as.
-#[derive(Drop)]
+#[derive(Clone, Copy)]
 pub enum Reading {
     Whole(Notice),
     Malformed,
 }
 
 // What a log has at a place: a notice and the place after it, no byte more, or no notice.
-#[derive(Drop)]
+#[derive(Clone, Copy)]
 pub enum Found {
     At(Notice, usize),
     End,
@@ -148,7 +149,7 @@ pub fn read(bytes: &[u8]) -> Reading
 }
 
 // A reader that keeps its log and its place.
-#[derive(Drop)]
+#[derive(Clone, Copy)]
 pub struct Log<'a> {
     pub bytes: &'a [u8],
     pub place: usize,

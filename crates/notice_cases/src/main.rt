@@ -1,6 +1,7 @@
 // Runs notices through the product's calls and prints what they answer, for the gate to compare: case 12 of 01 and its
 // neighbours of 29 and 31 bytes, a hold and a lift (02, request 7), the opening of a skip-forward title (request 12) and
 // its neighbours, rooms that are too short, a log read to its end, and notices with one thing wrong.
+#![tactic(auto)]
 
 ghost use Rattle.std.specs.Prelude.{◌≡◌, ◌<◌, length};
 

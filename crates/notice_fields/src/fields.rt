@@ -6,7 +6,7 @@ ghost use Rattle.rules.specs.Refusals.{pick};
 ghost use Rattle.notice_fields.specs.Fields.{rows, field_of, is_carried, span_of, start_of};
 
 // A row: bit k of kinds is set where kind k carries the field.
-#[derive(Drop)]
+#[derive(Clone, Copy)]
 pub struct Field {
     pub tag: u8,
     pub size: usize,

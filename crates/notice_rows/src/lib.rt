@@ -1,5 +1,6 @@
 // A notice as a row of eight numbers, for callers that have no record: kind, sequence, title, time, length, floor, cap and count,
 // with 0 where its kind has no such field. No public function has a `requires`, and a refusal writes nothing.
+#![tactic(auto)]
 
 ghost use Rattle.std.specs.Prelude.{◌≡◌, ◌++◌, ◌≤◌, length, drop};
 ghost use Rattle.notice_fields.specs.Fields.{rows, length_of};
@@ -22,14 +23,14 @@ pub const PLACES: usize = ROWS;
 pub const END: u8 = 255;
 
 // What `write` gives back: its answer, and how many bytes were written, 0 beside a refusal.
-#[derive(Drop)]
+#[derive(Clone, Copy)]
 pub struct Written {
     pub answer: u8,
     pub bytes: u64,
 }
 
 // What `next` gives back: its answer, and the place to go on from. The place stays unless the answer is 0.
-#[derive(Drop)]
+#[derive(Clone, Copy)]
 pub struct Step {
     pub answer: u8,
     pub place: u64,

@@ -4,6 +4,7 @@
 //
 // No public function has a `requires`: any numbers and any state may be handed in, and each contract says what is given back. No state
 // is changed. `moments::PAST` stands for every time past the clock.
+#![tactic(auto)]
 
 mod trying;
 
@@ -33,7 +34,7 @@ pub const GONE: u8 = 1;
 pub const PRESENT: u8 = 2;
 
 // What the question of an event's first accepted time gives back: the answer, and the time, 0 beside a refusal.
-#[derive(Drop)]
+#[derive(Clone, Copy)]
 pub struct Moment {
     pub answer: u8,
     pub time: u64,

@@ -1,4 +1,5 @@
 // Prints the plan of 01's fourth worked case, as the call gives it: floor 2, cap 4, count 4, arrival 0, cells 0 to 15.
+#![tactic(auto)]
 
 const STDOUT: i32 = 1;
 

@@ -3,6 +3,7 @@
 //
 // `planner` is the one call. It has no `requires`: its contract settles the answer, the number of events and the three lent
 // rows for all inputs. It changes no state: the list is for the head-end, which enters the events one by one.
+#![tactic(auto)]
 
 ghost use Rattle.std.specs.Prelude.{◌≡◌, length};
 ghost use Rattle.rules.specs.Limits.{titles_max};
@@ -19,7 +20,7 @@ mod standing;
 mod times;
 
 // What the planner gives back: the answer, and how many events it listed, none beside a refusal.
-#[derive(Drop)]
+#[derive(Clone, Copy)]
 pub struct Listed {
     pub answer: u8,
     pub many: u64,

@@ -16,7 +16,7 @@ use story::State;
 use wishes::Wishes;
 
 // The moments of a list of wishes in its first places, and the last of them; the given time where there are none.
-#[derive(Drop)]
+#[derive(Clone, Copy)]
 pub struct Times {
     pub last: u64,
     pub row: [u64; TITLES_MAX],

@@ -1,5 +1,6 @@
 // The plans of boxes: how many ticks after its start a box takes each cell, of a padded title and of a skip-forward one. `plan`
 // and `skip_plan` are customers' calls and have no `requires`.
+#![tactic(auto)]
 
 ghost use Rattle.plans.specs.Row.{Planned, SkipPlanned};
 

@@ -13,7 +13,7 @@ use streams::usage::count_is;
 const TEXT_ROOM: usize = 1_048_576;
 
 // The numbers that were given.
-#[derive(Drop)]
+#[derive(Clone, Copy)]
 struct Numbers {
     pool: u64,
     title: u64,
@@ -22,7 +22,7 @@ struct Numbers {
 }
 
 // Those that were given, or that standard error says what is wrong.
-#[derive(Drop)]
+#[derive(Clone, Copy)]
 enum Asked {
     About(Numbers),
     Nothing,

@@ -18,7 +18,7 @@ use measures::ticks::tick_at;
 use story::{OPEN, Title};
 
 // Where the reading of a log stopped, and the title as it stands then.
-#[derive(Drop)]
+#[derive(Clone, Copy)]
 pub struct Standing {
     pub place: usize,
     pub title: Title,

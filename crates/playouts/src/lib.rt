@@ -1,6 +1,7 @@
 // What the twelve lanes of a title carry over its latest opening in a log, as text: a line for each tick. The log is played twice, read
 // by read: once for the title's latest opening, once for its lanes. No public function of this file has a `requires`; those of `follow`
 // and `window` are for the crates above, and say in one what they build on.
+#![tactic(auto)]
 
 mod cells;
 pub mod follow;

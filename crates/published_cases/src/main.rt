@@ -3,6 +3,7 @@
 // expected was taken from the papers' text by hand, at the place that the row names. Where a row says "derived" it was worked
 // out from the paper's formulas or tables, since the drawing is not in the text. A time is rounded to the nearest unit that the
 // row names.
+#![tactic(auto)]
 
 ghost use Rattle.std.specs.Prelude.{◌≤◌};
 
@@ -19,14 +20,14 @@ use rules::COUNT_MAX;
 const ROW_MOST: usize = 16;
 
 // The numbers that a row computes: the first `many`.
-#[derive(Drop)]
+#[derive(Clone, Copy)]
 struct Row {
     numbers: [u64; ROW_MOST],
     many: usize,
 }
 
 // What is computed of each number of a row.
-#[derive(Drop)]
+#[derive(Clone, Copy)]
 enum Figure {
     // of a count, at a floor: the wait that padding adds
     Increase(u64),

@@ -1,4 +1,5 @@
 // What a lane question and a question of all titles answer, in 01's order, and from when on a title may change again.
+#![tactic(auto)]
 
 ghost use Rattle.std.specs.Prelude.{◌≡◌, leb};
 ghost use Rattle.rules.specs.Limits.{both, id_max, lane_max, asked_max};

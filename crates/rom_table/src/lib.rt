@@ -1,6 +1,7 @@
 // The grid for floor 3 and cap 10, a number for each lane and each tick of the period (02, request 6): the table of the small
 // box, which a caller's row is filled with once, and in which `rom` looks up. `table.py` in this crate prints the numbers; the
 // proof is of those that stand here.
+#![tactic(auto)]
 
 ghost use Rattle.std.specs.Prelude.{◌<◌, ◌≡◌, length};
 ghost use Rattle.plans.specs.Row.{written};

@@ -1,6 +1,7 @@
 // The library that head-ends and boxes link: every public call as a C function over lent rows. include/rongalishu.h has them
 // for C and C++, with an inline call beside each that passes the lengths. No function has a `requires`, allocates, blocks or
 // keeps anything between calls; a refused call changes no number in anything lent.
+#![tactic(auto)]
 
 use agent_rows::ROW_LENGTH;
 

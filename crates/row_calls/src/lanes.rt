@@ -26,7 +26,7 @@ use scheme::lane_cell;
 use story::ABSENT;
 
 // What is found of a lane: the answer to its question, and the tick whose cell goes out on it, 0 beside a refusal.
-#[derive(Drop)]
+#[derive(Clone, Copy)]
 pub struct ShownTick {
     pub answer: u8,
     pub tick: u64,

@@ -1,5 +1,6 @@
 // The planner's list and the small box's lane question, asked of an agent that a caller lends as a row of numbers. No public call has a
 // `requires`; a refusal writes nothing.
+#![tactic(auto)]
 
 pub mod small;
 pub mod standing;

@@ -1,6 +1,7 @@
 // An agent that a caller lends as a row of numbers, saved as a snapshot's bytes and loaded from them. A row that is saved or loaded is
 // sound and its state within its limits; a snapshot is loaded into a row of the call's own, and copied once it was tested.
 // No public call has a `requires`, and a refusal writes nothing.
+#![tactic(auto)]
 
 ghost use Rattle.std.specs.Prelude.{◌≡◌, length};
 ghost use Rattle.row_snapshots.specs.Calls.{RowSaves, RowLoads};

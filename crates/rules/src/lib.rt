@@ -1,5 +1,6 @@
 // The two tables that every call cites: the limits of each number, and what each refusal's number means.
 // Definitions of the same names stand in specs/; a crate whose code and contract cite different tables is not proved.
+#![tactic(auto)]
 
 pub mod truth;
 

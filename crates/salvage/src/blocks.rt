@@ -16,7 +16,7 @@ pub const BLOCK_ROOM: usize = 4_096;
 // The room for what is told of it: two lines of 70 bytes at most for a notice of 26 at least.
 pub const TOLD_ROOM: usize = 6 * BLOCK_ROOM;
 
-#[derive(Drop)]
+#[derive(Clone, Copy)]
 pub struct Block {
     pub progress: Progress,
     pub area: [u8; BLOCK_ROOM],
@@ -26,7 +26,7 @@ pub struct Block {
 }
 
 // How far a window was scanned, and the places behind what that left in the area and told.
-#[derive(Drop)]
+#[derive(Clone, Copy)]
 struct Walked {
     progress: Progress,
     at: usize,

@@ -16,21 +16,21 @@ use streams::{Filled, refill};
 use text::feed::compact;
 
 // Where the taken notices go, and where the report goes.
-#[derive(Drop)]
+#[derive(Clone, Copy)]
 pub struct Ports {
     pub taken: i32,
     pub told: i32,
 }
 
 // A block's end, and whether all of it was written.
-#[derive(Drop)]
+#[derive(Clone, Copy)]
 struct Passed {
     progress: Progress,
     written: bool,
 }
 
 // What a read leaves: how far the scan has come, the bytes kept at the buffer's front, and whether to go on.
-#[derive(Drop)]
+#[derive(Clone, Copy)]
 struct Fed {
     progress: Progress,
     kept: usize,

@@ -1,4 +1,5 @@
 // Gets what is left out of a damaged log on standard input: the taken notices to standard output, what was skipped to standard error.
+#![tactic(auto)]
 
 mod blocks;
 mod input;

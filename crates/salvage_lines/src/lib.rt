@@ -1,4 +1,5 @@
 // The lines of the report, each behind what stands in a lent row. What has no room is left out.
+#![tactic(auto)]
 
 ghost use Rattle.text.specs.Output.{Written};
 ghost use Rattle.scanning.specs.inner.Steps.{Counts};

@@ -1,5 +1,6 @@
 // What is left of a damaged log of notices (02, request 8): the call over lent rows.
 // No public function of this file has a `requires`: any log and any rooms have an answer.
+#![tactic(auto)]
 
 ghost use Rattle.std.specs.Prelude.{◌≡◌};
 ghost use Rattle.salvaging.specs.Rows.{no_room, Salvages};
@@ -13,7 +14,7 @@ pub mod rows;
 
 // What the call gives back: its answer, how many notices were taken, how many bytes they have, and how many stretches were
 // skipped. Beside a refusal the counts are 0.
-#[derive(Drop)]
+#[derive(Clone, Copy)]
 pub struct Salvaged {
     pub answer: u8,
     pub notices: usize,

@@ -11,14 +11,14 @@ use scanning::steps::{Progress, advance, begun, is_open};
 use text::output::{put, put_value};
 
 // The places behind what was written into the area and into the row.
-#[derive(Drop)]
+#[derive(Clone, Copy)]
 struct Laid {
     at: usize,
     cells: usize,
 }
 
 // How far a window was scanned, and what that left in the area and the row.
-#[derive(Drop)]
+#[derive(Clone, Copy)]
 struct Poured {
     progress: Progress,
     to: Laid,

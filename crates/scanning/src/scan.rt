@@ -7,14 +7,14 @@ ghost use Rattle.scanning.specs.Scan.{is_later, move_of};
 use notice::{Found, Notice, next_in};
 
 // The sequence of the last taken notice, if any.
-#[derive(Drop)]
+#[derive(Clone, Copy)]
 pub enum Last {
     Nothing,
     Taken(u32),
 }
 
 // What is done at a place: a notice is taken up to its end, one byte is skipped, or no byte is left.
-#[derive(Drop)]
+#[derive(Clone, Copy)]
 pub enum Move {
     Take(Notice, usize),
     Skip,

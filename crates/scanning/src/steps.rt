@@ -7,7 +7,7 @@ use super::scan::{Last, Move, look};
 
 // How far a scan has come: its place in the input, the last taken notice, how many notices and bytes were taken, how many
 // stretches skipped, and where the latest of these starts and how long it is.
-#[derive(Drop)]
+#[derive(Clone, Copy)]
 pub struct Progress {
     pub place: usize,
     pub last: Last,

@@ -1,5 +1,6 @@
 // The scheduler's calls. No public function has a `requires`: any numbers and any state may be handed in, and each contract
 // says what is answered. A refusal gives back the state as it came in, number for number, and writes nothing that is lent.
+#![tactic(auto)]
 
 ghost use Rattle.std.specs.Prelude.{◌≡◌, eqb};
 ghost use Rattle.rules.specs.Refusals.{pick};
@@ -25,28 +26,28 @@ use story::{ABSENT, Act, CLEAR, Event, Film, State, Title};
 use verdicts::events::{sets_count, verdict};
 
 // What a fresh call gives back.
-#[derive(Drop)]
+#[derive(Clone, Copy)]
 pub struct Started {
     pub answer: u8,
     pub state: State,
 }
 
 // What an event gives back: the answer, and the next state or the one that came in.
-#[derive(Drop)]
+#[derive(Clone, Copy)]
 pub struct Outcome {
     pub answer: u8,
     pub state: State,
 }
 
 // What a lane question gives back: the answer, and the cell that goes out, 0 beside a refusal.
-#[derive(Drop)]
+#[derive(Clone, Copy)]
 pub struct Shown {
     pub answer: u8,
     pub cell: u64,
 }
 
 // What the question of lanes held gives back: the answer, and how many, 0 beside a refusal.
-#[derive(Drop)]
+#[derive(Clone, Copy)]
 pub struct HeldLanes {
     pub answer: u8,
     pub lanes: u64,

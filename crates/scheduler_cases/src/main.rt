@@ -1,6 +1,7 @@
 // Runs 01's worked cases 5 to 9 through the calls, a lane that resumes before its list has gone, two where a lane owes to the boxes of an earlier count alone, and status. Each
 // line has the case, the answers of its events, and what a lane shows at each time from one to another: a cell, or "r"
 // and the number of a refusal.
+#![tactic(auto)]
 
 use story::State;
 

@@ -1,5 +1,6 @@
 // The schemes by which titles are sent: the padded grid, and the steady lanes of a skip-forward title (02, 12). A title's kind
 // says which; any number but STEADY is the padded grid.
+#![tactic(auto)]
 
 ghost use Rattle.std.specs.Prelude.{◌^◌, ◌≤◌, ◌<◌, ◌≡◌};
 ghost use Rattle.rules.specs.Limits.{count_max};

@@ -3,6 +3,7 @@
 // a terminal an answer appears as its line is entered, and a file costs few system calls. Where both are a terminal a prompt
 // stands before each line that is waited for. A read or a write that fails is said on standard error and ends the session. No
 // contract can say what is read and written.
+#![tactic(auto)]
 
 use libc::{STDIN_FILENO, STDOUT_FILENO};
 use streams::{Filled, refill};
@@ -10,7 +11,7 @@ use text::bytes::Sort;
 use text::{bytes, feed};
 
 // Where a session stands between two lines.
-#[derive(Drop)]
+#[derive(Clone, Copy)]
 pub struct Session {
     // whether a line is at hand: the bytes of the input row from `from` up to `end`, without its newline
     pub found: bool,

@@ -2,6 +2,7 @@
 // titles have no part in it, and what they hold while they are open is not shared.
 //
 // `rates_ok`, `floors` and `shared_pool` are what a caller tests before a sharing.
+#![tactic(auto)]
 
 pub mod rows;
 

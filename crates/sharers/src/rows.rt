@@ -12,7 +12,7 @@ use rules::TITLES_MAX;
 use story::{State, Title};
 
 // Of the first `many` places of each row, a title's numbers.
-#[derive(Drop)]
+#[derive(Clone, Copy)]
 pub struct Rows {
     pub many: usize,
     pub rates: [u32; TITLES_MAX],

@@ -4,6 +4,8 @@
 // `share` is the one call. It has no `requires`: its contract settles the answer and the whole lent row for all inputs,
 // by definitions in specs/Verdict and `sharing_choice` specs/Choice that say "least over all choices" and say nothing of how the code
 // gets there. The code gives the lanes out one at a time, so its work grows with lanes times titles.
+#![tactic(auto)]
+
 ghost use Rattle.sharing.specs.Verdict.{ShareAnswered};
 
 mod verdict;

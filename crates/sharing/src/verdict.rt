@@ -8,7 +8,7 @@ use rules::within;
 use sharing_titles::titles::{Rated, floor_total, title_at};
 
 // What one look at every title tells.
-#[derive(Drop)]
+#[derive(Clone, Copy)]
 pub struct TitlesTally {
     // each number is within its limits
     pub allowed: bool,

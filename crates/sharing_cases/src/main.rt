@@ -1,6 +1,7 @@
 // Runs sharings whose answers were worked out apart from the code, by trying all choices (expected.py, beside src/,
 // which writes `stdout`), and writes each answer and the whole lent row. The row has 17 places that start as 77, so
 // that a line shows which places stay.
+#![tactic(auto)]
 
 // A blank, then a number.
 fn number(n: u64) {

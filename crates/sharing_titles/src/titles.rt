@@ -4,7 +4,7 @@ ghost use Rattle.rules.specs.Limits.{titles_max};
 ghost use Rattle.sharing_titles.specs.Titles.{rated_title, titles, row_total, SameLengths};
 
 // What the sharing knows of a title.
-#[derive(Drop)]
+#[derive(Clone, Copy)]
 pub struct Rated {
     pub rate: u32,
     pub length: u32,

@@ -2,6 +2,7 @@
 // stands their checksum. The crate knows a row by its length and its first number, the layout's version; whether the other numbers are
 // within their limits is for the crate above to test, which loads into a row of its own first.
 // No public function has a `requires`, and a refusal writes nothing.
+#![tactic(auto)]
 
 ghost use Rattle.std.specs.Prelude.{◌≡◌, ◌*◌, ◌≤◌, length};
 ghost use Rattle.std.proofs.lemmas.List.Edits.{sets};

@@ -1,6 +1,7 @@
 // Over which time a log of notices is drawn, and how many lanes each id has a row for: from the first accepted event to the last lane
 // that is released. The log is played once into a fresh agent. These functions are for the crates above, and say in a `requires` what
 // they build on.
+#![tactic(auto)]
 
 ghost use Rattle.std.specs.Prelude.{◌≡◌, true, ◌≤◌, length};
 ghost use Rattle.rules.specs.Limits.{within, pool_min, pool_max, id_max, titles_max};
@@ -25,7 +26,7 @@ use releases::title_until;
 
 // What is drawn of a log as far as it was played: whether an event was accepted, the time of the first, and of each id the largest cap
 // that it was opened with, 0 where it was not.
-#[derive(Drop)]
+#[derive(Clone, Copy)]
 pub struct Extent {
     pub begun: bool,
     pub first: u64,
@@ -33,7 +34,7 @@ pub struct Extent {
 }
 
 // The same of a whole log, with the moment up to which it is drawn, and the place where its reading stopped.
-#[derive(Drop)]
+#[derive(Clone, Copy)]
 pub struct Outline {
     pub extent: Extent,
     pub end: u64,
@@ -41,7 +42,7 @@ pub struct Outline {
 }
 
 // A log as far as it was played, and what is drawn of it.
-#[derive(Drop)]
+#[derive(Clone, Copy)]
 struct Measured {
     played: PlayedLog,
     extent: Extent,

@@ -1,5 +1,6 @@
 // Status: at a given time, the count, the lanes held and the held mark of each title asked for, by its id (01, "Status"; 02,
 // 7), over flat rows; `status_records` has it over a row of records. It has no `requires`; a refusal writes nothing.
+#![tactic(auto)]
 
 ghost use Rattle.std.specs.Prelude.{◌≡◌, true, map, eqb, length};
 ghost use Rattle.rules.specs.Refusals.{pick};

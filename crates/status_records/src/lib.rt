@@ -1,4 +1,5 @@
 // Status over a lent row of records, thin above the flat call (01, "Status"; 02, 7). It has no `requires`; a refusal writes nothing.
+#![tactic(auto)]
 
 ghost use Rattle.std.specs.Prelude.{◌≡◌, map, leb, eqb};
 ghost use Rattle.rules.specs.Limits.{both, id_max};
@@ -12,7 +13,7 @@ use status::status;
 use story::State;
 
 // A title asked for by its id, with the numbers that are filled in.
-#[derive(Drop)]
+#[derive(Clone, Copy)]
 pub struct Record {
     pub id: u64,
     pub count: u64,

@@ -1,5 +1,6 @@
 // What happens to titles, and what the scheduler keeps of it, number by number. What the numbers mean is defined in specs/, and that they tell the story of
 // the accepted events is proved in proofs/. The calls stand in the crate above.
+#![tactic(auto)]
 
 use rules::{COUNT_PLACES, LANE_PLACES, TITLES_MAX};
 
@@ -17,7 +18,7 @@ pub const HELD: u64 = 1;
 
 // What is sent as a title: the scheme that it is sent by, its length in ms, and the counts that it may have, from its floor
 // to its cap.
-#[derive(Drop)]
+#[derive(Clone, Copy)]
 pub struct Film {
     pub kind: u64,
     pub length: u64,
@@ -26,7 +27,7 @@ pub struct Film {
 }
 
 // What an event does to its title: opens it as a film with a count, changes the count, closes it, holds or lifts its doors.
-#[derive(Drop)]
+#[derive(Clone, Copy)]
 pub enum Act {
     Opens { film: Film, count: u64 },
     Changes { count: u64 },
@@ -35,7 +36,7 @@ pub enum Act {
 }
 
 // An event: the title's id, its time in ms, and what it does.
-#[derive(Drop)]
+#[derive(Clone, Copy)]
 pub struct Event {
     pub title: u64,
     pub time: u64,
@@ -44,7 +45,7 @@ pub struct Event {
 
 // One title. A tick is counted from the opening; a row of counts has a place for each count up to the largest, a row of
 // lanes one for each lane.
-#[derive(Drop)]
+#[derive(Clone, Copy)]
 pub struct Title {
     pub mode: u64,
     pub film: Film,
@@ -63,7 +64,7 @@ pub struct Title {
 }
 
 // The pool: its lanes, the time of the last accepted event, and a slot for each id.
-#[derive(Drop)]
+#[derive(Clone, Copy)]
 pub struct State {
     pub pool: u64,
     pub last: u64,

@@ -2,6 +2,7 @@
 // end. A read or a write that fails is said in a line on standard error, in the system's words, before the call answers:
 // the caller has nothing left to do but to stop. No public function has a `requires`, and no contract can say which
 // bytes are read or written. `usage` is how many arguments a program takes, and the line that says what is wrong with them.
+#![tactic(auto)]
 
 pub mod usage;
 
@@ -11,7 +12,7 @@ ghost use Rattle.streams.specs.Reads.{Fits, Holds};
 use libc::{STDIN_FILENO, STDOUT_FILENO};
 
 // What one read gave.
-#[derive(Drop)]
+#[derive(Clone, Copy)]
 enum Got {
     // so many bytes, at the room's start: one at least
     Bytes(usize),
@@ -22,7 +23,7 @@ enum Got {
 }
 
 // What stands at a buffer's start after a read behind the bytes that were kept there.
-#[derive(Drop)]
+#[derive(Clone, Copy)]
 pub enum Filled {
     // so many bytes, the kept ones first
     More(usize),

@@ -11,7 +11,7 @@ use rules::COUNT_PLACES;
 
 // Where a slot of a lane ends that begins with the latest box of a count that had it, 0 where there was none; and the latest end of such
 // a count.
-#[derive(Drop)]
+#[derive(Clone, Copy)]
 pub struct Latest {
     pub until: u64,
     pub end: u64,

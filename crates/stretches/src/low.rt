@@ -30,7 +30,7 @@ use rules::truth::smaller;
 use story::{Film, Title};
 
 // A lane of a film below its floor: the ticks of a slot of the floor's count, and the segments that the lane repeats.
-#[derive(Drop)]
+#[derive(Clone, Copy)]
 pub struct Low {
     pub floor: u64,
     pub cap: u64,

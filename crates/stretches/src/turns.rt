@@ -16,7 +16,7 @@ use scheme::{lane_cell, period};
 use story::Film;
 
 // What is left of the turn that runs at a drop, how many of its ticks are owed, and how many of the next turn's: the first of each.
-#[derive(Drop)]
+#[derive(Clone, Copy)]
 pub struct Turns {
     pub left: u64,
     pub first: u64,

@@ -26,7 +26,7 @@ use story::Film;
 
 // A lane dropped at tick `at`, a slot start: the ticks of its slot, the number of that slot as Theorem 1 lifts it, where a slot ends that
 // begins with the latest box, and how many cells hold film.
-#[derive(Drop)]
+#[derive(Clone, Copy)]
 pub struct Walk {
     pub lane: u64,
     pub at: u64,

@@ -10,7 +10,7 @@ use measures::ticks::since;
 use moments::starts::larger;
 
 // The first moment that is drawn, how many follow it, the plot's columns, and how many tenths of a pixel each has.
-#[derive(Drop)]
+#[derive(Clone, Copy)]
 pub struct Scale {
     pub first: u64,
     pub span: u64,
@@ -19,7 +19,7 @@ pub struct Scale {
 }
 
 // The band of an id: its left upper corner is the plot's left edge and its top.
-#[derive(Drop)]
+#[derive(Clone, Copy)]
 pub struct Band {
     pub scale: Scale,
     pub id: u64,

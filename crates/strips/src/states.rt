@@ -12,7 +12,7 @@ use rules::truth::smaller;
 use story::{ABSENT, Title};
 
 // Whether there is one, whether the lane is active in it, from when to when, and of a sending lane how many cells it owed.
-#[derive(Drop)]
+#[derive(Clone, Copy)]
 pub struct Stretch {
     pub some: bool,
     pub active: bool,

@@ -1,6 +1,7 @@
 // The checksum of stored bytes: CRC-32C. Four parts of a long row go through registers of their own, bit by bit, and a register is then
 // moved on over the parts behind it. The compiler knows the loop over bits and looks each byte up in a table of its own making; a table of
 // the source would be copied at each call. The calls `sum` and `sum_joined` have no `requires`.
+#![tactic(auto)]
 
 ghost use Rattle.std.specs.Prelude.{◌-◌, ◌*◌, ◌≤◌, ◌<◌, ◌^◌, ◌≡◌, ◌++◌, length, get_or};
 ghost use Rattle.std.specs.Int.Bits.{bit_xor};
@@ -79,7 +80,7 @@ fn rest(bytes: &[u8], from: usize, r: u32) -> u32
 }
 
 // The registers of four parts of a row, each as if it stood alone.
-#[derive(Drop)]
+#[derive(Clone, Copy)]
 struct Registers(u32, u32, u32, u32);
 
 // The four parts of so many bytes each, a byte of each at a time: none waits for another.

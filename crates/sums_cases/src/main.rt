@@ -1,4 +1,5 @@
 // The published vectors of CRC-32C (RFC 3720, appendix B.4), the check value of the catalogues, and the sum of no bytes; a line each.
+#![tactic(auto)]
 
 const STDOUT: i32 = 1;
 

@@ -1,5 +1,6 @@
 // When a box takes each cell of a film and from which lane, and how many it keeps, from the numbers of a title's lanes. These functions
 // are for the crates above, and say in a `requires` what they build on.
+#![tactic(auto)]
 
 ghost use Rattle.std.specs.Prelude.{◌*◌, ◌≤◌, ◌<◌, ◌≡◌, eqb, length as places, get_or};
 ghost use Rattle.rules.specs.Limits.{plan_places, lane_places, length_max};
@@ -11,7 +12,7 @@ use rules::LANE_PLACES;
 use rules::truth::{also, one_if};
 
 // The most cells that are kept in any tick, and the first tick in which they are.
-#[derive(Drop)]
+#[derive(Clone, Copy)]
 pub struct Peak {
     pub many: u64,
     pub tick: u64,

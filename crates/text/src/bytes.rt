@@ -4,7 +4,7 @@ ghost use Rattle.std.specs.Prelude.{◌≡◌, ◌<◌};
 ghost use Rattle.text.specs.Bytes.{is_sort, run_end as reached, digit_of};
 
 // What a run of bytes may be made of.
-#[derive(Drop)]
+#[derive(Clone, Copy)]
 pub enum Sort {
     Separator,
     Word,

@@ -10,7 +10,7 @@ use crate::output;
 const DIGITS_MOST: usize = 20;
 
 // The digits of a number: those of row from `from` on.
-#[derive(Drop)]
+#[derive(Clone, Copy)]
 struct Digits {
     row: [u8; DIGITS_MOST],
     from: usize,

@@ -6,7 +6,7 @@ ghost use Rattle.text.specs.Numbers.{grow as grown, capped, amount, above as bey
 use crate::bytes;
 
 // A number of any size, held at most at TOP; over says that it was larger.
-#[derive(Drop)]
+#[derive(Clone, Copy)]
 pub struct Number {
     pub value: u64,
     pub over: bool,

@@ -1,5 +1,6 @@
 // What a title alone answers to an event, in 01's order: the refusals behind those of the numbers and of the clock, and before the
 // want of lanes. The functions require a title whose numbers are within their limits, which `limits::state_ok` gives.
+#![tactic(auto)]
 
 ghost use Rattle.std.specs.Prelude.{◌≤◌, ◌≡◌, true};
 ghost use Rattle.rules.specs.Limits.{asked_max};

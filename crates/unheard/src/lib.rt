@@ -1,5 +1,6 @@
 // Which notices of a log did not count: they are told one after the other to a fresh agent of a pool, which refuses some. No
 // public function has a `requires`: any pool and any bytes have an answer.
+#![tactic(auto)]
 
 ghost use Rattle.std.specs.Prelude.{◌≡◌, true, length};
 ghost use Rattle.rules.specs.Limits.{within as is_within, pool_min, pool_max};
@@ -16,7 +17,7 @@ use rules::{DONE, MALFORMED, OUTSIDE_LIMITS, POOL_MAX, POOL_MIN, within};
 
 // How many notices were told, how many of them did not count, and of the first of those its number, from 1 on, and what it was
 // answered; both are 0 where all count.
-#[derive(Drop)]
+#[derive(Clone, Copy)]
 pub struct MissedTally {
     pub notices: u64,
     pub missed: u64,
@@ -25,14 +26,14 @@ pub struct MissedTally {
 }
 
 // What the call gives back. Beside a refusal the tally is of no notice.
-#[derive(Drop)]
+#[derive(Clone, Copy)]
 pub struct Unheard {
     pub answer: u8,
     pub tally: MissedTally,
 }
 
 // A log as far as it was played, and the tally of its notices.
-#[derive(Drop)]
+#[derive(Clone, Copy)]
 struct Counted {
     played: PlayedLog,
     tally: MissedTally,

@@ -1,4 +1,5 @@
 // What programs over a log say on standard error where notices of it did not count. No public function has a `requires`.
+#![tactic(auto)]
 
 ghost use Rattle.text.specs.Output.{Written};
 ghost use Rattle.unheard_io.specs.Line.{missed_line, unheard_line};

@@ -1,3 +1,4 @@
 // What events answer, read off any state: the verdicts that the calls go by, in 01's order of refusals.
+#![tactic(auto)]
 
 pub mod events;

@@ -1,5 +1,6 @@
 // How long people waited (02, request 1): for the latest opening of one title in a log of notices, how many arrivals got in, the
 // longest wait and the exact sum of waits. No public function has a `requires`: any pool, bytes, title and row have an answer.
+#![tactic(auto)]
 
 pub mod reasons;
 
@@ -28,7 +29,7 @@ use story::{OPEN, Title};
 pub const ROW_MAX: usize = 4_096;
 
 // The report. Beside a refusal the other numbers are 0.
-#[derive(Drop)]
+#[derive(Clone, Copy)]
 pub struct Report {
     pub answer: u8,
     pub arrivals: u64,
@@ -36,7 +37,7 @@ pub struct Report {
 }
 
 // A log as far as it was played, and the tally of the title.
-#[derive(Drop)]
+#[derive(Clone, Copy)]
 struct Counted {
     played: PlayedLog,
     tally: Tally,

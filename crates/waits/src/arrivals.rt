@@ -9,7 +9,7 @@ use text::output::put_value;
 
 // A text as far as it was read: how many numbers of it are in the row; the number being spelt, and whether one is; and whether
 // every byte was in a number or between two, otherwise which byte was the first that was not, counted from 1.
-#[derive(Drop)]
+#[derive(Clone, Copy)]
 pub struct ArrivalsScan {
     pub count: usize,
     pub value: u64,

@@ -1,4 +1,5 @@
 // How long people waited for a title's next admission: arguments POOL TITLE LOG ARRIVALS.
+#![tactic(auto)]
 
 mod arrivals;
 mod complaints;

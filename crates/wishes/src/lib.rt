@@ -1,5 +1,6 @@
 // Which changes the sharing of the pool asks for (02, 11 and 12): a title that shares it, and whose share differs from its
 // count, is wished another, the drops first, each kind lowest id first. What a caller tests before `wishes_of` is in `sharers`.
+#![tactic(auto)]
 
 mod passes;
 mod shares;
@@ -16,7 +17,7 @@ use rules::TITLES_MAX;
 use story::State;
 
 // The changes that are wished for, in their order: of the first `many` places of each row, the title's id and its count.
-#[derive(Drop)]
+#[derive(Clone, Copy)]
 pub struct Wishes {
     pub many: usize,
     pub titles: [u64; TITLES_MAX],

@@ -1,0 +1,333 @@
+#!/usr/bin/env python3
+"""Turns a crate's Proof.antt files into Invariants.antt and Answers.antt, by the names that `rt names` lists.
+
+usage: answers.py NAMES.json CRATE [FUNCTION..]     CRATE is the folder above proofs/; FUNCTION as in proofs/, with dots
+
+An answer that only says `search rules` is left out: the check finds it. A path c.before.before.f becomes c.f, with the step's new name.
+What it can't turn is said in a line that begins 'look:'.
+"""
+
+import json
+import os
+import re
+import sys
+
+W = r"[^\s(){}.;,@\"«»\[\]|`:]+"
+SIG = re.compile(r"^((?:abbrev |unfoldable |pub )*)(" + W + r")((?:\s+" + W + r")*)\s*:\s*(.*)$", re.S)
+
+
+def norm(s):
+    return re.sub(r"^(overflow|nonzero)-", "", s.replace("_", "-"))
+
+
+def norms(s):
+    s = norm(s)
+    out = [s]
+    m = re.match(r"slice-bounds-(.*)-(start|end)(.*)$", s)
+    if m:
+        out += [f"part-{m[1]}-{m[2]}{m[3]}"]
+    if s.startswith("slice-bounds-"):
+        out += ["slice-aggregate-" + s[len("slice-bounds-"):], "sub-" + s[len("slice-bounds-"):]]
+    if s.startswith("slice-bounds-") and s.endswith("-end"):
+        out += ["sub-" + s[len("slice-bounds-"):-4]]
+    return out
+
+
+class Names:
+    def __init__(self, of):
+        self.of = of
+        self.needs = {}
+        for i, (old, new) in enumerate(of["needs"]):
+            place = of["asked_at"][i][0] if i < len(of["asked_at"]) else None
+            self.needs[norm(old)] = (new, place)
+            self.needs.setdefault(norm(new), (new, place))
+        self.parent = {}
+        self.fields = {}
+        self.place_new = {}
+        names = of["places_by_name"]
+        for i, (place, parent, (old, new), _callee, _x) in enumerate(of["places"]):
+            self.parent.setdefault(place, parent)
+            self.fields.setdefault(place, (old, new))
+            if i < len(names):
+                self.place_new.setdefault(place, names[i])
+        for old, new in of["asked_at"]:
+            self.place_new.setdefault(old, new)
+        self.flat = {}
+        for place, parent, (old, new), _c, _x in of["places"]:
+            if old:
+                self.flat.setdefault(norm(old), new)
+
+    def need(self, name):
+        for n in norms(name):
+            if n in self.needs:
+                return self.needs[n]
+        return None
+
+    def chain(self, place):
+        out = {}
+        seen = set()
+        while place and place not in seen:
+            seen.add(place)
+            if place in self.fields:
+                old, new = self.fields[place]
+                if old:
+                    out.setdefault(norm(old), new)
+            place = self.parent.get(place)
+        return out
+
+    def place(self, name):
+        if name in self.place_new:
+            return name, self.place_new[name]
+        for k, v in self.place_new.items():
+            if norm(k) == norm(name):
+                return k, v
+        return None, None
+
+
+KEEP = {"args", "requires", "ranges", "well_formed", "lifetimes", "type_inv", "auto", "utf8"}
+
+
+def path_pattern(heads):
+    return re.compile(r"(?<![\w.-])(" + "|".join(re.escape(h) for h in heads) + r")((?:\.before)*)\.(" + W + r")(?![\w])")
+
+
+def turn_paths(text, names, place, heads=("c",)):
+    """Paths of c, and of what a let binds to a place, with the new names of steps and no `.before`."""
+    chain = names.chain(place) if place else {}
+    heads = list(heads)
+    for m in re.finditer(r"let (" + W + r") = (" + W + r")((?:\.before)+) in", text):
+        if m[2] in heads and m[1] not in heads:
+            heads.append(m[1])
+
+    def sub(m):
+        f = m[3]
+        if f == "before":
+            return m[0]
+        if f in KEEP:
+            return m[1] + "." + f
+        new = chain.get(norm(f)) or names.flat.get(norm(f))
+        if new:
+            return m[1] + "." + new
+        return m[0]
+
+    return path_pattern(heads).sub(sub, text)
+
+
+def chunks(text):
+    """Top-level pieces of a file: (comment, lines)."""
+    out, comment, cur = [], [], []
+    for line in text.split("\n"):
+        if not line.strip():
+            if cur:
+                cur.append(line)
+            elif comment:
+                comment.append(line)
+            continue
+        if line[0] in " \t":
+            cur.append(line)
+            continue
+        if line.startswith("--"):
+            if cur:
+                out.append((comment, cur))
+                comment, cur = [], []
+            comment.append(line)
+            continue
+        if cur:
+            out.append((comment, cur))
+            comment, cur = [], []
+        cur = [line]
+    if cur or comment:
+        out.append((comment, cur))
+    return [(c, "\n".join(l).rstrip()) for c, l in out]
+
+
+def definitions(pieces):
+    """Signatures with the pieces that define them."""
+    out = []
+    for comment, text in pieces:
+        first = text.split("\n")[0]
+        m = SIG.match(text)
+        if first.startswith(("use ", "pub use ")):
+            out.append(["use", comment, None, [text]])
+        elif first.startswith("unfolding "):
+            out[-1][3].append(text)
+        elif m and not re.match(r"(module|record|data)\b", first) and (re.match(r"^(?:abbrev |unfoldable |pub )*" + W + r"(?:\s+" + W + r")*\s*:", first)):
+            out.append(["def", comment, m, [text]])
+        elif text == "":
+            out.append(["note", comment, None, []])
+        elif re.match(r"(pub )?(module|record|data)\b", first):
+            out.append(["block", comment, None, [text]])
+        elif out and out[-1][0] == "def":
+            if comment:
+                out[-1][3].extend(comment)
+            out[-1][3].append(text)
+        else:
+            out.append(["block", comment, None, [text]])
+    return out
+
+
+def invariants_of(sig, texts, names, kind):
+    m = re.match(r"tie\.(?:invariant|decreases)-(\S+)$", sig[4].strip())
+    loop = m[1]
+    for i, ((old, new), variables) in enumerate(names.of["loops"]):
+        if norm(old) == norm(loop) or norm(new) == norm(loop):
+            break
+    else:
+        return None
+    changed = names.of["changed"][i]
+    body = "\n".join(texts[1:])
+    head = re.match(r"^" + re.escape(sig[2]) + r"((?:\s+" + W + r")*)\s*=\s*", body)
+    if not head:
+        return None
+    params = head[1].split()
+    rest = body[head.end():]
+    n = len(variables)
+    live = [v for v, ch in zip(variables, changed) if ch]
+    if len(params) != n + len(live):
+        return None
+    to = {}
+    for p, v, ch in zip(params, variables, changed):
+        to[p] = f"l.initial.{v}" if ch else f"l.{v}"
+    for p, v in zip(params[n:], live):
+        to[p] = f"l.{v}"
+    to.pop("_", None)
+    rest = re.sub(r"(?<![\w.₀-])" + W, lambda t: to.get(t[0], t[0]), rest) if to else rest
+    name = f"{kind}-{new}"
+    unfolding = [t for t in texts[1:] if t.startswith("unfolding ")]
+    return f"abbrev pub {name} : goal.{name}\n{name} l = {rest}"
+
+
+def turn(path, of, module):
+    names = Names(of)
+    text = open(path, encoding="utf-8").read()
+    defs = definitions(chunks(text))
+    uses, answers, invs, said = [], [], [], []
+    header = []
+    if defs and defs[0][1]:
+        header = defs[0][1]
+        defs[0][1] = []
+    renamed = {}
+    for kind, comment, sig, texts in defs:
+        if kind == "def":
+            m = re.match(r"tie\.Need-([^\s()]+)", sig[4].strip())
+            if m and names.need(m[1]):
+                renamed[sig[2]] = names.need(m[1])[0]
+    helper_inv = False
+    for kind, comment, sig, texts in defs:
+        if kind == "use":
+            t = texts[0]
+            if t.endswith(".Statement.{statement}") or t.endswith(".Tie as tie"):
+                continue
+            uses.append(t)
+            continue
+        if kind != "def":
+            if texts:
+                answers.append((comment, turn_paths("\n".join(texts), names, None), None))
+            continue
+        typ = sig[4].strip()
+        if re.match(r"tie\.(invariant|decreases)-", typ):
+            which = re.match(r"tie\.(invariant|decreases)-", typ)[1]
+            it = invariants_of([None, None, sig[2], None, typ], texts, names, which)
+            if it is None:
+                said.append(f"look: {path}: {sig[2]} is not turned")
+            else:
+                invs.append((comment, it))
+            continue
+        if re.search(r"\{M : Type 1\} → statement", typ) or "tie.close" in "\n".join(texts):
+            continue
+        m = re.match(r"tie\.Need-([^\s()]+)", typ)
+        body = "\n".join(texts[1:])
+        if m:
+            got = names.need(m[1])
+            if not got:
+                said.append(f"look: {path}: no goal stands for {m[1]}")
+                answers.append((comment, "-- ?? " + sig[0].replace("\n", "\n-- ") + "\n-- " + body.replace("\n", "\n-- "), None))
+                continue
+            new, place = got
+            lines = texts[1:]
+            unf = [l for l in lines if l.startswith("unfolding ")]
+            eq = "\n".join(l for l in lines if not l.startswith("unfolding "))
+            eq = re.sub(r"(?m)^" + re.escape(sig[2]) + r"(?=[\s])", new, eq)
+            eq = re.sub(r"(?m)^(" + re.escape(new) + r" (?:c|v|h)) κs(?= |$)", r"\1", eq)
+            if re.fullmatch(re.escape(new) + r" c =\s*search (rules|needs)", eq.strip()):
+                if unf:
+                    answers.append((comment, f"pub {new} : goal.{new}\n" + "\n".join(unf) + f"\n{new} c = search rules", new))
+                continue
+            head = re.match(re.escape(new) + r" (" + W + r")", eq)
+            heads = (head[1],) if head else ("c",)
+            eq = turn_paths(eq, names, place, heads)
+            answers.append((comment, f"pub {new} : goal.{new}\n" + "".join(u + "\n" for u in unf) + eq, new))
+            continue
+        # a lemma of the file, perhaps over a place
+        whole = "\n".join(texts)
+        pl = None
+        heads = ["c"]
+        for q in re.finditer(r"tie\.(Need-)?([A-Z][^\s()]*)", whole):
+            if q[1]:
+                continue
+            old, new = names.place(q[2])
+            if old:
+                pl = pl or old
+        def place_sub(q):
+            old, new = names.place(q[1])
+            return "tie." + (new or q[1])
+        whole = turn_paths(whole, names, pl, heads)
+        whole = re.sub(r"tie\.([A-Z][^\s()]*)", place_sub, whole)
+        whole = re.sub(r"\binvariant-(loop\S*)", lambda q: "goal.the-invariant-" + loop_new(names, q[1]), whole)
+        whole = re.sub(r"\bdecreases-(loop\S*)", lambda q: "goal.the-decreases-" + loop_new(names, q[1]), whole)
+        answers.append((comment, whole, None))
+    # answers that cite one another
+    base = os.path.dirname(path)
+    text_a = ""
+    for comment, it, new in answers:
+        it = re.sub(r"(?<![\w.-])(" + W + r")(?![\w-])", lambda q: renamed.get(q[1], q[1]) if q[1] in renamed and q[1] != new else q[1], it) if renamed else it
+        text_a += "\n" + "".join(c + "\n" for c in comment if c.strip()) + it + "\n"
+    use_text = "".join(u + "\n" for u in uses)
+    if any("tie." in it for _, it, _ in answers):
+        use_text_a = use_text + f"use {module}.Tie as tie\n"
+    else:
+        use_text_a = use_text
+    os.remove(path)
+    head = "".join(h + "\n" for h in header if h.strip())
+    if answers:
+        with open(os.path.join(base, "Answers.antt"), "w", encoding="utf-8") as f:
+            f.write(head + use_text_a + f"use {module}.Goals as goal\n" + text_a)
+    if invs:
+        with open(os.path.join(base, "Invariants.antt"), "w", encoding="utf-8") as f:
+            f.write((head if not answers else "-- What the loop keeps, and what falls.\n") + use_text + f"use {module}.Given as goal\n")
+            for comment, it in invs:
+                f.write("\n" + "".join(c + "\n" for c in comment if c.strip()) + it + "\n")
+    for s in said:
+        print(s)
+
+
+def loop_new(names, old):
+    for (o, n), _v in names.of["loops"]:
+        if norm(o) == norm(old):
+            return n
+    return old
+
+
+def main():
+    listed, crate, *only = sys.argv[1:]
+    data = json.load(open(listed))
+    name = os.path.basename(os.path.normpath(crate))
+    done = 0
+    for k, of in data.items():
+        if not k.endswith(".Lts"):
+            continue
+        fn = k.split(".", 1)[1][: -len(".Lts")]
+        if only and fn not in only:
+            continue
+        path = os.path.join(crate, "proofs", *fn.split("."), "Proof.antt")
+        if not os.path.exists(path):
+            continue
+        if "Tie as tie" not in open(path, encoding="utf-8").read():
+            print(f"look: {path}: a walk by hand")
+            continue
+        turn(path, of, f"Rattle.{name}.proofs.{fn}")
+        done += 1
+    print(f"{name}: {done} turned")
+
+
+main()
