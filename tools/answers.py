@@ -34,8 +34,13 @@ def norms(s):
 
 
 class Names:
-    def __init__(self, of):
+    def __init__(self, of, own=""):
         self.of = of
+        self.requires, self.ensures = CLAUSES.get(own, ([], []))
+        self.callee = {}
+        for _place, _parent, (_old, new), callee, _x in of["places"]:
+            if callee and new:
+                self.callee.setdefault(new, callee)
         self.needs = {}
         for i, (old, new) in enumerate(of["needs"]):
             place = of["asked_at"][i][0] if i < len(of["asked_at"]) else None
@@ -84,6 +89,101 @@ class Names:
         return None, None
 
 
+CLAUSE = re.compile(r"(?:^|\n)[ \t]*(requires|ensures)[ \t]+(\w+)[ \t]*\{")
+FN = re.compile(r"\bfn (\w+)\b")
+
+
+def clause_names(root):
+    """By the path of each function, the names of its requires and of its ensures, where there are two or more."""
+    out = {}
+    for folder, _dirs, files in os.walk(os.path.join(root, "crates")):
+        if "/src" not in folder:
+            continue
+        for f in files:
+            if not f.endswith(".rt"):
+                continue
+            text = open(os.path.join(folder, f), encoding="utf-8").read()
+            crate, _, rest = os.path.join(folder, f)[len(os.path.join(root, "crates")) + 1:].partition("/src/")
+            path = [] if rest in ("lib.rt", "main.rt") else rest[:-3].split("/")
+            if path and path[-1] == "mod":
+                path.pop()
+            starts = [m.start() for m in FN.finditer(text)] + [len(text)]
+            for a, b in zip(starts, starts[1:]):
+                piece = text[a:b]
+                head = piece.split("\n{\n")[0]
+                name = FN.match(piece)[1]
+                got = CLAUSE.findall(head)
+                out["::".join([crate, *path, name])] = ([n for k, n in got if k == "requires"], [n for k, n in got if k == "ensures"])
+    return out
+
+
+CLAUSES = {}
+
+
+def clause_paths(n):
+    """The old paths of n clauses that were a nested pair."""
+    return [".1" * i + ".0" if i < n - 1 else ".1" * (n - 1) for i in range(n)]
+
+
+def named(path, tail, clauses):
+    """A path that ends in requires or ensures, and the numbers behind it, with the clause's name."""
+    for old, name in sorted(zip(clause_paths(len(clauses)), clauses), key=lambda it: -len(it[0])):
+        if tail == old or tail.startswith(old + ".") or (tail.startswith(old) and tail[len(old):len(old) + 1] in ("", ".")):
+            return path + "." + name + tail[len(old):]
+    return path + tail
+
+
+def top_tuple(text):
+    """The parts of a tuple that is the whole text."""
+    t = text.strip()
+    if not (t.startswith("(") and t.endswith(")")):
+        return None
+    depth, parts, cur = 0, [], ""
+    for i, ch in enumerate(t):
+        if ch in "([{":
+            depth += 1
+            if depth == 1:
+                continue
+        if ch in ")]}":
+            depth -= 1
+            if depth == 0:
+                if i != len(t) - 1:
+                    return None
+                parts.append(cur)
+                break
+        if ch == "," and depth == 1:
+            parts.append(cur)
+            cur = ""
+            continue
+        cur += ch
+    return [p.strip() for p in parts] if len(parts) > 1 else None
+
+
+def as_record(body, clauses):
+    """A body that ends in a tuple, as a record of named clauses."""
+    m = re.match(r"(.*\bin\s+|\s*)(\(.*\))\s*$", body, re.S)
+    tries = []
+    if body.strip().startswith("("):
+        tries.append(("", body.strip()))
+    for q in re.finditer(r"\bin\s+(?=\()", body):
+        tries.append((body[:q.end()], body[q.end():].strip()))
+    for head, tail in tries:
+        parts = top_tuple(tail)
+        if parts is None:
+            continue
+        while len(parts) < len(clauses):
+            more = top_tuple(parts[-1])
+            if more is None:
+                break
+            parts = parts[:-1] + more
+        if len(parts) > len(clauses):
+            k = len(clauses)
+            parts = parts[:k - 1] + ["(" + ", ".join(parts[k - 1:]) + ")"]
+        if len(parts) == len(clauses):
+            return head + "record { " + "; ".join(f"{n} = {p}" for n, p in zip(clauses, parts)) + " }"
+    return None
+
+
 KEEP = {"args", "requires", "ranges", "well_formed", "lifetimes", "type_inv", "auto", "utf8"}
 
 
@@ -110,7 +210,36 @@ def turn_paths(text, names, place, heads=("c",)):
             return m[1] + "." + new
         return m[0]
 
-    return path_pattern(heads).sub(sub, text)
+    text = path_pattern(heads).sub(sub, text)
+    return turn_clauses(text, names, heads)
+
+
+def turn_clauses(text, names, heads):
+    """Numbers behind requires and ensures become names of clauses, also behind what a let binds to one."""
+    whose = {}
+    for m in re.finditer(r"let (" + W + r") = ((?:" + W + r"\.)*(?:requires|ensures)|" + W + r"\." + W + r") in", text):
+        parts = m[2].split(".")
+        if parts[0] not in heads:
+            continue
+        if parts[-1] == "requires" and len(names.requires) > 1:
+            whose[m[1]] = ("", names.requires)
+        elif parts[-1] == "ensures" and len(CLAUSES.get(names.callee.get(parts[-2], ""), ([], []))[1]) > 1:
+            whose[m[1]] = ("", CLAUSES[names.callee[parts[-2]]][1])
+        elif parts[-1] in names.callee and len(CLAUSES.get(names.callee[parts[-1]], ([], []))[1]) > 1:
+            whose[m[1]] = (".ensures", CLAUSES[names.callee[parts[-1]]][1])
+
+    def sub(m):
+        head, mid, word, tail = m[1], m[2], m[3], m[4]
+        if word == "requires":
+            return named(head + mid + "." + word, tail, names.requires) if len(names.requires) > 1 else m[0]
+        step = mid.split(".")[-1] if mid else ""
+        clauses = CLAUSES.get(names.callee.get(step, ""), ([], []))[1]
+        return named(head + mid + "." + word, tail, clauses) if len(clauses) > 1 else m[0]
+
+    text = re.sub(r"(?<![\w.-])(" + W + r")((?:\.(?!requires\b|ensures\b)" + W + r")*)\.(requires|ensures)((?:\.[01])+)(?![\w])", sub, text)
+    for v, (mid, clauses) in whose.items():
+        text = re.sub(r"(?<![\w.-])(" + re.escape(v + mid) + r")((?:\.[01])+)(?![\w])", lambda m: named(m[1], m[2], clauses), text)
+    return text
 
 
 def chunks(text):
@@ -197,8 +326,8 @@ def invariants_of(sig, texts, names, kind):
     return f"abbrev pub {name} : goal.{name}\n{name} l = {rest}"
 
 
-def turn(path, of, module):
-    names = Names(of)
+def turn(path, of, module, own=""):
+    names = Names(of, own)
     text = open(path, encoding="utf-8").read()
     defs = definitions(chunks(text))
     uses, answers, invs, said = [], [], [], []
@@ -256,6 +385,18 @@ def turn(path, of, module):
             head = re.match(re.escape(new) + r" (" + W + r")", eq)
             heads = (head[1],) if head else ("c",)
             eq = turn_paths(eq, names, place, heads)
+            clauses = None
+            if new.endswith("-requires"):
+                clauses = of["asked"].get(new) or CLAUSES.get(names.callee.get(new[:-len("-requires")], ""), ([], []))[0]
+            elif new.startswith("returns"):
+                clauses = names.ensures
+            if clauses and len(clauses) > 1:
+                q = re.match(re.escape(new) + r"((?:\s+" + W + r")*)\s*=", eq)
+                made = as_record(eq[q.end():], clauses) if q and "\n" + new not in eq else None
+                if made:
+                    eq = eq[:q.end()] + " " + made.lstrip()
+                elif "search rules" not in eq:
+                    said.append(f"look: {path}: {new} wants a record of {', '.join(clauses)}")
             answers.append((comment, f"pub {new} : goal.{new}\n" + "".join(u + "\n" for u in unf) + eq, new))
             continue
         # a lemma of the file, perhaps over a place
@@ -272,7 +413,7 @@ def turn(path, of, module):
             old, new = names.place(q[1])
             return "tie." + (new or q[1])
         whole = turn_paths(whole, names, pl, heads)
-        whole = re.sub(r"tie\.([A-Z][^\s()]*)", place_sub, whole)
+        whole = re.sub(r"tie\.(?!Need)([A-Z][^\s()]*)", lambda q: "lts." + (names.place(q[1])[0] or q[1]) + " AT", whole)
         whole = re.sub(r"\binvariant-(loop\S*)", lambda q: "goal.the-invariant-" + loop_new(names, q[1]), whole)
         whole = re.sub(r"\bdecreases-(loop\S*)", lambda q: "goal.the-decreases-" + loop_new(names, q[1]), whole)
         answers.append((comment, whole, None))
@@ -283,8 +424,8 @@ def turn(path, of, module):
         it = re.sub(r"(?<![\w.-])(" + W + r")(?![\w-])", lambda q: renamed.get(q[1], q[1]) if q[1] in renamed and q[1] != new else q[1], it) if renamed else it
         text_a += "\n" + "".join(c + "\n" for c in comment if c.strip()) + it + "\n"
     use_text = "".join(u + "\n" for u in uses)
-    if any("tie." in it for _, it, _ in answers):
-        use_text_a = use_text + f"use {module}.Tie as tie\n"
+    if any("lts." in it for _, it, _ in answers):
+        use_text_a = use_text + f"use {module}.Tie as tie\nuse {module}.Lts as lts\nuse {module}.Reads as reads\n"
     else:
         use_text_a = use_text
     os.remove(path)
@@ -311,6 +452,7 @@ def loop_new(names, old):
 def main():
     listed, crate, *only = sys.argv[1:]
     data = json.load(open(listed))
+    CLAUSES.update(clause_names(os.path.dirname(os.path.dirname(os.path.abspath(crate)))))
     name = os.path.basename(os.path.normpath(crate))
     done = 0
     for k, of in data.items():
@@ -325,7 +467,7 @@ def main():
         if "Tie as tie" not in open(path, encoding="utf-8").read():
             print(f"look: {path}: a walk by hand")
             continue
-        turn(path, of, f"Rattle.{name}.proofs.{fn}")
+        turn(path, of, f"Rattle.{name}.proofs.{fn}", "::".join([name, *fn.split(".")]))
         done += 1
     print(f"{name}: {done} turned")
 

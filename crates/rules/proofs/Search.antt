@@ -62,7 +62,7 @@ module _ (p : ℕ → Bool) where
     where
       go : (f : ℕ) (b : Bool) → f ≤ n → keep_first f n b ≤ suc n
       go f b l =
-          ⊎_elim (λ t. rw t (omega arith)) (λ t. rw t (elim b [ true ↦ omega arith | false ↦ omega arith ]))
+          ⊎_elim (λ t. rw t (omega arith)) (λ t. rw t (elim b as (λ b. pick b n (suc n) ≤ suc n) [ true ↦ omega arith | false ↦ omega arith ]))
           (decide (ltb f n))
 
   -- before the first the test fails

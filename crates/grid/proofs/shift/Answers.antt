@@ -4,10 +4,9 @@ use mathlib.Core.Path.{ap}
 use Prim.Native.Nat.{◌-◌}
 use Rattle.grid.specs.Channels.{shift}
 use borrow.Author.Rules.{rules}
-use Rattle.grid.proofs.shift.Statement.{statement}
-use Rattle.grid.proofs.shift.Tie as tie
+use Rattle.grid.proofs.shift.Goals as goal
 
-returns : tie.Need-returns
+pub returns : goal.returns
 unfolding shift
 returns c =
     record {
@@ -15,6 +14,3 @@ returns c =
       low = omega arith;
       high = omega (arith, c.pow2.ensures.high);
     }
-
-pub shift-spec : {M : Type 1} → statement M
-shift-spec = tie.close (tie.spec (λ c. search rules) (λ c κs. search rules) (λ c. search rules) returns)
