@@ -1,0 +1,11 @@
+-- `agent::take` meets its contract: what the bytes read as, put to the agent.
+use mathlib.Core.Path.{sym, ◌∙◌}
+use Rattle.agent.proofs.Turns.{reads_as, malformed_stays}
+use borrow.Author.Rules.{rules}
+use Rattle.agent.proofs.take.Goals as goal
+
+pub returns-in-Whole : goal.returns-in-Whole
+returns-in-Whole c = reads_as _ _ _ _ _ (sym c.read-read.ensures.is ∙ c.read-1.given.1) c.heed.ensures
+
+pub returns-in-Malformed : goal.returns-in-Malformed
+returns-in-Malformed c = reads_as _ _ _ _ _ (sym c.read-read.ensures.is ∙ c.enum_told-1.given.1) (malformed_stays _)

@@ -1,0 +1,54 @@
+-- `charts::whole::put_finest` meets its contract: wider columns are tried while the picture has no room.
+use Prim.Native.Nat.{◌≤◌, ◌-◌}
+use mathlib.Core.Path.{◌≡◌, refl, sym, ap, ◌∙◌}
+use native.Mathlib.Omega.{arith}
+use lib.ListN.{length}
+use Rattle.charts.proofs.Fitting.{Trying, begins, tries_on, found, left_some}
+use borrow.Author.Rules.{rules}
+use Rattle.charts.proofs.whole.put_finest.Goals as goal
+
+pub loop-end-init : goal.loop-end-init
+loop-end-init c =
+    let at-put-fresh = c.before.before in
+    begins _ _ _ _ _ _ (sym at-put-fresh.put_fresh-end.auto.0) at-put-fresh.put_fresh-end.ensures refl
+
+pub overflow_sub-left : goal.overflow_sub-left
+overflow_sub-left c =
+    let at-if1 = c.before in
+    let at-is-cut = at-if1.before in
+    let at-loop = at-is-cut.before in
+    omega (arith, left_some at-loop.loop-end.left (length at-loop.loop-end.out) at-loop.loop-end.end _ at-is-cut.is_cut.ensures at-if1.loop-end-test.true)
+
+pub put_fresh-end-requires-in-loop-end : goal.put_fresh-end-requires-in-loop-end
+put_fresh-end-requires-in-loop-end c =
+    let at_start = c.before.before.before.before.before.before.before.before.before.before.before in
+    at_start.requires
+
+pub loop-end-smaller : goal.loop-end-smaller
+loop-end-smaller c =
+    let at-if1 = c.before.before.before.before.before in
+    let at-is-cut = at-if1.before in
+    let at-loop = at-is-cut.before in
+    omega (arith, left_some at-loop.loop-end.left (length at-loop.loop-end.out) at-loop.loop-end.end _ at-is-cut.is_cut.ensures at-if1.loop-end-test.true)
+
+pub loop-end-preserved : goal.loop-end-preserved
+loop-end-preserved c =
+    let at-put-fresh2 = c.before.before in
+    let at-coarser = at-put-fresh2.before.before in
+    let at-if1 = at-coarser.before in
+    let at-is-cut = at-if1.before in
+    let at-loop = at-is-cut.before in
+    tries_on _ _ _ _ _ _ _ _ at-loop.loop-end.invariant _ at-is-cut.is_cut.ensures at-if1.loop-end-test.true _ at-coarser.coarser-grain.ensures _ _ at-put-fresh2.put_fresh-end-in-loop-end.ensures at-put-fresh2.put_fresh-end-in-loop-end.auto.0
+
+pub shape_of-out : goal.shape_of-out
+shape_of-out c =
+    let at-loop = c.before.before in
+    let at-put-fresh = at-loop.before.before.before in
+    at-loop.loop-end.invariant.long ∙ at-put-fresh.put_fresh-end.auto.0
+
+pub returns : goal.returns
+returns c =
+    let at-is-cut = c.before in
+    let at-loop = at-is-cut.before in
+    let at-put-fresh = at-loop.before.before.before in
+    found _ _ _ _ _ _ _ _ at-loop.loop-end.invariant _ at-is-cut.is_cut.ensures _ at-put-fresh.put_fresh-end.auto.0 c.loop-end-test.false

@@ -1,0 +1,26 @@
+-- `frames::headings::put_heading` meets its contract: its parts are written one behind the other.
+use Rattle.text.specs.Texts.{text}
+use Rattle.text.proofs.Pages.{puts_then}
+use Rattle.frames.specs.Headings.{heading_text}
+use borrow.Author.Rules.{rules}
+use Rattle.frames.proofs.headings.put_heading.Goals as goal
+
+pub returns : goal.returns
+unfolding text heading_text
+returns c =
+    let at-put-label-end = c.before.before in
+    let at-put-clock2 = at-put-label-end.before.before.before.before in
+    let at-put3 = at-put-clock2.before.before.before.before in
+    let at-put-clock = at-put3.before.before.before.before.before in
+    let at-put2 = at-put-clock.before.before.before.before in
+    let at-put-number = at-put2.before.before.before.before.before in
+    let at-put = at-put-number.before.before.before.before in
+    let at-put-label = at-put.before.before.before.before.before in
+    puts_then _ _ _ (puts_then _ _ _ (puts_then _ _ _ (puts_then _ _ _ (puts_then _ _ _ (puts_then _ _ _ (puts_then _ _ _ at-put-label.put_label-a.ensures
+    at-put.put-b.ensures)
+    at-put-number.put_number-c.ensures)
+    at-put2.put-d.ensures)
+    at-put-clock.put_clock-e.ensures)
+    at-put3.put-f.ensures)
+    at-put-clock2.put_clock-g.ensures)
+    at-put-label-end.put_label_end.ensures

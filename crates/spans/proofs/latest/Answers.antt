@@ -1,0 +1,43 @@
+-- `spans::latest` meets its contract: slot by slot.
+use Prim.Native.Nat.{◌≤◌, ◌-◌}
+use mathlib.Core.Path.{◌≡◌, refl, ap, ◌∙◌}
+use native.Mathlib.Omega.{arith}
+use native.Mathlib.Numerals.{add-one}
+use native.Mathlib.Nat.{le_antisymm}
+use Rattle.rules.specs.Limits.{titles_max}
+use Rattle.agent_rows.specs.Packed.{unpacked}
+use Rattle.spans.specs.Extents.{latest_over}
+use Rattle.moments.proofs.Due.{title_timed}
+use borrow.Author.Rules.{rules}
+use Rattle.spans.proofs.latest.Goals as goal
+
+pub loop-id-init : goal.loop-id-init
+unfolding latest_over
+loop-id-init c = (omega arith, refl)
+
+pub title_at-requires : goal.title_at-requires
+title_at-requires c =
+    let at_start = c.before.before.before in
+    (at_start.requires.long, omega (arith, c.loop-id-test.true))
+
+pub title_until-requires : goal.title_until-requires
+title_until-requires c =
+    let at-loop-test = c.before in
+    let at_start = at-loop-test.before.before.before in
+    title_timed _ _ at_start.requires.ok (omega (arith, at-loop-test.loop-id-test.true)) _ c.title_at_lem.ensures
+
+pub loop-id-preserved : goal.loop-id-preserved
+unfolding latest_over
+loop-id-preserved c =
+    let at-title-until = c.before in
+    let at-title-at = at-title-until.before in
+    let at-loop-test = at-title-at.before in
+    let at-loop = at-loop-test.before in
+    (omega (arith, at-loop-test.loop-id-test.true), rw (add-one, ← at-loop.loop-id.invariant.1, ← at-title-at.title_at_lem.ensures, ← at-title-until.title_until.ensures) c.larger-end.ensures)
+
+pub returns : goal.returns
+returns c =
+    let at-loop = c.before in
+    let at_start = at-loop.before.before in
+    let all = le_antisymm at-loop.loop-id.invariant.0 c.loop-id-test.false in
+    at-loop.loop-id.invariant.1 ∙ ap (latest_over (unpacked at_start.args.row.now).state) all
