@@ -15,7 +15,7 @@ loop-tick-init c = (omega arith, peak_none _)
 
 pub loop-tick-preserved : goal.loop-tick-preserved
 loop-tick-preserved c =
-    let at-kept = c.before in
+    let at-kept = c in
     let l = at-kept.loop-tick in (
       omega arith,
       ⊎_elim

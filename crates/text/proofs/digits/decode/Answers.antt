@@ -16,11 +16,11 @@ loop-i-init c =
 
 pub loop-i-preserved : goal.loop-i-preserved
 loop-i-preserved c =
-    let at-put-byte = c.before.before in
-    let at-hex-of2 = at-put-byte.before.before in
-    let at-hex-of = at-hex-of2.before.before in
-    let at-loop = at-hex-of.before.before.before in
-    let at_start = at-loop.before.before.before in
+    let at-put-byte = c in
+    let at-hex-of2 = at-put-byte in
+    let at-hex-of = at-hex-of2 in
+    let at-loop = at-hex-of in
+    let at_start = at-loop in
     let s = at_start.args.hex.now in
     let l = at-loop.loop-i in
     let p = page l.out l.place in

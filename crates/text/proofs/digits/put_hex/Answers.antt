@@ -20,18 +20,18 @@ letter-requires c =
 
 pub letter-requires-in-loop-i : goal.letter-requires-in-loop-i
 letter-requires-in-loop-i c =
-    let at-shared-slice-known2 = c.before.before.before.before.before.before in
-    let at-loop = at-shared-slice-known2.before.before in
+    let at-shared-slice-known2 = c in
+    let at-loop = at-shared-slice-known2 in
     omega (arith, at-shared-slice-known2.shared_slice_known-in-loop-i-1.given at-loop.loop-i.i)
 
 pub loop-i-preserved : goal.loop-i-preserved
 loop-i-preserved c =
-    let at-put-byte2 = c.before.before in
-    let at-letter2 = at-put-byte2.before in
-    let at-put-byte = at-letter2.before.before.before.before in
-    let at-letter = at-put-byte.before in
-    let at-loop = at-letter.before.before.before.before in
-    let at_start = at-loop.before.before.before in
+    let at-put-byte2 = c in
+    let at-letter2 = at-put-byte2 in
+    let at-put-byte = at-letter2 in
+    let at-letter = at-put-byte in
+    let at-loop = at-letter in
+    let at_start = at-loop in
     let s = at_start.args.bytes.now in
     let l = at-loop.loop-i in
     let p = page l.out l.place in
