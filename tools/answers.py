@@ -286,6 +286,18 @@ def turn_clauses(text, names, heads):
         return named(head + mid + "." + word, tail, clauses) if len(clauses) > 1 else m[0]
 
     text = re.sub(r"(?<![\w.-])(" + W + r")((?:\.(?!requires\b|ensures\b)" + W + r")*)\.(requires|ensures)((?:\.[01])+)(?![\w])", sub, text)
+    def kept(m):
+        step, what, tail = m[1], m[2], m[3]
+        i = tail.count(".1")
+        if what == "new" or step in names.callee:
+            params = names.of["params"].get(names.callee.get(step, ""), [])
+        else:
+            params = next((vs for (_o, new), vs in names.of["loops"] if new == step), [])
+        if tail == ".1" * i + ".0" and i < len(params):
+            return f".{step}.{what}.{params[i]}"
+        return m[0]
+
+    text = re.sub(r"\.(" + W + r")\.(new|auto)((?:\.1)*\.0)(?![\w])", kept, text)
     for v, (mid, clauses) in whose.items():
         text = re.sub(r"(?<![\w.-])(" + re.escape(v + mid) + r")((?:\.[01])+)(?![\w])", lambda m: named(m[1], m[2], clauses), text)
     return text

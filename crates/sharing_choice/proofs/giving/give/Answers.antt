@@ -14,6 +14,7 @@ use Rattle.sharing_choice.proofs.giving.Laws.{Progress, begins, goes_on, ends}
 use Rattle.sharing_choice.proofs.giving.give.Tie as tie
 use Rattle.sharing_choice.proofs.giving.give.Lts as lts
 use Rattle.sharing_choice.proofs.giving.give.Reads as reads
+use Rattle.sharing_choice.proofs.giving.give.Goals.{then-at-rates, else-at-rates}
 use Rattle.sharing_choice.proofs.giving.give.Goals as goal
 
 pub loop-given-init : goal.loop-given-init
@@ -66,8 +67,10 @@ loop-given-preserved c =
     let n = titles_length _ _ _ _ s.requires.sound.even in
     let next = goes_on _ s.requires.sound.weighable at-loop.loop-given.invariant.1 c.next_title-at.ensures in (
       omega arith,
-      ⊎_elim (λ w. next (inl (omega (arith, w.0.taken, n), w.2)))
-          (λ w. next (inr (omega (arith, w.0.left, n), w.1))) c.if-at-rates.branch,
+      elim c.if-at-rates.branch [
+        then-at-rates w ↦ next (inl (omega (arith, w.if-at-rates.true, n), w.counts-is))
+        | else-at-rates w ↦ next (inr (omega (arith, w.if-at-rates.false, n), w.counts-is))
+      ],
     )
 
 pub shape_of-counts : goal.shape_of-counts

@@ -15,6 +15,7 @@ use Rattle.sharing_choice.proofs.giving.Laws.{Leading, leads_none, leads_next, l
 use Rattle.sharing_choice.proofs.giving.next_title.Tie as tie
 use Rattle.sharing_choice.proofs.giving.next_title.Lts as lts
 use Rattle.sharing_choice.proofs.giving.next_title.Reads as reads
+use Rattle.sharing_choice.proofs.giving.next_title.Goals.{then-most-worth, else-most-worth}
 use Rattle.sharing_choice.proofs.giving.next_title.Goals as goal
 
 pub loop-i-init : goal.loop-i-init
@@ -65,8 +66,10 @@ loop-i-preserved c =
     c.gain-worth.ensures
     ∙ ap (λ (t : Rated). worth t (get_or ks l.i 0)) c.title_at-t.ensures in
     let next = leads_next ts ks l.invariant (inside c.before.before.before.before.before) e in
-    ⊎_elim (λ w. next (inl (omega (arith, w.0.taken), w.1, w.2)))
-    (λ w. next (inr (omega (arith, w.0.left), w.1, w.2))) c.if-most-worth.branch
+    elim c.if-most-worth.branch [
+      then-most-worth w ↦ next (inl (omega (arith, w.if-most-worth.true), w.best-is, w.most-is))
+      | else-most-worth w ↦ next (inr (omega (arith, w.if-most-worth.false), w.best-is, w.most-is))
+    ]
 
 pub returns : goal.returns
 returns c =

@@ -28,7 +28,7 @@ loop-i-preserved c =
     let low = hex_of (get_or s (2 * l.i + 1) 0) in
     let h : at-hex-of.hex_of-h.result ≡ high = at-hex-of.hex_of-h.ensures.0 in
     let k : at-hex-of2.hex_of-l.result ≡ low = at-hex-of2.hex_of-l.ensures.0 in
-    let e : page at-put-byte.put_byte-place.new.0 at-put-byte.put_byte-place.result ≡ put p (16 * high + low) =
+    let e : page at-put-byte.put_byte-place.new.out at-put-byte.put_byte-place.result ≡ put p (16 * high + low) =
     at-put-byte.put_byte-place.ensures ∙ ap (put p)
     (ap (λ (v : ℕ). 16 * v + at-hex-of2.hex_of-l.result) h ∙ ap (λ (v : ℕ). 16 * high + v) k) in (
       ap (λ (r : Page). puts r (hex_bytes (drop (2 * (l.i + 1)) s))) e ∙ decode_on p s l.i (omega arith) ∙ l.invariant.0,
