@@ -16,8 +16,7 @@ const AIR_PLACES: usize = 3;
 const SALVAGE_PLACES: usize = 3;
 
 // The report of waits: arrivals, admitted, longest wait and sum of waits.
-#[unsafe(no_mangle)]
-pub extern "C" fn rl_waits_row(
+pub fn rl_waits_row(
     pool: u64,
     title: u64,
     log: &[u8],
@@ -40,8 +39,7 @@ pub extern "C" fn rl_waits_row(
 }
 
 // What the air carried: admissions judged, played through, and those that outlast the record.
-#[unsafe(no_mangle)]
-pub extern "C" fn rl_air_row(
+pub fn rl_air_row(
     pool: u64,
     title: u64,
     log: &[u8],
@@ -65,8 +63,7 @@ pub extern "C" fn rl_air_row(
 }
 
 // Marks each tick of a title's latest opening with 1 where it is an admission.
-#[unsafe(no_mangle)]
-pub extern "C" fn rl_admissions_row(pool: u64, title: u64, log: &[u8], marks: &mut [u8]) -> u8
+pub fn rl_admissions_row(pool: u64, title: u64, log: &[u8], marks: &mut [u8]) -> u8
     ensures { (result ≡ ticks_answer pool log.now title)
         × (marks.new ≡ ticks_leaves pool log.now title marks.old) }
 {
@@ -74,8 +71,7 @@ pub extern "C" fn rl_admissions_row(pool: u64, title: u64, log: &[u8], marks: &m
 }
 
 // What is left of a damaged log: notices taken, their bytes, and stretches skipped.
-#[unsafe(no_mangle)]
-pub extern "C" fn rl_salvage_row(
+pub fn rl_salvage_row(
     log: &[u8],
     area: &mut [u8],
     stretches: &mut [u64],
