@@ -44,7 +44,7 @@ fn fill(
         × ((length held.old ≡ length ids.now) × (length marks.old ≡ length ids.now)) }
     requires tested { Tested row.now × (ids_ok ids.now ≡ true) }
     ensures counts_after { counts.new ≡ map (λ i. status_count (unpacked row.now).state i) ids.now }
-    ensures held_after_lem { held.new ≡ map (λ i. status_held (unpacked row.now).state i time) ids.now }
+    ensures held_after { held.new ≡ map (λ i. status_held (unpacked row.now).state i time) ids.now }
     ensures marks_after { marks.new ≡ map (λ i. status_mark (unpacked row.now).state i) ids.now }
 {
     let mut i = 0;
@@ -118,7 +118,7 @@ pub fn status(
         (length counts.old) (length held.old) (length marks.old) }
     ensures counts_after { counts.new
         ≡ pick (eqb result 0) (map (λ i. status_count (unpacked row.now).state i) ids.now) counts.old }
-    ensures held_after_lem { held.new
+    ensures held_after { held.new
         ≡ pick (eqb result 0) (map (λ i. status_held (unpacked row.now).state i time) ids.now) held.old }
     ensures marks_after { marks.new
         ≡ pick (eqb result 0) (map (λ i. status_mark (unpacked row.now).state i) ids.now) marks.old }

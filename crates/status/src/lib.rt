@@ -56,7 +56,7 @@ fn fill(s: State, time: u64, ids: &[u64], counts: &mut [u64], held: &mut [u64], 
         × ((length held.old ≡ length ids.now) × (length marks.old ≡ length ids.now)) }
     requires s_value { (state_ok s ≡ true) × (ids_ok ids.now ≡ true) }
     ensures counts_after { counts.new ≡ map (λ i. status_count s i) ids.now }
-    ensures held_after_lem { held.new ≡ map (λ i. status_held s i time) ids.now }
+    ensures held_after { held.new ≡ map (λ i. status_held s i time) ids.now }
     ensures marks_after { marks.new ≡ map (λ i. status_mark s i) ids.now }
 {
     let mut i = 0;
@@ -81,7 +81,7 @@ pub fn status(
     ensures value { result ≡ status_answer s time ids.now
         (length counts.old) (length held.old) (length marks.old) }
     ensures counts_after { counts.new ≡ pick (eqb result 0) (map (λ i. status_count s i) ids.now) counts.old }
-    ensures held_after_lem { held.new ≡ pick (eqb result 0) (map (λ i. status_held s i time) ids.now) held.old }
+    ensures held_after { held.new ≡ pick (eqb result 0) (map (λ i. status_held s i time) ids.now) held.old }
     ensures marks_after { marks.new ≡ pick (eqb result 0) (map (λ i. status_mark s i) ids.now) marks.old }
 {
     let answer = status_verdict(s, time, ids, counts.len(), held.len(), marks.len());

@@ -1,0 +1,28 @@
+-- `admissions::admit_all` meets its contract: the totals of the arrivals passed, with room for the rest.
+use mathlib.Core.Path.{◌≡◌}
+use Prim.Native.Nat.{◌≤◌, ◌-◌}
+use native.Mathlib.Nat.{le_antisymm}
+use native.Mathlib.Numerals.{add-one}
+use native.Mathlib.Omega.{arith}
+use borrow.Author.Rules.{rules}
+use lib.ListN.{length}
+use Rattle.admissions.specs.Stretches.{gathered}
+use Rattle.admissions.proofs.Slots.{row_room}
+use Rattle.admissions.proofs.admit_all.Goals as goal
+
+pub loop-i-init : goal.loop-i-init
+unfolding gathered
+loop-i-init c = search rules
+
+pub admit-all-requires : goal.admit-all-requires
+admit-all-requires c =
+    let pre = c.requires in
+    let inv = c.loop-i.invariant in
+    record { spaced = pre.spaced; upto_le_asked_max = pre.upto_le_asked_max; room = rw inv.1 (row_room _ _ _ _ _ _ _ pre.spaced pre.upto_le_asked_max pre.few (omega arith)) }
+
+pub loop-i-preserved : goal.loop-i-preserved
+unfolding gathered
+loop-i-preserved c = (omega arith, rw add-one (cc))
+
+pub returns : goal.returns
+returns c = cc (le_antisymm c.loop-i.invariant.0 c.loop-i-test.false)

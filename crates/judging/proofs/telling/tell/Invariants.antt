@@ -1,0 +1,16 @@
+-- What the loop keeps, and what falls.
+use mathlib.Core.Path.{◌≡◌, ap, ◌∙◌}
+use Prim.Native.Nat.{◌-◌, ◌≤◌}
+use native.Mathlib.Omega.{arith}
+use native.Mathlib.Nat.{le_antisymm}
+use borrow.Author.Rules.{rules}
+use lib.ListN.{length}
+use Rattle.judging.specs.inner.Walk.{row_to, counts_to}
+use Rattle.judging.proofs.Told.{row_length_lem, room_left_lem, told_next}
+use Rattle.judging.proofs.telling.tell.Given as goal
+
+abbrev pub invariant-loop-start : goal.invariant-loop-start
+invariant-loop-start l = (l.start ≤ l.ticks) × ((l.row ≡ row_to l.results l.marks l.cells l.ticks l.initial.row l.start) × (l.counts ≡ counts_to l.results l.marks l.cells l.ticks l.start))
+
+abbrev pub decreases-loop-start : goal.decreases-loop-start
+decreases-loop-start l = l.ticks - l.start
