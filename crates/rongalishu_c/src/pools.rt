@@ -22,7 +22,7 @@ pub extern "C" fn rl_status_row(
         (length counts.old) (length held.old) (length marks.old) }
     ensures counts_after { counts.new
         ≡ pick (eqb result 0) (map (λ i. status_count (unpacked agent.now).state i) ids.now) counts.old }
-    ensures held_after_lem { held.new
+    ensures held_after { held.new
         ≡ pick (eqb result 0) (map (λ i. status_held (unpacked agent.now).state i time) ids.now) held.old }
     ensures marks_after { marks.new
         ≡ pick (eqb result 0) (map (λ i. status_mark (unpacked agent.now).state i) ids.now) marks.old }
