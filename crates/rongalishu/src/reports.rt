@@ -16,13 +16,7 @@ const AIR_PLACES: usize = 3;
 const SALVAGE_PLACES: usize = 3;
 
 // The report of waits: arrivals, admitted, longest wait and sum of waits.
-pub fn rl_waits_row(
-    pool: u64,
-    title: u64,
-    log: &[u8],
-    arrivals: &[u64],
-    report: &mut [u64],
-) -> u8
+pub fn rl_waits_row(pool: u64, title: u64, log: &[u8], arrivals: &[u64], report: &mut [u64]) -> u8
     ensures { WaitsGiven pool log.now title arrivals.now report.old result report.new }
 {
     if report.len() < WAITS_PLACES {
@@ -71,12 +65,7 @@ pub fn rl_admissions_row(pool: u64, title: u64, log: &[u8], marks: &mut [u8]) ->
 }
 
 // What is left of a damaged log: notices taken, their bytes, and stretches skipped.
-pub fn rl_salvage_row(
-    log: &[u8],
-    area: &mut [u8],
-    stretches: &mut [u64],
-    report: &mut [u64],
-) -> u8
+pub fn rl_salvage_row(log: &[u8], area: &mut [u8], stretches: &mut [u64], report: &mut [u64]) -> u8
     ensures { SalvageGiven log.now area.old stretches.old report.old result
         area.new stretches.new report.new }
 {
