@@ -1,7 +1,7 @@
 -- The next admission is one at most, and there is one exactly when some admission lets the arrival in, however late; so what a
 -- row of arrivals comes to is one. Rests on the bounded search for the first tick that passes a test.
 use mathlib.Core.Path.{◌≡◌, refl, sym, ◌∙◌}
-use mathlib.Core.Bool.{true, false, false≢true}
+use mathlib.Core.Bool.{true, false≢true}
 use mathlib.Core.Logic.{⊎_elim}
 use mathlib.Core.List.{List}
 use Prim.Native.Nat.{ℕ, zero, suc, ◌-◌, ◌≤◌, ◌<◌}

@@ -40,6 +40,8 @@ told_series pool [] [] none_read = refl
 told_series pool (bs ∷ bss) (n ∷ ns) (one_read is rest) =
     ap (λ (g : Agent). noticed g (reading.Whole n)) (told_series pool bss ns rest)
     ∙ ap (noticed (agent_after pool bss)) (sym is)
+told_series pool [] (n ∷ ns) r = elim r [ ]
+told_series pool (bs ∷ bss) [] r = elim r [ ]
 
 -- one read more of a log, its notice written out
 one_more : (bs : List ℕ) → Bytes bs → (p : ℕ) (ns : List Notice) (f : Found) → read_at bs p ≡ f
@@ -66,6 +68,8 @@ unfolding heard heard_of
 heard_alike lanes [] [] none_read = refl
 heard_alike lanes (bs ∷ bss) (n ∷ ns) (one_read is rest) =
     ap (λ hs. hearing lanes hs (read_of bs)) (heard_alike lanes bss ns rest) ∙ ap (hearing lanes (heard_of lanes ns)) is
+heard_alike lanes [] (n ∷ ns) r = elim r [ ]
+heard_alike lanes (bs ∷ bss) [] r = elim r [ ]
 
 -- an agent that was told notices follows those that count
 pub told_follows : (pool : ℕ) (bss : List (List ℕ)) (ns : List Notice) → ReadAs bss ns →

@@ -1,6 +1,6 @@
 -- Laws of what is written one behind the other: keys, quarters, the steps of the line and of the curve, and marks. Each begins with
 -- nothing, and goes on with one more.
-use Prim.Native.Nat.{ℕ, suc, ◌+◌}
+use Prim.Native.Nat.{ℕ, ◌+◌}
 use mathlib.Core.Path.{◌≡◌, refl, ap, ◌∙◌}
 use native.Mathlib.Numerals.{add-one}
 use Rattle.text.specs.Output.{Page, puts}

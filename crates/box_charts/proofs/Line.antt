@@ -1,11 +1,10 @@
 -- No mark of a cell that is taken by its turn lies past the line: it ends where the tick ends in which the cell is taken, which is no
 -- further right than the line's step at that cell, the end of the tick in which it plays. Rests on places across the plot growing with the
 -- tick.
-use Prim.Native.Nat.{ℕ, ◌+◌, ◌-◌, ◌*◌, ◌/◌, ◌≤◌, ◌<◌, min, max}
-use mathlib.Core.Path.{◌≡◌}
+use Prim.Native.Nat.{ℕ, ◌+◌, ◌*◌, ◌/◌, ◌≤◌, ◌<◌, min}
 use native.Mathlib.Omega.{arith}
 use native.Mathlib.Nat.{mul-le-mul_right, le-div_iff_mul-le, div-mul-le_self}
-use Rattle.drawing.specs.Axis.{span_held, part_across, plot_width, plot_left, x_of}
+use Rattle.drawing.specs.Axis.{span_held, part_across, plot_width, x_of}
 use Rattle.box_charts.specs.Marks.{mark_width, mark_area}
 
 quotient_grows : (s a b : ℕ) → 0 < s → a ≤ b → a / s ≤ b / s

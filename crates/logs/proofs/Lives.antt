@@ -151,6 +151,8 @@ module _ {A : Type 0} (P : Life → ℕ → A → Type 0) (turns : Title → ℕ
     unfolding heard_of kept_told life_of latest_of
     told_kept [] [] none_read = rw (first_tick unopened) start
     told_kept (bs ∷ bss) (n ∷ ns) (one_read is rest) = one_more ns n (told_follows pool bss ns rest) (told_kept bss ns rest)
+    told_kept [] (n ∷ ns) r = elim r [ ]
+    told_kept (bs ∷ bss) [] r = elim r [ ]
 
 -- the title as it stands tells its life
 pub told_title : (pool i : ℕ) → i ≤ id_max → (bss : List (List ℕ)) (ns : List Notice) → ReadAs bss ns →

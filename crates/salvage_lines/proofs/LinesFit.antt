@@ -110,7 +110,7 @@ ends_far bs p n e is =
 said_most : (p q : Progress) → length (said_in p q) ≤ 2 * line_most
 unfolding said_in seam_text
 said_most p q =
-    go (both (Rattle.salvaging.specs.Pours.tookOne p q) (is_open_at p))
+    go (both (Rattle.salvaging.specs.Pours.took_one p q) (is_open_at p))
     (omega (
       arith,
       length-append (stretch_line p.start p.size) (gap_line p.last q.last),

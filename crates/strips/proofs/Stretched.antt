@@ -6,7 +6,6 @@ use borrow.Author.Tests.{ne_eqb}
 use lib.ListN.{get_or}
 use Rattle.story.specs.declared.Title.{Title}
 use Rattle.moments.specs.Searched.{release_moment}
-use Rattle.strips.specs.declared.states.Stretch.{Stretch}
 use Rattle.strips.specs.States.{sending_stretch}
 
 -- a lane that owed cells sends up to its release

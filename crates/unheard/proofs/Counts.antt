@@ -29,6 +29,8 @@ module _ (pool : ℕ) where
       → missed_in pool ns + length (heard_of lanes ns) ≡ length ns
   unfolding missed_in heard_of
   heard_or_missed [] [] none_read = omega arith
+  heard_or_missed [] (n ∷ ns) r = elim r [ ]
+  heard_or_missed (bs ∷ bss) [] r = elim r [ ]
   heard_or_missed (bs ∷ bss) (n ∷ ns) (one_read is rest) =
       rw (told_notice pool ns (told_follows pool bss ns rest) n)
       (go (eqb n.sequence (suc (length hs))) (answer lanes (map event_of hs) (event_of n)) (heard_or_missed bss ns rest))

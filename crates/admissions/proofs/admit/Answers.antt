@@ -1,7 +1,6 @@
 -- `admissions::admit` meets its contract: two comparisons, then the wait.
 use mathlib.Core.Path.{sym}
 use Rattle.admissions.proofs.Slots.{comes_before, comes_after, comes_in}
-use borrow.Author.Rules.{rules}
 use Rattle.admissions.proofs.admit.Goals as goal
 
 pub returns-then-x-from : goal.returns-then-x-from

@@ -1,11 +1,8 @@
 -- `admissions::admit_all` meets its contract: the totals of the arrivals passed, with room for the rest.
-use mathlib.Core.Path.{◌≡◌}
-use Prim.Native.Nat.{◌≤◌, ◌-◌}
 use native.Mathlib.Nat.{le_antisymm}
 use native.Mathlib.Numerals.{add-one}
 use native.Mathlib.Omega.{arith}
 use borrow.Author.Rules.{rules}
-use lib.ListN.{length}
 use Rattle.admissions.specs.Stretches.{gathered}
 use Rattle.admissions.proofs.Slots.{row_room}
 use Rattle.admissions.proofs.admit_all.Goals as goal

@@ -1,13 +1,8 @@
 -- What the loop keeps, and what falls.
 use mathlib.Core.Path.{◌≡◌}
 use Prim.Native.Nat.{◌≤◌, ◌-◌}
-use native.Mathlib.Nat.{le_antisymm}
-use native.Mathlib.Numerals.{add-one}
-use native.Mathlib.Omega.{arith}
-use borrow.Author.Rules.{rules}
 use lib.ListN.{length}
 use Rattle.admissions.specs.Stretches.{gathered}
-use Rattle.admissions.proofs.Slots.{row_room}
 use Rattle.admissions.proofs.admit_all.Given as goal
 
 abbrev pub invariant-loop-i : goal.invariant-loop-i

@@ -1,6 +1,5 @@
 -- `admitting` meets its contract: the two tests of its definition.
 use Rattle.admissions.specs.Stretches.{admitting as is_admitting}
-use borrow.Author.Rules.{rules}
 use Rattle.admissions.proofs.admitting.Goals as goal
 
 pub returns : goal.returns

@@ -1,7 +1,6 @@
 -- `admissions::ended` meets its contract: whether the stretch has an admission, and the row up to its last.
 use mathlib.Core.Path.{sym, ◌∙◌}
 use Rattle.admissions.proofs.Slots.{admitting_open, not_open, ends_without, ends_with}
-use borrow.Author.Rules.{rules}
 use Rattle.admissions.proofs.ended.Goals as goal
 
 pub stretch_of-s-requires : goal.stretch_of-s-requires

@@ -1,7 +1,6 @@
 -- `admissions::endless` meets its contract: the row up to the latest arrival there can be.
 use mathlib.Core.Path.{sym, ◌∙◌}
 use Rattle.admissions.proofs.Slots.{admitting_open, not_endless, never_ends}
-use borrow.Author.Rules.{rules}
 use Rattle.admissions.proofs.endless.Goals as goal
 
 pub stretch_of-requires : goal.stretch_of-requires

@@ -1,7 +1,6 @@
 -- `admissions::next` meets its contract: whole slots from the opening.
 use native.Mathlib.Omega.{arith}
 use Rattle.admissions.proofs.Slots.{slots_fit, next_reaches}
-use borrow.Author.Rules.{rules}
 use Rattle.admissions.proofs.next.Goals as goal
 
 pub overflow_mul-result : goal.overflow_mul-result

@@ -2,7 +2,6 @@
 use native.Mathlib.Omega.{arith}
 use Rattle.grid.proofs.Ticks.{slot_ms_lem}
 use Rattle.admissions.proofs.Slots.{stretch_spaced}
-use borrow.Author.Rules.{rules}
 use Rattle.admissions.proofs.stretch_of.Goals as goal
 
 pub overflow_mul-slot : goal.overflow_mul-slot

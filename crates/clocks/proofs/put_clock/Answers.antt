@@ -1,6 +1,5 @@
 -- `clocks::put_clock` meets its contract: its parts are written one behind the other.
 use Rattle.clocks.proofs.Writing.{whole_seconds, with_thousandths}
-use borrow.Author.Rules.{rules}
 use Rattle.clocks.proofs.put_clock.Goals as goal
 
 pub returns-then-left-eq0 : goal.returns-then-left-eq0

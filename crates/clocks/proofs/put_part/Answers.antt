@@ -2,7 +2,6 @@
 use mathlib.Core.Path.{◌∙◌, ap}
 use Rattle.text.specs.Output.{puts}
 use Rattle.clocks.proofs.Writing.{part_is}
-use borrow.Author.Rules.{rules}
 use Rattle.clocks.proofs.put_part.Goals as goal
 
 pub returns : goal.returns

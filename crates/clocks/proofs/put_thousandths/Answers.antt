@@ -2,7 +2,6 @@
 use mathlib.Core.Path.{◌∙◌, ap}
 use Rattle.text.specs.Output.{puts}
 use Rattle.clocks.proofs.Writing.{thousandths_is}
-use borrow.Author.Rules.{rules}
 use Rattle.clocks.proofs.put_thousandths.Goals as goal
 
 pub returns : goal.returns

@@ -1,6 +1,5 @@
 -- `air_record::record::end_line` meets its contract: how many words the line had.
 use Rattle.air_record.proofs.Reading.{closes_none, closes_all, closes_other}
-use borrow.Author.Rules.{rules}
 use Rattle.air_record.proofs.record.end_line.Goals as goal
 
 pub returns-then-words-eq0 : goal.returns-then-words-eq0

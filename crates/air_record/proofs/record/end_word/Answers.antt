@@ -1,6 +1,5 @@
 -- `air_record::record::end_word` meets its contract: whether a number was being spelt.
 use Rattle.air_record.proofs.Reading.{ends_in, ends_out}
-use borrow.Author.Rules.{rules}
 use Rattle.air_record.proofs.record.end_word.Goals as goal
 
 pub returns-then-inside : goal.returns-then-inside

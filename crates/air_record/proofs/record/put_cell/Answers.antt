@@ -1,6 +1,5 @@
 -- `air_record::record::put_cell` meets its contract: the test says whether there is room.
 use Rattle.text.proofs.Pages.{put_in, put_out}
-use borrow.Author.Rules.{rules}
 use Rattle.air_record.proofs.record.put_cell.Goals as goal
 
 pub returns-then-at-row : goal.returns-then-at-row

@@ -1,7 +1,6 @@
 -- `air_record::record::spell` meets its contract: a digit, a dash, or neither.
 use mathlib.Core.Path.{sym, ◌∙◌}
 use Rattle.air_record.proofs.Reading.{spells_behind_dash, spells_digit, spells_dash_inside, spells_dash, spells_other}
-use borrow.Author.Rules.{rules}
 use Rattle.air_record.proofs.record.spell.Goals as goal
 
 pub returns-then-dash : goal.returns-then-dash

@@ -1,7 +1,6 @@
 -- `air_record::record::take_byte` meets its contract: a newline, what parts words, or a byte of one; none behind a fault.
 use mathlib.Core.Path.{sym, ◌∙◌}
 use Rattle.air_record.proofs.Reading.{takes_none, takes_newline, takes_separator, takes_other}
-use borrow.Author.Rules.{rules}
 use Rattle.air_record.proofs.record.take_byte.Goals as goal
 
 pub returns-then-b-eq10 : goal.returns-then-b-eq10

@@ -1,6 +1,5 @@
 -- `air_record::record::take_text` meets its contract: byte by byte, and the last line's end.
-use mathlib.Core.Path.{◌≡◌, refl, ap, ◌∙◌}
-use Prim.Native.Nat.{◌≤◌, ◌-◌}
+use mathlib.Core.Path.{refl, ap, ◌∙◌}
 use native.Mathlib.Nat.{le_antisymm}
 use native.Mathlib.Numerals.{add-one}
 use native.Mathlib.Omega.{arith}
@@ -8,7 +7,6 @@ use lib.ListN.{length, get_or}
 use Rattle.text.specs.Bytes.{newline}
 use Rattle.air_record.specs.Record.{SoFar, so_far, taking_byte, taken_to}
 use Rattle.air_record.proofs.Reading.{taking_length}
-use borrow.Author.Rules.{rules}
 use Rattle.air_record.proofs.record.take_text.Goals as goal
 
 pub loop-i-init : goal.loop-i-init

@@ -1,14 +1,8 @@
 -- What the loop keeps, and what falls.
-use mathlib.Core.Path.{◌≡◌, refl, ap, ◌∙◌}
+use mathlib.Core.Path.{◌≡◌}
 use Prim.Native.Nat.{◌≤◌, ◌-◌}
-use native.Mathlib.Nat.{le_antisymm}
-use native.Mathlib.Numerals.{add-one}
-use native.Mathlib.Omega.{arith}
-use lib.ListN.{length, get_or}
-use Rattle.text.specs.Bytes.{newline}
-use Rattle.air_record.specs.Record.{SoFar, so_far, taking_byte, taken_to}
-use Rattle.air_record.proofs.Reading.{taking_length}
-use borrow.Author.Rules.{rules}
+use lib.ListN.{length}
+use Rattle.air_record.specs.Record.{so_far, taken_to}
 use Rattle.air_record.proofs.record.take_text.Given as goal
 
 abbrev pub invariant-loop-i : goal.invariant-loop-i

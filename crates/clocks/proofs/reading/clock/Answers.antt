@@ -7,7 +7,6 @@ use Rattle.text.specs.declared.bytes.Sort.TheVariants.{Digit}
 use Rattle.text.proofs.Runs.{run_end_high}
 use Rattle.clocks.specs.Clocks.{tail_ms}
 use Rattle.clocks.proofs.Forms.{rest_of, clock_over, clock_in}
-use borrow.Author.Rules.{rules}
 use Rattle.clocks.proofs.reading.clock.Tie as tie
 use Rattle.clocks.proofs.reading.clock.Lts as lts
 use Rattle.clocks.proofs.reading.clock.Reads as reads

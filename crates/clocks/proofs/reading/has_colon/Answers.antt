@@ -1,11 +1,7 @@
 -- `clocks::reading::has_colon` meets its contract: what is left to search, from each place passed, says what the whole says.
-use Prim.Native.Nat.{◌-◌}
-use mathlib.Core.Path.{◌≡◌, ◌∙◌}
+use mathlib.Core.Path.{◌∙◌}
 use native.Mathlib.Omega.{arith}
-use lib.ListN.{length, drop}
-use Rattle.clocks.specs.Clocks.{has_colon}
 use Rattle.clocks.proofs.Colons.{colon_here, colon_on, colon_end}
-use borrow.Author.Rules.{rules}
 use Rattle.clocks.proofs.reading.has_colon.Goals as goal
 
 pub returns-then-word-i-eq58 : goal.returns-then-word-i-eq58

@@ -7,7 +7,6 @@ use Rattle.text.specs.declared.bytes.Sort.TheVariants.{Digit}
 use Rattle.text.proofs.Runs.{run_end_high}
 use Rattle.clocks.specs.Clocks.{is_tail}
 use Rattle.clocks.proofs.Forms.{rest_of, no_hours, by_tail}
-use borrow.Author.Rules.{rules}
 use Rattle.clocks.proofs.reading.is_clock.Tie as tie
 use Rattle.clocks.proofs.reading.is_clock.Lts as lts
 use Rattle.clocks.proofs.reading.is_clock.Reads as reads

@@ -1,7 +1,6 @@
 -- `clocks::reading::is_part` meets its contract: its tests are those of the definition.
 use borrow.Author.Tests.{eq-eqb, ne_eqb}
 use Rattle.clocks.specs.Clocks.{is_part}
-use borrow.Author.Rules.{rules}
 use Rattle.clocks.proofs.reading.is_part.Goals as goal
 
 pub returns-then-within : goal.returns-then-within

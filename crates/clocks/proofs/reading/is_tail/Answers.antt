@@ -1,7 +1,6 @@
 -- `clocks::reading::is_tail` meets its contract: its tests are those of the definition.
 use borrow.Author.Tests.{eq-eqb, ne_eqb}
 use Rattle.clocks.specs.Clocks.{is_tail}
-use borrow.Author.Rules.{rules}
 use Rattle.clocks.proofs.reading.is_tail.Goals as goal
 
 pub returns-then-size-eq3 : goal.returns-then-size-eq3

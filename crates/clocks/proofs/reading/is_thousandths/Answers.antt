@@ -1,7 +1,6 @@
 -- `clocks::reading::is_thousandths` meets its contract: its tests are those of the definition.
 use borrow.Author.Tests.{eq-eqb, ne_eqb}
 use Rattle.clocks.specs.Clocks.{is_thousandths}
-use borrow.Author.Rules.{rules}
 use Rattle.clocks.proofs.reading.is_thousandths.Goals as goal
 
 pub returns-then-is_digit-2 : goal.returns-then-is_digit-2

@@ -3,7 +3,6 @@ use mathlib.Core.Path.{◌∙◌, ap}
 use native.Mathlib.Omega.{arith}
 use Rattle.text.specs.Bytes.{digit_of}
 use Rattle.clocks.proofs.Forms.{pair_is}
-use borrow.Author.Rules.{rules}
 use Rattle.clocks.proofs.reading.pair_at.Goals as goal
 
 pub returns : goal.returns

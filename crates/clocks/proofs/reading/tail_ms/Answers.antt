@@ -3,7 +3,6 @@ use mathlib.Core.Path.{◌∙◌, ap}
 use native.Mathlib.Omega.{arith}
 use Rattle.text.specs.Bytes.{digit_of}
 use Rattle.clocks.proofs.Forms.{tail_is}
-use borrow.Author.Rules.{rules}
 use Rattle.clocks.proofs.reading.tail_ms.Goals as goal
 
 pub returns : goal.returns

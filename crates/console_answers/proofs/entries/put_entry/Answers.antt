@@ -2,7 +2,6 @@
 use Rattle.text.specs.Texts.{text}
 use Rattle.text.proofs.Pages.{puts_then}
 use Rattle.console_answers.specs.Entries.{entry}
-use borrow.Author.Rules.{rules}
 use Rattle.console_answers.proofs.entries.put_entry.Goals as goal
 
 pub returns : goal.returns

@@ -1,12 +1,7 @@
 -- `console_answers::entries::put_numbers` meets its contract: a row of numbers, of which the entries passed are
 -- written.
-use Prim.Native.Nat.{ℕ, ◌-◌}
 use native.Mathlib.Omega.{arith}
-use lib.ListN.{length, get_or}
-use Rattle.text.specs.Output.{page}
-use Rattle.console_answers.specs.Entries.{entry}
-use Rattle.console_answers.proofs.Rows.{Passed, passed_none, passed_on, passed_all}
-use borrow.Author.Rules.{rules}
+use Rattle.console_answers.proofs.Rows.{passed_none, passed_on, passed_all}
 use Rattle.console_answers.proofs.entries.put_numbers.Goals as goal
 
 pub loop-i-preserved : goal.loop-i-preserved

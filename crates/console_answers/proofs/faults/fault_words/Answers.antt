@@ -5,7 +5,6 @@ use Rattle.text.specs.Output.{puts}
 use Rattle.text.specs.Bytes.{is_sort, run}
 use Rattle.console_answers.specs.Faults.{faults, fault_words}
 use Rattle.words.proofs.Listed.{listed, plain, lines}
-use borrow.Author.Rules.{rules}
 use Rattle.console_answers.proofs.faults.fault_words.Goals as goal
 
 pub returns : goal.returns

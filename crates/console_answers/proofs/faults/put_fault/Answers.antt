@@ -6,7 +6,6 @@ use Rattle.text.specs.Output.{page, puts}
 use Rattle.text.specs.Digits.{decimal}
 use Rattle.console_answers.specs.Faults.{fault_text, fault_words, usage_of, from_one}
 use Rattle.text.proofs.Pages.{puts_then}
-use borrow.Author.Rules.{rules}
 use Rattle.console_answers.proofs.faults.put_fault.Goals as goal
 
 pub returns : goal.returns

@@ -1,13 +1,9 @@
 -- `console_answers::faults::put_help` meets its contract: the commands passed are listed, in the order of the definition.
-use Prim.Native.Nat.{◌-◌}
 use mathlib.Core.Path.{refl, ◌∙◌}
 use native.Mathlib.Omega.{arith}
-use lib.ListN.{length}
-use Rattle.text.specs.Output.{page}
 use Rattle.console_answers.specs.Faults.{help_order, help_text}
 use Rattle.text.proofs.Pages.{same_room}
-use Rattle.console_answers.proofs.Usages.{Listing, listing_first, listing_on, listed_all}
-use borrow.Author.Rules.{rules}
+use Rattle.console_answers.proofs.Usages.{listing_first, listing_on, listed_all}
 use Rattle.console_answers.proofs.faults.put_help.Goals as goal
 
 pub loop-i-init : goal.loop-i-init

@@ -1,13 +1,9 @@
 -- What the loop keeps, and what falls.
 use Prim.Native.Nat.{◌-◌}
-use mathlib.Core.Path.{refl, ◌∙◌}
-use native.Mathlib.Omega.{arith}
 use lib.ListN.{length}
 use Rattle.text.specs.Output.{page}
-use Rattle.console_answers.specs.Faults.{help_order, help_text}
-use Rattle.text.proofs.Pages.{same_room}
-use Rattle.console_answers.proofs.Usages.{Listing, listing_first, listing_on, listed_all}
-use borrow.Author.Rules.{rules}
+use Rattle.console_answers.specs.Faults.{help_order}
+use Rattle.console_answers.proofs.Usages.{Listing}
 use Rattle.console_answers.proofs.faults.put_help.Given as goal
 
 abbrev pub invariant-loop-i : goal.invariant-loop-i

@@ -2,7 +2,6 @@
 use borrow.Author.Tests.{eq-eqb, ne_eqb}
 use Rattle.text.specs.Texts.{text}
 use Rattle.console_answers.specs.Outcomes.{done_text}
-use borrow.Author.Rules.{rules}
 use Rattle.console_answers.proofs.outcomes.put_done.Goals as goal
 
 pub returns-then-answer-eq-DONE : goal.returns-then-answer-eq-DONE

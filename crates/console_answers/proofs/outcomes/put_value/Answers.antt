@@ -1,7 +1,6 @@
 -- `console_answers::outcomes::put_value` meets its contract: a number behind the 0, nothing behind a refusal.
 use Rattle.console_answers.specs.Outcomes.{value_text}
 use Rattle.console_answers.proofs.Answered.{told, refused}
-use borrow.Author.Rules.{rules}
 use Rattle.console_answers.proofs.outcomes.put_value.Goals as goal
 
 pub returns-then-answer-eq-DONE : goal.returns-then-answer-eq-DONE

@@ -3,7 +3,6 @@ use native.Mathlib.Omega.{arith}
 use Rattle.text.specs.Texts.{text}
 use Rattle.console_commands.specs.Commands.{do_lane, command_table}
 use Rattle.console_commands.proofs.Rows.{in_front}
-use borrow.Author.Rules.{rules}
 use Rattle.console_commands.proofs.commands.act_row.Goals as goal
 
 pub returns : goal.returns

@@ -4,7 +4,6 @@ use native.Mathlib.Omega.{arith}
 use Rattle.text.specs.Texts.{text}
 use Rattle.console_commands.specs.Commands.{do_lane, write_open, command_table}
 use Rattle.console_commands.proofs.Rows.{in_part}
-use borrow.Author.Rules.{rules}
 use Rattle.console_commands.proofs.commands.ask_row.Goals as goal
 
 pub returns : goal.returns

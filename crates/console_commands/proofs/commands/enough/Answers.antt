@@ -1,7 +1,6 @@
 -- `console_commands::commands::enough` meets its contract: the tests say whether it is sharing or a balance.
 use borrow.Author.Tests.{eq-eqb, ne_eqb}
 use Rattle.console_commands.specs.Commands.{enough, least_of}
-use borrow.Author.Rules.{rules}
 use Rattle.console_commands.proofs.commands.enough.Goals as goal
 
 pub returns-then-command-eq-SHARE : goal.returns-then-command-eq-SHARE

@@ -3,7 +3,6 @@ use mathlib.Core.Path.{◌∙◌}
 use Rattle.text.specs.Texts.{text}
 use Rattle.console_commands.specs.Commands.{do_lane, write_open, do_when}
 use Rattle.console_commands.proofs.Rows.{from_part, past_rows}
-use borrow.Author.Rules.{rules}
 use Rattle.console_commands.proofs.commands.entry.Goals as goal
 
 pub returns-then-k-lt-WRITES_FROM : goal.returns-then-k-lt-WRITES_FROM

@@ -1,7 +1,6 @@
 -- `console_commands::commands::is_timed` meets its contract: the tests are those of the definition.
 use borrow.Author.Tests.{eq-eqb, ne_eqb, lt-ltb, le-ltb}
 use Rattle.console_commands.specs.Commands.{is_timed}
-use borrow.Author.Rules.{rules}
 use Rattle.console_commands.proofs.commands.is_timed.Goals as goal
 
 pub returns-then-command-eq-SHARE : goal.returns-then-command-eq-SHARE

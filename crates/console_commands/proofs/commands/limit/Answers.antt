@@ -4,7 +4,6 @@ use borrow.Author.Tests.{lt-ltb, le-ltb}
 use lib.ListN.{get_or}
 use Rattle.console_commands.specs.declared.commands.Command.{Command}
 use Rattle.console_commands.specs.Commands.{limit_of}
-use borrow.Author.Rules.{rules}
 use Rattle.console_commands.proofs.commands.limit.Goals as goal
 
 pub returns-then-n-lt-LIMITED : goal.returns-then-n-lt-LIMITED

@@ -3,7 +3,6 @@ use mathlib.Core.Path.{ap}
 use Rattle.console_commands.specs.declared.commands.Command.{Command}
 use Rattle.console_commands.specs.Commands.{most_of}
 use Rattle.console_commands.proofs.Rows.{most_few}
-use borrow.Author.Rules.{rules}
 use Rattle.console_commands.proofs.commands.most.Goals as goal
 
 pub returns : goal.returns

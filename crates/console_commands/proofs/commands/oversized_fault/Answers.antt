@@ -1,5 +1,4 @@
 -- `console_commands::commands::oversized_fault` meets its contract: the test says which fault it is.
-use borrow.Author.Rules.{rules}
 use Rattle.console_commands.specs.Commands.{oversized}
 use Rattle.console_commands.proofs.commands.oversized_fault.Goals as goal
 

@@ -1,12 +1,6 @@
 -- `console_commands::commands::verb` meets its contract: of the rows passed, from the last on, the first that the word names.
-use Prim.Native.Nat.{◌≤◌}
-use mathlib.Core.Path.{◌≡◌}
 use native.Mathlib.Omega.{arith}
-use lib.ListN.{drop}
-use Rattle.console_commands.specs.Letters.{lowered}
-use Rattle.console_commands.specs.Commands.{command_count, command_table, seek}
 use Rattle.console_commands.proofs.Rows.{sought_none, sought_back, sought_all}
-use borrow.Author.Rules.{rules}
 use Rattle.console_commands.proofs.commands.verb.Goals as goal
 
 pub loop-left-init : goal.loop-left-init

@@ -4,7 +4,6 @@ use native.Mathlib.Omega.{arith}
 use Rattle.text.specs.Texts.{text}
 use Rattle.console_commands.specs.Commands.{write_open, do_when, command_table}
 use Rattle.console_commands.proofs.Rows.{in_part}
-use borrow.Author.Rules.{rules}
 use Rattle.console_commands.proofs.commands.write_row.Goals as goal
 
 pub returns : goal.returns

@@ -1,12 +1,7 @@
 -- `console_commands::letters::alike` meets its contract: what is left to compare, from each place passed, says what the whole
 -- says.
-use Prim.Native.Nat.{◌-◌}
-use mathlib.Core.Path.{◌≡◌, sym, ◌∙◌}
+use mathlib.Core.Path.{sym, ◌∙◌}
 use native.Mathlib.Omega.{arith}
-use borrow.Author.Rules.{rules}
-use lib.ListN.{length, drop}
-use Rattle.text.specs.Texts.{same}
-use Rattle.console_commands.specs.Letters.{lowered}
 use Rattle.console_commands.proofs.Cases.{other_length, alike_on, alike_stop, alike_end}
 use Rattle.console_commands.proofs.letters.alike.Goals as goal
 

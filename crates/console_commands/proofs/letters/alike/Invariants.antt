@@ -1,12 +1,9 @@
 -- What the loop keeps, and what falls.
 use Prim.Native.Nat.{◌-◌}
-use mathlib.Core.Path.{◌≡◌, sym, ◌∙◌}
-use native.Mathlib.Omega.{arith}
-use borrow.Author.Rules.{rules}
+use mathlib.Core.Path.{◌≡◌}
 use lib.ListN.{length, drop}
 use Rattle.text.specs.Texts.{same}
 use Rattle.console_commands.specs.Letters.{lowered}
-use Rattle.console_commands.proofs.Cases.{other_length, alike_on, alike_stop, alike_end}
 use Rattle.console_commands.proofs.letters.alike.Given as goal
 
 abbrev pub invariant-loop-i : goal.invariant-loop-i

@@ -1,7 +1,6 @@
 -- `console_commands::letters::lower` meets its contract: its tests are those of the definition.
 use borrow.Author.Tests.{lt-ltb, le-ltb}
 use Rattle.console_commands.specs.Letters.{lower_of}
-use borrow.Author.Rules.{rules}
 use Rattle.console_commands.proofs.letters.lower.Goals as goal
 
 pub returns-then-b-lt65 : goal.returns-then-b-lt65

@@ -1,12 +1,10 @@
 -- `drop_lanes` meets its contract: the loop has the title with the lanes passed dropped, whose film and ends are as before.
-use Prim.Native.Nat.{◌≤◌, ◌-◌}
-use mathlib.Core.Path.{◌≡◌, refl, ap, ◌∙◌}
+use mathlib.Core.Path.{refl, ap, ◌∙◌}
 use native.Mathlib.Omega.{arith}
 use native.Mathlib.Numerals.{add-one}
 use native.Mathlib.Nat.{le_antisymm}
 use Rattle.story.specs.Next.{drop_lanes}
 use Rattle.owed.proofs.Fixed.{fixed_drops, fixed_owing, drop_more}
-use borrow.Author.Rules.{rules}
 use Rattle.owed.proofs.dropping.drop_lanes.Goals as goal
 
 pub loop-lane-init : goal.loop-lane-init

@@ -4,7 +4,6 @@ use mathlib.Core.Path.{◌∙◌}
 use native.Mathlib.Omega.{arith}
 use Rattle.rules.specs.Limits.{asked_max}
 use Rattle.owed.proofs.Fixed.{ended_owing}
-use borrow.Author.Rules.{rules}
 use Rattle.owed.proofs.dropping.turned_title.Goals as goal
 
 pub drop_lanes-requires : goal.drop_lanes-requires

@@ -1,13 +1,12 @@
 -- `awaited_by_some` meets its contract: the loop's value is the test of some count passed, and no count up to the lane had
 -- it. Rests on the law that a count with the lane has its cell.
-use Prim.Native.Nat.{suc, ◌+◌, ◌-◌, ◌≤◌, ◌<◌}
+use Prim.Native.Nat.{◌+◌}
 use mathlib.Core.Path.{◌≡◌, refl, sym, ap, ap₂, ◌∙◌}
 use native.Mathlib.Omega.{arith}
 use native.Mathlib.Numerals.{add-one}
 use native.Mathlib.Nat.{le_antisymm}
 use lib.Dec.{ltb, leb}
 use lib.ListN.{get_or}
-use borrow.Author.Rules.{rules}
 use borrow.Author.Tests.{lt-ltb, le-ltb}
 use Rattle.rules.specs.Limits.{both, either, count_places}
 use Rattle.rules.specs.Search.{some}

@@ -1,7 +1,6 @@
 -- `awaited_on` meets its contract: a count that never ruled has no boxes, and the others' window is compared.
 use native.Mathlib.Nat.{pos_of_ne-zero}
 use borrow.Author.Tests.{lt-ltb}
-use borrow.Author.Rules.{rules}
 use Rattle.owed.proofs.owing.awaited_on.Goals as goal
 
 pub returns-then-end-eq0 : goal.returns-then-end-eq0

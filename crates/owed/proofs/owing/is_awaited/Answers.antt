@@ -6,7 +6,6 @@ use Rattle.rules.specs.Limits.{count_places}
 use Rattle.scheme.proofs.ByKind.{padded_scheme}
 use Rattle.measures.proofs.Within.{in_row}
 use Rattle.stretches.proofs.OnLanes.{awaited_own}
-use borrow.Author.Rules.{rules}
 use Rattle.owed.proofs.owing.is_awaited.Goals as goal
 
 pub awaited_on-requires : goal.awaited_on-requires

@@ -1,5 +1,4 @@
 -- `is_owed` meets its contract: padding is owed to nobody, and film to those who await it.
-use borrow.Author.Rules.{rules}
 use Rattle.story.specs.Kept.{kept_owed}
 use Rattle.owed.proofs.owing.is_owed.Goals as goal
 

@@ -1,6 +1,6 @@
 -- `owed_within` meets its contract: the loop's number is the count of the owed ticks passed.
-use Prim.Native.Nat.{◌+◌, ◌≤◌, ◌-◌}
-use mathlib.Core.Path.{◌≡◌, refl, ap, ap₂, ◌∙◌}
+use Prim.Native.Nat.{◌+◌}
+use mathlib.Core.Path.{refl, ap, ap₂, ◌∙◌}
 use mathlib.Core.Bool.{Bool}
 use native.Mathlib.Omega.{arith}
 use native.Mathlib.Numerals.{add-one}
@@ -8,7 +8,6 @@ use native.Mathlib.Nat.{le_antisymm}
 use Rattle.rules.specs.Refusals.{pick}
 use Rattle.rules.specs.Search.{how_many}
 use Rattle.story.specs.Kept.{kept_within}
-use borrow.Author.Rules.{rules}
 use Rattle.owed.proofs.owing.owed_within.Goals as goal
 
 pub loop-i-init : goal.loop-i-init

@@ -1,14 +1,7 @@
 -- What the loop keeps, and what falls.
-use Prim.Native.Nat.{◌+◌, ◌≤◌, ◌-◌}
-use mathlib.Core.Path.{◌≡◌, refl, ap, ap₂, ◌∙◌}
-use mathlib.Core.Bool.{Bool}
-use native.Mathlib.Omega.{arith}
-use native.Mathlib.Numerals.{add-one}
-use native.Mathlib.Nat.{le_antisymm}
-use Rattle.rules.specs.Refusals.{pick}
-use Rattle.rules.specs.Search.{how_many}
+use Prim.Native.Nat.{◌≤◌, ◌-◌}
+use mathlib.Core.Path.{◌≡◌}
 use Rattle.story.specs.Kept.{kept_within}
-use borrow.Author.Rules.{rules}
 use Rattle.owed.proofs.owing.owed_within.Given as goal
 
 abbrev pub invariant-loop-i : goal.invariant-loop-i

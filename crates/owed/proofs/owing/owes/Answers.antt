@@ -2,7 +2,6 @@
 use mathlib.Core.Path.{sym, ◌∙◌}
 use Rattle.stretches.specs.inner.Walk.{walk_of}
 use Rattle.stretches.proofs.FromFloorUp.{Reached, reached_in, walkable, owes_in}
-use borrow.Author.Rules.{rules}
 use Rattle.owed.proofs.owing.owes.Tie as tie
 use Rattle.owed.proofs.owing.owes.Lts as lts
 use Rattle.owed.proofs.owing.owes.Reads as reads

@@ -2,7 +2,6 @@
 use native.Mathlib.Omega.{arith}
 use Rattle.story.specs.Life.{reach as reachOf}
 use Rattle.stretches.proofs.BelowFloor.{idle_owes}
-use borrow.Author.Rules.{rules}
 use Rattle.owed.proofs.owing.owes_first.Goals as goal
 
 pub returns-then-is_idle : goal.returns-then-is_idle

@@ -6,7 +6,6 @@ use Rattle.story.specs.Life.{reach as reachOf}
 use Rattle.story.specs.Kept.{kept_within}
 use Rattle.stretches.proofs.Found.{owed_few}
 use Rattle.stretches.proofs.Turning.{turns_owe}
-use borrow.Author.Rules.{rules}
 use Rattle.owed.proofs.owing.owes_steady.Tie as tie
 use Rattle.owed.proofs.owing.owes_steady.Lts as lts
 use Rattle.owed.proofs.owing.owes_steady.Reads as reads

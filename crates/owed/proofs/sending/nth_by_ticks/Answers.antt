@@ -1,13 +1,10 @@
 -- `nth_by_ticks` meets its contract: while the tick is not met none of those passed is it, and the first to be met is.
 -- Rests on the laws of the search for it.
-use Prim.Native.Nat.{◌≤◌, ◌-◌}
 use mathlib.Core.Path.{◌≡◌, sym, ◌∙◌}
-use mathlib.Core.Logic.{⊎_elim}
 use native.Mathlib.Omega.{arith}
 use native.Mathlib.Numerals.{add-one}
 use native.Mathlib.Nat.{le_antisymm}
-use borrow.Author.Rules.{rules}
-use Rattle.owed.proofs.Nth.{Unmet, unmet_yet, unmet_owed, unmet_not, met}
+use Rattle.owed.proofs.Nth.{unmet_yet, unmet_owed, unmet_not, met}
 use Rattle.owed.proofs.sending.nth_by_ticks.Goals.{then-is_owed+else-owed-nth, else-is_owed}
 use Rattle.owed.proofs.sending.nth_by_ticks.Goals as goal
 
@@ -45,13 +42,13 @@ loop-i-preserved c =
     let here = sym c.is_owed.ensures in (
       omega (arith, c.loop-i-test.true),
       elim c.if-is_owed.branch [
-        then-is_owed+else-owed-nth w ↦
-          rw (add-one l.i, w.owed-is, add-one l.owed)
-          (unmet_owed a.t a.lane a.from a.nth l.i l.owed l.invariant.1 (here ∙ w.if-is_owed.true)
-          w.if-owed-nth.false)
+        | then-is_owed+else-owed-nth w ↦
+            rw (add-one l.i, w.owed-is, add-one l.owed)
+            (unmet_owed a.t a.lane a.from a.nth l.i l.owed l.invariant.1 (here ∙ w.if-is_owed.true)
+            w.if-owed-nth.false)
         | else-is_owed w ↦
-          rw (add-one l.i, w.owed-is)
-          (unmet_not a.t a.lane a.from a.nth l.i l.owed l.invariant.1 (here ∙ w.if-is_owed.false))
+            rw (add-one l.i, w.owed-is)
+            (unmet_not a.t a.lane a.from a.nth l.i l.owed l.invariant.1 (here ∙ w.if-is_owed.false))
       ],
     )
 

@@ -1,12 +1,6 @@
 -- What the loop keeps, and what falls.
 use Prim.Native.Nat.{◌≤◌, ◌-◌}
-use mathlib.Core.Path.{◌≡◌, sym, ◌∙◌}
-use mathlib.Core.Logic.{⊎_elim}
-use native.Mathlib.Omega.{arith}
-use native.Mathlib.Numerals.{add-one}
-use native.Mathlib.Nat.{le_antisymm}
-use borrow.Author.Rules.{rules}
-use Rattle.owed.proofs.Nth.{Unmet, unmet_yet, unmet_owed, unmet_not, met}
+use Rattle.owed.proofs.Nth.{Unmet}
 use Rattle.owed.proofs.sending.nth_by_ticks.Given as goal
 
 abbrev pub invariant-loop-i : goal.invariant-loop-i

@@ -9,7 +9,6 @@ use Rattle.story.specs.Life.{reach as reachOf}
 use Rattle.story.specs.Kept.{kept_nth}
 use Rattle.stretches.proofs.Found.{found_exactly, owed_few}
 use Rattle.stretches.proofs.Turning.{turns_owe, nth_first, nth_second, nth_none_left}
-use borrow.Author.Rules.{rules}
 use Rattle.owed.proofs.sending.nth_steady.Tie as tie
 use Rattle.owed.proofs.sending.nth_steady.Lts as lts
 use Rattle.owed.proofs.sending.nth_steady.Reads as reads

@@ -1,7 +1,6 @@
 -- `nth_up` meets its contract: a lane that events dropped is walked by its channels, any other by its ticks. Rests on the law of that walk.
 use mathlib.Core.Path.{sym, ◌∙◌}
 use Rattle.stretches.proofs.FromFloorUp.{Reached, reached_in, walkable, nth_exactly}
-use borrow.Author.Rules.{rules}
 use Rattle.owed.proofs.sending.nth_up.Tie as tie
 use Rattle.owed.proofs.sending.nth_up.Lts as lts
 use Rattle.owed.proofs.sending.nth_up.Reads as reads

@@ -1,6 +1,5 @@
 -- `reach` meets its contract.
 use Rattle.story.specs.Life.{reach as reachOf}
-use borrow.Author.Rules.{rules}
 use Rattle.owed.proofs.sending.reach.Goals as goal
 
 pub returns : goal.returns

@@ -1,8 +1,7 @@
 -- `shown_tick` meets its contract: its one test is that of an active lane. Rests on the laws of the two ways.
-use mathlib.Core.Path.{◌≡◌, sym, ◌∙◌}
+use mathlib.Core.Path.{sym, ◌∙◌}
 use native.Mathlib.Omega.{arith}
 use borrow.Author.Tests.{lt-ltb, le-ltb}
-use borrow.Author.Rules.{rules}
 use Rattle.owed.proofs.Shown.{tick_active, tick_sending}
 use Rattle.owed.proofs.sending.shown_tick.Goals as goal
 

@@ -2,7 +2,6 @@
 use mathlib.Core.Path.{sym, ap, ◌∙◌}
 use Rattle.story.specs.Kept.{scheme_in}
 use Rattle.owed.proofs.Shown.{shown_cell}
-use borrow.Author.Rules.{rules}
 use Rattle.owed.proofs.sending.shows.Goals as goal
 
 pub returns : goal.returns

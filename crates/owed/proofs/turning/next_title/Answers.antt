@@ -1,5 +1,4 @@
 -- `next_title` meets its contract: each act is the function of its name. An opening asks nothing of the title.
-use borrow.Author.Rules.{rules}
 use Rattle.owed.proofs.turning.next_title.Goals as goal
 
 pub changed_title-requires : goal.changed_title-requires

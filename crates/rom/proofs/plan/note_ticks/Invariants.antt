@@ -1,0 +1,17 @@
+-- What the loop keeps, and what falls.
+use mathlib.Core.Path.{◌≡◌, refl, ap, ◌∙◌}
+use Prim.Native.Nat.{◌-◌, ◌≤◌}
+use native.Mathlib.Omega.{arith}
+use native.Mathlib.Nat.{le_antisymm}
+use lib.ListN.{length}
+use borrow.Author.Rules.{rules}
+use Rattle.rom_table.specs.Table.{rom_period}
+use Rattle.rom.specs.Plan.{noted_ticks}
+use Rattle.rom.proofs.Noted.{lanes_length, ticks_more}
+use Rattle.rom.proofs.plan.note_ticks.Given as goal
+
+abbrev pub invariant-loop-passed : goal.invariant-loop-passed
+invariant-loop-passed l = (l.passed ≤ rom_period) × (l.row ≡ noted_ticks l.table l.initial.row l.count l.arrival l.passed) × (length l.row ≡ length l.initial.row)
+
+abbrev pub decreases-loop-passed : goal.decreases-loop-passed
+decreases-loop-passed l = rom_period - l.passed
