@@ -1,7 +1,6 @@
 -- `console_limits::asked::put_asked` meets its contract: the last event behind 2, else as `put_limits`.
 use borrow.Author.Tests.{eq-eqb, ne_eqb}
 use Rattle.console_limits.specs.Asked.{asked_reason}
-use borrow.Author.Rules.{rules}
 use Rattle.console_limits.proofs.asked.put_asked.Goals as goal
 
 pub returns-then-answer-eq-TOO_EARLY : goal.returns-then-answer-eq-TOO_EARLY

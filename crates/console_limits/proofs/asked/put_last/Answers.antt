@@ -2,7 +2,6 @@
 use Rattle.text.specs.Texts.{text}
 use Rattle.text.proofs.Pages.{puts_then}
 use Rattle.console_limits.specs.Asked.{last_text}
-use borrow.Author.Rules.{rules}
 use Rattle.console_limits.proofs.asked.put_last.Goals as goal
 
 pub returns : goal.returns

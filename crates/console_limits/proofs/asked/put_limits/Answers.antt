@@ -2,7 +2,6 @@
 use borrow.Author.Tests.{eq-eqb, ne_eqb}
 use Rattle.text.specs.Output.{puts}
 use Rattle.console_limits.specs.Asked.{limit_reason}
-use borrow.Author.Rules.{rules}
 use Rattle.console_limits.proofs.asked.put_limits.Goals as goal
 
 pub returns-then-answer-eq-OUTSIDE_LIMITS : goal.returns-then-answer-eq-OUTSIDE_LIMITS

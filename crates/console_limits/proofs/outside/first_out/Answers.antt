@@ -1,10 +1,8 @@
 -- `console_limits::outside::first_out` meets its contract: the first of the places passed.
-use Prim.Native.Nat.{◌≤◌, ◌-◌}
-use mathlib.Core.Path.{◌≡◌, ap, ◌∙◌}
+use mathlib.Core.Path.{ap, ◌∙◌}
 use native.Mathlib.Omega.{arith}
 use native.Mathlib.Numerals.{add-one}
 use native.Mathlib.Nat.{le_antisymm}
-use lib.ListN.{length}
 use Rattle.rules.specs.Search.{first}
 use Rattle.console_limits.specs.Outside.{is_out_at, first_out}
 use borrow.Author.Rules.{rules}

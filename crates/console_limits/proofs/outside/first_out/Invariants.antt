@@ -1,13 +1,9 @@
 -- What the loop keeps, and what falls.
 use Prim.Native.Nat.{◌≤◌, ◌-◌}
-use mathlib.Core.Path.{◌≡◌, ap, ◌∙◌}
-use native.Mathlib.Omega.{arith}
-use native.Mathlib.Numerals.{add-one}
-use native.Mathlib.Nat.{le_antisymm}
+use mathlib.Core.Path.{◌≡◌}
 use lib.ListN.{length}
 use Rattle.rules.specs.Search.{first}
-use Rattle.console_limits.specs.Outside.{is_out_at, first_out}
-use borrow.Author.Rules.{rules}
+use Rattle.console_limits.specs.Outside.{is_out_at}
 use Rattle.console_limits.proofs.outside.first_out.Given as goal
 
 abbrev pub invariant-loop-i : goal.invariant-loop-i

@@ -6,7 +6,6 @@ use Rattle.text.specs.Digits.{decimal}
 use Rattle.text.proofs.Pages.{puts_then}
 use Rattle.console_limits.specs.Quantities.{quantity_name}
 use Rattle.console_limits.specs.Outside.{bounds_text}
-use borrow.Author.Rules.{rules}
 use Rattle.console_limits.proofs.outside.put_bounds.Goals as goal
 
 pub returns : goal.returns

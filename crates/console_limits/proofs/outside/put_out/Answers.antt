@@ -2,7 +2,6 @@
 use borrow.Author.Tests.{lt-ltb, le-ltb}
 use Rattle.text.specs.Texts.{text}
 use Rattle.console_limits.specs.Outside.{out_text}
-use borrow.Author.Rules.{rules}
 use Rattle.console_limits.proofs.outside.put_out.Goals as goal
 
 pub returns-then-first-numbers : goal.returns-then-first-numbers

@@ -1,7 +1,6 @@
 -- `console_limits::quantities::column_of` meets its contract: each test on the command is that of the definition.
 use borrow.Author.Tests.{eq-eqb, ne_eqb}
 use Rattle.console_limits.specs.Quantities.{column_of}
-use borrow.Author.Rules.{rules}
 use Rattle.console_limits.proofs.quantities.column_of.Goals as goal
 
 pub returns-then-command-eq-STATUS : goal.returns-then-command-eq-STATUS

@@ -1,6 +1,5 @@
 -- `console_limits::quantities::is_out` meets its contract: the test of the quantity's limits, turned round.
 use Rattle.console_limits.specs.Quantities.{is_out}
-use borrow.Author.Rules.{rules}
 use Rattle.console_limits.proofs.quantities.is_out.Goals as goal
 
 pub returns : goal.returns

@@ -5,7 +5,6 @@ use Rattle.text.specs.Output.{puts}
 use Rattle.text.specs.Bytes.{is_sort, run}
 use Rattle.console_limits.specs.Quantities.{quantity_names, quantity_name}
 use Rattle.words.proofs.Listed.{listed, plain, lines}
-use borrow.Author.Rules.{rules}
 use Rattle.console_limits.proofs.quantities.put_name.Goals as goal
 
 pub returns : goal.returns

@@ -4,7 +4,6 @@ use borrow.Author.Tests.{lt-ltb, le-ltb}
 use lib.ListN.{get_or}
 use Rattle.console_limits.specs.declared.quantities.Row.{Row}
 use Rattle.console_limits.specs.Quantities.{quantity_at}
-use borrow.Author.Rules.{rules}
 use Rattle.console_limits.proofs.quantities.quantity_at.Goals as goal
 
 pub returns-then-column-lt-WIDTH : goal.returns-then-column-lt-WIDTH
