@@ -6,6 +6,7 @@ use mathlib.Core.Logic.{⊎_elim}
 use mathlib.Core.List.{List, [], ◌∷◌, map}
 use Prim.Native.Nat.{ℕ, zero, suc, ◌≤◌, ◌<◌}
 use native.Mathlib.Omega.{arith}
+use native.Mathlib.Nat.{le_antisymm}
 use lib.Dec.{leb, eqb}
 use lib.ListN.{length, length-set, length-map, get_or-map, get_or, set}
 use lib.Seq.{get_or-set_same, get_or-set_other}
@@ -45,6 +46,11 @@ one_row s τ r a cs hs ms e c h m = rw (c, h, m, ← e) (go (eqb a 0))
 unfoldable pub filled_to : (Record → Record) → List Record → ℕ → List Record
 filled_to f xs zero = xs
 filled_to f xs (suc i) = set (filled_to f xs i) i (f (get_or (filled_to f xs i) i no_record))
+
+pub filled_next : (f : Record → Record) (xs ls : List Record) (i : ℕ) (r : Record) → ls ≡ filled_to f xs i →
+    r ≡ f (get_or ls i no_record) → set ls i r ≡ filled_to f xs (suc i)
+unfolding filled_to
+filled_next f xs ls i r e q = rw (q, e)
 
 -- i places of a row have what f makes of them, and the others are as they were
 abbrev pub Filling : (Record → Record) → List Record → ℕ → List Record → Type 0
@@ -86,6 +92,12 @@ records_filled s τ xs none =
     every_place (λ r. filled_record s τ r) no_record no_record xs ls full.0
     (λ k l. full.1 k l ∙ done_record s τ (get_or xs k no_record) (rw ids at none)
     (every_out (λ j. leb (get_or xs j no_record).id id_max) (length xs) k ids l))
+
+-- the answer, once the ids of the whole row are judged
+pub all_judged : (s : State) (τ : ℕ) (rows : List Record) (i : ℕ) (ids : Bool) → i ≤ length rows → length rows ≤ i
+    → ids ≡ record_ids_ok rows i → asked_answer s τ ids ≡ records_answer s τ rows
+unfolding records_answer
+all_judged s τ rows i ids l m e = ap (λ (b : Bool). asked_answer s τ b) (rw (le_antisymm l m) at e)
 
 -- the answer over records is the flat call's over their ids, in rows of one length
 pub flat_answer : (s : State) (τ : ℕ) (rows : List Record) →
