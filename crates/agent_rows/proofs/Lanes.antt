@@ -8,7 +8,7 @@ use Prim.Native.Nat.{ℕ, zero, suc, ◌+◌, ◌-◌, ◌≤◌, ◌<◌}
 use native.Mathlib.Omega.{arith}
 use native.Mathlib.Nat.{add-zero, add-suc, le_refl}
 use lib.Dec.{ltb, eqb}
-use lib.ListN.{length, get_or, set}
+use lib.ListN.{length, get_or}
 use lib.Seq.{get_or-take, get_or-drop, get_or-set_same, get_or-set_other}
 use borrow.Author.Tests.{leb-true, le-ltb, eq-eqb, ne_eqb}
 use Rattle.rules.specs.Limits.{count_max, asked_max, lane_places, titles_max}

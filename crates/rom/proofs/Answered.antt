@@ -1,7 +1,7 @@
 -- The lane question: where a title's scheme, floor and cap are the box's, answer and cell are the computing call's; an
 -- answered question has such a title; and what is looked up in a table that was filled is that title's. Rests on the laws of
 -- refusals, of lane questions and of the table.
-use mathlib.Core.Path.{◌≡◌, refl, sym, ap, ◌∙◌}
+use mathlib.Core.Path.{◌≡◌, refl, sym, ◌∙◌}
 use mathlib.Core.Bool.{Bool, true, false, not}
 use mathlib.Core.List.{List}
 use mathlib.Core.Logic.{⊎_elim}

@@ -9,12 +9,12 @@ use Prim.Native.Nat.{ℕ, ◌^◌, ◌≤◌}
 use native.Mathlib.Omega.{arith}
 use lib.Dec.{eqb}
 use lib.ListN.{length}
-use borrow.Author.Tests.{eq-eqb, ne_eqb, eqb-true, eqb-false}
+use borrow.Author.Tests.{eq-eqb, eqb-true, eqb-false}
 use Rattle.rules.specs.Limits.{asked_max}
 use Rattle.rules.specs.Refusals.{done, first_hit, outside_limits}
 use Rattle.rules.proofs.Tests.{decide}
 use Rattle.plans.specs.Padded.{plan_at, plan_answer}
-use Rattle.plans.specs.Row.{written, filled_row, Planned}
+use Rattle.plans.specs.Row.{written, Planned}
 use Rattle.plans.proofs.Row.{filled_done, filled_refused, left_done, left_refused}
 use Rattle.grid.specs.Lanes.{lane_cell}
 use Rattle.plans.proofs.padded.Refusals.{Accepted, accepted_only}

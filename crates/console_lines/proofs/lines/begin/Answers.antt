@@ -10,7 +10,6 @@ use Rattle.console_lines.specs.Lines.{with_fault, with_verb, longest}
 use Rattle.text.specs.declared.bytes.Sort.TheVariants.{Word}
 use Rattle.text.proofs.Runs.{run_end_low, run_end_high}
 use Rattle.console_lines.proofs.Reading.{word_there, begun_long, begun_verb, begun_blank}
-use borrow.Author.Rules.{rules}
 use Rattle.console_lines.proofs.lines.begin.Tie as tie
 use Rattle.console_lines.proofs.lines.begin.Lts as lts
 use Rattle.console_lines.proofs.lines.begin.Reads as reads

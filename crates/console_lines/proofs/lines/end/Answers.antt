@@ -1,6 +1,5 @@
 -- `console_lines::lines::end` meets its contract: the test says whether the words are enough.
 use Rattle.console_lines.specs.Lines.{line_ended}
-use borrow.Author.Rules.{rules}
 use Rattle.console_lines.proofs.lines.end.Goals as goal
 
 pub returns-then-enough : goal.returns-then-enough

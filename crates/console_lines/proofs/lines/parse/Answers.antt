@@ -1,8 +1,7 @@
 -- `console_lines::lines::parse` meets its contract: reading on from each word passed gives what the whole line means.
 use Prim.Native.Nat.{◌-◌}
-use mathlib.Core.Path.{◌≡◌, ◌∙◌, ap}
+use mathlib.Core.Path.{◌∙◌, ap}
 use native.Mathlib.Omega.{arith}
-use borrow.Author.Rules.{rules}
 use Rattle.console_lines.specs.Lines.{read_on, numbers_most, meaning}
 use Rattle.console_lines.proofs.Reading.{read_on_lem, read_stop, read_none}
 use Rattle.console_lines.proofs.lines.parse.Goals as goal

@@ -1,10 +1,6 @@
 -- What the loop keeps, and what falls.
-use Prim.Native.Nat.{◌-◌}
-use mathlib.Core.Path.{◌≡◌, ◌∙◌, ap}
-use native.Mathlib.Omega.{arith}
-use borrow.Author.Rules.{rules}
-use Rattle.console_lines.specs.Lines.{read_on, numbers_most, meaning}
-use Rattle.console_lines.proofs.Reading.{read_on_lem, read_stop, read_none}
+use mathlib.Core.Path.{◌≡◌}
+use Rattle.console_lines.specs.Lines.{read_on, meaning}
 use Rattle.console_lines.proofs.lines.parse.Given as goal
 
 abbrev pub invariant-loop-left : goal.invariant-loop-left

@@ -1,7 +1,6 @@
 -- `console_lines::lines::step` meets its contract: the test says whether a word is left.
 use mathlib.Core.Path.{◌∙◌, sym}
 use Rattle.console_lines.proofs.Reading.{word_there, step_word, step_end}
-use borrow.Author.Rules.{rules}
 use Rattle.console_lines.proofs.lines.step.Goals as goal
 
 pub returns-then-ends_at : goal.returns-then-ends_at

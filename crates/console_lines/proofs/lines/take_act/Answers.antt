@@ -1,7 +1,6 @@
 -- `console_lines::lines::take_act` meets its contract: its tests are those of the definition.
 use mathlib.Core.Path.{◌∙◌}
 use Rattle.console_lines.proofs.Reading.{act_low, act_high, act_told}
-use borrow.Author.Rules.{rules}
 use Rattle.console_lines.proofs.lines.take_act.Goals as goal
 
 pub returns-then-v-lt-CLOSE : goal.returns-then-v-lt-CLOSE

@@ -4,7 +4,6 @@ use mathlib.Core.Path.{◌∙◌, ap}
 use native.Mathlib.Omega.{arith}
 use Rattle.console_lines.specs.Lines.{with_fault}
 use Rattle.console_lines.proofs.Reading.{amount_large, amount_whole}
-use borrow.Author.Rules.{rules}
 use Rattle.console_lines.proofs.lines.take_amount.Goals as goal
 
 pub returns-then-above : goal.returns-then-above

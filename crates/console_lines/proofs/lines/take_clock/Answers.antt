@@ -1,7 +1,6 @@
 -- `console_lines::lines::take_clock` meets its contract: its test is that of the definition.
 use mathlib.Core.Path.{◌∙◌}
 use Rattle.console_lines.proofs.Reading.{clock_right, clock_wrong}
-use borrow.Author.Rules.{rules}
 use Rattle.console_lines.proofs.lines.take_clock.Goals as goal
 
 pub returns-then-is_clock : goal.returns-then-is_clock

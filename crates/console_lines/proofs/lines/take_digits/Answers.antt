@@ -1,7 +1,6 @@
 -- `console_lines::lines::take_digits` meets its contract: its test is that of the definition.
 use mathlib.Core.Path.{◌∙◌}
 use Rattle.console_lines.proofs.Reading.{digits_bad, digits_whole}
-use borrow.Author.Rules.{rules}
 use Rattle.console_lines.proofs.lines.take_digits.Goals as goal
 
 pub returns-then-p-e : goal.returns-then-p-e

@@ -1,7 +1,6 @@
 -- `console_lines::lines::take_hex` meets its contract: its tests are those of the definition.
 use mathlib.Core.Path.{◌∙◌}
 use Rattle.console_lines.proofs.Reading.{hex_bad, hex_odd, hex_whole}
-use borrow.Author.Rules.{rules}
 use Rattle.console_lines.proofs.lines.take_hex.Goals as goal
 
 pub returns-then-p-e : goal.returns-then-p-e

@@ -1,7 +1,6 @@
 -- `console_lines::lines::take_kind` meets its contract: its tests are those of the definition.
 use mathlib.Core.Path.{◌∙◌}
 use Rattle.console_lines.proofs.Reading.{kind_low, kind_high, kind_told}
-use borrow.Author.Rules.{rules}
 use Rattle.console_lines.proofs.lines.take_kind.Goals as goal
 
 pub returns-then-v-lt-OPEN : goal.returns-then-v-lt-OPEN

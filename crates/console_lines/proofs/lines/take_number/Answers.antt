@@ -2,7 +2,6 @@
 use mathlib.Core.Path.{◌∙◌}
 use native.Mathlib.Omega.{arith}
 use Rattle.console_lines.proofs.Reading.{number_clock, number_plain, number_untimed}
-use borrow.Author.Rules.{rules}
 use Rattle.console_lines.proofs.lines.take_number.Goals as goal
 
 pub returns-then-has_colon : goal.returns-then-has_colon

@@ -1,7 +1,6 @@
 -- `console_lines::lines::take_verb` meets its contract: the test says whether the word is known.
 use borrow.Author.Tests.{eq-eqb, ne_eqb}
 use Rattle.console_lines.specs.Lines.{with_verb}
-use borrow.Author.Rules.{rules}
 use Rattle.console_lines.proofs.lines.take_verb.Goals as goal
 
 pub returns-then-v-eq-NONE : goal.returns-then-v-eq-NONE

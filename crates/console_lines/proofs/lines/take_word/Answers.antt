@@ -10,7 +10,6 @@ use Rattle.console_lines.specs.inner.Taking.{WordIn}
 use Rattle.text.specs.declared.bytes.Sort.TheVariants.{Word}
 use Rattle.text.proofs.Runs.{run_end_low, run_end_high}
 use Rattle.console_lines.proofs.Reading.{word_crowded, word_hex, word_kind, word_act, word_number}
-use borrow.Author.Rules.{rules}
 use Rattle.console_lines.proofs.lines.take_word.Tie as tie
 use Rattle.console_lines.proofs.lines.take_word.Lts as lts
 use Rattle.console_lines.proofs.lines.take_word.Reads as reads

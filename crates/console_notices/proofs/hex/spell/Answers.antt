@@ -1,7 +1,6 @@
 -- `console_notices::hex::spell` meets its contract: the digits between the places, which the room holds.
 use native.Mathlib.Omega.{arith}
 use Rattle.console_notices.proofs.Spelling.{none_past, none_before, spelt}
-use borrow.Author.Rules.{rules}
 use Rattle.console_notices.proofs.hex.spell.Goals as goal
 
 pub returns-then-size-to : goal.returns-then-size-to

@@ -3,7 +3,6 @@ use mathlib.Core.Path.{sym, ap, ◌∙◌}
 use Rattle.text.specs.Output.{puts}
 use Rattle.text.proofs.Pages.{puts_then}
 use Rattle.console_notices.proofs.Parts.{kind_parts}
-use borrow.Author.Rules.{rules}
 use Rattle.console_notices.proofs.reading.put_kind.Goals as goal
 
 pub returns : goal.returns

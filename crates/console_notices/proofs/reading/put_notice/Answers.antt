@@ -2,7 +2,6 @@
 use Rattle.text.specs.Texts.{text}
 use Rattle.text.proofs.Pages.{puts_then}
 use Rattle.console_notices.specs.Reading.{notice_text}
-use borrow.Author.Rules.{rules}
 use Rattle.console_notices.proofs.reading.put_notice.Goals as goal
 
 pub returns : goal.returns

@@ -3,7 +3,6 @@ use mathlib.Core.Path.{refl}
 use Rattle.text.specs.Output.{puts}
 use Rattle.text.proofs.Pages.{puts_then}
 use Rattle.console_answers.specs.Entries.{each}
-use borrow.Author.Rules.{rules}
 use Rattle.console_notices.proofs.reading.put_own.Goals as goal
 
 pub returns-in-Open : goal.returns-in-Open

@@ -1,5 +1,4 @@
 -- `console_notices::reading::put_reading` meets its contract: the notice, or the refusal of malformed bytes.
-use borrow.Author.Rules.{rules}
 use Rattle.console_notices.proofs.reading.put_reading.Goals as goal
 
 pub returns-in-Whole : goal.returns-in-Whole

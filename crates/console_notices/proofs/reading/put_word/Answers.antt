@@ -8,7 +8,6 @@ use Rattle.text.specs.Output.{puts}
 use Rattle.text.specs.Bytes.{is_sort, run}
 use Rattle.words.proofs.Listed.{listed, plain, lines}
 use Rattle.console_notices.specs.inner.Kinds.{kind_words}
-use borrow.Author.Rules.{rules}
 use Rattle.console_notices.proofs.reading.put_word.Goals as goal
 
 pub returns : goal.returns

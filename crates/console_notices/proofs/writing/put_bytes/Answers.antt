@@ -3,7 +3,6 @@ use mathlib.Core.Path.{sym}
 use native.Mathlib.Omega.{arith}
 use Rattle.notice.proofs.Worked.{open_length, none_longer}
 use Rattle.console_notices.proofs.Written.{first, counted}
-use borrow.Author.Rules.{rules}
 use Rattle.console_notices.proofs.writing.put_bytes.Goals as goal
 
 pub slice_bounds-room-end : goal.slice_bounds-room-end

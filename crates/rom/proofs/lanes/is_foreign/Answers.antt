@@ -1,6 +1,5 @@
 -- `is_foreign` meets its contract: a slot without a title is none, then the kind decides, then floor and cap.
 use borrow.Author.Tests.{eq-eqb, ne_eqb}
-use borrow.Author.Rules.{rules}
 use Rattle.rom.proofs.lanes.is_foreign.Goals as goal
 
 pub returns-then-t-eq-ABSENT : goal.returns-then-t-eq-ABSENT

@@ -3,7 +3,6 @@
 use mathlib.Core.Path.{◌≡◌, refl, sym, ap, ◌∙◌}
 use Prim.Native.Nat.{◌≤◌}
 use native.Mathlib.Omega.{arith}
-use borrow.Author.Rules.{rules}
 use Rattle.grid.specs.Bounds.{tick_max}
 use Rattle.questions.proofs.Lane.{lane_id, lane_time, lane_film, lane_sending, lane_capped}
 use Rattle.rom_table.specs.Table.{table_cell}
@@ -51,7 +50,7 @@ returns-then-answer-eq-DONE c =
     let t = c.title_of-t.ensures in
     let u = c.shown_tick-tick.ensures.is in (
       sym (none e.before.before.before.before.before),
-      c.Cell-at.ensures
+      c.cell_at.ensures
           ∙ ap (table_cell a.table.now a.lane) (u ∙ rw (c.tick_at.ensures.is, t) refl)
           ∙ table_shown a.table.now a.s a.id a.lane a.time (none e.before.before.before.before.before),
     )

@@ -1,11 +1,10 @@
 -- `rom_verdict` meets its contract: each way out decides the rule in front.
 -- Rests on the laws of that rule.
 use mathlib.Core.Bool.{true, false}
-use mathlib.Core.Logic.{⊎_elim}
 use mathlib.Core.Path.{sym, ap, ◌∙◌}
-use borrow.Author.Rules.{rules}
 use Rattle.rom.specs.Lanes.{is_foreign}
 use Rattle.rom.proofs.Answered.{rule_hits, rule_passed, far_id, foreign_id}
+use Rattle.rom.proofs.lanes.rom_verdict.Goals.{then-id-le-ID_MAX+else-is_foreign, else-id-le-ID_MAX}
 use Rattle.rom.proofs.lanes.rom_verdict.Goals as goal
 
 pub returns-then-is_foreign : goal.returns-then-is_foreign
@@ -21,8 +20,9 @@ returns c =
     let a = c.args in
     c.lane_verdict.ensures
     ∙ sym (rule_passed a.s a.id a.lane a.time
-    (⊎_elim
-    (λ w. foreign_id a.s a.id a.lane a.time w.0.taken false
-    (ap is_foreign (sym w.1.ensures) ∙ sym w.2.ensures ∙ w.3.left))
-    (λ w. far_id a.s a.id a.lane a.time w.left)
-    c.if-id-le-ID_MAX.branch))
+    (elim c.if-id-le-ID_MAX.branch [
+      | then-id-le-ID_MAX+else-is_foreign w ↦
+          foreign_id a.s a.id a.lane a.time w.if-id-le-ID_MAX.true false
+          (ap is_foreign (sym w.title_of.ensures) ∙ sym w.is_foreign.ensures ∙ w.if-is_foreign.false)
+      | else-id-le-ID_MAX w ↦ far_id a.s a.id a.lane a.time w.if-id-le-ID_MAX.false
+    ]))

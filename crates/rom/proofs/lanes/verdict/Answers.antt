@@ -1,6 +1,5 @@
 -- `verdict` meets its contract: each way out decides the table's length. Rests on the laws of the two ways.
 use mathlib.Core.Path.{◌∙◌}
-use borrow.Author.Rules.{rules}
 use Rattle.rom.proofs.Answered.{table_asked, table_refused}
 use Rattle.rom.proofs.lanes.verdict.Goals as goal
 

@@ -1,14 +1,12 @@
 -- `clear` meets its contract. The invariant: the row is the lent one with "never" in the places passed.
-use mathlib.Core.Path.{◌≡◌, refl, ap, ◌∙◌}
-use Prim.Native.Nat.{◌-◌, ◌^◌, ◌≤◌}
+use mathlib.Core.Path.{refl, ap, ◌∙◌}
 use native.Mathlib.Omega.{arith}
 use native.Mathlib.Numerals.{add-one}
 use native.Mathlib.Nat.{le_antisymm}
-use lib.ListN.{length, length-set}
+use lib.ListN.{length-set}
 use borrow.Author.Rules.{rules}
 use Rattle.plans.specs.Padded.{never}
 use Rattle.plans.specs.Row.{written}
-use Rattle.rom_table.specs.Table.{rom_cap}
 use Rattle.rom.proofs.plan.clear.Goals as goal
 
 pub loop-cell-init : goal.loop-cell-init

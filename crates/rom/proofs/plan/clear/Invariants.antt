@@ -1,11 +1,7 @@
 -- What the loop keeps, and what falls.
-use mathlib.Core.Path.{◌≡◌, refl, ap, ◌∙◌}
+use mathlib.Core.Path.{◌≡◌}
 use Prim.Native.Nat.{◌-◌, ◌^◌, ◌≤◌}
-use native.Mathlib.Omega.{arith}
-use native.Mathlib.Numerals.{add-one}
-use native.Mathlib.Nat.{le_antisymm}
-use lib.ListN.{length, length-set}
-use borrow.Author.Rules.{rules}
+use lib.ListN.{length}
 use Rattle.plans.specs.Padded.{never}
 use Rattle.plans.specs.Row.{written}
 use Rattle.rom_table.specs.Table.{rom_cap}

@@ -1,6 +1,5 @@
 -- `fill` meets its contract: what the ticks of a period leave is each cell's first showing. Rests on the laws of noting.
-use mathlib.Core.Path.{◌≡◌, ap, ◌∙◌}
-use borrow.Author.Rules.{rules}
+use mathlib.Core.Path.{ap, ◌∙◌}
 use Rattle.rom_table.specs.Table.{rom_period}
 use Rattle.rom.specs.Plan.{noted_ticks}
 use Rattle.rom.proofs.Noted.{ticks_seen}

@@ -1,8 +1,6 @@
 -- `note` meets its contract: each way out decides its one test.
-use mathlib.Core.Path.{refl}
 use borrow.Author.Tests.{lt-ltb, le-ltb}
 use Rattle.rom.specs.Plan.{noted_once as noted_of}
-use borrow.Author.Rules.{rules}
 use Rattle.rom.proofs.plan.note.Goals as goal
 
 pub returns-then-place-lt-CELLS : goal.returns-then-place-lt-CELLS

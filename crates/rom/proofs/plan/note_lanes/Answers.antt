@@ -1,10 +1,8 @@
 -- `note_lanes` meets its contract. The invariant: the row has what the lanes passed show.
-use mathlib.Core.Path.{◌≡◌, refl, ap, ◌∙◌}
-use Prim.Native.Nat.{◌-◌, ◌≤◌}
+use mathlib.Core.Path.{refl, ap, ◌∙◌}
 use native.Mathlib.Omega.{arith}
 use native.Mathlib.Nat.{le_antisymm}
 use lib.ListN.{length}
-use borrow.Author.Rules.{rules}
 use Rattle.rom.specs.Plan.{noted_lanes}
 use Rattle.rom.proofs.Noted.{noted_length, lanes_more}
 use Rattle.rom.proofs.plan.note_lanes.Goals as goal
@@ -16,7 +14,7 @@ loop-lane-init c = (omega arith, refl, refl)
 pub loop-lane-preserved : goal.loop-lane-preserved
 loop-lane-preserved c =
     let n = c.note in
-    let x = c.before.before.before.Cell-at in
+    let x = c.cell_at in
     let l = c.loop-lane in
     let a = c.args in (
       omega (arith, c.loop-lane-test.true),

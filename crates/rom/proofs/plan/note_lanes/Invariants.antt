@@ -1,12 +1,8 @@
 -- What the loop keeps, and what falls.
-use mathlib.Core.Path.{◌≡◌, refl, ap, ◌∙◌}
+use mathlib.Core.Path.{◌≡◌}
 use Prim.Native.Nat.{◌-◌, ◌≤◌}
-use native.Mathlib.Omega.{arith}
-use native.Mathlib.Nat.{le_antisymm}
 use lib.ListN.{length}
-use borrow.Author.Rules.{rules}
 use Rattle.rom.specs.Plan.{noted_lanes}
-use Rattle.rom.proofs.Noted.{noted_length, lanes_more}
 use Rattle.rom.proofs.plan.note_lanes.Given as goal
 
 abbrev pub invariant-loop-lane : goal.invariant-loop-lane

@@ -1,11 +1,8 @@
 -- `note_ticks` meets its contract. The invariant: the row has what the ticks passed show.
-use mathlib.Core.Path.{◌≡◌, refl, ap, ◌∙◌}
-use Prim.Native.Nat.{◌-◌, ◌≤◌}
+use mathlib.Core.Path.{refl, ap, ◌∙◌}
 use native.Mathlib.Omega.{arith}
 use native.Mathlib.Nat.{le_antisymm}
 use lib.ListN.{length}
-use borrow.Author.Rules.{rules}
-use Rattle.rom_table.specs.Table.{rom_period}
 use Rattle.rom.specs.Plan.{noted_ticks}
 use Rattle.rom.proofs.Noted.{lanes_length, ticks_more}
 use Rattle.rom.proofs.plan.note_ticks.Goals as goal

@@ -1,13 +1,9 @@
 -- What the loop keeps, and what falls.
-use mathlib.Core.Path.{◌≡◌, refl, ap, ◌∙◌}
+use mathlib.Core.Path.{◌≡◌}
 use Prim.Native.Nat.{◌-◌, ◌≤◌}
-use native.Mathlib.Omega.{arith}
-use native.Mathlib.Nat.{le_antisymm}
 use lib.ListN.{length}
-use borrow.Author.Rules.{rules}
 use Rattle.rom_table.specs.Table.{rom_period}
 use Rattle.rom.specs.Plan.{noted_ticks}
-use Rattle.rom.proofs.Noted.{lanes_length, ticks_more}
 use Rattle.rom.proofs.plan.note_ticks.Given as goal
 
 abbrev pub invariant-loop-passed : goal.invariant-loop-passed

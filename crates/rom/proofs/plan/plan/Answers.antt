@@ -1,7 +1,6 @@
 -- `plan` meets its contract: it fills the row exactly where its answer is done.
 -- Rests on the laws of the call's two ways.
 use mathlib.Core.Path.{◌≡◌, refl, sym, ap, ◌∙◌}
-use borrow.Author.Rules.{rules}
 use lib.ListN.{length}
 use Rattle.rom.specs.Plan.{rom_plan_answer, table_plan_answer}
 use Rattle.rom.proofs.Planned.{table_accepted, table_done, table_refused}

@@ -1,7 +1,6 @@
 -- `rom_answer` meets its contract: each way out decides whether floor and cap are the box's.
 -- Rests on the laws of the two ways.
 use mathlib.Core.Path.{sym, ◌∙◌}
-use borrow.Author.Rules.{rules}
 use Rattle.rom.proofs.Planned.{plan_own, plan_other}
 use Rattle.rom.proofs.plan.rom_answer.Goals as goal
 

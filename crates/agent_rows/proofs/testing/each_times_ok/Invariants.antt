@@ -1,0 +1,15 @@
+-- What the loop keeps, and what falls.
+use Prim.Native.Nat.{◌≤◌, ◌-◌}
+use mathlib.Core.Path.{◌≡◌}
+use Rattle.rules.specs.Limits.{titles_max}
+use Rattle.rules.specs.Search.{every}
+use Rattle.agent_rows.specs.Layout.{title_place}
+use Rattle.agent_rows.specs.Packed.{title_from}
+use Rattle.agent_rows.specs.inner.Tested.{times_ok}
+use Rattle.agent_rows.proofs.testing.each_times_ok.Given as goal
+
+abbrev pub invariant-loop-i : goal.invariant-loop-i
+invariant-loop-i l = (l.i ≤ titles_max) × (l.ok ≡ every (λ j. times_ok (title_from l.row (title_place j))) l.i)
+
+abbrev pub decreases-loop-i : goal.decreases-loop-i
+decreases-loop-i l = titles_max - l.i
