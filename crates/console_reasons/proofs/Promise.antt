@@ -4,7 +4,7 @@ use Prim.Native.Nat.{ℕ, ◌<◌}
 use mathlib.Core.Path.{◌≡◌, refl, sym, ◌∙◌}
 use mathlib.Core.Bool.{Bool, true, false, not, false≢true}
 use native.Mathlib.Omega.{arith}
-use borrow.Author.Tests.{ltb-true, not-true, eq-eqb, eqb-true}
+use borrow.Author.Tests.{ltb-true, not-true, eqb-true}
 use lib.Dec.{leb, ltb, eqb}
 use Rattle.rules.specs.Limits.{both, id_max, lane_max, asked_max}
 use Rattle.rules.specs.Refusals.{pick, before, outside_limits, too_early, not_there}

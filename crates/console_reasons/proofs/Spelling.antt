@@ -8,7 +8,6 @@ use mathlib.Core.List.{[], ◌∷◌}
 use native.Mathlib.Omega.{arith}
 use borrow.Author.Tests.{eqb-true}
 use lib.Dec.{leb, eqb}
-use lib.ListN.{length}
 use Rattle.rules.specs.Limits.{both, within, id_max, event_time_max, count_min, count_max}
 use Rattle.rules.specs.Refusals.{pick, outside_limits}
 use Rattle.rules.proofs.Tests.{both_l, both_r, both_in, either_out}

@@ -1,7 +1,6 @@
 -- Laws of the hatchings, one behind the other.
-use Prim.Native.Nat.{ℕ, suc, ◌+◌}
+use Prim.Native.Nat.{ℕ, ◌+◌}
 use mathlib.Core.Path.{◌≡◌, refl}
-use mathlib.Core.List.{[]}
 use native.Mathlib.Numerals.{add-one}
 use Rattle.text.specs.Output.{Page, puts}
 use Rattle.text.proofs.Pages.{puts_then}

@@ -12,7 +12,7 @@ slice_bounds-put_rows-end c =
     let at-column4 = c in
     let at-column = at-column4 in
     let at-titles-of = at-column in
-    rw length-take (omega (arith, at-titles-of.titles_of-n.ensures.1, c.well_formed.row))
+    rw length-take (omega (arith, at-titles-of.titles_of-n.ensures.1, c.well_formed.1.1.0))
 
 pub slice_bounds-put_rows-end-2 : goal.slice_bounds-put_rows-end-2
 slice_bounds-put_rows-end-2 c =

@@ -2,7 +2,6 @@
 use Rattle.text.proofs.Pages.{puts_then}
 use Rattle.text.specs.Texts.{text}
 use Rattle.drawing.specs.Axis.{time_mark_text}
-use borrow.Author.Rules.{rules}
 use Rattle.drawing.proofs.axis.put_time_mark.Goals as goal
 
 pub returns : goal.returns

@@ -2,7 +2,6 @@
 use Rattle.text.proofs.Pages.{puts_then}
 use Rattle.text.specs.Texts.{text}
 use Rattle.drawing.specs.Document.{hatch_text}
-use borrow.Author.Rules.{rules}
 use Rattle.drawing.proofs.document.put_hatch.Goals as goal
 
 pub returns : goal.returns

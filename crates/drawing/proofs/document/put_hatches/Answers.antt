@@ -1,14 +1,11 @@
 -- `drawing::document::put_hatches` meets its contract: id by id.
-use Prim.Native.Nat.{◌+◌, ◌-◌, ◌≤◌}
-use mathlib.Core.Path.{◌≡◌, refl, ap, ◌∙◌}
+use mathlib.Core.Path.{refl, ap, ◌∙◌}
 use native.Mathlib.Nat.{le_antisymm}
 use native.Mathlib.Omega.{arith}
-use Rattle.rules.specs.Limits.{id_max}
 use Rattle.text.specs.Output.{page, puts}
 use Rattle.text.proofs.Pages.{same_room}
 use Rattle.drawing.specs.Document.{hatches_text}
 use Rattle.drawing.proofs.Hatches.{hatches_none, hatches_next}
-use borrow.Author.Rules.{rules}
 use Rattle.drawing.proofs.document.put_hatches.Goals as goal
 
 pub loop-id-init : goal.loop-id-init

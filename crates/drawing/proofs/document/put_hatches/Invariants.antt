@@ -1,14 +1,9 @@
 -- What the loop keeps, and what falls.
 use Prim.Native.Nat.{◌+◌, ◌-◌, ◌≤◌}
-use mathlib.Core.Path.{◌≡◌, refl, ap, ◌∙◌}
-use native.Mathlib.Nat.{le_antisymm}
-use native.Mathlib.Omega.{arith}
+use mathlib.Core.Path.{◌≡◌}
 use Rattle.rules.specs.Limits.{id_max}
 use Rattle.text.specs.Output.{page, puts}
-use Rattle.text.proofs.Pages.{same_room}
 use Rattle.drawing.specs.Document.{hatches_text}
-use Rattle.drawing.proofs.Hatches.{hatches_none, hatches_next}
-use borrow.Author.Rules.{rules}
 use Rattle.drawing.proofs.document.put_hatches.Given as goal
 
 abbrev pub invariant-loop-id : goal.invariant-loop-id

@@ -1,7 +1,6 @@
 -- `drawing::pieces::put_field` meets its contract: its parts are written one behind the other.
 use Rattle.text.proofs.Pages.{puts_then}
 use Rattle.drawing.specs.Pieces.{field_text}
-use borrow.Author.Rules.{rules}
 use Rattle.drawing.proofs.pieces.put_field.Goals as goal
 
 pub returns : goal.returns

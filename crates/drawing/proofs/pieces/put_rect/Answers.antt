@@ -3,7 +3,6 @@ use Rattle.text.proofs.Pages.{puts_then, same_room}
 use mathlib.Core.Path.{refl}
 use Rattle.text.specs.Texts.{text}
 use Rattle.drawing.specs.Pieces.{rect_text}
-use borrow.Author.Rules.{rules}
 use Rattle.drawing.proofs.pieces.put_rect.Goals as goal
 
 pub returns : goal.returns

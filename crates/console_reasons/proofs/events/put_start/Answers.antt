@@ -1,0 +1,11 @@
+-- `console_reasons::events::put_start` meets its contract: the next start, in words.
+use Rattle.text.specs.Texts.{text}
+use Rattle.console_reasons.specs.Events.{start_text}
+use Rattle.console_reasons.proofs.events.put_start.Goals as goal
+
+pub returns : goal.returns
+unfolding start_text text
+returns c =
+    let at-put-clock-words = c in
+    let at-start-from = at-put-clock-words in
+    rw (← at-start-from.start_from.ensures) at-put-clock-words.put_clock_words.ensures
