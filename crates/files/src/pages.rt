@@ -14,7 +14,7 @@ pub fn within_row(place: usize, row: &[u8]) -> usize
     row.len()
 }
 
-pub fn write_page(row: &[u8], place: usize) {
+pub fn write_page(rt: &HostRuntime, row: &[u8], place: usize) {
     let n = within_row(place, row);
-    streams::write_all(&row[..n]);
+    streams::write_all(rt, &row[..n]);
 }
