@@ -2,9 +2,10 @@
 
 ghost use Rattle.std.specs.Prelude.{◌≡◌, ◌≤◌, length};
 
-use std::io::{Error, Read};
+use crate::paths::path;
+use std::fs;
+use std::io::{Error, Read, Result};
 use std::rt::Env;
-use std::{fs, str};
 use streams::ports::fail;
 use streams::usage::complain;
 
@@ -104,12 +105,9 @@ fn read_all<R: Read>(file: &mut R, room: &mut [u8]) -> File
     not_loaded(true, None)
 }
 
-// The file of a name, opened to be read. None has a name that is no UTF-8.
-fn opened(rt: &HostRuntime, name: &[u8]) -> Option<fs::File> {
-    let Ok(path) = str::from_utf8(name) else {
-        return None;
-    };
-    fs::open(rt, path).ok()
+// The file of a name, opened to be read.
+fn opened(rt: &HostRuntime, name: &[u8]) -> Result<fs::File> {
+    fs::open(rt, path(name)?)
 }
 
 // The file that an argument names.
@@ -120,7 +118,7 @@ fn load(rt: &HostRuntime, i: usize, room: &mut [u8]) -> File
     let Ok(n) = rt.arg(i, &mut name) else {
         return not_loaded(false, None);
     };
-    let Some(mut file) = opened(rt, &name[..n]) else {
+    let Ok(mut file) = opened(rt, &name[..n]) else {
         return not_loaded(false, None);
     };
     read_all(&mut file, room)
