@@ -42,6 +42,7 @@ class Names:
             if callee and new:
                 self.callee.setdefault(new, callee)
         self.needs = {}
+        self.views = {}
         for i, (old, new) in enumerate(of["needs"]):
             place = of["asked_at"][i][0] if i < len(of["asked_at"]) else None
             self.needs[norm(old)] = (new, place)
@@ -57,6 +58,10 @@ class Names:
                 self.place_new.setdefault(place, names[i])
         for old, new in of["asked_at"]:
             self.place_new.setdefault(old, new)
+        self.arms = {}
+        for (place, *_), arm in zip(of["places"], of["arms"]):
+            if arm:
+                self.arms.setdefault(place, []).extend((norm(step), tuple(path), arm[0] + "." + new) for new, step, path in arm[2])
         self.flat = {}
         for place, parent, (old, new), _c, _x in of["places"]:
             if old:
@@ -79,6 +84,34 @@ class Names:
                     out.setdefault(norm(old), new)
             place = self.parent.get(place)
         return out
+
+    def steps(self, place, to):
+        """How many steps back from a place another one lies."""
+        n = 0
+        while place and place != to:
+            place = self.parent.get(place)
+            n += 1
+            if n > 200:
+                return None
+        return n if place else None
+
+    def arm(self, place, step, tail):
+        """The new name of a field of an arm, and what of the tail is left."""
+        seen = set()
+        places = []
+        while place and place not in seen:
+            seen.add(place)
+            places.append(place)
+            place = self.parent.get(place)
+        if not places:
+            places = list(self.arms)
+        best = None
+        for p in places:
+            for old, path, new in self.arms.get(p, []):
+                own = not path and tail and re.match(r"(rest|keys)\d*$", tail[0])
+                if old == step and (path or own) and tuple(tail[:len(path)]) == path and (best is None or len(path) > best[0]):
+                    best = (len(path), new)
+        return best
 
     def place(self, name):
         if name in self.place_new:
@@ -118,6 +151,8 @@ def clause_names(root):
 
 
 CLAUSES = {}
+# What respell.py may have made of a step's name: new, and the old names.
+BACK = {}
 
 
 def clause_paths(n):
@@ -156,7 +191,8 @@ def top_tuple(text):
             cur = ""
             continue
         cur += ch
-    return [p.strip() for p in parts] if len(parts) > 1 else None
+    parts = [p.strip() for p in parts if p.strip()]
+    return parts if len(parts) > 1 else None
 
 
 def as_record(body, clauses):
@@ -188,26 +224,39 @@ KEEP = {"args", "requires", "ranges", "well_formed", "lifetimes", "type_inv", "a
 
 
 def path_pattern(heads):
-    return re.compile(r"(?<![\w.-])(" + "|".join(re.escape(h) for h in heads) + r")((?:\.before)*)\.(" + W + r")(?![\w])")
+    return re.compile(r"(?<![\w.-])(" + "|".join(re.escape(h) for h in heads) + r")((?:\.before)*)\.(" + W + r")((?:\." + W + r")*)(?![\w])")
 
 
-def turn_paths(text, names, place, heads=("c",)):
+def turn_paths(text, names, place, heads=("c",), goal=False):
     """Paths of c, and of what a let binds to a place, with the new names of steps and no `.before`."""
     chain = names.chain(place) if place else {}
     heads = list(heads)
-    for m in re.finditer(r"let (" + W + r") = (" + W + r")((?:\.before)+) in", text):
+    for m in re.finditer(r"let (" + W + r") = (" + W + r")((?:\.before)*) in", text):
         if m[2] in heads and m[1] not in heads:
             heads.append(m[1])
+    text = re.sub(r"let (" + W + r") = (" + "|".join(re.escape(h) for h in heads) + r")(?:\.before)+ in", r"let \1 = \2 in", text)
+    for lemma, at in names.views.items():
+        n = names.steps(place, at)
+        if n is not None:
+            text = re.sub(r"(?<![\w.-])" + re.escape(lemma) + r" (" + "|".join(re.escape(h) for h in heads) + r")((?:\.before)*)(?![\w.-])", lambda m: lemma + " " + heads[0] + f" AT<{place}|{names.place_new.get(place, '') if goal else ''}>{at}<", text)
 
     def sub(m):
-        f = m[3]
+        f, rest = m[3], m[4]
         if f == "before":
             return m[0]
+        if f == "pre":
+            f = "requires"
         if f in KEEP:
-            return m[1] + "." + f
-        new = chain.get(norm(f)) or names.flat.get(norm(f))
-        if new:
-            return m[1] + "." + new
+            return m[1] + "." + f + rest
+        tail = rest.split(".")[1:]
+        for g in [f] + BACK.get(f, []):
+            got = names.arm(place, norm(g), tail)
+            if got:
+                return m[1] + "." + got[1] + "".join("." + t for t in tail[got[0]:])
+        for g in [f] + BACK.get(f, []):
+            new = chain.get(norm(g)) or names.flat.get(norm(g))
+            if new:
+                return m[1] + "." + new + rest
         return m[0]
 
     text = path_pattern(heads).sub(sub, text)
@@ -237,6 +286,18 @@ def turn_clauses(text, names, heads):
         return named(head + mid + "." + word, tail, clauses) if len(clauses) > 1 else m[0]
 
     text = re.sub(r"(?<![\w.-])(" + W + r")((?:\.(?!requires\b|ensures\b)" + W + r")*)\.(requires|ensures)((?:\.[01])+)(?![\w])", sub, text)
+    def kept(m):
+        step, what, tail = m[1], m[2], m[3]
+        i = tail.count(".1")
+        if what == "new" or step in names.callee:
+            params = names.of["params"].get(names.callee.get(step, ""), [])
+        else:
+            params = next((vs for (_o, new), vs in names.of["loops"] if new == step), [])
+        if tail == ".1" * i + ".0" and i < len(params):
+            return f".{step}.{what}.{params[i]}"
+        return m[0]
+
+    text = re.sub(r"\.(" + W + r")\.(new|auto)((?:\.1)*\.0)(?![\w])", kept, text)
     for v, (mid, clauses) in whose.items():
         text = re.sub(r"(?<![\w.-])(" + re.escape(v + mid) + r")((?:\.[01])+)(?![\w])", lambda m: named(m[1], m[2], clauses), text)
     return text
@@ -320,15 +381,60 @@ def invariants_of(sig, texts, names, kind):
     for p, v in zip(params[n:], live):
         to[p] = f"l.{v}"
     to.pop("_", None)
-    rest = re.sub(r"(?<![\w.₀-])" + W, lambda t: to.get(t[0], t[0]), rest) if to else rest
+    record = next(v for v in ("l", "v", "s", "at") if not re.search(r"(?<![\w.-])" + v + r"(?![\w-])", re.sub("|".join(re.escape(p) for p in sorted(params, key=len, reverse=True)) if v in params else "\0", " ", rest)))
+    to = {p: record + t[1:] for p, t in to.items()}
+    rest = substitute(rest, to)
     name = f"{kind}-{new}"
     unfolding = [t for t in texts[1:] if t.startswith("unfolding ")]
-    return f"abbrev pub {name} : goal.{name}\n{name} l = {rest}"
+    return f"abbrev pub {name} : goal.{name}\n{name} {record} = {rest}"
+
+
+def substitute(text, to):
+    """The text with names replaced, but for those that a λ, a let or a pair of its binds."""
+    out = []
+    hidden = [set()]
+    for m in re.finditer(r"λ ((?:\([^()]*\)|[^.\s()]+)(?: (?:\([^()]*\)|[^.\s()]+))*)\.|[(){}\[\]]|\.|" + W + r"|\s+|.", text, re.S):
+        t = m[0]
+        if m[1] is not None:
+            bound = set()
+            for b in re.findall(r"\(([^():]*):|([^\s()]+)", m[1]):
+                bound |= set((b[0] or b[1]).split())
+            binders = re.sub(r"(?<=:)[^()]*", lambda q: "".join(to.get(w, w) if re.fullmatch(W, w) else w for w in re.split(r"(\s+)", q[0])), m[1])
+            hidden[-1] = hidden[-1] | bound
+            out.append("λ " + binders + ".")
+            continue
+        if t in "([{":
+            hidden.append(set(hidden[-1]))
+        elif t in ")]}" and len(hidden) > 1:
+            hidden.pop()
+        if t in to and t not in hidden[-1] and not (out and out[-1] == "."):
+            out.append(to[t])
+            continue
+        out.append(t)
+    return "".join(out)
+
+
+def drop_views(text):
+    """A lemma from one place to an earlier one goes: a later place has the earlier one's fields."""
+    views = re.findall(r"(?m)^(?:abbrev |unfoldable |pub )*(" + W + r") : tie\.[A-Z][^→\n]*→\s*tie\.[A-Z][^→\n]*$", text)
+    for v in views:
+        text = re.sub(r"(?m)^(?:--[^\n]*\n)*(?:abbrev |unfoldable |pub )*" + re.escape(v) + r" : tie\.[^\n]*\n(?:unfolding[^\n]*\n)*" + re.escape(v) + r" [^\n]*\n(?:[ \t]+[^\n]*\n)*\n?", "", text)
+        text = re.sub(r"(?<![\w.-])\(" + re.escape(v) + r" (" + W + r"(?:\." + W + r")*)\)", r"\1", text)
+        text = re.sub(r"(?<![\w.-])" + re.escape(v) + r" (?=[\w(])", "", text)
+    return text
 
 
 def turn(path, of, module, own=""):
     names = Names(of, own)
-    text = open(path, encoding="utf-8").read()
+    text = drop_views(open(path, encoding="utf-8").read())
+    text = re.sub(r"\.pre(?=\.[01])", ".requires", text)
+    for old, new in of["args"]:
+        if not old.startswith(".args ."):
+            continue
+        old, new = old[len(".args ."):], new[len(".args ."):]
+        text = re.sub(r"(?<=\.)args\." + re.escape(old) + r"(?![\w-])", "args." + new, text)
+        for m in re.findall(r"let (" + W + r") = (?:" + W + r"\.)+args in", text):
+            text = re.sub(r"(?<![\w.-])" + re.escape(m) + r"\." + re.escape(old) + r"(?![\w-])", m + "." + new, text)
     defs = definitions(chunks(text))
     uses, answers, invs, said = [], [], [], []
     header = []
@@ -341,7 +447,11 @@ def turn(path, of, module, own=""):
             m = re.match(r"tie\.Need-([^\s()]+)", sig[4].strip())
             if m and names.need(m[1]):
                 renamed[sig[2]] = names.need(m[1])[0]
-    helper_inv = False
+    for kind, comment, sig, texts in defs:
+        if kind == "def" and not sig[4].startswith("tie."):
+            q = re.match(r"\((" + W + r") : tie\.(?!Need)([A-Z][^\s()]*)[^()]*\)", sig[4])
+            if q and names.place(q[2])[0]:
+                names.views[sig[2]] = names.place(q[2])[0]
     for kind, comment, sig, texts in defs:
         if kind == "use":
             t = texts[0]
@@ -384,7 +494,7 @@ def turn(path, of, module, own=""):
                 continue
             head = re.match(re.escape(new) + r" (" + W + r")", eq)
             heads = (head[1],) if head else ("c",)
-            eq = turn_paths(eq, names, place, heads)
+            eq = turn_paths(eq, names, place, heads, True)
             clauses = None
             if new.endswith("-requires"):
                 clauses = of["asked"].get(new) or CLAUSES.get(names.callee.get(new[:-len("-requires")], ""), ([], []))[0]
@@ -414,8 +524,8 @@ def turn(path, of, module, own=""):
             return "tie." + (new or q[1])
         whole = turn_paths(whole, names, pl, heads)
         whole = re.sub(r"tie\.(?!Need)([A-Z][^\s()]*)", lambda q: "lts." + (names.place(q[1])[0] or q[1]) + " AT", whole)
-        whole = re.sub(r"\binvariant-(loop\S*)", lambda q: "goal.the-invariant-" + loop_new(names, q[1]), whole)
-        whole = re.sub(r"\bdecreases-(loop\S*)", lambda q: "goal.the-decreases-" + loop_new(names, q[1]), whole)
+        whole = re.sub(r"\binvariant-(loop[\w-]*)", lambda q: "goal.the-invariant-" + loop_new(names, q[1]), whole)
+        whole = re.sub(r"\bdecreases-(loop[\w-]*)", lambda q: "goal.the-decreases-" + loop_new(names, q[1]), whole)
         answers.append((comment, whole, None))
     # answers that cite one another
     base = os.path.dirname(path)
@@ -452,6 +562,10 @@ def loop_new(names, old):
 def main():
     listed, crate, *only = sys.argv[1:]
     data = json.load(open(listed))
+    table = os.path.join(os.path.dirname(os.path.abspath(__file__)), "names.tsv")
+    for row in open(table, encoding="utf-8"):
+        old, new = row.rstrip("\n").split("\t")
+        BACK.setdefault(new, []).append(old)
     CLAUSES.update(clause_names(os.path.dirname(os.path.dirname(os.path.abspath(crate)))))
     name = os.path.basename(os.path.normpath(crate))
     done = 0

@@ -33,7 +33,7 @@ pub fn is_digit(b: u8) -> bool
 }
 
 pub fn is_hex(b: u8) -> bool
-    ensures { result ≡ Rattle.text.specs.Bytes.hexDigit b }
+    ensures { result ≡ Rattle.text.specs.Bytes.hex_digit b }
 {
     if is_digit(b) {
         return true;

@@ -8,8 +8,8 @@ use Rattle.judging.proofs.judge.Goals as goal
 
 pub returns : goal.returns
 returns c =
-    let told = c.before.before in
-    let found = told.before.before.before in
-    let ticked = found.before in
-    let cut = ticked.before in
+    let told = c in
+    let found = told in
+    let ticked = found in
+    let cut = ticked in
     judges _ _ _ _ _ _ _ _ _ cut.pow2-cells.ensures.is ticked.tick-tick.ensures.is found.results-results.ensures told.tell.ensures

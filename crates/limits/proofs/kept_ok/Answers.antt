@@ -10,7 +10,7 @@ use Rattle.limits.proofs.kept_ok.Reads as reads
 use Rattle.limits.proofs.kept_ok.Goals as goal
 
 -- the function's start, seen from where the first row is lent
-abbrev start : lts.After-ends2 AT → lts.Start AT
+abbrev start : lts.After-ends2 tie.the-claims reads.Pre reads.Post → lts.Start tie.the-claims reads.Pre reads.Post
 start at-ends = at-ends.before.before.before.before
 
 pub row_within-requires : goal.row_within-requires

@@ -4,10 +4,10 @@ use borrow.Author.Rules.{rules}
 use Rattle.limits.proofs.slot_ok.Goals as goal
 
 pub returns-then-pool-ge-POOL_MIN : goal.returns-then-pool-ge-POOL_MIN
-returns-then-pool-ge-POOL_MIN c = simp (← c.before.before.title_ok_lem.ensures, c.if-title_ok.true, le-leb _ _ c.if-pool-ge-POOL_MIN.true)
+returns-then-pool-ge-POOL_MIN c = simp (← c.title_ok.ensures, c.if-title_ok.true, le-leb _ _ c.if-pool-ge-POOL_MIN.true)
 
 pub returns-then-title_ok : goal.returns-then-title_ok
-returns-then-title_ok c = simp (← c.before.before.before.title_ok_lem.ensures, c.if-title_ok.true, lt-leb _ _ c.if-pool-ge-POOL_MIN.false)
+returns-then-title_ok c = simp (← c.title_ok.ensures, c.if-title_ok.true, lt-leb _ _ c.if-pool-ge-POOL_MIN.false)
 
 pub returns : goal.returns
-returns c = simp (← c.before.title_ok_lem.ensures, c.if-title_ok.false)
+returns c = simp (← c.title_ok.ensures, c.if-title_ok.false)

@@ -6,12 +6,12 @@ use Rattle.limits.proofs.title_ok.Goals as goal
 
 pub returns-then-t-eq-ABSENT : goal.returns-then-t-eq-ABSENT
 unfolding title_ok
-returns-then-t-eq-ABSENT c = simp (← c.before.before.before.numbers_ok_lem.ensures, c.if-numbers_ok.true, eq-eqb _ _ c.if-t-eq-ABSENT.true)
+returns-then-t-eq-ABSENT c = simp (← c.numbers_ok.ensures, c.if-numbers_ok.true, eq-eqb _ _ c.if-t-eq-ABSENT.true)
 
 pub returns-then-numbers_ok : goal.returns-then-numbers_ok
 unfolding title_ok
-returns-then-numbers_ok c = simp (← c.before.before.before.before.numbers_ok_lem.ensures, c.if-numbers_ok.true, ne_eqb _ _ c.if-t-eq-ABSENT.false) c.order_ok_lem.ensures
+returns-then-numbers_ok c = simp (← c.numbers_ok.ensures, c.if-numbers_ok.true, ne_eqb _ _ c.if-t-eq-ABSENT.false) c.order_ok.ensures
 
 pub returns : goal.returns
 unfolding title_ok
-returns c = simp (← c.before.numbers_ok_lem.ensures, c.if-numbers_ok.false)
+returns c = simp (← c.numbers_ok.ensures, c.if-numbers_ok.false)

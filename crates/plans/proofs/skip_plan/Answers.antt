@@ -12,7 +12,7 @@ use Rattle.plans.proofs.skip_plan.Reads as reads
 use Rattle.plans.proofs.skip_plan.Goals as goal
 
 -- an answer of done has cleared every refusal
-clear : (c : lts.Then1 AT) →
+clear : (c : lts.Then1 tie.the-claims reads.Pre reads.Post tie.handed_clauses) →
     let a = c.args in
     Accepted a.count a.arrival (length a.row.now)
 clear c =

@@ -8,6 +8,7 @@ use lib.ListN.{length, get_or}
 use Rattle.takings.specs.Takings.{kept_at, peak_to}
 use Rattle.takings.proofs.Peaks.{peak_none, peak_higher, peak_stays}
 use borrow.Author.Rules.{rules}
+use Rattle.takings.proofs.peak_of.Goals.{then-before-many, else-before-many}
 use Rattle.takings.proofs.peak_of.Goals as goal
 
 pub loop-tick-init : goal.loop-tick-init
@@ -15,13 +16,15 @@ loop-tick-init c = (omega arith, peak_none _)
 
 pub loop-tick-preserved : goal.loop-tick-preserved
 loop-tick-preserved c =
-    let at-kept = c.before in
+    let at-kept = c in
     let l = at-kept.loop-tick in (
       omega arith,
-      ⊎_elim
-          (λ w. w.1 ∙ peak_higher _ l.tick _ l.most l.invariant.1 at-kept.kept_at-many.ensures.0 w.0.taken)
-          (λ w. w.1 ∙ peak_stays _ l.tick _ l.most l.invariant.1 at-kept.kept_at-many.ensures.0 w.0.left)
-          c.if-before-many.branch,
+      elim c.if-before-many.branch [
+        then-before-many w ↦
+          w.most-is ∙ peak_higher _ l.tick _ l.most l.invariant.1 at-kept.kept_at-many.ensures.0 w.if-before-many.true
+        | else-before-many w ↦
+          w.most-is ∙ peak_stays _ l.tick _ l.most l.invariant.1 at-kept.kept_at-many.ensures.0 w.if-before-many.false
+      ],
     )
 
 pub returns : goal.returns

@@ -11,6 +11,7 @@ use Rattle.rules.specs.Limits.{lane_places}
 use Rattle.judging.specs.Record.{nothing_seen}
 use Rattle.judging.specs.inner.Walk.{noted}
 use Rattle.judging.proofs.Walked.{get_d_any, noted_next}
+use Rattle.judging.proofs.next.note.Goals.{then-cell-next, else-cell-next}
 use Rattle.judging.proofs.next.note.Goals as goal
 
 pub loop-lane-init : goal.loop-lane-init
@@ -28,10 +29,16 @@ loop-lane-preserved c =
     let there : at < length a.air.now = omega arith in
     let x : ℕ = get_or a.air.now at 0 in
     let noted_one = noted_next a.air.now a.tick a.next.now l.next l.lane x l.invariant.1.0 (get_d_any a.air.now at 0 nothing_seen there) in
-    ⊎_elim
-    (λ w. (omega arith, (w.1 ∙ noted_one, ap length w.1 ∙ length-set l.next x a.tick ∙ l.invariant.1.1)))
-    (λ w. (omega arith, (w.1 ∙ sym (set_out l.next x a.tick w.0.left) ∙ noted_one, ap length w.1 ∙ l.invariant.1.1)))
-    c.if-cell-next.branch
+    elim c.if-cell-next.branch [
+      then-cell-next w ↦ (omega arith, (w.next-is ∙ noted_one, ap length w.next-is ∙ length-set l.next x a.tick ∙ l.invariant.1.1))
+      | else-cell-next w ↦ (
+        omega arith,
+        (
+          w.next-is ∙ sym (set_out l.next x a.tick w.if-cell-next.false) ∙ noted_one,
+          ap length w.next-is ∙ l.invariant.1.1,
+        ),
+      )
+    ]
 
 pub returns : goal.returns
 returns c = c.loop-lane.invariant.1.0 ∙ ap (noted _ _ _) (le_antisymm c.loop-lane.invariant.0 c.loop-lane-test.false)

@@ -22,13 +22,13 @@ loop-start-init c =
 
 pub loop-start-preserved-then-is_whole : goal.loop-start-preserved-then-is_whole
 loop-start-preserved-then-is_whole c =
-    let judged = c.before.before in
+    let judged = c in
     let l = judged.loop-start in
-    let start = judged.before.before.before.before.before.before.before.before.before.before in
+    let start = judged in
     let pre = start.requires in
     let air : List ℕ = start.args.air.now in
     let back : l.start ≡ suc (l.start - 1) = omega arith in
-    let N : Nexts air (l.start - 1) judged.note.new.1.1.0 =
+    let N : Nexts air (l.start - 1) judged.note.new.next =
     subst (Nexts air (l.start - 1)) (sym judged.note.ensures)
     (nexts_step air (l.start - 1) l.next l.start back l.invariant.1.0) in
     let whole : l.start - 1 + start.args.cells ≤ ticks_in air =
@@ -44,7 +44,7 @@ loop-start-preserved-then-is_whole c =
 pub loop-start-preserved : goal.loop-start-preserved
 loop-start-preserved c =
     let l = c.loop-start in
-    let start = c.before.before.before.before.before.before.before.before.before.before in
+    let start = c in
     let air : List ℕ = start.args.air.now in
     let back : l.start ≡ suc (l.start - 1) = omega arith in
     let short : ticks_in air < l.start - 1 + start.args.cells =

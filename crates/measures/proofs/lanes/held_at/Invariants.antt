@@ -11,12 +11,12 @@ use borrow.Author.Rules.{rules}
 use Rattle.measures.proofs.lanes.held_at.Given as goal
 
 abbrev pub invariant-loop-lane : goal.invariant-loop-lane
-invariant-loop-lane l = (l.lane ≤ l.t.film.cap)
-    × (l.n ≡ how_many (λ l. kept_held l.t l l.tick) l.lane)
-    × (l.n ≤ l.lane)
-    × (l.cap ≡ l.t.film.cap)
-    × (l.active ≡ min (ruling l.t) l.t.film.cap)
-    × (l.active ≤ l.lane)
+invariant-loop-lane v = (v.lane ≤ v.t.film.cap)
+    × (v.n ≡ how_many (λ l. kept_held v.t l v.tick) v.lane)
+    × (v.n ≤ v.lane)
+    × (v.cap ≡ v.t.film.cap)
+    × (v.active ≡ min (ruling v.t) v.t.film.cap)
+    × (v.active ≤ v.lane)
 
 abbrev pub decreases-loop-lane : goal.decreases-loop-lane
 decreases-loop-lane l = l.cap - l.lane

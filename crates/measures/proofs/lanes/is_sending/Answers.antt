@@ -11,7 +11,7 @@ use Rattle.measures.proofs.lanes.is_sending.Goals as goal
 pub returns-then-tick-from : goal.returns-then-tick-from
 returns-then-tick-from c =
     let a = c.args in
-    sym (lt-ltb a.tick (get_or a.t1.dropped a.lane 0 + get_or a.t1.owed a.lane 0) (omega arith))
+    sym (lt-ltb a.tick (get_or a.t.dropped a.lane 0 + get_or a.t.owed a.lane 0) (omega arith))
 
 pub returns : goal.returns
 returns c = sub_ltb _ _ _ c.if-tick-from.false

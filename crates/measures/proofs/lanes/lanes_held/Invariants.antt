@@ -11,7 +11,7 @@ use borrow.Author.Rules.{rules}
 use Rattle.measures.proofs.lanes.lanes_held.Given as goal
 
 abbrev pub invariant-loop-i : goal.invariant-loop-i
-invariant-loop-i l = (l.i ≤ titles_max) × (l.n ≡ total (λ l.i. title_held (title_at l.s l.i) l.time) l.i) × (l.n ≤ count_max * l.i)
+invariant-loop-i l = (l.i ≤ titles_max) × (l.n ≡ total (λ i. title_held (title_at l.s i) l.time) l.i) × (l.n ≤ count_max * l.i)
 
 abbrev pub decreases-loop-i : goal.decreases-loop-i
 decreases-loop-i l = titles_max - l.i

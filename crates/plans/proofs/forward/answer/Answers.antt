@@ -12,10 +12,10 @@ use Rattle.plans.proofs.forward.answer.Reads as reads
 use Rattle.plans.proofs.forward.answer.Goals as goal
 
 -- past the first test the numbers are within their limits
-inside : (c : lts.Then1 AT) → let a = c.args in skip_plan_limits a.count a.arrival ≡ true
-inside c = sym c.before.in_limits_lem.ensures ∙ c.if-in_limits.true
+inside : (c : lts.Then1 tie.the-claims reads.Pre reads.Post) → let a = c.args in skip_plan_limits a.count a.arrival ≡ true
+inside c = sym c.in_limits.ensures ∙ c.if-in_limits.true
 
-ranked : (c : lts.Then1 AT) → let a = c.args in Limits a.count a.arrival
+ranked : (c : lts.Then1 tie.the-claims reads.Pre reads.Post) → let a = c.args in Limits a.count a.arrival
 ranked c = let a = c.args in limits a.count a.arrival (inside c)
 
 pub overflow_sub-count : goal.overflow_sub-count
@@ -35,4 +35,4 @@ returns-then-in_limits c =
     sym (accepted _ _ _ (inside at-pow2.before) (omega (arith, at-pow2.pow2.ensures.is, c.if-places-pow2.false)))
 
 pub returns : goal.returns
-returns c = sym (refused_limits _ _ _ (sym c.before.in_limits_lem.ensures ∙ c.if-in_limits.false))
+returns c = sym (refused_limits _ _ _ (sym c.in_limits.ensures ∙ c.if-in_limits.false))

@@ -17,7 +17,7 @@ bounds-row-0 c =
 pub runs-requires : goal.runs-requires
 runs-requires c =
     let s = c.before.before in
-    let a = s.args in record { low_le_high = (omega arith, omega (arith, s.requires.count_min_le_count.1)); base_bound = ((omega arith, omega (arith, s.requires.count_in_bounds, length-set a.row.now 0 0)), ) }
+    let a = s.args in record { low_le_high = (omega arith, omega (arith, s.requires.count_min_le_count.1)); base_bound = (omega arith, omega (arith, s.requires.count_in_bounds, length-set a.row.now 0 0)) }
 
 pub shape_of-row : goal.shape_of-row
 shape_of-row c =

@@ -16,16 +16,16 @@ use Rattle.plans.proofs.padded.answer.Reads as reads
 use Rattle.plans.proofs.padded.answer.Goals as goal
 
 -- past the first test the numbers are within their limits
-inside : (c : lts.Then1 AT) →
+inside : (c : lts.Then1 tie.the-claims reads.Pre reads.Post) →
     let a = c.args in
     plan_limits a.floor a.cap a.count a.arrival ≡ true
-inside c = sym c.before.in_limits_lem.ensures ∙ c.if-in_limits.true
+inside c = sym c.in_limits.ensures ∙ c.if-in_limits.true
 
 -- past the fourth they are so still, and the count is the title's
-abbrev first : lts.Else4 AT → lts.Then1 AT
+abbrev first : lts.Else4 tie.the-claims reads.Pre reads.Post → lts.Then1 tie.the-claims reads.Pre reads.Post
 first at-if4 = at-if4.before.before.before
 
-ranked : (c : lts.Else4 AT) →
+ranked : (c : lts.Else4 tie.the-claims reads.Pre reads.Post) →
     let a = (first c).before.before.args in
     Counted a.floor a.cap a.count
 ranked c =
@@ -90,4 +90,4 @@ returns-then-in_limits c =
     (started _ _ _ _ _ _ at_slot.starts.ensures c.if-starts.false))
 
 pub returns : goal.returns
-returns c = sym (refused_limits _ _ _ _ _ (sym c.before.in_limits_lem.ensures ∙ c.if-in_limits.false))
+returns c = sym (refused_limits _ _ _ _ _ (sym c.in_limits.ensures ∙ c.if-in_limits.false))

@@ -44,7 +44,7 @@ overflow_sub-phase c =
 pub runs-requires : goal.runs-requires
 runs-requires c =
     let s = c.before.before.before.before.before in
-    let w = c.slot-width in record { low_le_high = (omega arith, s.requires.counted.high); base_bound = ((width s.args.cap s.args.count w.result w.ensures.is, omega (arith, s.requires.arrival_le_asked_max.1)), ) }
+    let w = c.slot-width in record { low_le_high = (omega arith, s.requires.counted.high); base_bound = (width s.args.cap s.args.count w.result w.ensures.is, omega (arith, s.requires.arrival_le_asked_max.1)) }
 
 pub overflow_sub-pow2 : goal.overflow_sub-pow2
 overflow_sub-pow2 c =

@@ -38,7 +38,7 @@ run-requires c =
     let s = c.before.before.before.before.before in
     let l = c.loop-power in
     let m : 2 ^ s.args.low ≤ 2 ^ l.power = pow_mono l.invariant.0 in
-    let n : 2 ^ suc l.power ≤ 2 ^ s.args.high = pow_mono c.loop-power-test.true in record { many_in_bounds = omega (arith, p.ensures.is, s.requires.base_bound.0, s.requires.base_bound.1, l.invariant.3); off_lt_many = ((mod-lt s.args.phase p.ensures.low, p.ensures.high), ) }
+    let n : 2 ^ suc l.power ≤ 2 ^ s.args.high = pow_mono c.loop-power-test.true in record { many_in_bounds = omega (arith, p.ensures.is, s.requires.base_bound.0, s.requires.base_bound.1, l.invariant.3); off_lt_many = (mod-lt s.args.phase p.ensures.low, p.ensures.high) }
 
 pub overflow_add-power : goal.overflow_add-power
 overflow_add-power c =

@@ -5,20 +5,20 @@ use Rattle.text.proofs.bytes.is_sort.Goals as goal
 
 pub returns-in-Separator : goal.returns-in-Separator
 unfolding is_sort
-returns-in-Separator c = rw c.enum_told-1.given.1 (cc)
+returns-in-Separator c = rw c.in-Separator.is (cc)
 
 pub returns-in-Word : goal.returns-in-Word
 unfolding is_sort
-returns-in-Word c = rw c.enum_told-in-Word-1.given.1 (cc)
+returns-in-Word c = rw c.in-Word.is (cc)
 
 pub returns-in-Digit : goal.returns-in-Digit
 unfolding is_sort
-returns-in-Digit c = rw c.enum_told-in-Digit-1.given.1 (cc)
+returns-in-Digit c = rw c.in-Digit.is (cc)
 
 pub returns-in-Hex : goal.returns-in-Hex
 unfolding is_sort
-returns-in-Hex c = rw c.enum_told-in-Hex-1.given.1 (cc)
+returns-in-Hex c = rw c.in-Hex.is (cc)
 
 pub returns-in-Line : goal.returns-in-Line
 unfolding is_sort
-returns-in-Line c = rw c.enum_told-in-Line-1.given.1
+returns-in-Line c = rw c.in-Line.is

@@ -16,11 +16,11 @@ loop-i-init c =
 
 pub loop-i-preserved : goal.loop-i-preserved
 loop-i-preserved c =
-    let at-put-byte = c.before.before in
-    let at-hex-of2 = at-put-byte.before.before in
-    let at-hex-of = at-hex-of2.before.before in
-    let at-loop = at-hex-of.before.before.before in
-    let at_start = at-loop.before.before.before in
+    let at-put-byte = c in
+    let at-hex-of2 = at-put-byte in
+    let at-hex-of = at-hex-of2 in
+    let at-loop = at-hex-of in
+    let at_start = at-loop in
     let s = at_start.args.hex.now in
     let l = at-loop.loop-i in
     let p = page l.out l.place in
@@ -28,7 +28,7 @@ loop-i-preserved c =
     let low = hex_of (get_or s (2 * l.i + 1) 0) in
     let h : at-hex-of.hex_of-h.result ≡ high = at-hex-of.hex_of-h.ensures.0 in
     let k : at-hex-of2.hex_of-l.result ≡ low = at-hex-of2.hex_of-l.ensures.0 in
-    let e : page at-put-byte.put_byte-place.new.0 at-put-byte.put_byte-place.result ≡ put p (16 * high + low) =
+    let e : page at-put-byte.put_byte-place.new.out at-put-byte.put_byte-place.result ≡ put p (16 * high + low) =
     at-put-byte.put_byte-place.ensures ∙ ap (put p)
     (ap (λ (v : ℕ). 16 * v + at-hex-of2.hex_of-l.result) h ∙ ap (λ (v : ℕ). 16 * high + v) k) in (
       ap (λ (r : Page). puts r (hex_bytes (drop (2 * (l.i + 1)) s))) e ∙ decode_on p s l.i (omega arith) ∙ l.invariant.0,

@@ -20,27 +20,27 @@ letter-requires c =
 
 pub letter-requires-in-loop-i : goal.letter-requires-in-loop-i
 letter-requires-in-loop-i c =
-    let at-shared-slice-known2 = c.before.before.before.before.before.before in
-    let at-loop = at-shared-slice-known2.before.before in
+    let at-shared-slice-known2 = c in
+    let at-loop = at-shared-slice-known2 in
     omega (arith, at-shared-slice-known2.shared_slice_known-in-loop-i-1.given at-loop.loop-i.i)
 
 pub loop-i-preserved : goal.loop-i-preserved
 loop-i-preserved c =
-    let at-put-byte2 = c.before.before in
-    let at-letter2 = at-put-byte2.before in
-    let at-put-byte = at-letter2.before.before.before.before in
-    let at-letter = at-put-byte.before in
-    let at-loop = at-letter.before.before.before.before in
-    let at_start = at-loop.before.before.before in
+    let at-put-byte2 = c in
+    let at-letter2 = at-put-byte2 in
+    let at-put-byte = at-letter2 in
+    let at-letter = at-put-byte in
+    let at-loop = at-letter in
+    let at_start = at-loop in
     let s = at_start.args.bytes.now in
     let l = at-loop.loop-i in
     let p = page l.out l.place in
     let high = letter_of (get_or s l.i 0 / 16) in
     let low = letter_of (get_or s l.i 0 % 16) in
-    let e : page at-put-byte.put_byte-p.new.0 at-put-byte.put_byte-p.result ≡ put p high =
+    let e : page at-put-byte.put_byte-p.new.out at-put-byte.put_byte-p.result ≡ put p high =
     at-put-byte.put_byte-p.ensures ∙ ap (put p) at-letter.letter.ensures in
-    let q = page at-put-byte.put_byte-p.new.0 at-put-byte.put_byte-p.result in
-    let f : page at-put-byte2.put_byte-place.new.0 at-put-byte2.put_byte-place.result ≡ put (put p high) low =
+    let q = page at-put-byte.put_byte-p.new.out at-put-byte.put_byte-p.result in
+    let f : page at-put-byte2.put_byte-place.new.out at-put-byte2.put_byte-place.result ≡ put (put p high) low =
     at-put-byte2.put_byte-place.ensures ∙ ap (put q) at-letter2.letter-in-loop-i.ensures ∙ ap (λ (r : Page). put r low) e in (
       ap (λ (r : Page). puts r (hex_text (drop (l.i + 1) s))) f ∙ hex_on p s l.i (omega arith) ∙ l.invariant.0,
       ap (λ (r : Page). length r.row) f ∙ put_length (put p high) low ∙ put_length p high ∙ l.invariant.1,

@@ -14,9 +14,9 @@ slice_bounds-put-end c = rw c.decimal-d.ensures.size (omega arith)
 
 pub returns : goal.returns
 returns c =
-    let at-put = c.before.before in
-    let at-decimal = at-put.before.before.before.before.before in
-    let at_start = at-decimal.before.before in
+    let at-put = c in
+    let at-decimal = at-put in
+    let at_start = at-decimal in
     let x = at_start.args in
     let d = at-decimal.decimal-d.result in
     let e = at-decimal.decimal-d.ensures in

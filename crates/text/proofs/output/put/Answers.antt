@@ -30,8 +30,8 @@ loop-i-smaller c = omega arith
 
 pub loop-i-preserved : goal.loop-i-preserved
 loop-i-preserved c =
-    let at-loop = c.before.before in
-    let counted = at-loop.before in
+    let at-loop = c in
+    let counted = at-loop in
     let a = counted.args in
     let s = a.bytes.now in
     let l = at-loop.loop-i in
@@ -59,7 +59,7 @@ shape_of-out c = c.loop-i.invariant.1.1
 pub returns : goal.returns
 returns c =
     let l = c.loop-i in
-    let counted = c.before.before in
+    let counted = c in
     let a = counted.args in
     let n = counted.fitting-n.result in
     let e : l.i ≡ n = le_antisymm l.invariant.0 c.loop-i-test.false in

@@ -1,0 +1,62 @@
+-- `title_from` meets its contract: the rows are copied, and the other numbers stand where the definition has them.
+use mathlib.Core.Path.{◌≡◌, refl}
+use mathlib.Core.List.{List}
+use Prim.Native.Nat.{ℕ}
+use Rattle.story.specs.Next.{with_ends, with_rows}
+use Rattle.agent_rows.specs.Packed.{title_from}
+use borrow.Author.Rules.{rules}
+use Rattle.agent_rows.proofs.reading.title_from.Statement.{statement}
+use Rattle.agent_rows.proofs.reading.title_from.Tie as tie
+
+-- a title with the rows that it has
+with_own : (r : List ℕ) (at : ℕ) (e d o : List ℕ) → e ≡ (title_from r at).ends → d ≡ (title_from r at).dropped → o ≡ (title_from r at).owed →
+    with_rows (with_ends (title_from r at) e) d o ≡ title_from r at
+with_own r at e d o p q s = rw (p, q, s) refl
+
+returns : tie.Need-returns
+returns c =
+    let lanes = c.before.before.before.before.before.before in
+    let a = lanes.before.before.before.before.before.before.before.before.args in
+    with_own a.row.now a.at _ _ _ lanes.before.before.counts-from.ensures lanes.before.lanes-from.ensures lanes.lanes-from2.ensures
+
+pub title-from-spec : {M : Type 1} → statement M
+title-from-spec =
+    tie.close
+    (tie.spec
+    (λ c. search rules)
+    (λ c. search rules)
+    (λ c. search rules)
+    (λ c. search rules)
+    (λ c. search rules)
+    (λ c. search rules)
+    (λ c. search rules)
+    (λ c. search rules)
+    (λ c. search rules)
+    (λ c. search rules)
+    (λ c. search rules)
+    (λ c. search rules)
+    (λ c. search rules)
+    (λ c κs. search rules)
+    (λ c. search rules)
+    (λ c κs. search rules)
+    (λ c. search rules)
+    (λ c κs. search rules)
+    (λ c. search rules)
+    (λ c. search rules)
+    (λ c. search rules)
+    (λ c. search rules)
+    (λ c. search rules)
+    (λ c. search rules)
+    (λ c. search rules)
+    (λ c. search rules)
+    (λ c. search rules)
+    (λ c. search rules)
+    (λ c. search rules)
+    (λ c. search rules)
+    (λ c. search rules)
+    (λ c. search rules)
+    (λ c. search rules)
+    (λ c. search rules)
+    (λ c. search rules)
+    (λ c. search rules)
+    returns)

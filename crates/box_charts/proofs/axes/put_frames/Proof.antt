@@ -1,0 +1,68 @@
+-- `box_charts::axes::put_frames` meets its contract: its parts are written one behind the other.
+use Rattle.text.proofs.Pages.{puts_then, same_room}
+use mathlib.Core.Path.{refl}
+use Rattle.text.specs.Texts.{text}
+use Rattle.box_charts.specs.Axes.{frames_text}
+use borrow.Author.Rules.{rules}
+use Rattle.box_charts.proofs.axes.put_frames.Statement.{statement}
+use Rattle.box_charts.proofs.axes.put_frames.Tie as tie
+
+returns : tie.Need-returns
+unfolding text frames_text
+returns c =
+    let at-11 = c.before.before in
+    let at-10 = at-11.before.before.before.before in
+    let at_9 = at-10.before.before.before.before.before in
+    let at_8 = at_9.before.before.before.before.before in
+    let at_7 = at_8.before.before.before.before in
+    let at-6 = at_7.before.before.before.before in
+    let at_5 = at-6.before.before.before.before in
+    let at-4 = at_5.before.before.before.before in
+    let at-3 = at-4.before.before.before.before in
+    let at-2 = at-3.before.before.before.before in
+    let at_1 = at-2.before.before.before.before in
+    puts_then _ _ _
+    (puts_then _ _ _
+    (puts_then _ _ _
+    (puts_then _ _ _
+    (puts_then _ _ _
+    (puts_then _ _ _
+    (puts_then _ _ _
+    (puts_then _ _ _
+    (puts_then _ _ _
+    (puts_then _ _ _ at_1.put-path.ensures at-2.put-point.ensures)
+    at-3.put_step.ensures)
+    at-4.put-step2.ensures)
+    at_5.put-point2.ensures)
+    at-6.put-step3.ensures)
+    at_7.put-step4.ensures)
+    at_8.put-path-end.ensures)
+    at_9.put-label.ensures)
+    at-10.put.ensures)
+    at-11.put-label-end.ensures
+
+same_length : tie.Need-same-length
+same_length c = same_room _ _ (returns c) refl
+
+pub put-frames-spec : {M : Type 1} → statement M
+put-frames-spec =
+    tie.close
+    (tie.spec
+    (λ c. search rules)
+    (λ c κs. search rules)
+    (λ c κs. search rules)
+    (λ c κs. search rules)
+    (λ c κs. search rules)
+    (λ c κs. search rules)
+    (λ c κs. search rules)
+    (λ c κs. search rules)
+    (λ c κs. search rules)
+    (λ c. search rules)
+    (λ c. search rules)
+    (λ c. search rules)
+    (λ c κs. search rules)
+    (λ c. search rules)
+    (λ c κs. search rules)
+    (λ c κs. search rules)
+    same_length
+    returns)

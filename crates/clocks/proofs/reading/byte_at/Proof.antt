@@ -1,0 +1,12 @@
+-- `clocks::reading::byte_at` meets its contract: the byte where there is one, and past the end the default.
+use mathlib.Core.Path.{sym}
+use lib.ListN.{get_or-eq_default}
+use borrow.Author.Rules.{rules}
+use Rattle.clocks.proofs.reading.byte_at.Statement.{statement}
+use Rattle.clocks.proofs.reading.byte_at.Tie as tie
+
+returns-2 : tie.Need-returns-2
+returns-2 c = sym (get_or-eq_default c.before.args.word.now 0 c.if1.false)
+
+pub byte-at-spec : {M : Type 1} → statement M
+byte-at-spec = tie.close (tie.spec (λ c. search rules) (λ c. search rules) returns-2)

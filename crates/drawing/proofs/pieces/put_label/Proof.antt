@@ -1,0 +1,39 @@
+-- `drawing::pieces::put_label` meets its contract: its parts are written one behind the other.
+use Rattle.text.proofs.Pages.{puts_then}
+use Rattle.text.specs.Texts.{text}
+use Rattle.drawing.specs.Pieces.{label_text}
+use borrow.Author.Rules.{rules}
+use Rattle.drawing.proofs.pieces.put_label.Statement.{statement}
+use Rattle.drawing.proofs.pieces.put_label.Tie as tie
+
+returns : tie.Need-returns
+unfolding text label_text
+returns c =
+    let at_5 = c.before.before in
+    let at-4 = at_5.before.before.before.before.before in
+    let at-3 = at-4.before.before.before.before.before in
+    let at-2 = at-3.before.before.before.before.before in
+    let at_1 = at-2.before.before.before.before in
+    puts_then _ _ _
+    (puts_then _ _ _
+    (puts_then _ _ _
+    (puts_then _ _ _ at_1.put.ensures at-2.put2.ensures)
+    at-3.put-field.ensures)
+    at-4.put-field2.ensures)
+    at_5.put3.ensures
+
+pub put-label-spec : {M : Type 1} → statement M
+put-label-spec =
+    tie.close
+    (tie.spec
+    (λ c. search rules)
+    (λ c κs. search rules)
+    (λ c κs. search rules)
+    (λ c. search rules)
+    (λ c κs. search rules)
+    (λ c. search rules)
+    (λ c κs. search rules)
+    (λ c. search rules)
+    (λ c κs. search rules)
+    (λ c. search rules)
+    returns)

@@ -1,0 +1,25 @@
+-- `files::lines::put_line` meets its contract: its parts are written one behind the other.
+use mathlib.Core.List.{◌++◌}
+use Rattle.text.specs.Digits.{decimal}
+use Rattle.text.specs.Output.{page}
+use Rattle.text.proofs.Pages.{puts_then}
+use Rattle.files.specs.Lines.{line_of}
+use borrow.Author.Rules.{rules}
+use Rattle.files.proofs.lines.put_line.Statement.{statement}
+use Rattle.files.proofs.lines.put_line.Tie as tie
+
+returns : tie.Need-returns
+unfolding line_of
+returns c =
+    let ending = c.before.before in
+    let number = ending.before.before.before.before in
+    let name = number.before.before.before.before in
+    let x = name.before.before.before.before.before.args in
+    let room = page x.out.now x.at in
+    puts_then room (x.name.now ++ decimal x.n) x.end.now
+    (puts_then room x.name.now (decimal x.n) name.put.ensures number.put-number.ensures)
+    ending.put2.ensures
+
+pub put-line-spec : {M : Type 1} → statement M
+put-line-spec =
+    tie.close (tie.spec (λ c κs. search rules) (λ c κs. search rules) (λ c κs. search rules) (λ c. search rules) returns)

@@ -1,0 +1,31 @@
+-- `frames::headings::put_across` meets its contract: its parts are written one behind the other.
+use Rattle.text.proofs.Pages.{puts_then}
+use Rattle.frames.specs.Headings.{across_text}
+use borrow.Author.Rules.{rules}
+use Rattle.frames.proofs.headings.put_across.Statement.{statement}
+use Rattle.frames.proofs.headings.put_across.Tie as tie
+
+returns : tie.Need-returns
+unfolding across_text
+returns c =
+    let at-put-path-end = c.before.before in
+    let at-put-step = at-put-path-end.before.before.before.before in
+    let at-put-point = at-put-step.before.before.before.before in
+    let at-put-path = at-put-point.before.before.before.before in
+    puts_then _ _ _ (puts_then _ _ _ (puts_then _ _ _ at-put-path.put-path.ensures
+    at-put-point.put-point.ensures)
+    at-put-step.put_step.ensures)
+    at-put-path-end.put-path-end.ensures
+
+pub put-across-spec : {M : Type 1} → statement M
+put-across-spec =
+    tie.close
+    (tie.spec
+    (λ c κs. search rules)
+    (λ c κs. search rules)
+    (λ c. search rules)
+    (λ c. search rules)
+    (λ c κs. search rules)
+    (λ c κs. search rules)
+    (λ c. search rules)
+    returns)

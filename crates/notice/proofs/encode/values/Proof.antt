@@ -1,0 +1,54 @@
+-- `encode::values` meets its contract: by the kind.
+use borrow.Author.Rules.{rules}
+use Rattle.notice.proofs.encode.values.Statement.{statement}
+use Rattle.notice.proofs.encode.values.Tie as tie
+
+returns : tie.Need-returns
+returns c = rw c.before.kind.given.1
+
+returns-2 : tie.Need-returns-2
+returns-2 c = rw c.before.kind2.given.1
+
+returns-3 : tie.Need-returns-3
+returns-3 c = rw c.enum_told.given.1
+
+returns-4 : tie.Need-returns-4
+returns-4 c = rw c.enum-told2.given.1
+
+returns-5 : tie.Need-returns-5
+returns-5 c = rw c.enum-told3.given.1
+
+returns-6 : tie.Need-returns-6
+returns-6 c = rw c.before.kind3.given.1
+
+pub values-spec : {M : Type 1} → statement M
+values-spec =
+    tie.close
+    (tie.spec
+    (λ c. search rules)
+    (λ c. search rules)
+    (λ c. search rules)
+    (λ c. search rules)
+    (λ c. search rules)
+    (λ c. search rules)
+    (λ c. search rules)
+    (λ c. search rules)
+    (λ c. search rules)
+    (λ c. search rules)
+    (λ c. search rules)
+    (λ c. search rules)
+    (λ c. search rules)
+    (λ c. search rules)
+    (λ c. search rules)
+    (λ c. search rules)
+    (λ c. search rules)
+    (λ c. search rules)
+    (λ c. search rules)
+    (λ c. search rules)
+    (λ c. search rules)
+    returns
+    returns-2
+    returns-3
+    returns-4
+    returns-5
+    returns-6)

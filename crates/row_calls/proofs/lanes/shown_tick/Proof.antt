@@ -1,0 +1,49 @@
+-- `shown_tick` meets its contract: the row's length and its numbers, and then the question.
+use mathlib.Core.Path.{sym, ◌∙◌}
+use Rattle.rules.proofs.Tests.{both_l, both_r}
+use Rattle.story.specs.Kept.{state_ok}
+use Rattle.agent_rows.specs.Packed.{unpacked, row_sound}
+use Rattle.row_calls.specs.inner.Steps.{Tested}
+use Rattle.row_calls.proofs.Cells.{told_tick, lane_elsewhere, lane_row_in, lane_row_out}
+use borrow.Author.Rules.{rules}
+use Rattle.row_calls.proofs.lanes.shown_tick.Statement.{statement}
+use Rattle.row_calls.proofs.lanes.shown_tick.Tie as tie
+
+-- past the tests the row is within its limits
+tested : (c : tie.Then2) → Tested c.before.before.before.before.args.row.now
+tested c =
+    let r = c.before.before.before.before.args.row.now in
+    let ok = sym c.before.row_ok_lem.ensures ∙ c.if2.true in
+    record { long = c.before.before.if1.false; sound = both_l (row_sound r) (state_ok (unpacked r).state) ok; ok = both_r (row_sound r) (state_ok (unpacked r).state) ok }
+
+returns : tie.Need-returns
+returns c =
+    let a = c.before.before.before.args in
+    told_tick c.refused.ensures.0 c.refused.ensures.1 (lane_elsewhere a.row.now a.id a.lane a.time c.before.if1.true)
+
+asked-tick-requires : tie.Need-asked-tick-requires
+asked-tick-requires c κs = tested c
+
+returns-2 : tie.Need-returns-2
+returns-2 c =
+    let a = c.before.before.before.before.before.args in
+    told_tick c.asked-tick.ensures.0 c.asked-tick.ensures.1 (lane_row_in a.row.now a.id a.lane a.time (tested c.before))
+
+returns-3 : tie.Need-returns-3
+returns-3 c =
+    let long = c.before.before.before in
+    let a = long.before.before.args in
+    told_tick c.refused2.ensures.0 c.refused2.ensures.1
+    (lane_row_out a.row.now a.id a.lane a.time long.if1.false (sym c.before.before.row_ok_lem.ensures ∙ c.before.if2.false))
+
+pub shown-tick-spec : {M : Type 1} → statement M
+shown-tick-spec =
+    tie.close
+    (tie.spec
+    (λ c κs. search rules)
+    returns
+    (λ c κs. search rules)
+    asked-tick-requires
+    returns-2
+    (λ c κs. search rules)
+    returns-3)

@@ -1,0 +1,56 @@
+-- `clear` meets its contract. The loop's invariant: the numbers passed are 0, and the others stay.
+use mathlib.Core.Path.{◌≡◌, refl, ap, ◌∙◌}
+use mathlib.Core.List.{List, ◌++◌, append-nil}
+use Prim.Native.Nat.{ℕ, ◌-◌, ◌≤◌}
+use native.Mathlib.Omega.{arith}
+use native.Mathlib.Numerals.{add-one}
+use native.Mathlib.Nat.{le_antisymm}
+use lib.ListN.{length, drop, replicate, length-set}
+use lib.Seq.{drop-length}
+use Rattle.row_calls.proofs.Started.{cleared_more}
+use borrow.Author.Rules.{rules}
+use Rattle.row_calls.proofs.starting.clear.Statement.{statement}
+use Rattle.row_calls.proofs.starting.clear.Tie as tie
+
+abbrev invariant-loop : tie.invariant-loop
+invariant-loop row₀ i₀ row i = (i ≤ length row₀) × (row ≡ replicate i 0 ++ drop i row₀) × (length row ≡ length row₀)
+
+abbrev decreases-loop : tie.decreases-loop
+decreases-loop row₀ i₀ row i = length row₀ - i
+
+loop-holds : tie.Need-loop-init invariant-loop decreases-loop
+loop-holds c = (omega arith, refl, refl)
+
+loop-again : tie.Need-loop-preserved invariant-loop decreases-loop
+loop-again c =
+    let r = c.before.before.args.row.now in
+    let l = c.before.loop in
+    (omega arith, rw (add-one l.i, l.invariant.1) (cleared_more r l.i (omega arith)), length-set l.row l.i 0 ∙ l.invariant.2)
+
+same_length : tie.Need-same-length invariant-loop decreases-loop
+same_length c = c.before.loop.invariant.2
+
+returns : tie.Need-returns invariant-loop decreases-loop
+returns c =
+    let r = c.before.before.args.row.now in
+    let l = c.before.loop in
+    let done : l.i ≡ length r = le_antisymm l.invariant.0 (rw l.invariant.2 at c.loop-test.false) in
+    l.invariant.1
+    ∙ ap (λ (n : ℕ). replicate n 0 ++ drop n r) done
+    ∙ ap (λ (xs : List ℕ). replicate (length r) 0 ++ xs) (drop-length r)
+    ∙ append-nil (replicate (length r) 0)
+
+pub clear_spec : {M : Type 1} → statement M
+clear_spec =
+    tie.close
+    (tie.spec
+    invariant-loop
+    decreases-loop
+    loop-holds
+    (λ c. search rules)
+    (λ c. search rules)
+    (λ c. search rules)
+    (λ c. search rules)
+    loop-again
+    same_length
+    returns)

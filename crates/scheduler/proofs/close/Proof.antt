@@ -1,0 +1,11 @@
+-- `close` meets its contract: it is the call of its event.
+use Rattle.scheduler.proofs.Settled.{as_event_lem}
+use borrow.Author.Rules.{rules}
+use Rattle.scheduler.proofs.close.Statement.{statement}
+use Rattle.scheduler.proofs.close.Tie as tie
+
+returns : tie.Need-returns
+returns c = as_event_lem c.before.before.args.s c.call.result _ _ c.before.event-at.ensures c.call.ensures
+
+pub close_spec : {M : Type 1} → statement M
+close_spec = tie.close (tie.spec (λ c κs. search rules) (λ c κs. search rules) returns)

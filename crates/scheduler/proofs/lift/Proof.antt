@@ -1,0 +1,11 @@
+-- `lift` meets its contract: it is the call of its event.
+use Rattle.scheduler.proofs.Settled.{as_event_lem}
+use borrow.Author.Rules.{rules}
+use Rattle.scheduler.proofs.lift.Statement.{statement}
+use Rattle.scheduler.proofs.lift.Tie as tie
+
+returns : tie.Need-returns
+returns c = as_event_lem c.before.before.args.s c.call.result _ _ c.before.event-at.ensures c.call.ensures
+
+pub lift-spec : {M : Type 1} → statement M
+lift-spec = tie.close (tie.spec (λ c κs. search rules) (λ c κs. search rules) returns)

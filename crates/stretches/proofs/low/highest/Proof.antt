@@ -1,0 +1,41 @@
+-- `highest` meets its contract: the machine counts the zeros before the highest one-bit.
+use mathlib.Core.Logic.{⊎_elim}
+use Prim.Native.Nat.{suc, ◌-◌, ◌^◌, ◌≤◌}
+use native.Mathlib.Omega.{arith}
+use lib.Count.{count_leading_zeros}
+use lib.Dec.{ltb}
+use lib.Pow.{pow_mono}
+use borrow.Author.Tests.{ltb-true, ltb-false}
+use Rattle.rules.specs.Limits.{count_max}
+use Rattle.rules.proofs.Tests.{decide}
+use Rattle.grid.proofs.Numbers.{TopBit, top_bit}
+use Rattle.stretches.proofs.low.highest.Statement.{statement}
+use Rattle.stretches.proofs.low.highest.Tie as tie
+
+top : (c : tie.Start) → TopBit c.args.n (count_leading_zeros 64 c.args.n)
+top c = top_bit c.args.n c.requires.0 (omega (arith, c.requires.1))
+
+cast-pow2 : tie.Need-overflow-cast-pow2
+cast-pow2 c = record { fits = omega (arith, (top c).zeros) }
+
+sub-pow2 : tie.Need-overflow-sub-pow2
+sub-pow2 c = (top c).zeros
+
+pow2-requires : tie.Need-pow2-requires
+pow2-requires c κs =
+    let k = 63 - count_leading_zeros 64 c.args.n in
+    ⊎_elim
+    (λ t.
+    let far : suc count_max ≤ k = ltb-true count_max k t in
+    let m : 2 ^ suc count_max ≤ 2 ^ k = pow_mono {i = suc count_max} {j = k} far in
+    absurd (omega (arith, (top c).low, c.requires.1)))
+    (λ t. ltb-false count_max k t)
+    (decide (ltb count_max k))
+
+returns : tie.Need-returns
+returns c =
+    let s = c.before in
+    (63 - count_leading_zeros 64 s.args.n, c.pow2.ensures.is, rw c.pow2.ensures.is (top s).low, (top s).high)
+
+pub highest-spec : {M : Type 1} → statement M
+highest-spec = tie.close (tie.spec cast-pow2 sub-pow2 pow2-requires returns)
