@@ -1,7 +1,7 @@
 // A row that was written from its start up to a place, to standard output.
 
 ghost use Rattle.std.specs.Prelude.{◌≡◌, min, length};
-ghost use Rattle.io.specs.Counts.{IsPrefixLen};
+ghost use Rattle.std.specs.Counts.{IsPrefixLen};
 
 // A place of a row, or its end.
 pub fn within_row(place: usize, row: &[u8]) -> usize

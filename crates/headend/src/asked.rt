@@ -1,7 +1,7 @@
 // What the arguments ask for: what to do, with which pool, and the journal's name.
 
 ghost use Rattle.std.specs.Prelude.{◌≡◌, ◌≤◌};
-ghost use Rattle.io.specs.Counts.{IsPrefixLen};
+ghost use Rattle.std.specs.Counts.{IsPrefixLen};
 
 use files::arguments::{Pool, is_word, pool_given};
 use files::pages::within_row;

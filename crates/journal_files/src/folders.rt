@@ -1,6 +1,6 @@
 // A file's entry in its folder, forced to disk: without it a file that was just made may be gone after a loss of power.
 
-ghost use Rattle.io.specs.Counts.{IsPrefixLen};
+ghost use Rattle.std.specs.Counts.{IsPrefixLen};
 
 use files::pages::within_row;
 use files::paths::path;

@@ -1,6 +1,6 @@
 // The journal and the files beside it, whose names are the journal's with an ending.
 
-ghost use Rattle.io.specs.Counts.{IsPrefixLen};
+ghost use Rattle.std.specs.Counts.{IsPrefixLen};
 
 use files::pages::within_row;
 use files::paths::path;

@@ -1,6 +1,6 @@
 // Processes, and the files that they have open, as the folder /proc tells.
 
-ghost use Rattle.io.specs.Counts.{IsPrefixLen};
+ghost use Rattle.std.specs.Counts.{IsPrefixLen};
 ghost use Rattle.journal_files.specs.Paths.{Ended};
 
 use crate::records::Record;

@@ -6,38 +6,20 @@ use Rattle.text.proofs.Pages.{puts_then}
 use Rattle.files.specs.Lines.{line_of}
 use Rattle.air.specs.Lines.{total_lines}
 use borrow.Author.Rules.{rules}
-use Rattle.air.proofs.lines.put_totals.Statement.{statement}
-use Rattle.air.proofs.lines.put_totals.Tie as tie
+use Rattle.air.proofs.lines.put_totals.Goals as goal
 
-returns : tie.Need-returns
+pub returns : goal.returns
 unfolding total_lines text
 returns c =
     let third = c.before.before in
     let second = third.before.before.before.before.before.before in
     let first = second.before.before.before.before.before.before in
     let away = first.before.before.before.before in
-    let x = away.before.before.args in
+    let x = away.args in
     let room = page x.out.now x.at in
     let one = line_of (text "played through ") x.judgement.played (text "\n") in
-    let two = line_of (text "starved ") away.difference.result (text "\n") in
-    rw (← away.difference.ensures)
+    let two = line_of (text "starved ") away.difference-starved.result (text "\n") in
+    rw (← away.difference-starved.ensures)
     (puts_then room (one ++ two) (line_of (text "outlast the record ") x.judgement.outlast (text "\n"))
-    (puts_then room one two first.put-line.ensures second.put-line2.ensures)
-    third.put-line3.ensures)
-
-pub put-totals-spec : {M : Type 1} → statement M
-put-totals-spec =
-    tie.close
-    (tie.spec
-    (λ c κs. search rules)
-    (λ c. search rules)
-    (λ c. search rules)
-    (λ c κs. search rules)
-    (λ c. search rules)
-    (λ c. search rules)
-    (λ c κs. search rules)
-    (λ c. search rules)
-    (λ c. search rules)
-    (λ c κs. search rules)
-    (λ c. search rules)
-    returns)
+    (puts_then room one two first.put_line-a.ensures second.put_line-b.ensures)
+    third.put_line.ensures)

@@ -8,40 +8,25 @@ use Rattle.air.specs.Lines.{total_lines}
 use Rattle.air.specs.inner.Steps.{marked_lines, air_report}
 use lib.ListN.{length}
 use borrow.Author.Rules.{rules}
-use Rattle.air.proofs.lines.put_report.Statement.{statement}
-use Rattle.air.proofs.lines.put_report.Tie as tie
+use Rattle.air.proofs.lines.put_report.Goals as goal
 
-returns : tie.Need-returns
+pub returns-then-answer-eq-DONE : goal.returns-then-answer-eq-DONE
 unfolding air_report
-returns c =
+returns-then-answer-eq-DONE c =
     let second = c.before.before in
     let first = second.before.before.before.before in
     let at-if1 = first.before.before in
-    let x = at-if1.before.before.before.before.args in
-    rw (eq-eqb _ _ at-if1.if1.true)
+    let x = at-if1.args in
+    rw (eq-eqb _ _ at-if1.if-answer-eq-DONE.true)
     (puts_then (page x.out.now 0) (marked_lines x.marks.now x.row.now x.judgement.judged (length x.marks.now)) (total_lines x.judgement)
-    first.put-admissions.ensures second.put-totals.ensures)
+    first.put_admissions-a.ensures second.put_totals.ensures)
 
-returns-2 : tie.Need-returns-2
+pub returns : goal.returns
 unfolding air_report text
-returns-2 c =
+returns c =
     let second = c.before.before in
     let first = second.before.before.before.before.before in
     let at-if1 = first.before.before in
-    let x = at-if1.before.before.before.before.args in
-    rw (ne_eqb _ _ at-if1.if1.false)
-    (puts_then (page x.out.now 0) (refusal_text x.judgement.answer 0) (text "\n") first.put-refusal.ensures second.put.ensures)
-
-pub put-report-spec : {M : Type 1} → statement M
-put-report-spec =
-    tie.close
-    (tie.spec
-    (λ c κs. search rules)
-    (λ c κs. search rules)
-    (λ c. search rules)
-    returns
-    (λ c κs. search rules)
-    (λ c. search rules)
-    (λ c κs. search rules)
-    (λ c. search rules)
-    returns-2)
+    let x = at-if1.args in
+    rw (ne_eqb _ _ at-if1.if-answer-eq-DONE.false)
+    (puts_then (page x.out.now 0) (refusal_text x.judgement.answer 0) (text "\n") first.put_refusal-b.ensures second.put.ensures)

@@ -5,21 +5,16 @@ use Rattle.text.specs.Output.{page}
 use Rattle.text.proofs.Pages.{puts_then}
 use Rattle.files.specs.Lines.{line_of}
 use borrow.Author.Rules.{rules}
-use Rattle.files.proofs.lines.put_line.Statement.{statement}
-use Rattle.files.proofs.lines.put_line.Tie as tie
+use Rattle.files.proofs.lines.put_line.Goals as goal
 
-returns : tie.Need-returns
+pub returns : goal.returns
 unfolding line_of
 returns c =
     let ending = c.before.before in
     let number = ending.before.before.before.before in
     let name = number.before.before.before.before in
-    let x = name.before.before.before.before.before.args in
+    let x = name.args in
     let room = page x.out.now x.at in
     puts_then room (x.name.now ++ decimal x.n) x.end.now
-    (puts_then room x.name.now (decimal x.n) name.put.ensures number.put-number.ensures)
-    ending.put2.ensures
-
-pub put-line-spec : {M : Type 1} → statement M
-put-line-spec =
-    tie.close (tie.spec (λ c κs. search rules) (λ c κs. search rules) (λ c κs. search rules) (λ c. search rules) returns)
+    (puts_then room x.name.now (decimal x.n) name.put-a.ensures number.put_number-b.ensures)
+    ending.put.ensures

@@ -6,31 +6,17 @@ use Rattle.text.proofs.Pages.{puts_then}
 use Rattle.files.specs.Lines.{line_of}
 use Rattle.air.specs.Lines.{cell_text, admission_line}
 use borrow.Author.Rules.{rules}
-use Rattle.air.proofs.lines.put_admission.Statement.{statement}
-use Rattle.air.proofs.lines.put_admission.Tie as tie
+use Rattle.air.proofs.lines.put_admission.Goals as goal
 
-returns : tie.Need-returns
+pub returns : goal.returns
 unfolding admission_line text
 returns c =
     let third = c.before.before in
     let second = third.before.before.before.before.before in
     let first = second.before.before.before.before in
-    let x = first.before.before.before.before.before.args in
+    let x = first.args in
     let room = page x.out.now x.at in
     let tick = line_of [] x.tick (text " ") in
     puts_then room (tick ++ cell_text x.cell) (text "\n")
-    (puts_then room tick (cell_text x.cell) first.put-line.ensures second.put-result.ensures)
+    (puts_then room tick (cell_text x.cell) first.put_line-a.ensures second.put_result-b.ensures)
     third.put.ensures
-
-pub put-admission-spec : {M : Type 1} → statement M
-put-admission-spec =
-    tie.close
-    (tie.spec
-    (λ c. search rules)
-    (λ c. search rules)
-    (λ c κs. search rules)
-    (λ c κs. search rules)
-    (λ c. search rules)
-    (λ c κs. search rules)
-    (λ c. search rules)
-    returns)
