@@ -1,11 +1,7 @@
 -- `files::arguments::same` meets its contract: what was compared so far is the same. Rests on proofs/Texts.
-use Prim.Native.Nat.{◌≤◌, ◌-◌}
 use native.Mathlib.Omega.{arith}
 use native.Mathlib.Numerals.{add-one}
-use mathlib.Core.Path.{◌≡◌}
-use lib.ListN.{length}
-use borrow.Author.Rules.{rules}
-use Rattle.files.proofs.Texts.{Alike, alike_more, longer, differ, all_alike}
+use Rattle.files.proofs.Texts.{alike_more, longer, differ, all_alike}
 use Rattle.files.proofs.arguments.same.Goals as goal
 
 pub returns-then-a-b : goal.returns-then-a-b

@@ -1,11 +1,8 @@
 -- What the loop keeps, and what falls.
 use Prim.Native.Nat.{◌≤◌, ◌-◌}
-use native.Mathlib.Omega.{arith}
-use native.Mathlib.Numerals.{add-one}
 use mathlib.Core.Path.{◌≡◌}
 use lib.ListN.{length}
-use borrow.Author.Rules.{rules}
-use Rattle.files.proofs.Texts.{Alike, alike_more, longer, differ, all_alike}
+use Rattle.files.proofs.Texts.{Alike}
 use Rattle.files.proofs.arguments.same.Given as goal
 
 abbrev pub invariant-loop-i : goal.invariant-loop-i

@@ -4,7 +4,6 @@ use Rattle.text.specs.Digits.{decimal}
 use Rattle.text.specs.Output.{page}
 use Rattle.text.proofs.Pages.{puts_then}
 use Rattle.files.specs.Lines.{line_of}
-use borrow.Author.Rules.{rules}
 use Rattle.files.proofs.lines.put_line.Goals as goal
 
 pub returns : goal.returns

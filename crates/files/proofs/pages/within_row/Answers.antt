@@ -2,7 +2,6 @@
 use mathlib.Core.Path.{sym}
 use native.Mathlib.Omega.{arith}
 use lib.Seq.{length-take-le}
-use borrow.Author.Rules.{rules}
 use Rattle.files.proofs.pages.within_row.Goals as goal
 
 pub returns-then-place-row : goal.returns-then-place-row
