@@ -4,6 +4,7 @@
     ./rl                                   lists the programs
     ./rl PROGRAM [ARGUMENT ..]             from any folder, which stays the program's own
     ./rl --quick PROGRAM [ARGUMENT ..]     builds it without a proof, in seconds, and says so
+    ./rl --passed                          notes that `rt ci` has just passed here, so that what it built is run as it is; the gate says so
 
 Exit status: 0 done, 1 a refusal or a failure, 2 usage, 130 interrupted. Programs have none of their own: it is read off their lines
 (docs/PROGRAMS.md, "Exit status").
@@ -24,6 +25,7 @@ import time
 import tty
 
 ROOT = os.path.dirname(os.path.realpath(__file__))
+CRATES = os.path.join(ROOT, "crates")
 TARGET = os.path.join(ROOT, "target")
 OWN = os.path.join(TARGET, "rl")
 START = os.path.join(ROOT, "checks", "start")
@@ -57,12 +59,12 @@ def crates():
             row, _, comment = line.partition("#")
             name, colon, under = row.partition(":")
             if colon:
-                found[name.strip()] = (under.split(), comment.strip())
+                found[name.split()[0]] = (under.split(), comment.strip())
     return found
 
 
 def is_program(name):
-    return os.path.isfile(os.path.join(ROOT, "crates", name, "src", "main.rt"))
+    return os.path.isfile(os.path.join(CRATES, name, "src", "main.rt"))
 
 
 def programs():
@@ -106,16 +108,20 @@ def made_from(name, parts):
     """A sum of what a program is made from: the toolchain, the crates, and those parts of each."""
     under, names = crates(), reached(name)
     begun = toolchain_says("version") + "".join(f"{crate}: {' '.join(under[crate][0])}\n" for crate in names)
-    return sum_of([file for crate in names for part in parts for file in files_of(os.path.join(ROOT, "crates", crate, part))], begun)
+    return sum_of([file for crate in names for part in parts for file in files_of(os.path.join(CRATES, crate, part))], begun)
 
 
 def proved_from(name):
     return made_from(name, ["src", "specs", "proofs", "stdin", "stdout", "args", "data"])
 
 
+def program_of(name):
+    return os.path.join(CRATES, name, "out", name)
+
+
 def proved_sum(name):
-    """What a proof leaves: the program, and rt's stamps, each of which rt removes before it proves its crate anew."""
-    return sum_of([os.path.join(TARGET, "stamp", crate) for crate in reached(name)] + [os.path.join(TARGET, "bin", name)])
+    """What a proof leaves: the program, and rt's stamp beside it, which rt removes before it proves the program anew."""
+    return sum_of([program_of(name) + ".stamp", program_of(name)])
 
 
 def quick_from(name):
@@ -174,21 +180,18 @@ class Progress:
             print("\r\x1b[K", end="", file=sys.stderr, flush=True)
 
 
-def crates_told(name):
-    """What rt has left of each crate since it began: `failed` while one is at work, another word once it is done."""
+def crates_told(name, log):
+    """How far rt has come, by what it says: a crate is begun with a line of its own, once those below it are done."""
     names = reached(name)
 
-    def tell(began):
-        words = {}
-        for crate in names:
-            result = os.path.join(TARGET, "log", crate + ".res")
-            with contextlib.suppress(FileNotFoundError), open(result, encoding="utf-8") as file:
-                if os.fstat(file.fileno()).st_mtime >= began - 1:
-                    words[crate] = file.read().strip()
-        at_work = [crate for crate, word in words.items() if word not in ("proved", "built")]
-        done = len(words) - len(at_work)
-        doing = "building" if done == len(names) else f"proving {' and '.join(at_work) or '..'}"
-        return f"{name}: {doing}, {done} of {len(names)} crates"
+    def tell(_):
+        with open(log, encoding="utf-8", errors="replace") as file:
+            text = file.read()
+        begun = re.findall(r"^rt: chose --jobs \d+ for (\w+)$", text, re.M)
+        if re.search(r"^linked |^logic=proved .* target=", text, re.M):
+            return f"{name}: building, {len(names)} of {len(names)} crates"
+        done = {crate for one in begun for crate in reached(one)} - set(begun[-1:])
+        return f"{name}: proving {begun[-1] if begun else '..'}, {len(done)} of {len(names)} crates"
 
     return tell
 
@@ -215,11 +218,11 @@ def end_group(process):
             process.wait(PATIENCE)
 
 
-def run_toolchain(words, log, hold, progress, **more):
-    """Runs rt with what it says in a file, in a group of its own that ends with this; whether it was content."""
+def run_toolchain(words, name, log, hold, progress, **more):
+    """Runs rt in a crate's folder with what it says in a file, in a group of its own that ends with this; whether it was content."""
     with open(log, "wb") as out:
         process = subprocess.Popen(
-            ["rt", *words], cwd=ROOT, stdin=subprocess.DEVNULL, stdout=out, stderr=out, start_new_session=True, pass_fds=(hold,), **more
+            words, cwd=os.path.join(CRATES, name), stdin=subprocess.DEVNULL, stdout=out, stderr=out, start_new_session=True, pass_fds=(hold,), **more
         )
         try:
             while process.poll() is None:
@@ -233,18 +236,41 @@ def run_toolchain(words, log, hold, progress, **more):
     return process.returncode == 0
 
 
+# rt's line before it runs what it has proved and built
+BUILT = r"^rt: running out/"
+
+
 def what_failed(name, log):
-    """The first crate that rt did not prove, and where the rest of it is told."""
+    """The first crate that rt did not prove, and where it is told; nothing where all were proved and the program built."""
     shown = os.path.relpath(log, ROOT)
     with open(log, encoding="utf-8", errors="replace") as file:
         text = file.read()
-    found = re.search(r"^rt: (\w+) (NOT PROVED(?!: its dependency)|proved, and its run FAILED)", text, re.M)
-    if not found:
-        return f"{name} is not built: {shown} has what rt said"
-    crate = found[1]
-    if found[2].startswith("NOT"):
-        return f"{crate} is not proved: target/log/{crate}.out has why, {shown} all that rt said"
-    return f"{crate} is proved, and does not write what its file stdout has: {shown} has where"
+    if re.search(BUILT, text, re.M):
+        return ""
+    found = re.search(r"^rt: the library (\w+) did not build", text, re.M)
+    if found or re.search(r"^logic=not-proved", text, re.M):
+        return f"{found[1] if found else name} is not proved: {shown} has why"
+    return f"{name} is not built: {shown} has what rt said"
+
+
+def run_stored(name):
+    """What a program writes on what is stored beside its source, in a folder of its own with its data."""
+    place = os.path.join(CRATES, name)
+    given, words = os.path.join(place, "stdin"), []
+    with contextlib.suppress(FileNotFoundError), open(os.path.join(place, "args"), encoding="utf-8") as args:
+        words = args.read().splitlines()
+    with tempfile.TemporaryDirectory() as folder, open(given if os.path.exists(given) else os.devnull, "rb") as stdin:
+        if os.path.isdir(os.path.join(place, "data")):
+            shutil.copytree(os.path.join(place, "data"), folder, dirs_exist_ok=True)
+        return subprocess.run([START, name, *words], cwd=folder, stdin=stdin, stdout=subprocess.PIPE, stderr=subprocess.DEVNULL).stdout
+
+
+def writes_as_stored(name):
+    """Whether it is what the file stdout has; a program without one writes nothing."""
+    stored = b""
+    with contextlib.suppress(FileNotFoundError), open(os.path.join(CRATES, name, "stdout"), "rb") as file:
+        stored = file.read()
+    return run_stored(name) == stored
 
 
 def is_proved(name):
@@ -259,44 +285,64 @@ def prove(name):
         if is_proved(name):
             return
         log, source = os.path.join(OWN, name + ".log"), proved_from(name)
-        progress = Progress(crates_told(name))
-        if not run_toolchain(["check", name], log, hold, progress):
-            raise Failure(what_failed(name, log))
+        progress = Progress(crates_told(name, log))
+        # the run that ends it has no input and no arguments: its status is the program's
+        run_toolchain(["rt", "run"], name, log, hold, progress)
+        wrong = what_failed(name, log)
+        if not wrong and not writes_as_stored(name):
+            wrong = f"{name} is proved, and does not write what its file stdout has: checks/runs {name} says where"
+        if wrong:
+            raise Failure(wrong)
         put_mark(name, source, proved_sum(name))
         say(f"{name} is proved and built, {len(reached(name))} crates, {progress.seconds()} s")
+
+
+def note_passed():
+    """Takes what `rt ci` built from the files as they stand for proved. It proves every crate and compares every program's output; that it
+    passed is for the caller to know."""
+    with building():
+        for name in filter(is_program, crates()):
+            if os.path.exists(program_of(name)):
+                put_mark(name, proved_from(name), proved_sum(name))
 
 
 # --- building without a proof ---
 
 
-def link_all(place, view, but):
-    """A folder with a link for each thing in another but one."""
+def link_all(place, view, *but):
+    """A folder with a link for each thing in another but some."""
     os.makedirs(view)
     for name in os.listdir(place):
-        if name != but:
+        if name not in but:
             os.symlink(os.path.realpath(os.path.join(place, name)), os.path.join(view, name))
 
 
 def toolchain_view(folder, linked):
-    """The toolchain's folder once more, with a linker that leaves a copy of what it links: `rt try` itself keeps no program."""
-    rt = os.path.realpath(shutil.which("rt") or "rt")
-    place, view = os.environ.get("RATTLE_HOME") or os.path.dirname(os.path.dirname(rt)), os.path.join(folder, "kit")
-    home = view
-    for part in ("on", os.uname().machine, "toolchain", "bin", "ld.lld"):
-        link_all(place, view, part)
-        place, view = os.path.join(place, part), os.path.join(view, part)
-    with open(view, "w", encoding="utf-8") as script:
-        script.write(f'#!/bin/sh\n"{place}" "$@" && cp program "{linked}"\n')
-    os.chmod(view, 0o755)
-    return home
+    """The toolchain's folder once more, with a linker that leaves a copy of what it links: `rt try` itself keeps no program. Gives its rt, a
+    copy, as rt takes the toolchain that its own file lies in."""
+    tools = os.path.dirname(os.path.realpath(shutil.which("rt") or "rt"))
+    kit, view = os.path.dirname(tools), os.path.join(folder, "kit")
+    link_all(kit, view, "bin", "toolchain")
+    link_all(tools, os.path.join(view, "bin"), "rt", "rtlib.py")
+    link_all(os.path.join(kit, "toolchain"), os.path.join(view, "toolchain"), "bin")
+    link_all(os.path.join(kit, "toolchain", "bin"), os.path.join(view, "toolchain", "bin"), "ld.lld")
+    for name in ("rt", "rtlib.py"):
+        shutil.copy(os.path.join(tools, name), os.path.join(view, "bin"))
+    linker = os.path.join("toolchain", "bin", "ld.lld")
+    with open(os.path.join(view, linker), "w", encoding="utf-8") as script:
+        script.write(f'#!/bin/sh\n"{os.path.join(kit, linker)}" "$@" && cp program "{linked}"\n')
+    os.chmod(os.path.join(view, linker), 0o755)
+    return os.path.join(view, "bin", "rt")
 
 
 def try_program(name, hold, folder):
     """Leaves a program that is not proved. Of the ways in which `rt try` compiles it the last counts: assumptions are checked as it runs."""
     log, linked = os.path.join(OWN, name + ".quick.log"), os.path.join(folder, "program")
-    more = dict(os.environ, TMPDIR=folder, RATTLE_HOME=toolchain_view(folder, linked))
+    words, more = [toolchain_view(folder, linked), "try"], dict(os.environ, TMPDIR=folder)
     progress = Progress(lambda began: f"{name}: building without a proof")
-    if not run_toolchain(["try", name], log, hold, progress, env=more) or not os.path.exists(linked):
+    # what it ends with is the program's status, of a run without input and arguments
+    run_toolchain(words, name, log, hold, progress, env=more)
+    if not os.path.exists(linked):
         raise Failure(f"{name} is not built: {os.path.relpath(log, ROOT)} has what rt said")
     os.makedirs(os.path.join(TARGET, "quick"), exist_ok=True)
     shutil.move(linked, os.path.join(TARGET, "quick", name))
@@ -454,6 +500,9 @@ def rl(words):
         return DONE
     if not words:
         print("\n".join(programs()))
+        return DONE
+    if words == ["--passed"]:
+        note_passed()
         return DONE
     quick = words[0] == "--quick"
     if not words[quick:]:

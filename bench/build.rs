@@ -11,7 +11,7 @@ fn main() {
     let folder = std::env::var("BENCH_LIBRARY").unwrap_or(built.to_string());
     let archive = format!("{folder}/librongalishu.a");
     if !std::path::Path::new(&archive).exists() {
-        panic!("{archive} is not there: `rt staticlib rongalishu` builds it");
+        panic!("{archive} is not there: checks/library builds it");
     }
     println!("cargo:rustc-link-search=native={folder}");
     println!("cargo:rerun-if-changed={archive}");

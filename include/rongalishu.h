@@ -1,6 +1,6 @@
 /* Rongalishu: the lane scheduler for cable head-ends, and the agent that follows it in each box.
  *
- *     rt staticlib rongalishu
+ *     checks/library
  *     gcc -Iinclude program.c target/staticlib/librongalishu.a
  *
  * A call answers with a number: RL_DONE, or the first of its refusals that hits, and then nothing that was lent has

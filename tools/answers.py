@@ -341,11 +341,11 @@ def definitions(pieces):
             out.append(["use", comment, None, [text]])
         elif first.startswith("unfolding "):
             out[-1][3].append(text)
-        elif m and not re.match(r"(module|record|data)\b", first) and (re.match(r"^(?:abbrev |unfoldable |pub )*" + W + r"(?:\s+" + W + r")*\s*:", first)):
+        elif m and not re.match(r"(module|record|data) ", first) and (re.match(r"^(?:abbrev |unfoldable |pub )*" + W + r"(?:\s+" + W + r")*\s*:", first)):
             out.append(["def", comment, m, [text]])
         elif text == "":
             out.append(["note", comment, None, []])
-        elif re.match(r"(pub )?(module|record|data)\b", first):
+        elif re.match(r"(pub )?(module|record|data) ", first):
             out.append(["block", comment, None, [text]])
         elif out and out[-1][0] == "def":
             if comment:
@@ -366,7 +366,7 @@ def invariants_of(sig, texts, names, kind):
         return None
     changed = names.of["changed"][i]
     body = "\n".join(texts[1:])
-    head = re.match(r"^" + re.escape(sig[2]) + r"((?:\s+" + W + r")*)\s*=\s*", body)
+    head = re.match(r"^" + re.escape(sig[2]) + r"((?:\s+" + W + r")*?)\s+=\s*", body)
     if not head:
         return None
     params = head[1].split()
@@ -473,6 +473,19 @@ def turn(path, of, module, own=""):
                 invs.append((comment, it))
             continue
         if re.search(r"\{M : Type 1\} → statement", typ) or "tie.close" in "\n".join(texts):
+            skip = {d[2][2] for d in defs if d[0] == "def" and re.match(r"tie\.(invariant|decreases)-", d[2][4].strip())}
+            more, wrong = unnamed("\n".join(texts), names, renamed, skip)
+            if wrong:
+                said.append(f"look: {path}: {wrong}")
+            for new, eq, place, head in more:
+                eq = turn_paths(eq, names, place, (head,), True)
+                clauses = CLAUSES.get(names.callee.get(new[:-len("-requires")], ""), ([], []))[0] if new.endswith("-requires") else names.ensures if new.startswith("returns") else []
+                if len(clauses) > 1:
+                    q = re.match(re.escape(new) + r" " + W + r" =", eq)
+                    made = as_record(eq[q.end():], clauses)
+                    if made:
+                        eq = eq[:q.end()] + " " + made.lstrip()
+                answers.append(([], f"pub {new} : goal.{new}\n{eq}", new))
             continue
         m = re.match(r"tie\.Need-([^\s()]+)", typ)
         body = "\n".join(texts[1:])
@@ -501,7 +514,7 @@ def turn(path, of, module, own=""):
             elif new.startswith("returns"):
                 clauses = names.ensures
             if clauses and len(clauses) > 1:
-                q = re.match(re.escape(new) + r"((?:\s+" + W + r")*)\s*=", eq)
+                q = re.match(re.escape(new) + r"((?:\s+" + W + r")*?)\s*=", eq)
                 made = as_record(eq[q.end():], clauses) if q and "\n" + new not in eq else None
                 if made:
                     eq = eq[:q.end()] + " " + made.lstrip()
@@ -550,6 +563,59 @@ def turn(path, of, module, own=""):
                 f.write("\n" + "".join(c + "\n" for c in comment if c.strip()) + it + "\n")
     for s in said:
         print(s)
+
+
+def spec_args(text):
+    """What tie.spec is given, in order."""
+    m = re.search(r"tie\.spec\b", text)
+    if not m:
+        return []
+    out, i = [], m.end()
+    while i < len(text):
+        ch = text[i]
+        if ch.isspace():
+            i += 1
+        elif ch == "(":
+            depth, j = 0, i
+            while j < len(text):
+                depth += (text[j] == "(") - (text[j] == ")")
+                j += 1
+                if depth == 0:
+                    break
+            out.append(text[i:j])
+            i = j
+        elif ch == ")":
+            break
+        else:
+            q = re.match(W, text[i:])
+            if not q:
+                break
+            out.append(q[0])
+            i += len(q[0])
+    return out
+
+
+def unnamed(text, names, renamed, skip):
+    """Answers that stood in tie.spec itself: (goal, equation, place)."""
+    args = [a for a in spec_args(text) if a not in skip]
+    needs = names.of["needs"]
+    rich = [a for a in args if a.startswith("(") and not re.fullmatch(r"\(λ c( κs)?\.\s*search (rules|needs)\s*\)", a) or not a.startswith("(") and a not in renamed]
+    if not rich:
+        return [], None
+    if len(args) != len(needs):
+        return [], f"{len(args)} answers for {len(needs)} goals, of which these have no name: " + " ".join(" ".join(r.split()) for r in rich)
+    out = []
+    for a, (old, new), (place, _n) in zip(args, needs, names.of["asked_at"]):
+        if a not in rich:
+            continue
+        q = re.match(r"\(λ (" + W + r")(?: κs)?\.\s*(.*)\)$", a, re.S)
+        if a.startswith("(") and q:
+            out.append((new, f"{new} {q[1]} = {q[2]}", place, q[1]))
+        elif a in names.views:
+            out.append((new, f"{new} c = {a} c", place, "c"))
+        else:
+            out.append((new, f"{new} c = {a} c", place, "c"))
+    return out, None
 
 
 def loop_new(names, old):

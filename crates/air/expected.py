@@ -3,7 +3,7 @@
 #   python3 crates/air/expected.py record | cmp - crates/air/data/record.txt
 #   python3 crates/air/expected.py told | cmp - crates/air/stdout
 # and with `lost` and `told_lost` for checks/cases/air/lost. `script` is for the console, whose answers are those of the record, line by line:
-#   python3 crates/air/expected.py script | target/bin/console | python3 crates/air/expected.py answers
+#   python3 crates/air/expected.py script | crates/console/out/console | python3 crates/air/expected.py answers
 import sys
 
 POOL, TITLE = 8, 3

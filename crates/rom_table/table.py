@@ -1,8 +1,6 @@
-"""Prints the entries of src/lib.rt as `rt fmt` lays them out, worked out from 01's shifted grid for floor 3 and cap 10.
+"""Prints the entries of src/lib.rt, one to a line, worked out from 01's shifted grid for floor 3 and cap 10.
 
-The proofs do not rest on it: they read the numbers that stand in src/lib.rt. To compare the two:
-
-    python3 crates/rom_table/table.py | diff - <(grep -E '^ +[0-9]+,$' crates/rom_table/src/lib.rt)
+The proofs do not rest on it: they read the numbers that stand in src/lib.rt. checks/models compares the two.
 """
 
 FLOOR, CAP = 3, 10

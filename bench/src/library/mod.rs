@@ -1,4 +1,4 @@
-//! The product's own library, as `rt staticlib rongalishu` builds it: each exported call behind `Subject`.
+//! The product's own library, as checks/library builds it: each exported call behind `Subject`.
 
 #[cfg(feature = "emulated")]
 pub mod emulated;

@@ -53,12 +53,12 @@ unfoldable pub clock_words : ℕ → List ℕ → List ℕ → List ℕ
 clock_words τ words others = pick (leb τ event_time_max) (words ++ decimal τ) others
 
 -- 4: the id's title is open, or closing until all its lanes have gone
-abbrev pub is_open_at : State → ℕ → Bool
-is_open_at s i = both (leb i id_max) (eqb (title_at s i).mode open_mode)
+abbrev pub id_is_open : State → ℕ → Bool
+id_is_open s i = both (leb i id_max) (eqb (title_at s i).mode open_mode)
 
 unfoldable pub taken_text : State → ℕ → ℕ → List ℕ
 taken_text s i τ =
-    pick (is_open_at s i) (text ", its title is open")
+    pick (id_is_open s i) (text ", its title is open")
     (clock_words (id_free_from s i τ) (text ", free from ") (text ", not free before the clock ends"))
 
 -- 8

@@ -7,7 +7,7 @@ ghost use Rattle.text.specs.Output.{Written};
 ghost use Rattle.console_reasons.specs.Events.{
   event_out,
   clock_words,
-  is_open_at,
+  id_is_open,
   taken_text,
   start_text,
   later_text,
@@ -74,7 +74,7 @@ fn put_clock_words(out: &mut [u8], at: usize, time: u64, words: &[u8], others: &
 
 // Whether the title of an id is open.
 fn is_open(s: State, id: u64) -> bool
-    ensures { result ≡ is_open_at s id }
+    ensures { result ≡ id_is_open s id }
 {
     if id <= ID_MAX {
         let t = s.titles[id as usize];

@@ -28,7 +28,7 @@ use Rattle.notice.proofs.read.Reads as read
 use Rattle.notice.proofs.read_at.Kinds as read-at-kinds
 use Rattle.notice.proofs.read_at.Reads as read_at
 use Rattle.notice.proofs.next_in.Kinds as next-in-kinds
-use Rattle.notice.proofs.next_in.Reads as next-in
+use Rattle.notice.proofs.next_in.Reads as next_in_lem
 use Rattle.notice_bytes.proofs.window.decided.Kinds as decided-kinds
 use Rattle.notice_bytes.proofs.window.decided.Reads as decided
 use Rattle.notice.specs.contracts.next as next

@@ -1,7 +1,7 @@
 -- A notice as a row of eight numbers, one for each field of the table. specs/Rows has the row of a notice (`fields_of`), the notice of a row
 -- (`notice_from`) and which rows are a notice's (`is_notice_row`); specs/Calls what the calls answer and leave, by the definitions of a
 -- notice's bytes, of what bytes read as and of a log's next.
--- - Notices and their rows are each other's: proofs/Rows `from_Fields` (the row of a notice gives that notice), `notice_row` (it is a
+-- - Notices and their rows are each other's: proofs/Rows `from_fields` (the row of a notice gives that notice), `notice_row` (it is a
 --   notice's to the number), `fields_from` (the notice of such a row has that row). A number at a place that the kind does not have is not
 --   looked at, and is not in the notice: `own_number_lem`.
 -- - What `write` writes, `read` reads as the row that was written: proofs/Rows `row_reads`, `row_comes_back`.

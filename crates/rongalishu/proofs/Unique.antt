@@ -82,22 +82,22 @@ pub fresh_one_outcome : OneEnd 1 fresh-kinds.ps fresh-kinds.r (λ κs e f. e.0.n
 fresh_one_outcome κs a x y e f p q = (p.0 ∙ sym q.0, p.1 ∙ sym q.1)
 
 pub open_one_outcome : OneEnd 1 open-kinds.ps open-kinds.r (λ κs e f. e.0.now ≡ f.0.now) open-call.Learnt
-open_one_outcome κs a x y e f p q = (p.0 ∙ sym q.0, p.1 ∙ sym q.1)
+open_one_outcome κs a x y e f p q = (p.value ∙ sym q.value, p.agent_after ∙ sym q.agent_after)
 
 pub skip_one_outcome : OneEnd 1 skip-kinds.ps skip-kinds.r (λ κs e f. e.0.now ≡ f.0.now) skip-call.Learnt
-skip_one_outcome κs a x y e f p q = (p.0 ∙ sym q.0, p.1 ∙ sym q.1)
+skip_one_outcome κs a x y e f p q = (p.value ∙ sym q.value, p.agent_after ∙ sym q.agent_after)
 
 pub change_one_outcome : OneEnd 1 change-kinds.ps change-kinds.r (λ κs e f. e.0.now ≡ f.0.now) change-call.Learnt
-change_one_outcome κs a x y e f p q = (p.0 ∙ sym q.0, p.1 ∙ sym q.1)
+change_one_outcome κs a x y e f p q = (p.value ∙ sym q.value, p.agent_after ∙ sym q.agent_after)
 
 pub close_one_outcome : OneEnd 1 close-kinds.ps close-kinds.r (λ κs e f. e.0.now ≡ f.0.now) close-call.Learnt
-close_one_outcome κs a x y e f p q = (p.0 ∙ sym q.0, p.1 ∙ sym q.1)
+close_one_outcome κs a x y e f p q = (p.value ∙ sym q.value, p.agent_after ∙ sym q.agent_after)
 
 pub hold_one_outcome : OneEnd 1 hold-kinds.ps hold-kinds.r (λ κs e f. e.0.now ≡ f.0.now) hold-call.Learnt
-hold_one_outcome κs a x y e f p q = (p.0 ∙ sym q.0, p.1 ∙ sym q.1)
+hold_one_outcome κs a x y e f p q = (p.value ∙ sym q.value, p.agent_after ∙ sym q.agent_after)
 
 pub lift_one_outcome : OneEnd 1 lift-kinds.ps lift-kinds.r (λ κs e f. e.0.now ≡ f.0.now) lift-call.Learnt
-lift_one_outcome κs a x y e f p q = (p.0 ∙ sym q.0, p.1 ∙ sym q.1)
+lift_one_outcome κs a x y e f p q = (p.value ∙ sym q.value, p.agent_after ∙ sym q.agent_after)
 
 pub take_one_outcome : OneEnd 2 take-kinds.ps take-kinds.r (λ κs e f. e.0.now ≡ f.0.now) take-call.Learnt
 take_one_outcome κs a x y e f p q = (p.0 ∙ sym q.0, p.1 ∙ sym q.1)
@@ -271,11 +271,11 @@ pub status_one_outcome :
     × ((e.1.1.1.1.0.now ≡ f.1.1.1.1.0.now) × (e.1.1.1.1.1.0.now ≡ f.1.1.1.1.1.0.now)))
     status-call.Learnt
 status_one_outcome κs a x y e f p q =
-    let same : x ≡ y = p.0 ∙ sym q.0 in (
+    let same : x ≡ y = p.value ∙ sym q.value in (
       same,
       (
-        rw same at p.1.0 ∙ sym q.1.0,
-        (rw same at p.1.1.0 ∙ sym q.1.1.0, rw same at p.1.1.1 ∙ sym q.1.1.1),
+        rw same at p.counts_after ∙ sym q.counts_after,
+        (rw same at p.held_after ∙ sym q.held_after, rw same at p.marks_after ∙ sym q.marks_after),
       ),
     )
 

@@ -1,5 +1,5 @@
--- The library that head-ends and boxes link: every public call as a C function over lent rows, exported with the prefix rl_ and the suffix
--- _row. Each contract is that of the call beneath, of the agent that a row is (`agent_rows` specs/Packed `unpacked`), and settles every lent
+-- The library that head-ends and boxes link: every public call over lent rows, with the prefix rl_ and the suffix _row; `rongalishu_c` exports
+-- each to C, with the same clauses. Each contract is that of the call beneath, of the agent that a row is (`agent_rows` specs/Packed `unpacked`), and settles every lent
 -- row for all inputs.
 -- - A fresh agent, the six events and a notice taken: `row_calls` specs/Answers. An event leaves the sequence alone.
 -- - The lane question, lanes held and the small box's lane: `row_calls` specs/Answers and `row_questions` specs/Questions, with the number in

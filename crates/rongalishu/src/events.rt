@@ -13,16 +13,14 @@ use scheme::{PADDED, STEADY};
 use story::Act;
 
 // A fresh agent of a pool, whatever the row held.
-#[unsafe(no_mangle)]
-pub extern "C" fn rl_fresh_row(agent: &mut [u64], pool: u64) -> u8
+pub fn rl_fresh_row(agent: &mut [u64], pool: u64) -> u8
     ensures { (result ≡ row_fresh agent.old pool) × (agent.new ≡ row_after_fresh agent.old pool) }
 {
     row_calls::starting::fresh(agent, pool)
 }
 
 // One notice's bytes, and nothing after them, handed to the agent.
-#[unsafe(no_mangle)]
-pub extern "C" fn rl_take_row(agent: &mut [u64], bytes: &[u8]) -> u8
+pub fn rl_take_row(agent: &mut [u64], bytes: &[u8]) -> u8
     ensures { (result ≡ row_notice agent.old (read_of bytes.now))
         × (agent.new ≡ row_after_notice agent.old (read_of bytes.now)) }
 {
@@ -30,8 +28,7 @@ pub extern "C" fn rl_take_row(agent: &mut [u64], bytes: &[u8]) -> u8
 }
 
 // Opens a title on the padded grid.
-#[unsafe(no_mangle)]
-pub extern "C" fn rl_open_row(
+pub fn rl_open_row(
     agent: &mut [u64],
     id: u64,
     time: u64,
@@ -50,8 +47,7 @@ pub extern "C" fn rl_open_row(
 }
 
 // Opens a skip-forward title.
-#[unsafe(no_mangle)]
-pub extern "C" fn rl_skip_row(agent: &mut [u64], id: u64, time: u64, length: u64, count: u64) -> u8
+pub fn rl_skip_row(agent: &mut [u64], id: u64, time: u64, length: u64, count: u64) -> u8
     ensures value { result ≡ row_event agent.old (event_at id time (skips length count)) }
     ensures agent_after { agent.new ≡ row_after_event agent.old (event_at id time (skips length count)) }
 {
@@ -62,8 +58,7 @@ pub extern "C" fn rl_skip_row(agent: &mut [u64], id: u64, time: u64, length: u64
 }
 
 // Changes the count of a title.
-#[unsafe(no_mangle)]
-pub extern "C" fn rl_change_row(agent: &mut [u64], id: u64, time: u64, count: u64) -> u8
+pub fn rl_change_row(agent: &mut [u64], id: u64, time: u64, count: u64) -> u8
     ensures value { result ≡ row_event agent.old (event_at id time (Changes count)) }
     ensures agent_after { agent.new ≡ row_after_event agent.old (event_at id time (Changes count)) }
 {
@@ -71,8 +66,7 @@ pub extern "C" fn rl_change_row(agent: &mut [u64], id: u64, time: u64, count: u6
 }
 
 // Closes a title.
-#[unsafe(no_mangle)]
-pub extern "C" fn rl_close_row(agent: &mut [u64], id: u64, time: u64) -> u8
+pub fn rl_close_row(agent: &mut [u64], id: u64, time: u64) -> u8
     ensures value { result ≡ row_event agent.old (event_at id time Closes) }
     ensures agent_after { agent.new ≡ row_after_event agent.old (event_at id time Closes) }
 {
@@ -80,8 +74,7 @@ pub extern "C" fn rl_close_row(agent: &mut [u64], id: u64, time: u64) -> u8
 }
 
 // Holds the doors of a title.
-#[unsafe(no_mangle)]
-pub extern "C" fn rl_hold_row(agent: &mut [u64], id: u64, time: u64) -> u8
+pub fn rl_hold_row(agent: &mut [u64], id: u64, time: u64) -> u8
     ensures value { result ≡ row_event agent.old (event_at id time holds) }
     ensures agent_after { agent.new ≡ row_after_event agent.old (event_at id time holds) }
 {
@@ -89,8 +82,7 @@ pub extern "C" fn rl_hold_row(agent: &mut [u64], id: u64, time: u64) -> u8
 }
 
 // Lifts the hold.
-#[unsafe(no_mangle)]
-pub extern "C" fn rl_lift_row(agent: &mut [u64], id: u64, time: u64) -> u8
+pub fn rl_lift_row(agent: &mut [u64], id: u64, time: u64) -> u8
     ensures value { result ≡ row_event agent.old (event_at id time lifts) }
     ensures agent_after { agent.new ≡ row_after_event agent.old (event_at id time lifts) }
 {

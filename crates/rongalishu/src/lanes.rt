@@ -8,8 +8,7 @@ use crate::results::put;
 use rules::{DONE, WRONG_ROWS};
 
 // The cell that goes out on a lane of a title in the tick that holds a time, into the first place of a row.
-#[unsafe(no_mangle)]
-pub extern "C" fn rl_lane_row(agent: &[u64], id: u64, lane: u64, time: u64, cell: &mut [u64]) -> u8
+pub fn rl_lane_row(agent: &[u64], id: u64, lane: u64, time: u64, cell: &mut [u64]) -> u8
     ensures { OneGiven cell.old (row_lane agent.now id lane time) (row_shows agent.now id lane time)
         result cell.new }
 {
@@ -26,8 +25,7 @@ pub extern "C" fn rl_lane_row(agent: &[u64], id: u64, lane: u64, time: u64, cell
 }
 
 // The same looked up in a lent table of the small box.
-#[unsafe(no_mangle)]
-pub extern "C" fn rl_rom_lane_row(
+pub fn rl_rom_lane_row(
     agent: &[u64],
     table: &[u16],
     id: u64,
@@ -51,8 +49,7 @@ pub extern "C" fn rl_rom_lane_row(
 }
 
 // How many lanes are held over all titles at a time, into the first place of a row.
-#[unsafe(no_mangle)]
-pub extern "C" fn rl_held_row(agent: &[u64], time: u64, lanes: &mut [u64]) -> u8
+pub fn rl_held_row(agent: &[u64], time: u64, lanes: &mut [u64]) -> u8
     ensures { OneGiven lanes.old (row_held agent.now time) (row_lanes agent.now time) result
         lanes.new }
 {

@@ -12,8 +12,7 @@ use crate::results::put;
 use rules::{DONE, WRONG_ROWS};
 
 // Counts, lanes held and held marks of the titles asked for, by id.
-#[unsafe(no_mangle)]
-pub extern "C" fn rl_status_row(
+pub fn rl_status_row(
     agent: &[u64],
     time: u64,
     ids: &[u64],
@@ -35,8 +34,7 @@ pub extern "C" fn rl_status_row(
 
 // The changes that bring the counts to the sharing of the pool, into the first places of three rows, and how many they are into
 // the first place of a fourth.
-#[unsafe(no_mangle)]
-pub extern "C" fn rl_planner_row(
+pub fn rl_planner_row(
     agent: &[u64],
     time: u64,
     rates: &[u32],
@@ -62,8 +60,7 @@ pub extern "C" fn rl_planner_row(
 }
 
 // The counts that share a pool, into the first places of a row.
-#[unsafe(no_mangle)]
-pub extern "C" fn rl_share_row(
+pub fn rl_share_row(
     pool: u64,
     rates: &[u32],
     lengths: &[u32],

@@ -16,14 +16,7 @@ const AIR_PLACES: usize = 3;
 const SALVAGE_PLACES: usize = 3;
 
 // The report of waits: arrivals, admitted, longest wait and sum of waits.
-#[unsafe(no_mangle)]
-pub extern "C" fn rl_waits_row(
-    pool: u64,
-    title: u64,
-    log: &[u8],
-    arrivals: &[u64],
-    report: &mut [u64],
-) -> u8
+pub fn rl_waits_row(pool: u64, title: u64, log: &[u8], arrivals: &[u64], report: &mut [u64]) -> u8
     ensures { WaitsGiven pool log.now title arrivals.now report.old result report.new }
 {
     if report.len() < WAITS_PLACES {
@@ -40,8 +33,7 @@ pub extern "C" fn rl_waits_row(
 }
 
 // What the air carried: admissions judged, played through, and those that outlast the record.
-#[unsafe(no_mangle)]
-pub extern "C" fn rl_air_row(
+pub fn rl_air_row(
     pool: u64,
     title: u64,
     log: &[u8],
@@ -65,8 +57,7 @@ pub extern "C" fn rl_air_row(
 }
 
 // Marks each tick of a title's latest opening with 1 where it is an admission.
-#[unsafe(no_mangle)]
-pub extern "C" fn rl_admissions_row(pool: u64, title: u64, log: &[u8], marks: &mut [u8]) -> u8
+pub fn rl_admissions_row(pool: u64, title: u64, log: &[u8], marks: &mut [u8]) -> u8
     ensures { (result ≡ ticks_answer pool log.now title)
         × (marks.new ≡ ticks_leaves pool log.now title marks.old) }
 {
@@ -74,13 +65,7 @@ pub extern "C" fn rl_admissions_row(pool: u64, title: u64, log: &[u8], marks: &m
 }
 
 // What is left of a damaged log: notices taken, their bytes, and stretches skipped.
-#[unsafe(no_mangle)]
-pub extern "C" fn rl_salvage_row(
-    log: &[u8],
-    area: &mut [u8],
-    stretches: &mut [u64],
-    report: &mut [u64],
-) -> u8
+pub fn rl_salvage_row(log: &[u8], area: &mut [u8], stretches: &mut [u64], report: &mut [u64]) -> u8
     ensures { SalvageGiven log.now area.old stretches.old report.old result
         area.new stretches.new report.new }
 {

@@ -5,7 +5,7 @@
 -- - Every byte is kept or skipped, none of them twice, in the log's order: proofs/Pieces `together` (what is kept is the input without the
 --   bytes that lie in stretches), `all_bytes` (their numbers add up), `apart` (between two stretches something was kept, none is empty, and
 --   all lie within the input).
--- - What is kept are notices as they stood, a log of its own with sequences that rise: proofs/Kept `unchanged`, `kept_Gives`, `kept_rises`.
+-- - What is kept are notices as they stood, a log of its own with sequences that rise: proofs/Kept `unchanged`, `kept_gives`, `kept_rises`.
 --   A second salvage finds nothing to skip: `again`.
 -- - A log in order loses nothing: proofs/Tails `whole`, and `written_whole` of notices as they are written. What is sound from some notice
 --   to the end comes out, over any bytes before it, with 02's two provisos (specs/Claims `Clear`): proofs/Tails `tail_comes_out`,

@@ -10,7 +10,7 @@
 --   sequence, a close in the middle included, it is `story` specs/Demands `boxes`. While block n plays, block n + 1, if it has film, has
 --   been taken or is on air: `scheme` proofs/Turns `ahead`, `film_ahead`; over every accepted sequence `story` specs/Demands `ahead`.
 -- - At a close lane i of a skip-forward title owes what its boxes still await, its cells of film in the 2^(i-1) - 1 ticks from the close
---   on, and lanes 0 and 1 owe nothing: `story` proofs/SkipForward `owed_exactly`, `Owes-nothing`; proofs/Example `forward_sends`,
+--   on, and lanes 0 and 1 owe nothing: `story` proofs/SkipForward `owed_exactly`, `owes_nothing`; proofs/Example `forward_sends`,
 --   `forward_held` computes one.
 pub mod Scheme
 pub mod Lawful

@@ -62,7 +62,7 @@ use Rattle.notice.proofs.next.Symbol as next-def
 use Rattle.notice.proofs.next.Symbol.{name as #notice·next}
 use Rattle.notice.proofs.next.Met as next-thm
 use Rattle.notice.specs.contracts.next_in.Key.{name as #notice·next-in}
-use Rattle.notice.specs.contracts.next_in as next-in
+use Rattle.notice.specs.contracts.next_in as next_in_lem
 use Rattle.notice.proofs.next_in.Statement as stated
 use Rattle.notice.proofs.next_in.Code as code
 

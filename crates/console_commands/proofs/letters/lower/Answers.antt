@@ -1,0 +1,17 @@
+-- `console_commands::letters::lower` meets its contract: its tests are those of the definition.
+use borrow.Author.Tests.{lt-ltb, le-ltb}
+use Rattle.console_commands.specs.Letters.{lower_of}
+use borrow.Author.Rules.{rules}
+use Rattle.console_commands.proofs.letters.lower.Goals as goal
+
+pub returns-then-b-lt65 : goal.returns-then-b-lt65
+unfolding lower_of
+returns-then-b-lt65 c = simp (lt-ltb _ _ c.if-b-lt65.true)
+
+pub returns-then-b-gt90 : goal.returns-then-b-gt90
+unfolding lower_of
+returns-then-b-gt90 c = simp (le-ltb _ _ c.if-b-lt65.false, lt-ltb _ _ c.if-b-gt90.true)
+
+pub returns : goal.returns
+unfolding lower_of
+returns c = simp (le-ltb _ _ c.if-b-lt65.false, le-ltb _ _ c.if-b-gt90.false)
