@@ -238,7 +238,7 @@ def turn_paths(text, names, place, heads=("c",), goal=False):
     for lemma, at in names.views.items():
         n = names.steps(place, at)
         if n is not None:
-            text = re.sub(r"(?<![\w.-])" + re.escape(lemma) + r" (" + "|".join(re.escape(h) for h in heads) + r")((?:\.before)*)(?![\w.-])", lambda m: lemma + " " + heads[0] + f" AT<{place}|{names.place_new.get(place, '') if goal else ''}>{at}<", text)
+            text = re.sub(r"(?<![\w.-])" + re.escape(lemma) + r" (" + "|".join(re.escape(h) for h in heads) + r")((?:\.before)*)(?![\w.-])", lambda m: lemma + " " + m[1] + f" AT<{place}|{names.place_new.get(place, '') if goal else ''}>{at}<", text)
 
     def sub(m):
         f, rest = m[3], m[4]
@@ -373,14 +373,16 @@ def invariants_of(sig, texts, names, kind):
     rest = body[head.end():]
     n = len(variables)
     live = [v for v, ch in zip(variables, changed) if ch]
-    if len(params) != n + len(live):
+    if len(params) < n + len(live):
         return None
     to = {}
     for p, v, ch in zip(params, variables, changed):
         to[p] = f"l.initial.{v}" if ch else f"l.{v}"
-    for p, v in zip(params[n:], live):
+    for p, v in zip(params[len(params) - len(live):] if live else [], live):
         to[p] = f"l.{v}"
     to.pop("_", None)
+    if any(re.search(r"(?<![\w.-])" + re.escape(p) + r"(?![\w-])", rest) for p in params[n:len(params) - len(live)]):
+        return None
     record = next(v for v in ("l", "v", "s", "at") if not re.search(r"(?<![\w.-])" + v + r"(?![\w-])", re.sub("|".join(re.escape(p) for p in sorted(params, key=len, reverse=True)) if v in params else "\0", " ", rest)))
     to = {p: record + t[1:] for p, t in to.items()}
     rest = substitute(rest, to)
@@ -509,8 +511,10 @@ def turn(path, of, module, own=""):
             heads = (head[1],) if head else ("c",)
             eq = turn_paths(eq, names, place, heads, True)
             clauses = None
-            if new.endswith("-requires"):
-                clauses = of["asked"].get(new) or CLAUSES.get(names.callee.get(new[:-len("-requires")], ""), ([], []))[0]
+            asks = re.match(r"(.*)-requires((?:-.*)?)$", new)
+            if asks:
+                callee = names.callee.get(asks[1] + asks[2]) or names.callee.get(asks[1]) or ""
+                clauses = of["asked"].get(new) or CLAUSES.get(callee, ([], []))[0]
             elif new.startswith("returns"):
                 clauses = names.ensures
             if clauses and len(clauses) > 1:
@@ -535,6 +539,7 @@ def turn(path, of, module, own=""):
         def place_sub(q):
             old, new = names.place(q[1])
             return "tie." + (new or q[1])
+        heads += [q for q in re.findall(r"\((" + W + r") : tie\.(?!Need)[A-Z]", whole) if q not in heads]
         whole = turn_paths(whole, names, pl, heads)
         whole = re.sub(r"tie\.(?!Need)([A-Z][^\s()]*)", lambda q: "lts." + (names.place(q[1])[0] or q[1]) + " AT", whole)
         whole = re.sub(r"\binvariant-(loop[\w-]*)", lambda q: "goal.the-invariant-" + loop_new(names, q[1]), whole)

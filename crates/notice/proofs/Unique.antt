@@ -1,16 +1,7 @@
 -- Each public call's contract settles it: two outcomes that it admits for the same arguments are equal, in the answer and in every
--- row that was lent. The contracts are not stated again: `Learnt` is all that the checker lets a caller learn of a call, and `next`,
--- which is walked by hand, is cited by its clause.
+-- row that was lent. The contracts are not stated again: `Learnt` is all that the checker lets a caller learn of a call.
 -- Rests on the contracts being equations to definitions.
 use mathlib.Core.Path.{◌≡◌, sym, ap, ◌∙◌}
-use seplogic.Ra.Ura.{Ura}
-use base.Logic.{SProp, ent, sep, fst∗, snd∗}
-use contract.Lifetimes.{Lfts}
-use contract.Monad.{Fun, fact, fact_i, fact_use}
-use prog.Memory.{Memory}
-use prog.Routine.{Routine}
-use types.Logic.{Logic}
-use denote.Ref.{Bor}
 use Rattle.rules.specs.OneOutcome.{OneEnd, OneOutcome}
 use Rattle.notice.specs.declared.Found.{Found}
 use Rattle.notice.specs.declared.Log.{Log}
@@ -31,7 +22,8 @@ use Rattle.notice.proofs.next_in.Kinds as next-in-kinds
 use Rattle.notice.proofs.next_in.Reads as next_in_lem
 use Rattle.notice_bytes.proofs.window.decided.Kinds as decided-kinds
 use Rattle.notice_bytes.proofs.window.decided.Reads as decided
-use Rattle.notice.specs.contracts.next as next
+use Rattle.notice.proofs.next.Kinds as next-kinds
+use Rattle.notice.proofs.next.Reads as next
 
 pub size_one_outcome : OneOutcome 0 size-kinds.ps size-kinds.r size.Learnt
 size_one_outcome κs a x y e f p q = p ∙ sym q
@@ -66,16 +58,8 @@ same_reader h d e r s p q =
     let bytes : d.bytes ≡ e.bytes = p.1 ∙ sym q.1 in
     (answer, λ i. record { bytes = bytes i; place = place i })
 
-module _ {M : Type 1} {𝓤 : Ura M} (𝓛 : Logic 𝓤) (at_mem : Memory → SProp 𝓤) (run : Routine → Fun 𝓤) where
-  abbrev Said : Lfts 2 → Bor Log → Found → Bor Log → SProp 𝓤
-  Said κs log r after = next.ensures-1 𝓛 κs at_mem run log (record { entry = log; exit = after }) r
-
-  pub next_one_outcome : (κs : Lfts 2) (log d e : Bor Log) (r s : Found)
-      → ent 𝓤 (sep 𝓤 (Said κs log r d) (Said κs log s e)) (fact 𝓤 ((r ≡ s) × (d.now ≡ e.now)))
-  next_one_outcome κs log d e r s =
-      fact_use 𝓤 _ (fst∗ 𝓤 (Said κs log r d) (Said κs log s e))
-      (λ p. fact_use 𝓤 _ (snd∗ 𝓤 (Said κs log r d) (Said κs log s e))
-      (λ q. fact_i 𝓤 _ _ (same_reader log.now d.now e.now r s p q)))
+pub next_one_outcome : OneEnd 2 next-kinds.ps next-kinds.r (λ κs e f. e.0.now ≡ f.0.now) next.Learnt
+next_one_outcome κs a x y e f p q = same_reader a.0.now e.0.now f.0.now x y p q
 
 pub decided_one_outcome : OneOutcome 1 decided-kinds.ps decided-kinds.r decided.Learnt
 decided_one_outcome κs a x y e f p q = p ∙ sym q

@@ -12,7 +12,7 @@ pub fill-requires : goal.fill-requires
 fill-requires c =
     let tested = c in
     let right = tested in
-    let size = fitting_size right.args.bytes.now (sym tested.before.fits2.ensures ∙ tested.if-fits.true) in
+    let size = fitting_size right.args.bytes.now (sym tested.fits.ensures ∙ tested.if-fits.true) in
     omega (arith, size, right.if-row-ne-NUMBERS.false)
 
 pub returns-then-fits : goal.returns-then-fits
@@ -20,7 +20,7 @@ returns-then-fits c =
     let filled = c in
     let tested = filled in
     let right = tested in
-    rw (filled.fill.ensures, right.if-row-ne-NUMBERS.false) (load_done _ _ right.if-row-ne-NUMBERS.false (sym tested.before.fits2.ensures ∙ tested.if-fits.true))
+    rw (filled.fill.ensures, right.if-row-ne-NUMBERS.false) (load_done _ _ right.if-row-ne-NUMBERS.false (sym tested.fits.ensures ∙ tested.if-fits.true))
 
 pub returns : goal.returns
-returns c = load_none _ _ c.if-row-ne-NUMBERS.false (sym c.before.fits2.ensures ∙ c.if-fits.false)
+returns c = load_none _ _ c.if-row-ne-NUMBERS.false (sym c.fits.ensures ∙ c.if-fits.false)

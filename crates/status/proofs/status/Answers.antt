@@ -22,8 +22,19 @@ pub returns-then-answer-eq-DONE : goal.returns-then-answer-eq-DONE
 returns-then-answer-eq-DONE c =
     let called = c in
     let tested = called in
-    simp (eq-eqb _ _ tested.if-answer-eq-DONE.true) (tested.status_verdict-answer.ensures, called.fill.ensures)
+    let f = called.fill.ensures in
+    simp (eq-eqb _ _ tested.if-answer-eq-DONE.true) (record {
+      value = tested.status_verdict-answer.ensures;
+      counts_after = f.counts_after;
+      held_after = f.held_after;
+      marks_after = f.marks_after;
+    })
 
 pub returns-else-answer-eq-DONE : goal.returns-else-answer-eq-DONE
 returns-else-answer-eq-DONE c =
-    simp (ne_eqb _ _ c.if-answer-eq-DONE.false) (c.status_verdict-answer.ensures, (refl, (refl, refl)))
+    simp (ne_eqb _ _ c.if-answer-eq-DONE.false) (record {
+      value = c.status_verdict-answer.ensures;
+      counts_after = refl;
+      held_after = refl;
+      marks_after = refl;
+    })

@@ -45,7 +45,7 @@ loop-count-preserved c =
     let k = at.loop-count.count in
     let v = c in
     let m = c.moved in
-    let w = (wide c.before.before.before.before).0 in
+    let w = (wide v.before.before.before.before).0 in
     let e = rw (w, v.slot.ensures.is) at m.ensures in (
       omega arith,
       omega arith,

@@ -37,4 +37,4 @@ pow2-requires c =
 pub returns : goal.returns
 returns c =
     let s = c in
-    (63 - count_leading_zeros 64 s.args.n, c.pow2.ensures.is, rw c.pow2.ensures.is (top c.before).low, (top c.before).high)
+    (63 - count_leading_zeros 64 s.args.n, c.pow2.ensures.is, rw c.pow2.ensures.is (top s.before).low, (top s.before).high)

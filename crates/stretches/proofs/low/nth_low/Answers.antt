@@ -16,8 +16,7 @@ use Rattle.stretches.proofs.low.nth_low.Reads as reads
 use Rattle.stretches.proofs.low.nth_low.Goals as goal
 
 pub low_of-s-requires : goal.low_of-s-requires
-low_of-s-requires c =
-    let s = c in
+low_of-s-requires c = let s = c in
     let cut = s.requires.owing.film.cut in
     record { lane_nonzero = (s.requires.lane_nonzero.0, s.requires.lane_nonzero.1.0); floor_le_cap = (cut.fit, cut.high) }
 
@@ -38,10 +37,10 @@ unfolding kept_within how_many
 loop-i-init c = (omega arith, refl, omega arith, omega arith)
 
 -- a tick of the walk has room
-within : (at : lts.At-loop tie.the-claims reads.Pre reads.Post goal.the-invariant-loop-i goal.the-decreases-loop-i tie.handed_clauses) → at.before.before.before.before.before.before.before.before.before.before.before.args.at + at.loop.i < 2 ^ 64
+within : (at : lts.At-loop tie.the-claims reads.Pre reads.Post goal.the-invariant-loop-i goal.the-decreases-loop-i tie.handed_clauses) → at.args.at + at.loop-i.i < 2 ^ 64
 within at =
-    let far = at.before in
-    tick_fits at.before.before.before.before.before.before.before.before.before.before.before.args.at at.loop.i far.smaller.result far.before.before.pow2.result _ at.before.before.before.before.before.before.before.before.before.before.before.requires.lane_nonzero.1.1 at.loop.invariant.0 far.smaller.ensures far.before.before.pow2.ensures.high
+    let far = at in
+    tick_fits at.args.at at.loop-i.i far.smaller-end.result far.pow2-reach.result _ at.requires.lane_nonzero.1.1 at.loop-i.invariant.0 far.smaller-end.ensures far.pow2-reach.ensures.high
 
 pub overflow_add-at : goal.overflow_add-at
 overflow_add-at c = record { fits = within c.before }
@@ -112,7 +111,7 @@ returns-then-nth-owed c =
     let start = low in
     let a = start.args in
     let n = far.pow2-reach in
-    let u = stepped c.before in
+    let u = stepped v.before in
     record {
       is =
           ap (λ x. at.loop-i.i + (a.nth - x)) at.loop-i.invariant.1
@@ -141,7 +140,7 @@ loop-i-preserved c =
     let low = cells in
     let start = low in
     let a = start.args in
-    let u = stepped c.before in (
+    let u = stepped v.before in (
       u.room,
       ap (λ n. n + v.ticks_at-ticks.result) at.loop-i.invariant.1
           ∙ step_owed a.t a.lane a.at low.low_of-s.result start.requires.fact start.requires.owing.film low.low_of-s.ensures

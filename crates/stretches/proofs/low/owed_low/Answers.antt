@@ -15,8 +15,7 @@ use Rattle.stretches.proofs.low.owed_low.Reads as reads
 use Rattle.stretches.proofs.low.owed_low.Goals as goal
 
 pub low_of-s-requires : goal.low_of-s-requires
-low_of-s-requires c =
-    let s = c in
+low_of-s-requires c = let s = c in
     let cut = s.requires.owing.film.cut in
     record { lane_nonzero = (s.requires.lane_nonzero.0, s.requires.lane_nonzero.1.0); floor_le_cap = (cut.fit, cut.high) }
 
@@ -37,10 +36,10 @@ unfolding kept_within how_many
 loop-i-init c = (omega arith, refl, omega arith)
 
 -- a tick of the walk has room
-within : (at : lts.At-loop tie.the-claims reads.Pre reads.Post goal.the-invariant-loop-i goal.the-decreases-loop-i tie.handed_clauses) → at.before.before.before.before.before.before.before.before.before.before.before.args.at + at.loop.i < 2 ^ 64
+within : (at : lts.At-loop tie.the-claims reads.Pre reads.Post goal.the-invariant-loop-i goal.the-decreases-loop-i tie.handed_clauses) → at.args.at + at.loop-i.i < 2 ^ 64
 within at =
-    let far = at.before in
-    tick_fits at.before.before.before.before.before.before.before.before.before.before.before.args.at at.loop.i far.smaller.result far.before.before.pow2.result _ at.before.before.before.before.before.before.before.before.before.before.before.requires.lane_nonzero.1.1 at.loop.invariant.0 far.smaller.ensures far.before.before.pow2.ensures.high
+    let far = at in
+    tick_fits at.args.at at.loop-i.i far.smaller-end.result far.pow2.result _ at.requires.lane_nonzero.1.1 at.loop-i.invariant.0 far.smaller-end.ensures far.pow2.ensures.high
 
 pub overflow_add-at : goal.overflow_add-at
 overflow_add-at c = record { fits = within c.before }

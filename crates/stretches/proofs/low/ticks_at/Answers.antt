@@ -27,7 +27,7 @@ overflow_add-cell c =
 pub overflow_mul-cell : goal.overflow_mul-cell
 overflow_mul-cell c =
     let s = c in
-    record { fits = omega (arith, cell_room c.before.before.before c.place_at.result c.place_at.ensures.less) }
+    record { fits = omega (arith, cell_room s.before.before.before c.place_at.result c.place_at.ensures.less) }
 
 pub nonzero_rem-cell : goal.nonzero_rem-cell
 nonzero_rem-cell c = let s = c in width_pos s.args.s s.requires
@@ -38,7 +38,7 @@ overflow_add-cell-2 c =
     record {
       fits = omega (
         arith,
-        cell_room c.before.before.before.before c.place_at.result c.place_at.ensures.less,
+        cell_room s.before.before.before.before c.place_at.result c.place_at.ensures.less,
         mod-lt s.args.tick (width_pos s.args.s s.requires),
         width_high s.args.s s.requires,
       );

@@ -14,14 +14,12 @@ pub overflow_sub-left : goal.overflow_sub-left
 overflow_sub-left c = omega (arith, mod-lt c.args.at {m = c.period-turn.result} (omega (arith, c.period-turn.ensures.low)))
 
 pub due_at-requires : goal.due_at-requires
-due_at-requires c =
-    let s = c in
+due_at-requires c = let s = c in
     record { filmed = s.requires.filmed; kind_value = s.requires.kind_value; ended_le_asked_max = (s.requires.ended_le_asked_max.0, omega (arith, s.requires.ended_le_asked_max.1)) }
 
 pub due_at-requires-2 : goal.due_at-requires-2
-due_at-requires-2 c =
-    let s = c in
-    (s.requires.filmed, (s.requires.kind_value, (s.requires.ended_le_asked_max.0, omega (arith, s.requires.ended_le_asked_max.1, c.period-turn.ensures.high))))
+due_at-requires-2 c = let s = c in
+    record { filmed = s.requires.filmed; kind_value = s.requires.kind_value; ended_le_asked_max = (s.requires.ended_le_asked_max.0, omega (arith, s.requires.ended_le_asked_max.1, c.period-turn.ensures.high)) }
 
 pub returns : goal.returns
 returns c =
