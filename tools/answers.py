@@ -203,6 +203,14 @@ def as_record(body, clauses):
         tries.append(("", body.strip()))
     for q in re.finditer(r"\bin\s+(?=\()", body):
         tries.append((body[:q.end()], body[q.end():].strip()))
+    t = body.rstrip()
+    if t.endswith(")") and re.search(r"(?:^|\bin\s+|^\s*)(?:rw|simp|subst)\b", t):
+        depth = 0
+        for i in range(len(t) - 1, -1, -1):
+            depth += (t[i] == ")") - (t[i] == "(")
+            if depth == 0:
+                tries.append((t[:i], t[i:]))
+                break
     for head, tail in tries:
         parts = top_tuple(tail)
         if parts is None:
@@ -246,6 +254,8 @@ def turn_paths(text, names, place, heads=("c",), goal=False):
             return m[0]
         if f == "pre":
             f = "requires"
+        if f == "type_size":
+            f = "size_of"
         if f in KEEP:
             return m[1] + "." + f + rest
         tail = rest.split(".")[1:]
@@ -547,6 +557,8 @@ def turn(path, of, module, own=""):
         answers.append((comment, whole, None))
     # answers that cite one another
     base = os.path.dirname(path)
+    made = r"\.(\w+)_(?:lem|holds)\.(ensures|result|new|auto|invariant|true|false)(?![\w-])"
+    answers = [(c, re.sub(made, r".\1.\2", it), new) for c, it, new in answers]
     text_a = ""
     for comment, it, new in answers:
         it = re.sub(r"(?<![\w.-])(" + W + r")(?![\w-])", lambda q: renamed.get(q[1], q[1]) if q[1] in renamed and q[1] != new else q[1], it) if renamed else it

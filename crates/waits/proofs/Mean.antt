@@ -16,7 +16,7 @@ halves s n = omega (arith, div-add-mod' s n)
 
 module _ (s n : ℕ) (some : n ≡ 0 → ⊥) where
   pos : 0 < 2 * n
-  pos = Rattle.grid.proofs.Numbers.ne-zero-pos (2 * n) (λ h. some (omega arith))
+  pos = Rattle.grid.proofs.Numbers.ne_zero_pos (2 * n) (λ h. some (omega arith))
 
   nearest_is : nearest s n ≡ (2 * (s % n) + n) / (2 * n) + s / n
   unfolding nearest

@@ -34,7 +34,7 @@ loop-i-preserved c = (omega arith, rw (add-one, ← c.loop-i.invariant.1, c.kept
 -- with every slot passed, the sum is that of all
 all_apart : (at : lts.At-loop tie.the-claims reads.Pre reads.Post goal.the-invariant-loop-i goal.the-decreases-loop-i) → titles_max ≤ at.loop-i.i →
     at.loop-i.sum ≡ total (λ j. kept_apart (title_at at.args.s j)) titles_max
-all_apart c left =
+all_apart at left =
     at.loop-i.invariant.1
     ∙ ap (total (λ j. kept_apart (title_at at.args.s j))) (le_antisymm at.loop-i.invariant.0 left)
 
@@ -42,10 +42,10 @@ pub returns-then-pool-sum : goal.returns-then-pool-sum
 unfolding shared_pool
 returns-then-pool-sum c =
     let at = c in
-    omega (arith, all_apart c.before.before c.loop-i-test.false)
+    omega (arith, all_apart at.before.before c.loop-i-test.false)
 
 pub returns : goal.returns
 unfolding shared_pool
 returns c =
     let at = c in
-    omega (arith, all_apart c.before.before c.loop-i-test.false)
+    omega (arith, all_apart at.before.before c.loop-i-test.false)

@@ -30,22 +30,22 @@ returns-then-ends_at c =
     c.ends_at.ensures c.if-ends_at.true
 
 -- the first word starts within the line
-there : (c : lts.Else2 AT) →
+there : (c : lts.Else2 tie.the-claims reads.Pre reads.Post) →
     let at-run-end = c in
     at-run-end.run_end-a.result < length at-run-end.args.s.now
-there c AT<Else2|>Else2< = word_there _ _ (sym c.ends_at.ensures ∙ c.if-ends_at.false)
+there c = word_there _ _ (sym c.ends_at.ensures ∙ c.if-ends_at.false)
 
 -- and ends within it, and not before its start
-word : (r : lts.After-run_end2 AT) →
+word : (r : lts.After-run_end2 tie.the-claims reads.Pre reads.Post) →
     let at-run-end = r in
     let x = at-run-end.args in
     (at-run-end.run_end-a.result ≤ r.run_end-e.result) × (r.run_end-e.result ≤ length x.s.now)
-word c AT<After-run_end2|>After-run_end2< =
+word r =
     let at-run-end = r in
     let a = at-run-end.run_end-a.result in
     let x = at-run-end.args in
     let low = run_end_low Word x.s.now a in
-    let high = run_end_high Word x.s.now a (omega (arith, there c AT<After-run_end2|>Else2<)) in
+    let high = run_end_high Word x.s.now a (omega (arith, there r.before)) in
     (omega (arith, r.run_end-e.ensures, low), omega (arith, r.run_end-e.ensures, high))
 
 pub returns : goal.returns
@@ -61,10 +61,10 @@ returns c =
     at-if2.if-ends_at.false _ at-run-end2.run_end-e.ensures
 
 pub slice_bounds-verb-count : goal.slice_bounds-verb-count
-slice_bounds-verb-count c = omega (arith, word c AT<After-run_end2|After-run_end-e>After-run_end2<)
+slice_bounds-verb-count c = omega (arith, word c.before)
 
 pub slice_bounds-verb-start : goal.slice_bounds-verb-start
-slice_bounds-verb-start c = omega (arith, word c AT<After-run_end2|After-run_end-e>After-run_end2<)
+slice_bounds-verb-start c = omega (arith, word c.before)
 
 pub slice_bounds-verb-end : goal.slice_bounds-verb-end
-slice_bounds-verb-end c = omega (arith, word c AT<After-run_end2|After-run_end-e>After-run_end2<)
+slice_bounds-verb-end c = omega (arith, word c.before)

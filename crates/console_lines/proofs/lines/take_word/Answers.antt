@@ -17,10 +17,10 @@ use Rattle.console_lines.proofs.lines.take_word.Reads as reads
 use Rattle.console_lines.proofs.lines.take_word.Goals as goal
 
 -- a word ends within the line, and not before its start
-word : (r : lts.After-run_end AT) →
+word : (r : lts.After-run_end tie.the-claims reads.Pre reads.Post) →
     let x = r.args in
     (x.a ≤ r.run_end-e.result) × (r.run_end-e.result ≤ length x.s.now)
-word c AT<After-run_end|>After-run_end< =
+word r =
     let at_start = r in
     let x = at_start.args in
     let low = run_end_low Word x.s.now x.a in
@@ -87,26 +87,26 @@ returns c =
     at-takes-kind.takes_kind.ensures at-takes-act.if-takes_kind.false _ at-takes-act.takes_act.ensures c.if-takes_act.false
 
 -- what the readers of its word ask for
-asked : (c : lts.After-run_end AT) →
+asked : (c : lts.After-run_end tie.the-claims reads.Pre reads.Post) →
     let x = c.args in
     c.most.result ≤ words_most → (x.line.count < numbers_most) × WordIn x.s.now x.a c.run_end-e.result
-asked c AT<After-run_end|>After-run_end< h =
-    (omega (arith, c.if-most-count.false, h), record { low = (word c AT<After-run_end|>After-run_end<).0; high = (word c AT<After-run_end|>After-run_end<).1; ends = c.run_end-e.ensures })
+asked c h =
+    (omega (arith, c.if-most-count.false, h), record { low = (word c).0; high = (word c).1; ends = c.run_end-e.ensures })
 
 pub take_hex-requires : goal.take_hex-requires
-take_hex-requires c = (word c AT<Then2|Then-takes_hex>After-run_end<).0
+take_hex-requires c = (word c.before.before.before).0
 
 pub slice_bounds-take_kind-count : goal.slice_bounds-take_kind-count
-slice_bounds-take_kind-count c = omega (arith, word c AT<Then3|Then-takes_kind>After-run_end<)
+slice_bounds-take_kind-count c = omega (arith, word c.before.before.before.before.before)
 
 pub slice_bounds-take_kind-start : goal.slice_bounds-take_kind-start
-slice_bounds-take_kind-start c = omega (arith, word c AT<Then3|Then-takes_kind>After-run_end<)
+slice_bounds-take_kind-start c = omega (arith, word c.before.before.before.before.before)
 
 pub slice_bounds-take_kind-end : goal.slice_bounds-take_kind-end
-slice_bounds-take_kind-end c = omega (arith, word c AT<Then3|Then-takes_kind>After-run_end<)
+slice_bounds-take_kind-end c = omega (arith, word c.before.before.before.before.before)
 
 pub take_act-requires : goal.take_act-requires
-take_act-requires c = asked c AT<Then4|Then-takes_act>After-run_end< c.most.ensures.1
+take_act-requires c = asked c.before.before.before.before.before.before.before c.most.ensures.1
 
 pub take_number-requires : goal.take_number-requires
-take_number-requires c = asked c AT<Else4|Else-takes_act>After-run_end< c.most.ensures.1
+take_number-requires c = asked c.before.before.before.before.before.before.before c.most.ensures.1

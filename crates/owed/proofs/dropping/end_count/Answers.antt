@@ -1,0 +1,10 @@
+-- `end_count` meets its contract: held doors have ended the count already, and else its end is stored.
+use borrow.Author.Tests.{eq-eqb, ne_eqb}
+use borrow.Author.Rules.{rules}
+use Rattle.owed.proofs.dropping.end_count.Goals as goal
+
+pub returns-then-mark-eq-HELD : goal.returns-then-mark-eq-HELD
+returns-then-mark-eq-HELD c = rw (eq-eqb _ _ c.if-mark-eq-HELD.true)
+
+pub returns : goal.returns
+returns c = rw (ne_eqb _ _ c.if-mark-eq-HELD.false)

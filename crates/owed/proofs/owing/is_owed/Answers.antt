@@ -1,0 +1,12 @@
+-- `is_owed` meets its contract: padding is owed to nobody, and film to those who await it.
+use borrow.Author.Rules.{rules}
+use Rattle.story.specs.Kept.{kept_owed}
+use Rattle.owed.proofs.owing.is_owed.Goals as goal
+
+pub returns-then-holds_film : goal.returns-then-holds_film
+unfolding kept_owed
+returns-then-holds_film c = simp (← c.lane_cell-cell.ensures.is, ← c.holds_film.ensures, c.if-holds_film.true) c.is_awaited.ensures
+
+pub returns : goal.returns
+unfolding kept_owed
+returns c = simp (← c.lane_cell-cell.ensures.is, ← c.holds_film.ensures, c.if-holds_film.false)
