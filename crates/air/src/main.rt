@@ -8,6 +8,6 @@ mod places;
 mod report;
 mod run;
 
-fn main() {
-    run::run();
+fn main(rt: HostRuntime) {
+    run::run(&rt);
 }

@@ -19,58 +19,71 @@ const TEXT_ROOM: usize = 524_289;
 // The numbers of one tick more than a record may have, which shows it to be too long.
 const NUMBERS_ROOM: usize = (TICKS_MAX + 1) * LANE_PLACES;
 
-fn show(pool: u64, title: u64, log: &[u8], record: &[u16]) {
-    let mut out = io::large_buffer();
+fn show(rt: &HostRuntime, pool: u64, title: u64, log: &[u8], record: &[u16]) {
+    let mut out = [0u8; 65_536];
     let size = put_air(&mut out, pool, log, title, record);
-    write_page(&out, size);
+    write_page(rt, &out, size);
 }
 
-fn complain_beside(pool: u64, title: u64, log: &[u8], record: &[u16], text: &[u8]) {
-    let mut out = io::buffer();
+fn complain_beside(
+    rt: &HostRuntime,
+    pool: u64,
+    title: u64,
+    log: &[u8],
+    record: &[u16],
+    text: &[u8],
+) {
+    let mut out = [0u8; 4_096];
     let size = put_complaints(&mut out, pool, log, title, record, text);
-    write_complaints(&out, size);
+    write_complaints(rt, &out, size);
 }
 
-fn complain_of_fault(scan: Scan) {
-    let mut out = io::buffer();
+fn complain_of_fault(rt: &HostRuntime, scan: Scan) {
+    let mut out = [0u8; 4_096];
     let size = put_fault(&mut out, scan);
     let n = within_row(size, &out);
-    complain(b"RECORD", &out[..n]);
+    complain(rt, b"RECORD", &out[..n]);
 }
 
 // What the record shows, once every line of its text is a tick.
-fn tell(pool: u64, title: u64, log: &[u8], text: &[u8]) {
+fn tell(rt: &HostRuntime, pool: u64, title: u64, log: &[u8], text: &[u8]) {
     let mut record = [0u16; NUMBERS_ROOM];
     let scan = take_text(text, &mut record);
     if scan.fault == SOUND {
         let count = scan.count;
-        show(pool, title, log, &record[..count]);
-        complain_beside(pool, title, log, &record[..count], text);
+        show(rt, pool, title, log, &record[..count]);
+        complain_beside(rt, pool, title, log, &record[..count], text);
         return;
     }
-    complain_of_fault(scan);
+    complain_of_fault(rt, scan);
 }
 
-fn with_rooms(pool: u64, title: u64, log: &mut [u8], text: &mut [u8]) {
-    let read = load_both(log, b"RECORD", text);
+fn with_rooms(rt: &HostRuntime, pool: u64, title: u64, log: &mut [u8], text: &mut [u8]) {
+    let read = load_both(rt, log, b"RECORD", text);
     let size = read.log;
     let length = read.own;
     if read.ok {
-        tell(pool, title, &log[..size], &text[..length]);
+        tell(rt, pool, title, &log[..size], &text[..length]);
     }
 }
 
 // The rooms are lent as arrays first, whose lengths then need no proof.
-fn lend(pool: u64, title: u64, log: &mut [u8; LOG_ROOM], text: &mut [u8; TEXT_ROOM]) {
-    with_rooms(pool, title, log, text);
+fn lend(
+    rt: &HostRuntime,
+    pool: u64,
+    title: u64,
+    log: &mut [u8; LOG_ROOM],
+    text: &mut [u8; TEXT_ROOM],
+) {
+    with_rooms(rt, pool, title, log, text);
 }
 
 // Arguments are tested in their order, then the files.
-pub fn run() {
-    let Asked::About(pool, title) = pool_and_title(b"air POOL TITLE LOG RECORD") else {
+pub fn run(rt: &HostRuntime) {
+    let Asked::About(pool, title) = pool_and_title(rt, b"air POOL TITLE LOG RECORD") else {
         return;
     };
     let mut log = [0u8; LOG_ROOM];
     let mut text = [0u8; TEXT_ROOM];
-    lend(pool, title, &mut log, &mut text);
+    lend(rt, pool, title, &mut log, &mut text);
 }

@@ -29,42 +29,42 @@ enum Box {
     Nothing,
 }
 
-fn show(asked: Asked, log: &[u8], out: &mut [u8]) {
+fn show(rt: &HostRuntime, asked: Asked, log: &[u8], out: &mut [u8]) {
     let size = put_box(out, asked.pool, log, asked.title, asked.time);
-    write_page(out, size);
+    write_page(rt, out, size);
 }
 
-fn complain_beside(asked: Asked, log: &[u8]) {
-    let mut out = io::buffer();
+fn complain_beside(rt: &HostRuntime, asked: Asked, log: &[u8]) {
+    let mut out = [0u8; 4_096];
     let found = beginning_of(asked.pool, log, asked.title, asked.time);
     let a = put_unheard(&mut out, 0, asked.pool, log);
     let size = put_beginning(&mut out, a, asked.title, asked.time, found);
-    write_complaints(&out, size);
+    write_complaints(rt, &out, size);
 }
 
-fn with_rooms(asked: Asked, log: &mut [u8], out: &mut [u8]) {
-    let read = load_input(log);
+fn with_rooms(rt: &HostRuntime, asked: Asked, log: &mut [u8], out: &mut [u8]) {
+    let read = load_input(rt, log);
     let size = read.size;
     if read.ok {
-        show(asked, &log[..size], out);
-        complain_beside(asked, &log[..size]);
+        show(rt, asked, &log[..size], out);
+        complain_beside(rt, asked, &log[..size]);
     }
 }
 
 // The rooms are lent as arrays first, whose lengths then need no proof.
-fn lend(asked: Asked, log: &mut [u8; LOG_ROOM], out: &mut [u8; PICTURE_ROOM]) {
-    with_rooms(asked, log, out);
+fn lend(rt: &HostRuntime, asked: Asked, log: &mut [u8; LOG_ROOM], out: &mut [u8; PICTURE_ROOM]) {
+    with_rooms(rt, asked, log, out);
 }
 
 // The numbers are tested in their order.
-fn box_given() -> Box {
-    let Given::Number(pool) = number_named(1, b"POOL") else {
+fn box_given(rt: &HostRuntime) -> Box {
+    let Given::Number(pool) = number_named(rt, 1, b"POOL") else {
         return Box::Nothing;
     };
-    let Given::Number(title) = number_named(2, b"ID") else {
+    let Given::Number(title) = number_named(rt, 2, b"ID") else {
         return Box::Nothing;
     };
-    let Given::Number(time) = time_given(3) else {
+    let Given::Number(time) = time_given(rt, 3) else {
         return Box::Nothing;
     };
     Box::Of(Asked {
@@ -75,13 +75,13 @@ fn box_given() -> Box {
 }
 
 // How many arguments there are is tested first, then the numbers, then the log.
-pub fn draw(usage: &[u8]) {
-    if are_right(1, 4, 4, usage) {
-        let Box::Of(asked) = box_given() else {
+pub fn draw(rt: &HostRuntime, usage: &[u8]) {
+    if are_right(rt, 1, 4, 4, usage) {
+        let Box::Of(asked) = box_given(rt) else {
             return;
         };
         let mut log = [0u8; LOG_ROOM];
         let mut out = [0u8; PICTURE_ROOM];
-        lend(asked, &mut log, &mut out);
+        lend(rt, asked, &mut log, &mut out);
     }
 }

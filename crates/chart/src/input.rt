@@ -2,17 +2,17 @@
 
 use clocks::reading::{clock, is_clock};
 use files::arguments::{Given, number_named};
+use std::rt::Env;
 
 // In ms, or as h:mm, h:mm:ss or h:mm:ss.mmm.
-pub fn time_given(i: usize) -> Given {
-    let mut room = io::buffer();
-    let n = os::arg(i, &mut room);
-    if os::errno() == 0 {
+pub fn time_given(rt: &HostRuntime, i: usize) -> Given {
+    let mut room = [0u8; 4_096];
+    if let Ok(n) = rt.arg(i, &mut room) {
         let word = &room[..n];
         if is_clock(word) {
             let ms = clock(word);
             return Given::Number(ms.value);
         }
     }
-    number_named(i, b"TIME")
+    number_named(rt, i, b"TIME")
 }

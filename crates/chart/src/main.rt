@@ -7,11 +7,13 @@ mod complaints;
 mod input;
 mod whole;
 
-fn main() {
+use streams::usage::arg_count;
+
+fn main(rt: HostRuntime) {
     let usage = b"chart [POOL [ID TIME]] < LOG";
-    if os::arg_count() < 3 {
-        whole::draw(usage);
+    if arg_count(&rt) < 3 {
+        whole::draw(&rt, usage);
     } else {
-        boxed::draw(usage);
+        boxed::draw(&rt, usage);
     }
 }

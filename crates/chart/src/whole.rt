@@ -10,30 +10,30 @@ use files::pages::write_page;
 // 01's pool, where none is given.
 const USUAL_POOL: u64 = 8;
 
-fn show(pool: u64, log: &[u8], out: &mut [u8]) {
+fn show(rt: &HostRuntime, pool: u64, log: &[u8], out: &mut [u8]) {
     let size = put_chart(out, pool, log);
-    write_page(out, size);
+    write_page(rt, out, size);
 }
 
-fn with_rooms(pool: u64, log: &mut [u8], out: &mut [u8]) {
-    let read = load_input(log);
+fn with_rooms(rt: &HostRuntime, pool: u64, log: &mut [u8], out: &mut [u8]) {
+    let read = load_input(rt, log);
     let size = read.size;
     if read.ok {
-        show(pool, &log[..size], out);
+        show(rt, pool, &log[..size], out);
     }
 }
 
 // The rooms are lent as arrays first, whose lengths then need no proof.
-fn lend(pool: u64, log: &mut [u8; LOG_ROOM], out: &mut [u8; PICTURE_ROOM]) {
-    with_rooms(pool, log, out);
+fn lend(rt: &HostRuntime, pool: u64, log: &mut [u8; LOG_ROOM], out: &mut [u8; PICTURE_ROOM]) {
+    with_rooms(rt, pool, log, out);
 }
 
 // How many arguments there are is tested first, then the pool, then the log.
-pub fn draw(usage: &[u8]) {
-    let Pool::Lanes(pool) = pool_or(USUAL_POOL, usage) else {
+pub fn draw(rt: &HostRuntime, usage: &[u8]) {
+    let Pool::Lanes(pool) = pool_or(rt, USUAL_POOL, usage) else {
         return;
     };
     let mut log = [0u8; LOG_ROOM];
     let mut out = [0u8; PICTURE_ROOM];
-    lend(pool, &mut log, &mut out);
+    lend(rt, pool, &mut log, &mut out);
 }

@@ -37,35 +37,35 @@ fn draws_on(drawing: bool, session: Session, input: &[u8]) -> bool {
 }
 
 // Goes on to the next line, or ends the session once what was answered is written.
-fn go_on(over: bool, session: Session, input: &mut [u8], out: &[u8]) -> Session {
+fn go_on(rt: &HostRuntime, over: bool, session: Session, input: &mut [u8], out: &[u8]) -> Session {
     if over {
-        return sessions::ended(session, out);
+        return sessions::ended(rt, session, out);
     }
-    sessions::turn(session, input, out, LONGEST_LINE, ANSWER_MAX)
+    sessions::turn(rt, session, input, out, LONGEST_LINE, ANSWER_MAX)
 }
 
 // Answers the lines of standard input until one of them or it ends, or a read or a write fails. A proved loop has to end, and nothing
 // says that the input does: so the turns are counted down from a number that no run uses up.
-fn answer_lines() {
-    let mut input = io::large_buffer();
-    let mut out = io::large_buffer();
+fn answer_lines(rt: &HostRuntime) {
+    let mut input = [0u8; 65_536];
+    let mut out = [0u8; 65_536];
     let fresh = agent::fresh_agent(POOL);
     let mut agent = fresh.agent;
     let mut drawing = false;
-    let mut session = sessions::begun();
+    let mut session = sessions::begun(rt);
     let mut turns = u64::MAX;
     while turns > 0 && session.more {
         let line = answered(agent, drawing, session, &input, &mut out);
         agent = line.agent;
         drawing = draws_on(drawing, session, &input);
         session.at = line.at;
-        session = go_on(line.over, session, &mut input, &out);
+        session = go_on(rt, line.over, session, &mut input, &out);
         turns -= 1;
     }
 }
 
-fn main() {
-    if count_is(1, b"console") {
-        answer_lines();
+fn main(rt: HostRuntime) {
+    if count_is(&rt, 1, b"console") {
+        answer_lines(&rt);
     }
 }

@@ -4,7 +4,8 @@
 ghost use Rattle.files.specs.Texts.{Tells};
 
 use rules::{POOL_MAX, POOL_MIN, within};
-use streams::usage::{are_right, complain, count_is};
+use std::rt::Env;
+use streams::usage::{are_right, arg_count, complain, count_is};
 use text::bytes::{Sort, run_end};
 use text::numbers::spelt;
 
@@ -33,12 +34,11 @@ pub enum Pool {
 }
 
 // The number that an argument spells, the largest where it is larger.
-fn number_given(i: usize) -> Given {
+fn number_given(rt: &HostRuntime, i: usize) -> Given {
     let mut room = [0u8; ARGUMENT_ROOM];
-    let n = os::arg(i, &mut room);
-    if os::errno() != 0 {
+    let Ok(n) = rt.arg(i, &mut room) else {
         return Given::NoNumber;
-    }
+    };
     if n == 0 {
         return Given::NoNumber;
     }
@@ -51,9 +51,9 @@ fn number_given(i: usize) -> Given {
 }
 
 // The same of an argument with a name, by which standard error says that it spells none.
-pub fn number_named(i: usize, name: &[u8]) -> Given {
-    let Given::Number(n) = number_given(i) else {
-        complain(name, b" is no number");
+pub fn number_named(rt: &HostRuntime, i: usize, name: &[u8]) -> Given {
+    let Given::Number(n) = number_given(rt, i) else {
+        complain(rt, name, b" is no number");
         return Given::NoNumber;
     };
     Given::Number(n)
@@ -77,57 +77,56 @@ pub fn same(a: &[u8], b: &[u8]) -> bool
 }
 
 // Whether an argument is a word.
-pub fn is_word(i: usize, word: &[u8]) -> bool {
-    let mut room = io::buffer();
-    let n = os::arg(i, &mut room);
-    if os::errno() != 0 {
+pub fn is_word(rt: &HostRuntime, i: usize, word: &[u8]) -> bool {
+    let mut room = [0u8; 4_096];
+    let Ok(n) = rt.arg(i, &mut room) else {
         return false;
-    }
+    };
     same(&room[..n], word)
 }
 
 // How many arguments there are is tested first, then the numbers in their order.
-pub fn pool_and_title(usage: &[u8]) -> Asked {
-    if count_is(5, usage) {
-        return numbers_given();
+pub fn pool_and_title(rt: &HostRuntime, usage: &[u8]) -> Asked {
+    if count_is(rt, 5, usage) {
+        return numbers_given(rt);
     }
     Asked::Nothing
 }
 
-fn numbers_given() -> Asked {
-    let Given::Number(pool) = number_named(1, b"POOL") else {
+fn numbers_given(rt: &HostRuntime) -> Asked {
+    let Given::Number(pool) = number_named(rt, 1, b"POOL") else {
         return Asked::Nothing;
     };
-    let Given::Number(title) = number_named(2, b"TITLE") else {
+    let Given::Number(title) = number_named(rt, 2, b"TITLE") else {
         return Asked::Nothing;
     };
     Asked::About(pool, title)
 }
 
-fn complain_of_pool(wrong: &[u8]) {
-    complain(wrong, b": give the lanes of the pool, 1 to 64");
+fn complain_of_pool(rt: &HostRuntime, wrong: &[u8]) {
+    complain(rt, wrong, b": give the lanes of the pool, 1 to 64");
 }
 
 // The pool that an argument names.
-pub fn pool_given(i: usize) -> Pool {
-    let Given::Number(pool) = number_given(i) else {
-        complain_of_pool(b"POOL is no number");
+pub fn pool_given(rt: &HostRuntime, i: usize) -> Pool {
+    let Given::Number(pool) = number_given(rt, i) else {
+        complain_of_pool(rt, b"POOL is no number");
         return Pool::Nothing;
     };
     if within(POOL_MIN, POOL_MAX, pool) {
         return Pool::Lanes(pool);
     }
-    complain_of_pool(b"POOL is out of range");
+    complain_of_pool(rt, b"POOL is out of range");
     Pool::Nothing
 }
 
 // The pool that the only argument names, the usual one without.
-pub fn pool_or(usual: u64, usage: &[u8]) -> Pool {
-    if are_right(1, 1, 2, usage) {
-        if os::arg_count() < 2 {
+pub fn pool_or(rt: &HostRuntime, usual: u64, usage: &[u8]) -> Pool {
+    if are_right(rt, 1, 1, 2, usage) {
+        if arg_count(rt) < 2 {
             return Pool::Lanes(usual);
         }
-        return pool_given(1);
+        return pool_given(rt, 1);
     }
     Pool::Nothing
 }

@@ -7,3 +7,4 @@ pub mod complaints;
 pub mod lines;
 pub mod loading;
 pub mod pages;
+pub mod paths;

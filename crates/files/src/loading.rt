@@ -2,7 +2,11 @@
 
 ghost use Rattle.std.specs.Prelude.{◌≡◌, ◌≤◌, length};
 
-use libc::STDIN_FILENO;
+use crate::paths::path;
+use std::fs;
+use std::io::{Error, Read, Result};
+use std::rt::Env;
+use streams::ports::fail;
 use streams::usage::complain;
 
 // Room for a log: a file is read with room for one byte more than it may have, which shows it to be too long.
@@ -19,6 +23,8 @@ struct File {
     size: usize,
     ok: bool,
     long: bool,
+    // why the system did not read on, where that is all that is wrong
+    wrong: Option<Error>,
 }
 
 // What became of a program's two files: so many bytes of each, at its room's start, once both are loaded.
@@ -40,17 +46,22 @@ pub struct Log {
 #[derive(Clone, Copy)]
 struct Part {
     size: usize,
-    failed: bool,
+    wrong: Option<Error>,
 }
 
 // Reads once into the start of a room.
-fn read_part(fd: i32, room: &mut [u8]) -> Part
+fn read_part<R: Read>(file: &mut R, room: &mut [u8]) -> Part
     ensures { result.size ≤ length room.old }
 {
-    let got = libc::read(fd, room);
-    Part {
-        size: io::count(got, room),
-        failed: got < 0,
+    match file.read(room) {
+        Ok(n) => Part {
+            size: n,
+            wrong: None,
+        },
+        Err(error) => Part {
+            size: 0,
+            wrong: Some(error),
+        },
     }
 }
 
@@ -61,84 +72,88 @@ fn loaded(size: usize) -> File
         size: size,
         ok: true,
         long: false,
+        wrong: None,
     }
 }
 
-fn not_loaded(long: bool) -> File
+fn not_loaded(long: bool, wrong: Option<Error>) -> File
     ensures { result.size ≡ 0 }
 {
     File {
         size: 0,
         ok: false,
         long: long,
+        wrong: wrong,
     }
 }
 
 // All bytes of an open file. One that fills the room has more than it may.
-fn read_all(fd: i32, room: &mut [u8]) -> File
+fn read_all<R: Read>(file: &mut R, room: &mut [u8]) -> File
     ensures { result.size ≤ length room.old }
 {
     let mut filled = 0;
     while filled < room.len() {
-        let part = read_part(fd, &mut room[filled..]);
-        if part.failed {
-            return not_loaded(false);
+        let part = read_part(file, &mut room[filled..]);
+        if part.wrong.is_some() {
+            return not_loaded(false, part.wrong);
         }
         if part.size == 0 {
             return loaded(filled);
         }
         filled += part.size;
     }
-    not_loaded(true)
+    not_loaded(true, None)
+}
+
+// The file of a name, opened to be read.
+fn opened(rt: &HostRuntime, name: &[u8]) -> Result<fs::File> {
+    fs::open(rt, path(name)?)
 }
 
 // The file that an argument names.
-fn load(i: usize, room: &mut [u8]) -> File
+fn load(rt: &HostRuntime, i: usize, room: &mut [u8]) -> File
     ensures { result.size ≤ length room.old }
 {
-    let mut name = io::buffer();
-    let n = os::arg(i, &mut name);
-    if os::errno() != 0 {
-        return not_loaded(false);
-    }
-    let fd = os::open_read(&name[..n]);
-    if fd < 0 {
-        return not_loaded(false);
-    }
-    let all = read_all(fd, room);
-    libc::close(fd);
-    all
+    let mut name = [0u8; 4_096];
+    let Ok(n) = rt.arg(i, &mut name) else {
+        return not_loaded(false, None);
+    };
+    let Ok(mut file) = opened(rt, &name[..n]) else {
+        return not_loaded(false, None);
+    };
+    read_all(&mut file, room)
 }
 
 // What is wrong with a file that was not loaded.
-fn complain_of(what: &[u8], file: File) {
+fn complain_of(rt: &HostRuntime, what: &[u8], file: File) {
     if file.long {
-        complain(what, b" is too long");
+        complain(rt, what, b" is too long");
     } else {
-        complain(what, b" cannot be read");
+        complain(rt, what, b" cannot be read");
     }
 }
 
 // The log; what is wrong with it is said on standard error.
-pub fn load_log(log: &mut [u8]) -> Log
+pub fn load_log(rt: &HostRuntime, log: &mut [u8]) -> Log
     ensures { result.size ≤ length log.old }
 {
-    let first = load(LOG_ARGUMENT, log);
+    let first = load(rt, LOG_ARGUMENT, log);
     if first.ok {
         return Log {
             size: first.size,
             ok: true,
         };
     }
-    complain_of(b"LOG", first);
+    complain_of(rt, b"LOG", first);
     Log { size: 0, ok: false }
 }
 
 // The log on standard input; what is wrong with it is said on standard error.
-pub fn load_input(log: &mut [u8]) -> Log
+pub fn load_input(rt: &HostRuntime, log: &mut [u8]) -> Log
     ensures { result.size ≤ length log.old }
 {
-    let all = read_all(STDIN_FILENO, log);
+    let mut input = rt.stdin();
+    let all = read_all(&mut input, log);
     let size = all.size;
     if all.ok {
         return Log {
@@ -148,23 +163,24 @@ pub fn load_input(log: &mut [u8]) -> Log
     }
     if all.long {
         complain(
+            rt,
             b"LOG",
             b" is too long: give its first 1 MiB, as head -c 1048576 does",
         );
-    } else {
-        os::fail(b"standard input");
+    } else if let Some(error) = all.wrong {
+        fail(rt, b"standard input", error);
     }
     Log { size: 0, ok: false }
 }
 
 // The log and the program's own file, under the name that a complaint gives it. The first that was not loaded is said on
 // standard error, and then neither counts.
-pub fn load_both(log: &mut [u8], name: &[u8], own: &mut [u8]) -> Files
+pub fn load_both(rt: &HostRuntime, log: &mut [u8], name: &[u8], own: &mut [u8]) -> Files
     ensures { (result.log ≤ length log.old) × (result.own ≤ length own.old) }
 {
-    let first = load(LOG_ARGUMENT, log);
+    let first = load(rt, LOG_ARGUMENT, log);
     if first.ok {
-        let second = load(OWN_ARGUMENT, own);
+        let second = load(rt, OWN_ARGUMENT, own);
         if second.ok {
             return Files {
                 log: first.size,
@@ -172,9 +188,9 @@ pub fn load_both(log: &mut [u8], name: &[u8], own: &mut [u8]) -> Files
                 ok: true,
             };
         }
-        complain_of(name, second);
+        complain_of(rt, name, second);
     } else {
-        complain_of(b"LOG", first);
+        complain_of(rt, b"LOG", first);
     }
     Files {
         log: 0,

@@ -1,7 +1,7 @@
 // A row that was written from its start up to a place, to standard output.
 
 ghost use Rattle.std.specs.Prelude.{◌≡◌, min, length};
-ghost use Rattle.io.specs.Counts.{IsPrefixLen};
+ghost use Rattle.std.specs.Counts.{IsPrefixLen};
 
 // A place of a row, or its end.
 pub fn within_row(place: usize, row: &[u8]) -> usize
@@ -14,7 +14,7 @@ pub fn within_row(place: usize, row: &[u8]) -> usize
     row.len()
 }
 
-pub fn write_page(row: &[u8], place: usize) {
+pub fn write_page(rt: &HostRuntime, row: &[u8], place: usize) {
     let n = within_row(place, row);
-    streams::write_all(&row[..n]);
+    streams::write_all(rt, &row[..n]);
 }

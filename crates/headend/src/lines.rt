@@ -70,10 +70,10 @@ fn is_due(desk: Desk, session: Session, out: &[u8], notices: &[u8], sums: &[u8])
 }
 
 // Writes what was accepted to the journal and its sums, and forces it.
-fn keep(pair: Pair, desk: Desk, notices: &[u8], sums: &[u8]) -> bool {
+fn keep(rt: &HostRuntime, pair: &Pair, desk: Desk, notices: &[u8], sums: &[u8]) -> bool {
     let n = within_row(desk.noticed, notices);
     let m = within_row(desk.summed, sums);
-    append(pair.journal, &notices[..n], pair.sums, &sums[..m])
+    append(rt, &pair.journal, &notices[..n], &pair.sums, &sums[..m])
 }
 
 // What one line leaves.
@@ -94,8 +94,8 @@ fn ended(desk: Desk, session: Session) -> Turn {
 }
 
 // The session goes on to the next line, writing out answers where it is about to.
-fn go_on(desk: Desk, session: Session, input: &mut [u8], out: &[u8]) -> Turn {
-    let next = turned(session, input, out, ANSWER_MAX);
+fn go_on(rt: &HostRuntime, desk: Desk, session: Session, input: &mut [u8], out: &[u8]) -> Turn {
+    let next = turned(rt, session, input, out, ANSWER_MAX);
     let mut d = desk;
     d.at = next.at;
     Turn {
@@ -106,7 +106,8 @@ fn go_on(desk: Desk, session: Session, input: &mut [u8], out: &[u8]) -> Turn {
 
 // The same once what was accepted is kept.
 fn keep_and_go_on(
-    pair: Pair,
+    rt: &HostRuntime,
+    pair: &Pair,
     desk: Desk,
     session: Session,
     input: &mut [u8],
@@ -114,31 +115,33 @@ fn keep_and_go_on(
     notices: &[u8],
     sums: &[u8],
 ) -> Turn {
-    if keep(pair, desk, notices, sums) {
+    if keep(rt, pair, desk, notices, sums) {
         let agent = desk.agent;
-        return go_on(clear(agent, desk.at), session, input, out);
+        return go_on(rt, clear(agent, desk.at), session, input, out);
     }
     ended(desk, session)
 }
 
 // The session ended by its last line, once what was accepted is kept and what was answered is written.
 fn keep_and_end(
-    pair: Pair,
+    rt: &HostRuntime,
+    pair: &Pair,
     desk: Desk,
     session: Session,
     out: &[u8],
     notices: &[u8],
     sums: &[u8],
 ) -> Turn {
-    if keep(pair, desk, notices, sums) {
-        return ended(desk, sessions::ended(session, out));
+    if keep(rt, pair, desk, notices, sums) {
+        return ended(desk, sessions::ended(rt, session, out));
     }
     ended(desk, session)
 }
 
 // Goes on from a line that was answered to the next, if there is to be one.
 fn pass_on(
-    pair: Pair,
+    rt: &HostRuntime,
+    pair: &Pair,
     line: Answered,
     session: Session,
     input: &mut [u8],
@@ -150,13 +153,13 @@ fn pass_on(
     let mut s = session;
     s.at = desk.at;
     if line.over {
-        return keep_and_end(pair, desk, s, out, notices, sums);
+        return keep_and_end(rt, pair, desk, s, out, notices, sums);
     }
     let next = sought(s, input, LONGEST_LINE);
     if is_due(desk, next, out, notices, sums) {
-        return keep_and_go_on(pair, desk, next, input, out, notices, sums);
+        return keep_and_go_on(rt, pair, desk, next, input, out, notices, sums);
     }
-    go_on(desk, next, input, out)
+    go_on(rt, desk, next, input, out)
 }
 
 // The rows are lent as arrays, whose lengths then need no proof.
@@ -181,7 +184,8 @@ fn draws_on(drawing: bool, session: Session, input: &[u8; BLOCK]) -> bool {
 }
 
 fn passed_on_in(
-    pair: Pair,
+    rt: &HostRuntime,
+    pair: &Pair,
     line: Answered,
     session: Session,
     input: &mut [u8; BLOCK],
@@ -189,19 +193,19 @@ fn passed_on_in(
     notices: &[u8; NOTICES_ROOM],
     sums: &[u8; SUMS_ROOM],
 ) -> Turn {
-    pass_on(pair, line, session, input, out, notices, sums)
+    pass_on(rt, pair, line, session, input, out, notices, sums)
 }
 
 // Answers the lines until one of them or the input ends, or a read, a write or a force fails. A proved loop has to end, and nothing says
 // that the input does: so the turns are counted down from a number that no run uses up.
-pub fn answer_lines(pair: Pair, first: Agent) {
+pub fn answer_lines(rt: &HostRuntime, pair: &Pair, first: Agent) {
     let mut input = [0u8; BLOCK];
     let mut out = [0u8; BLOCK];
     let mut notices = [0u8; NOTICES_ROOM];
     let mut sums = [0u8; SUMS_ROOM];
     let mut desk = clear(first, 0);
     let mut drawing = false;
-    let mut session = sessions::begun();
+    let mut session = sessions::begun(rt);
     let mut turns = u64::MAX;
     while turns > 0 && session.more {
         let line = answered_in(
@@ -214,7 +218,7 @@ pub fn answer_lines(pair: Pair, first: Agent) {
             &mut sums,
         );
         drawing = draws_on(drawing, session, &input);
-        let turn = passed_on_in(pair, line, session, &mut input, &out, &notices, &sums);
+        let turn = passed_on_in(rt, pair, line, session, &mut input, &out, &notices, &sums);
         desk = turn.desk;
         session = turn.session;
         turns -= 1;

@@ -9,9 +9,9 @@ mod serving;
 use crate::asked::{Task, take_arguments};
 use journal_starts::{looking, renewing};
 
-fn main() {
-    let mut room = io::buffer();
-    let a = take_arguments(&mut room);
+fn main(rt: HostRuntime) {
+    let mut room = [0u8; 4_096];
+    let a = take_arguments(&rt, &mut room);
     let n = a.size;
     let pool = a.pool;
     let task = a.task;
@@ -19,8 +19,8 @@ fn main() {
         return;
     }
     match task {
-        Task::Serve => serving::serve(pool, &room[..n]),
-        Task::Check => looking::look(pool, &room[..n]),
-        Task::Sums => renewing::renew(pool, &room[..n]),
+        Task::Serve => serving::serve(&rt, pool, &room[..n]),
+        Task::Check => looking::look(&rt, pool, &room[..n]),
+        Task::Sums => renewing::renew(&rt, pool, &room[..n]),
     }
 }

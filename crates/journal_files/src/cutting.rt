@@ -1,6 +1,8 @@
 // A file's size, and a file cut to its first bytes.
 
-use libc::SEEK_END;
+use std::fs::File;
+use std::io::{Result, Seek, SeekFrom};
+use streams::ports::fail;
 
 // The largest size that the system counts.
 const SIZE_MOST: usize = 9_223_372_036_854_775_807;
@@ -14,39 +16,41 @@ pub enum Size {
 }
 
 // A place that the system gives; 0 where it gives none.
-pub fn size_from(at: i64) -> usize {
-    if at < 0 {
-        return 0;
+pub fn size_from(at: Result<u64>) -> usize {
+    match at {
+        Ok(place) => place as usize,
+        Err(_) => 0,
     }
-    at as usize
 }
 
 // A file that has no end to go to, as a pipe, has no size.
-pub fn size_of(file: i32, what: &[u8]) -> Size {
-    let at = libc::lseek(file, 0, SEEK_END);
-    if at < 0 {
-        os::fail(what);
-        return Size::Unknown;
+pub fn size_of(rt: &HostRuntime, file: &File, what: &[u8]) -> Size {
+    let mut place = file;
+    match place.seek(SeekFrom::End(0)) {
+        Ok(at) => Size::Bytes(size_from(Ok(at))),
+        Err(error) => {
+            fail(rt, what, error);
+            Size::Unknown
+        }
     }
-    Size::Bytes(size_from(at))
 }
 
 // A place as the system counts it, and its last one for places beyond.
-pub fn offset(place: usize) -> i64 {
+pub fn offset(place: usize) -> u64 {
     if place < SIZE_MOST {
-        return place as i64;
+        return place as u64;
     }
-    SIZE_MOST as i64
+    SIZE_MOST as u64
 }
 
 // Cuts a file to its first bytes and forces that; standard error says why it was not done.
-pub fn cut(file: i32, bytes: usize, what: &[u8]) -> bool {
-    if libc::ftruncate(file, offset(bytes)) < 0 {
-        os::fail(what);
+pub fn cut(rt: &HostRuntime, file: &File, bytes: usize, what: &[u8]) -> bool {
+    if let Err(error) = file.set_len(offset(bytes)) {
+        fail(rt, what, error);
         return false;
     }
-    if libc::fsync(file) < 0 {
-        os::fail(what);
+    if let Err(error) = file.sync_all() {
+        fail(rt, what, error);
         return false;
     }
     true

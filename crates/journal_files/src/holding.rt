@@ -13,7 +13,10 @@ use crate::records::{Line, Record, put_record, record_in};
 use crate::windows::{least, read_from};
 use files::complaints::complain_at;
 use files::pages::within_row;
-use libc::SEEK_CUR;
+use std::fs::File;
+use std::io::{Error, ErrorKind, Result, Seek, SeekFrom, Write};
+use std::os::fd::AsRawFd;
+use streams::ports::fail;
 use streams::usage::complain;
 use text::bytes::{Sort, run_end};
 
@@ -39,11 +42,11 @@ struct Seen {
 }
 
 // The process of a line that has the journal open, or 0.
-fn process_of(line: &[u8], boot: &[u8], name: &[u8]) -> u64 {
+fn process_of(rt: &HostRuntime, line: &[u8], boot: &[u8], name: &[u8]) -> u64 {
     let l = record_in(line, boot);
     match l {
         Line::Held(record) => {
-            if holds(record, name) {
+            if holds(rt, record, name) {
                 return record.process;
             }
             0
@@ -61,11 +64,11 @@ fn line_end(window: &[u8], from: usize) -> usize
 }
 
 // The lines that end in a window, up to the first whose process has the journal open. Where none ends in it, it is passed over.
-fn look(window: &[u8], boot: &[u8], name: &[u8]) -> Seen {
+fn look(rt: &HostRuntime, window: &[u8], boot: &[u8], name: &[u8]) -> Seen {
     let mut from = 0;
     let mut end = line_end(window, 0);
     while end < window.len() {
-        let process = process_of(&window[from..end], boot, name);
+        let process = process_of(rt, &window[from..end], boot, name);
         if process != 0 {
             return Seen {
                 process: process,
@@ -97,20 +100,27 @@ enum Holder {
 }
 
 // What one window shows of the records from a place on, up to our own; nothing next where the file cannot be read.
-fn look_at(file: i32, place: usize, own: usize, boot: &[u8], name: &[u8]) -> Seen
+fn look_at(
+    rt: &HostRuntime,
+    file: &File,
+    place: usize,
+    own: usize,
+    boot: &[u8],
+    name: &[u8],
+) -> Seen
     requires { place ≤ own }
 {
-    let mut room = io::buffer();
-    let window = read_from(file, b"? JOURNAL.lock", place, &mut room);
+    let mut room = [0u8; 4_096];
+    let window = read_from(rt, file, b"? JOURNAL.lock", place, &mut room);
     let n = within_row(least(window.size, own - place), &room);
-    look(&room[..n], boot, name)
+    look(rt, &room[..n], boot, name)
 }
 
 // The first process with a record before a place of the file that has the journal open.
-fn first_holder(file: i32, own: usize, boot: &[u8], name: &[u8]) -> Holder {
+fn first_holder(rt: &HostRuntime, file: &File, own: usize, boot: &[u8], name: &[u8]) -> Holder {
     let mut place = 0;
     while place < own {
-        let seen = look_at(file, place, own, boot, name);
+        let seen = look_at(rt, file, place, own, boot, name);
         if seen.process != 0 {
             return Holder::Process(seen.process);
         }
@@ -124,17 +134,16 @@ fn first_holder(file: i32, own: usize, boot: &[u8], name: &[u8]) -> Holder {
 }
 
 // Whether no record before a place of JOURNAL.lock is of a process that has the journal open; standard error says which is.
-fn is_free(own: usize, boot: &[u8], name: &[u8]) -> bool {
-    let file = open_named(name, b".lock", Way::Look, b"? JOURNAL.lock");
-    if file < 0 {
+fn is_free(rt: &HostRuntime, own: usize, boot: &[u8], name: &[u8]) -> bool {
+    let Some(file) = open_named(rt, name, b".lock", Way::Look, b"? JOURNAL.lock") else {
         return false;
-    }
-    let holder = first_holder(file, own, boot, name);
-    libc::close(file);
+    };
+    let holder = first_holder(rt, &file, own, boot, name);
     match holder {
         Holder::Nobody => true,
         Holder::Process(process) => {
             complain_at(
+                rt,
                 b"JOURNAL",
                 b" is held by another head-end, process ",
                 process as usize,
@@ -142,54 +151,65 @@ fn is_free(own: usize, boot: &[u8], name: &[u8]) -> bool {
             false
         }
         Holder::Unknown => {
-            complain(b"JOURNAL.lock", b" cannot be read");
+            complain(rt, b"JOURNAL.lock", b" cannot be read");
             false
         }
     }
 }
 
-// Writes our record to the end of JOURNAL.lock and answers the place behind it, 0 where that failed.
-fn enter(record: Record, boot: &[u8], name: &[u8]) -> Entered {
-    let file = open_or_make(name, b".lock", Way::Append, b"? JOURNAL.lock");
-    if file < 0 {
-        return not_entered();
+// Why our record was not written, or not where the file ends.
+fn why(done: Result<usize>, at: Result<u64>) -> Error {
+    match (done, at) {
+        (Err(error), _) => error,
+        (Ok(_), Err(error)) => error,
+        (Ok(_), Ok(_)) => Error::from(ErrorKind::WriteZero),
     }
+}
+
+// Writes our record to the end of JOURNAL.lock and answers the place behind it, 0 where that failed.
+fn enter(rt: &HostRuntime, record: Record, boot: &[u8], name: &[u8]) -> Entered {
+    let Some(mut file) = open_or_make(rt, name, b".lock", Way::Append, b"? JOURNAL.lock") else {
+        return not_entered();
+    };
     let mut out = [0u8; RECORD_ROOM];
     let n = within_row(put_record(&mut out, record, boot), &out);
-    let done = io::count(libc::write(file, &out[..n]), &out);
-    let behind = size_from(libc::lseek(file, 0, SEEK_CUR));
-    libc::close(file);
-    if done == n {
-        if n <= behind {
-            return Entered {
-                at: behind - n,
-                ok: true,
-            };
+    let done = file.write(&out[..n]);
+    let at = file.seek(SeekFrom::Current(0));
+    let behind = size_from(at);
+    if let Ok(m) = done {
+        if m == n {
+            if n <= behind {
+                return Entered {
+                    at: behind - n,
+                    ok: true,
+                };
+            }
         }
     }
-    os::fail(b"? JOURNAL.lock");
+    fail(rt, b"? JOURNAL.lock", why(done, at));
     not_entered()
 }
 
 // Takes the hold on an open journal, for as long as this process has it open. Answers whether it is ours; standard error says why
 // it is not. The file stands beside the journal itself, whatever link led to it, so that two names of one journal meet.
-pub fn hold(journal: i32) -> bool {
+pub fn hold(rt: &HostRuntime, journal: &File) -> bool {
     let record = Record {
-        process: processes::own(),
-        descriptor: processes::number(journal),
+        process: processes::own(rt),
+        descriptor: processes::number(journal.as_raw_fd()),
     };
-    let mut name = io::buffer();
-    let told = name_of(record, &mut name);
+    let mut name = [0u8; 4_096];
+    let told = name_of(rt, record, &mut name);
     let n = told.size;
-    if told.ok {
-        let mut text = [0u8; BOOT_ROOM];
-        let b = processes::boot(&mut text);
-        let entered = enter(record, &text[..b], &name[..n]);
-        if entered.ok {
-            return is_free(entered.at, &text[..b], &name[..n]);
-        }
+    if let Some(error) = told.wrong {
+        let what = b"? JOURNAL cannot be held, as /proc does not show it";
+        fail(rt, what, error);
         return false;
     }
-    os::fail(b"? JOURNAL cannot be held, as /proc does not show it");
+    let mut text = [0u8; BOOT_ROOM];
+    let b = processes::boot(rt, &mut text);
+    let entered = enter(rt, record, &text[..b], &name[..n]);
+    if entered.ok {
+        return is_free(rt, entered.at, &text[..b], &name[..n]);
+    }
     false
 }

@@ -1,9 +1,13 @@
 // The journal and the files beside it, whose names are the journal's with an ending.
 
-ghost use Rattle.io.specs.Counts.{IsPrefixLen};
+ghost use Rattle.std.specs.Counts.{IsPrefixLen};
 
 use files::pages::within_row;
-use libc::{EEXIST, ENOENT};
+use files::paths::path;
+use std::fs;
+use std::fs::{File, OpenOptions};
+use std::io::{ErrorKind, Result};
+use streams::ports::fail;
 use text::output::put;
 
 // The longest path that the system takes, and the longest ending of ours, `.sums.new`.
@@ -38,79 +42,107 @@ pub fn beside(name: &[u8], ending: &[u8], room: &mut [u8]) -> usize
     within_row(b, room)
 }
 
-// A descriptor, or -1.
-fn opened(path: &[u8], way: Way) -> i32 {
+fn opened(rt: &HostRuntime, name: &[u8], way: Way) -> Result<File> {
+    let text = path(name)?;
     match way {
-        Way::Look => os::open_read(path),
-        Way::Update => os::open_update(path),
-        Way::Append => os::open_append(path),
-        Way::New => os::create(path),
-        Way::Anew => os::open_overwrite(path),
+        Way::Look => OpenOptions::new().read(true).open(rt, text),
+        Way::Update => OpenOptions::new().read(true).write(true).open(rt, text),
+        Way::Append => OpenOptions::new().append(true).open(rt, text),
+        Way::New => OpenOptions::new()
+            .write(true)
+            .create_new(true)
+            .open(rt, text),
+        Way::Anew => OpenOptions::new()
+            .write(true)
+            .create(true)
+            .truncate(true)
+            .open(rt, text),
     }
 }
 
-// The file beside the journal with this ending, and the journal itself with none: a descriptor, or -1.
-pub fn open(name: &[u8], ending: &[u8], way: Way) -> i32 {
-    let mut room = io::buffer();
+// The file beside the journal with this ending, and the journal itself with none.
+pub fn open(rt: &HostRuntime, name: &[u8], ending: &[u8], way: Way) -> Result<File> {
+    let mut room = [0u8; 4_096];
     let n = beside(name, ending, &mut room);
-    opened(&room[..n], way)
+    opened(rt, &room[..n], way)
 }
 
 // The same, where a complaint names the file if there is none.
-pub fn open_named(name: &[u8], ending: &[u8], way: Way, what: &[u8]) -> i32 {
-    let file = open(name, ending, way);
-    if file < 0 {
-        os::fail(what);
+pub fn open_named(
+    rt: &HostRuntime,
+    name: &[u8],
+    ending: &[u8],
+    way: Way,
+    what: &[u8],
+) -> Option<File> {
+    match open(rt, name, ending, way) {
+        Ok(file) => Some(file),
+        Err(error) => {
+            fail(rt, what, error);
+            None
+        }
     }
-    file
 }
 
 // A file that is missing is made, empty; another start may have made it since.
-fn make(name: &[u8], ending: &[u8], what: &[u8]) -> bool {
-    let made = open(name, ending, Way::New);
-    if made >= 0 {
-        libc::close(made);
-        return true;
+fn make(rt: &HostRuntime, name: &[u8], ending: &[u8], what: &[u8]) -> bool {
+    match open(rt, name, ending, Way::New) {
+        Ok(_) => true,
+        Err(error) => {
+            if error.kind() == ErrorKind::AlreadyExists {
+                return true;
+            }
+            fail(rt, what, error);
+            false
+        }
     }
-    if os::errno() == EEXIST {
-        return true;
-    }
-    os::fail(what);
-    false
 }
 
-// The file, made where it is missing: a descriptor, or -1 where standard error says why there is none.
-pub fn open_or_make(name: &[u8], ending: &[u8], way: Way, what: &[u8]) -> i32 {
-    let file = open(name, ending, way);
-    if file >= 0 {
-        return file;
-    }
-    if os::errno() == ENOENT {
-        if make(name, ending, what) {
-            return open_named(name, ending, way, what);
+// The file, made where it is missing, or that standard error says why there is none.
+pub fn open_or_make(
+    rt: &HostRuntime,
+    name: &[u8],
+    ending: &[u8],
+    way: Way,
+    what: &[u8],
+) -> Option<File> {
+    match open(rt, name, ending, way) {
+        Ok(file) => Some(file),
+        Err(error) => {
+            if error.kind() == ErrorKind::NotFound {
+                if make(rt, name, ending, what) {
+                    return open_named(rt, name, ending, way, what);
+                }
+                return None;
+            }
+            fail(rt, what, error);
+            None
         }
-        return -1;
     }
-    os::fail(what);
-    -1
+}
+
+fn renamed(rt: &HostRuntime, old: &[u8], new: &[u8]) -> Result<()> {
+    fs::rename(rt, path(old)?, path(new)?)
 }
 
 // The file with one ending takes the name with another; standard error says why it does not.
-pub fn rename(name: &[u8], from: &[u8], to: &[u8], what: &[u8]) -> bool {
-    let mut old = io::buffer();
+pub fn rename(rt: &HostRuntime, name: &[u8], from: &[u8], to: &[u8], what: &[u8]) -> bool {
+    let mut old = [0u8; 4_096];
     let n = beside(name, from, &mut old);
-    let mut new = io::buffer();
+    let mut new = [0u8; 4_096];
     let m = beside(name, to, &mut new);
-    if os::rename(&old[..n], &new[..m]) < 0 {
-        os::fail(what);
+    if let Err(error) = renamed(rt, &old[..n], &new[..m]) {
+        fail(rt, what, error);
         return false;
     }
     true
 }
 
 // Removes the file with an ending, where there is one.
-pub fn remove(name: &[u8], ending: &[u8]) {
-    let mut room = io::buffer();
+pub fn remove(rt: &HostRuntime, name: &[u8], ending: &[u8]) {
+    let mut room = [0u8; 4_096];
     let n = beside(name, ending, &mut room);
-    os::unlink(&room[..n]);
+    if let Ok(text) = path(&room[..n]) {
+        let _ = fs::remove_file(rt, text);
+    }
 }

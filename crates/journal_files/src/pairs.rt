@@ -2,98 +2,82 @@
 
 use crate::cutting::{Size, size_of};
 use crate::opening::{Way, open, open_or_make};
-use libc::ENOENT;
+use std::fs::File;
+use std::io::ErrorKind;
+use streams::ports::fail;
 
-#[derive(Clone, Copy)]
+#[derive(Drop)]
 pub struct Pair {
-    pub journal: i32,
-    pub sums: i32,
+    pub journal: File,
+    // or that there are none at all
+    pub sums: Option<File>,
     pub size: usize,
     pub summed: usize,
-    // whether there are sums at all
-    pub there: bool,
-    // or standard error says what is wrong
-    pub ok: bool,
 }
 
-fn not_opened() -> Pair {
-    Pair {
-        journal: -1,
-        sums: -1,
-        size: 0,
-        summed: 0,
-        there: false,
-        ok: false,
-    }
-}
-
-fn without_sums(journal: i32, size: usize) -> Pair {
+fn without_sums(journal: File, size: usize) -> Pair {
     Pair {
         journal: journal,
-        sums: -1,
+        sums: None,
         size: size,
         summed: 0,
-        there: false,
-        ok: true,
     }
 }
 
-fn with_sums(journal: i32, size: usize, sums: i32) -> Pair {
-    let beside = size_of(sums, b"? JOURNAL.sums");
+fn with_sums(rt: &HostRuntime, journal: File, size: usize, sums: File) -> Option<Pair> {
+    let beside = size_of(rt, &sums, b"? JOURNAL.sums");
     match beside {
-        Size::Bytes(summed) => Pair {
+        Size::Bytes(summed) => Some(Pair {
             journal: journal,
-            sums: sums,
+            sums: Some(sums),
             size: size,
             summed: summed,
-            there: true,
-            ok: true,
-        },
-        Size::Unknown => not_opened(),
+        }),
+        Size::Unknown => None,
     }
 }
 
 // The sums that stand there, or that there are none.
-fn standing(name: &[u8], journal: i32, size: usize, way: Way) -> Pair {
-    let sums = open(name, b".sums", way);
-    if sums >= 0 {
-        return with_sums(journal, size, sums);
+fn standing(rt: &HostRuntime, name: &[u8], journal: File, size: usize, way: Way) -> Option<Pair> {
+    match open(rt, name, b".sums", way) {
+        Ok(sums) => with_sums(rt, journal, size, sums),
+        Err(error) => {
+            if error.kind() == ErrorKind::NotFound {
+                return Some(without_sums(journal, size));
+            }
+            fail(rt, b"? JOURNAL.sums", error);
+            None
+        }
     }
-    if os::errno() == ENOENT {
-        return without_sums(journal, size);
-    }
-    os::fail(b"? JOURNAL.sums");
-    not_opened()
 }
 
 // The sums of an empty journal, made where they are missing.
-fn made(name: &[u8], journal: i32) -> Pair {
-    let sums = open_or_make(name, b".sums", Way::Update, b"? JOURNAL.sums");
-    if sums < 0 {
-        return not_opened();
-    }
-    with_sums(journal, 0, sums)
+fn made(rt: &HostRuntime, name: &[u8], journal: File) -> Option<Pair> {
+    let Some(sums) = open_or_make(rt, name, b".sums", Way::Update, b"? JOURNAL.sums") else {
+        return None;
+    };
+    with_sums(rt, journal, 0, sums)
 }
 
-// An open journal with its sums, to be looked at.
-pub fn looked_at(name: &[u8], journal: i32) -> Pair {
-    let size = size_of(journal, b"? JOURNAL");
+// An open journal with its sums, to be looked at, or that standard error says what is wrong.
+pub fn looked_at(rt: &HostRuntime, name: &[u8], journal: File) -> Option<Pair> {
+    let size = size_of(rt, &journal, b"? JOURNAL");
     match size {
-        Size::Bytes(n) => standing(name, journal, n, Way::Look),
-        Size::Unknown => not_opened(),
+        Size::Bytes(n) => standing(rt, name, journal, n, Way::Look),
+        Size::Unknown => None,
     }
 }
 
 // An open journal with its sums, to be gone on with: those of an empty journal are made.
-pub fn gone_on_with(name: &[u8], journal: i32) -> Pair {
-    let size = size_of(journal, b"? JOURNAL");
+pub fn gone_on_with(rt: &HostRuntime, name: &[u8], journal: File) -> Option<Pair> {
+    let size = size_of(rt, &journal, b"? JOURNAL");
     match size {
         Size::Bytes(n) => {
             if n == 0 {
-                return made(name, journal);
+                return made(rt, name, journal);
             }
-            standing(name, journal, n, Way::Update)
+            standing(rt, name, journal, n, Way::Update)
         }
-        Size::Unknown => not_opened(),
+        Size::Unknown => None,
     }
 }

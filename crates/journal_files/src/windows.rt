@@ -3,6 +3,10 @@
 ghost use Rattle.std.specs.Prelude.{◌≤◌, length};
 
 use crate::cutting::offset;
+use std::fs::File;
+use std::io::Error;
+use std::os::unix::fs::FileExt;
+use streams::ports::fail;
 
 // So many bytes at the room's start, or that the read failed and standard error says why.
 #[derive(Clone, Copy)]
@@ -11,13 +15,25 @@ pub struct Window {
     pub failed: bool,
 }
 
-fn read_once(file: i32, place: usize, room: &mut [u8]) -> Window
+// What one read gave.
+#[derive(Clone, Copy)]
+struct Part {
+    size: usize,
+    wrong: Option<Error>,
+}
+
+fn read_once(file: &File, place: usize, room: &mut [u8]) -> Part
     ensures { result.size ≤ length room.old }
 {
-    let got = libc::pread(file, room, offset(place));
-    Window {
-        size: io::count(got, room),
-        failed: got < 0,
+    match file.read_at(room, offset(place)) {
+        Ok(n) => Part {
+            size: n,
+            wrong: None,
+        },
+        Err(error) => Part {
+            size: 0,
+            wrong: Some(error),
+        },
     }
 }
 
@@ -39,14 +55,20 @@ fn further(place: usize, n: usize) -> usize {
 }
 
 // The bytes of a file from a place on, as many as there are and have room.
-pub fn read_from(file: i32, what: &[u8], place: usize, room: &mut [u8]) -> Window
+pub fn read_from(
+    rt: &HostRuntime,
+    file: &File,
+    what: &[u8],
+    place: usize,
+    room: &mut [u8],
+) -> Window
     ensures { result.size ≤ length room.old }
 {
     let mut filled = 0;
     while filled < room.len() {
         let part = read_once(file, further(place, filled), &mut room[filled..]);
-        if part.failed {
-            os::fail(what);
+        if let Some(error) = part.wrong {
+            fail(rt, what, error);
             return Window {
                 size: 0,
                 failed: true,

@@ -6,6 +6,7 @@ use crate::saying::{say_one, say_refused, say_two};
 use journal_files::pairs::Pair;
 use journals::{BLOCK_EVENTS, Start, Verdict, sums_length};
 use rules::MALFORMED;
+use streams::ports::{Port, tell};
 
 // No journal has so many notices.
 const MANY: usize = 4_611_686_018_427_387_904;
@@ -20,8 +21,9 @@ fn after(n: usize, m: usize) -> usize {
     MANY
 }
 
-fn say_short(port: i32, sums: usize) {
+fn say_short(rt: &HostRuntime, port: Port, sums: usize) {
     say_two(
+        rt,
         port,
         b"? JOURNAL.sums: more than ",
         BLOCK_EVENTS,
@@ -32,14 +34,15 @@ fn say_short(port: i32, sums: usize) {
 }
 
 // What is wrong with a journal that is not good.
-pub fn say_wrong(port: i32, start: Start) {
+pub fn say_wrong(rt: &HostRuntime, port: Port, start: Start) {
     let place = start.place;
     let heard = start.heard;
     let verdict = start.verdict;
     match verdict {
-        Verdict::NoNotice => say_refused(port, place, after(heard, start.behind), MALFORMED),
-        Verdict::Refused(answer) => say_refused(port, place, after(heard, 0), answer),
+        Verdict::NoNotice => say_refused(rt, port, place, after(heard, start.behind), MALFORMED),
+        Verdict::Refused(answer) => say_refused(rt, port, place, after(heard, 0), answer),
         Verdict::SumDiffers => say_two(
+            rt,
             port,
             b"? JOURNAL: byte ",
             place,
@@ -47,14 +50,16 @@ pub fn say_wrong(port: i32, start: Start) {
             after(heard, 0),
             b": its sum in JOURNAL.sums is another\n",
         ),
-        Verdict::SumsShort => say_short(port, start.sums),
+        Verdict::SumsShort => say_short(rt, port, start.sums),
         Verdict::SumsMissing => {
-            io::write_all(
+            tell(
+                rt,
                 port,
                 b"? JOURNAL.sums is missing (headend --sums POOL JOURNAL makes it anew)\n",
             );
         }
         Verdict::Hearing => say_one(
+            rt,
             port,
             b"? JOURNAL: byte ",
             place,
@@ -66,9 +71,10 @@ pub fn say_wrong(port: i32, start: Start) {
 }
 
 // What a start cuts off, or a check leaves.
-fn say_torn(port: i32, bytes: usize, place: usize, cuts: bool) {
+fn say_torn(rt: &HostRuntime, port: Port, bytes: usize, place: usize, cuts: bool) {
     if cuts {
         say_two(
+            rt,
             port,
             b"JOURNAL: torn end, ",
             bytes,
@@ -78,6 +84,7 @@ fn say_torn(port: i32, bytes: usize, place: usize, cuts: bool) {
         );
     } else {
         say_two(
+            rt,
             port,
             b"JOURNAL: torn end, ",
             bytes,
@@ -88,12 +95,13 @@ fn say_torn(port: i32, bytes: usize, place: usize, cuts: bool) {
     }
 }
 
-fn say_unsummed(port: i32, notices: usize, place: usize, cuts: bool) {
+fn say_unsummed(rt: &HostRuntime, port: Port, notices: usize, place: usize, cuts: bool) {
     let name = b"JOURNAL: notices without a sum, never answered, ";
     if cuts {
-        say_two(port, name, notices, b" at byte ", place, b", cut off\n");
+        say_two(rt, port, name, notices, b" at byte ", place, b", cut off\n");
     } else {
         say_two(
+            rt,
             port,
             name,
             notices,
@@ -104,12 +112,21 @@ fn say_unsummed(port: i32, notices: usize, place: usize, cuts: bool) {
     }
 }
 
-fn say_surplus(port: i32, bytes: usize, place: usize, cuts: bool) {
+fn say_surplus(rt: &HostRuntime, port: Port, bytes: usize, place: usize, cuts: bool) {
     let name = b"JOURNAL.sums: sums without a notice, ";
     if cuts {
-        say_two(port, name, bytes, b" bytes at byte ", place, b", cut off\n");
+        say_two(
+            rt,
+            port,
+            name,
+            bytes,
+            b" bytes at byte ",
+            place,
+            b", cut off\n",
+        );
     } else {
         say_two(
+            rt,
             port,
             name,
             bytes,
@@ -121,16 +138,16 @@ fn say_surplus(port: i32, bytes: usize, place: usize, cuts: bool) {
 }
 
 // The ends of a good journal and of its sums that do not count.
-pub fn say_ends(port: i32, pair: Pair, start: Start, cuts: bool) {
+pub fn say_ends(rt: &HostRuntime, port: Port, pair: &Pair, start: Start, cuts: bool) {
     let torn = less(pair.size, start.place);
     if torn != 0 {
-        say_torn(port, torn, start.place, cuts);
+        say_torn(rt, port, torn, start.place, cuts);
     }
     if start.behind != 0 {
-        say_unsummed(port, start.behind, start.cut, cuts);
+        say_unsummed(rt, port, start.behind, start.cut, cuts);
     }
     let kept = sums_length(start);
     if kept < pair.summed {
-        say_surplus(port, less(pair.summed, kept), kept, cuts);
+        say_surplus(rt, port, less(pair.summed, kept), kept, cuts);
     }
 }

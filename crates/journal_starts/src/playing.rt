@@ -8,8 +8,10 @@ use files::pages::within_row;
 use journal_files::pairs::Pair;
 use journal_files::windows::{Window, read_from};
 use journals::{BLOCK, SUM, Start, going, hear, sums_length};
-use libc::STDERR_FILENO;
 use rules::truth::either;
+use std::fs::File;
+use std::io::IsTerminal;
+use streams::ports::{Port, tell};
 
 // Room for the sums of a window's notices, of which the shortest has 26 bytes.
 pub const SUMS_ROOM: usize = BLOCK / 26 * SUM;
@@ -40,9 +42,16 @@ pub fn failed(start: Start) -> Played {
 }
 
 // What a file of so many bytes has from a place on, as much as a room holds.
-pub fn read_part(file: i32, what: &[u8], place: usize, size: usize, room: &mut [u8]) -> Window {
+pub fn read_part(
+    rt: &HostRuntime,
+    file: &File,
+    what: &[u8],
+    place: usize,
+    size: usize,
+    room: &mut [u8],
+) -> Window {
     let most = within_row(less(size, place), room);
-    read_from(file, what, place, &mut room[..most])
+    read_from(rt, file, what, place, &mut room[..most])
 }
 
 // What was read of the journal and of its sums, played.
@@ -68,33 +77,46 @@ fn hear_read(
     }
 }
 
+// The same of the sums of a pair: nothing where there are none.
+fn read_sums(rt: &HostRuntime, pair: &Pair, place: usize, room: &mut [u8]) -> Window {
+    match &pair.sums {
+        Some(file) => read_part(rt, file, b"? JOURNAL.sums", place, pair.summed, room),
+        None => Window {
+            size: 0,
+            failed: false,
+        },
+    }
+}
+
 // One window of the journal, and the sums beside it.
 fn play_window(
-    pair: Pair,
+    rt: &HostRuntime,
+    pair: &Pair,
     start: Start,
     row: &mut [u64],
     room: &mut [u8],
     sums: &mut [u8],
 ) -> Played {
-    let window = read_part(pair.journal, b"? JOURNAL", start.place, pair.size, room);
-    let beside = read_part(
-        pair.sums,
-        b"? JOURNAL.sums",
-        sums_length(start),
-        pair.summed,
-        sums,
+    let window = read_part(
+        rt,
+        &pair.journal,
+        b"? JOURNAL",
+        start.place,
+        pair.size,
+        room,
     );
+    let beside = read_sums(rt, pair, sums_length(start), sums);
     hear_read(start, row, pair.size, room, window, sums, beside)
 }
 
 // On a terminal, how far it has come, on a line that the next one overwrites.
-pub fn show(start: Start) {
-    if libc::isatty(STDERR_FILENO) == 1 {
-        say_one(STDERR_FILENO, b"\rJOURNAL: ", start.heard, b" notices");
+pub fn show(rt: &HostRuntime, start: Start) {
+    if rt.stderr().is_terminal() {
+        say_one(rt, Port::Errors, b"\rJOURNAL: ", start.heard, b" notices");
         if going(start) {
             return;
         }
-        io::write_all(STDERR_FILENO, b"\r\x1b[K");
+        tell(rt, Port::Errors, b"\r\x1b[K");
     }
 }
 
@@ -108,13 +130,13 @@ pub fn is_stuck(before: Start, after: Start) -> bool {
 
 // The journal to its end, or to what is wrong with it. A proved loop has to end, and nothing says that a file does: so the windows
 // are counted down from a number that no run uses up.
-pub fn play(pair: Pair, row: &mut [u64]) -> Played {
-    let mut room = io::large_buffer();
+pub fn play(rt: &HostRuntime, pair: &Pair, row: &mut [u64]) -> Played {
+    let mut room = [0u8; 65_536];
     let mut sums = [0u8; SUMS_ROOM];
-    let mut start = journals::begun(pair.size, pair.there, pair.summed);
+    let mut start = journals::begun(pair.size, pair.sums.is_some(), pair.summed);
     let mut windows = u64::MAX;
     while windows > 0 && going(start) {
-        let played = play_window(pair, start, row, &mut room, &mut sums);
+        let played = play_window(rt, pair, start, row, &mut room, &mut sums);
         let next = played.start;
         if played.ok {
             if is_stuck(start, next) {
@@ -127,7 +149,7 @@ pub fn play(pair: Pair, row: &mut [u64]) -> Played {
             return failed(next);
         }
         start = next;
-        show(start);
+        show(rt, start);
         windows -= 1;
     }
     Played {

@@ -13,35 +13,43 @@ use journal_files::holding::hold;
 use journal_files::opening::{Way, open_named, remove, rename};
 use journals::summing::sums_in;
 use journals::{Start, Verdict, going, hear, is_good};
-use libc::{STDERR_FILENO, STDOUT_FILENO};
 use row_calls::starting::fresh;
+use std::fs::File;
+use streams::ports::Port;
 use streams::write_to;
 
 // The open journal and its size, and the open file of its new sums.
 #[derive(Clone, Copy)]
-struct Renewal {
-    journal: i32,
+struct Renewal<'a> {
+    journal: &'a File,
     size: usize,
-    sums: i32,
+    sums: &'a File,
 }
 
 // One window of the journal, with the sums of its notices written first.
 fn renew_window(
-    r: Renewal,
+    rt: &HostRuntime,
+    r: Renewal<'_>,
     start: Start,
     row: &mut [u64],
     room: &mut [u8],
     sums: &mut [u8],
 ) -> Played {
     let place = start.place;
-    let window = read_part(r.journal, b"? JOURNAL", place, r.size, room);
+    let window = read_part(rt, r.journal, b"? JOURNAL", place, r.size, room);
     if window.failed {
         return failed(start);
     }
     let n = within_row(window.size, room);
     let over = less(r.size, place) <= n;
     let m = within_row(sums_in(&room[..n], over, sums), sums);
-    if write_to(r.sums, b"? JOURNAL.sums.new cannot be written", &sums[..m]) {
+    let mut end = r.sums;
+    if write_to(
+        rt,
+        &mut end,
+        b"? JOURNAL.sums.new cannot be written",
+        &sums[..m],
+    ) {
         let next = hear(start, row, &room[..n], &sums[..m], over);
         return Played {
             start: next,
@@ -52,13 +60,13 @@ fn renew_window(
 }
 
 // The journal to its end, or to what is wrong with it. The windows are counted down as in `playing`.
-fn renew_all(r: Renewal, row: &mut [u64]) -> Played {
-    let mut room = io::large_buffer();
+fn renew_all(rt: &HostRuntime, r: Renewal<'_>, row: &mut [u64]) -> Played {
+    let mut room = [0u8; 65_536];
     let mut sums = [0u8; SUMS_ROOM];
     let mut start = journals::begun(r.size, true, usize::MAX);
     let mut windows = u64::MAX;
     while windows > 0 && going(start) {
-        let played = renew_window(r, start, row, &mut room, &mut sums);
+        let played = renew_window(rt, r, start, row, &mut room, &mut sums);
         let next = played.start;
         if played.ok {
             if is_stuck(start, next) {
@@ -71,7 +79,7 @@ fn renew_all(r: Renewal, row: &mut [u64]) -> Played {
             return failed(next);
         }
         start = next;
-        show(start);
+        show(rt, start);
         windows -= 1;
     }
     Played {
@@ -96,26 +104,28 @@ fn is_whole(start: Start, size: usize) -> bool {
 }
 
 // Why a journal does not play whole.
-fn say_broken(start: Start) {
+fn say_broken(rt: &HostRuntime, start: Start) {
     let verdict = start.verdict;
     if is_good(verdict) {
         complain_at(
+            rt,
             b"JOURNAL",
             b" does not play whole (salvage writes what can be kept): torn end at byte ",
             start.place,
         );
     } else {
-        say_wrong(STDERR_FILENO, start);
+        say_wrong(rt, Port::Errors, start);
     }
 }
 
 // The new sums take the place of the old.
-fn put_in_place(name: &[u8], sums: i32, start: Start) -> bool {
-    if force(sums, b"? JOURNAL.sums.new cannot be forced to disk") {
-        if rename(name, b".sums.new", b".sums", b"? JOURNAL.sums") {
-            if force_folder(name) {
+fn put_in_place(rt: &HostRuntime, name: &[u8], sums: &File, start: Start) -> bool {
+    if force(rt, sums, b"? JOURNAL.sums.new cannot be forced to disk") {
+        if rename(rt, name, b".sums.new", b".sums", b"? JOURNAL.sums") {
+            if force_folder(rt, name) {
                 say_one(
-                    STDOUT_FILENO,
+                    rt,
+                    Port::Output,
                     b"JOURNAL.sums: made anew, ",
                     start.heard,
                     b" sums\n",
@@ -127,45 +137,43 @@ fn put_in_place(name: &[u8], sums: i32, start: Start) -> bool {
     false
 }
 
-fn renew_into(pool: u64, name: &[u8], r: Renewal) -> bool {
+fn renew_into(rt: &HostRuntime, pool: u64, name: &[u8], r: Renewal<'_>) -> bool {
     let mut row = [0u64; ROW_LENGTH];
     fresh(&mut row, pool);
-    let played = renew_all(r, &mut row);
+    let played = renew_all(rt, r, &mut row);
     let start = played.start;
     if played.ok {
         if is_whole(start, r.size) {
-            return put_in_place(name, r.sums, start);
+            return put_in_place(rt, name, r.sums, start);
         }
-        say_broken(start);
+        say_broken(rt, start);
     }
     false
 }
 
 // The new sums of a held journal of so many bytes; what was begun and is not whole is removed.
-fn renew_held(pool: u64, name: &[u8], journal: i32, size: usize) {
-    let sums = open_named(name, b".sums.new", Way::Anew, b"? JOURNAL.sums.new");
-    if sums < 0 {
+fn renew_held(rt: &HostRuntime, pool: u64, name: &[u8], journal: &File, size: usize) {
+    let Some(sums) = open_named(rt, name, b".sums.new", Way::Anew, b"? JOURNAL.sums.new") else {
         return;
-    }
+    };
     let r = Renewal {
         journal: journal,
         size: size,
-        sums: sums,
+        sums: &sums,
     };
-    if !renew_into(pool, name, r) {
-        remove(name, b".sums.new");
+    if !renew_into(rt, pool, name, r) {
+        remove(rt, name, b".sums.new");
     }
 }
 
-pub fn renew(pool: u64, name: &[u8]) {
-    let journal = open_named(name, b"", Way::Look, b"? JOURNAL");
-    if journal < 0 {
+pub fn renew(rt: &HostRuntime, pool: u64, name: &[u8]) {
+    let Some(journal) = open_named(rt, name, b"", Way::Look, b"? JOURNAL") else {
         return;
-    }
-    if hold(journal) {
-        let size = size_of(journal, b"? JOURNAL");
+    };
+    if hold(rt, &journal) {
+        let size = size_of(rt, &journal, b"? JOURNAL");
         match size {
-            Size::Bytes(n) => renew_held(pool, name, journal, n),
+            Size::Bytes(n) => renew_held(rt, pool, name, &journal, n),
             Size::Unknown => {}
         }
     }

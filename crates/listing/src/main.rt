@@ -6,9 +6,9 @@ use files::arguments::{Pool, pool_or};
 // 01's pool, where none is given.
 const USUAL_POOL: u64 = 8;
 
-fn main() {
-    let Pool::Lanes(pool) = pool_or(USUAL_POOL, b"listing [POOL] < LOG") else {
+fn main(rt: HostRuntime) {
+    let Pool::Lanes(pool) = pool_or(&rt, USUAL_POOL, b"listing [POOL] < LOG") else {
         return;
     };
-    listing_io::input::list_input(pool);
+    listing_io::input::list_input(&rt, pool);
 }

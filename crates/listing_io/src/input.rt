@@ -52,14 +52,14 @@ fn list_line(agent: Agent, bytes: &[u8], place: usize) -> Shown
 }
 
 // Lists what stands at a place, and writes its line.
-fn show(agent: Agent, bytes: &[u8], place: usize) -> Printed
+fn show(rt: &HostRuntime, agent: Agent, bytes: &[u8], place: usize) -> Printed
     ensures { Hears agent (read_at bytes.now place) place result.listed }
 {
     let shown = list_line(agent, bytes, place);
     let listed = shown.listed;
     let row = shown.row;
     let size = listed.size;
-    let written = streams::write_all(&row[..size]);
+    let written = streams::write_all(rt, &row[..size]);
     Printed {
         listed: listed,
         written: written,
@@ -67,7 +67,7 @@ fn show(agent: Agent, bytes: &[u8], place: usize) -> Printed
 }
 
 // Lists from the start on as long as places are decided and lines can be written.
-fn drain(agent: Agent, bytes: &[u8], over: bool) -> Printed
+fn drain(rt: &HostRuntime, agent: Agent, bytes: &[u8], over: bool) -> Printed
     ensures { Drained agent bytes.now over result }
 {
     let mut listed = ListedStep {
@@ -78,7 +78,7 @@ fn drain(agent: Agent, bytes: &[u8], over: bool) -> Printed
     };
     let mut written = true;
     while written && listed.more && decided(bytes, listed.place, over) {
-        let printed = show(listed.agent, bytes, listed.place);
+        let printed = show(rt, listed.agent, bytes, listed.place);
         listed = printed.listed;
         written = printed.written;
     }
@@ -101,11 +101,11 @@ fn ended(agent: Agent) -> Fed
 
 // The lines of what is decided of the bytes up to `filled`, and what is left moved to the front: it is shorter than the longest
 // notice.
-fn list_filled(agent: Agent, buffer: &mut [u8], filled: usize, over: bool) -> Fed
+fn list_filled(rt: &HostRuntime, agent: Agent, buffer: &mut [u8], filled: usize, over: bool) -> Fed
     requires { filled ≤ length buffer.old }
     ensures { result.more ≡ true → result.kept < longest_notice }
 {
-    let printed = drain(agent, &buffer[..filled], over);
+    let printed = drain(rt, agent, &buffer[..filled], over);
     let listed = printed.listed;
     let next = listed.agent;
     if printed.written {
@@ -119,22 +119,22 @@ fn list_filled(agent: Agent, buffer: &mut [u8], filled: usize, over: bool) -> Fe
 }
 
 // One read behind what is kept, and the lines of what is decided then. What is left is so short that the next read has room.
-fn feed(fed: Fed, buffer: &mut [u8]) -> Fed
+fn feed(rt: &HostRuntime, fed: Fed, buffer: &mut [u8]) -> Fed
     ensures { result.more ≡ true → result.kept < longest_notice }
 {
     let agent = fed.agent;
-    let filled = refill(buffer, fed.kept);
+    let filled = refill(rt, buffer, fed.kept);
     match filled {
-        Filled::More(n) => list_filled(agent, buffer, n, false),
-        Filled::Last(n) => list_filled(agent, buffer, n, true),
+        Filled::More(n) => list_filled(rt, agent, buffer, n, false),
+        Filled::Last(n) => list_filled(rt, agent, buffer, n, true),
         Filled::Failed => ended(agent),
     }
 }
 
 // Lists standard input as a fresh agent of a pool hears it. A proved loop has to end, and nothing says that input does: the
 // loop counts its turns down, from a number that no run uses up.
-pub fn list_input(pool: u64) {
-    let mut buffer = io::buffer();
+pub fn list_input(rt: &HostRuntime, pool: u64) {
+    let mut buffer = [0u8; 4_096];
     let started = fresh_agent(pool);
     let agent = started.agent;
     let mut fed = Fed {
@@ -144,7 +144,7 @@ pub fn list_input(pool: u64) {
     };
     let mut turns = u64::MAX;
     while turns > 0 && fed.more {
-        fed = feed(fed, &mut buffer);
+        fed = feed(rt, fed, &mut buffer);
         turns -= 1;
     }
 }

@@ -5,8 +5,21 @@
 
 ghost use Rattle.std.specs.Prelude.{◌≡◌, ◌<◌, length};
 
-use libc::STDOUT_FILENO;
 use notice::{Found, Kind, Notice, Reading};
+
+// What can't be written is left out.
+fn write(rt: &HostRuntime, bytes: &[u8]) {
+    let _ = rt.write_all(bytes);
+}
+
+fn write_number(rt: &HostRuntime, n: u64) {
+    let _ = rt.print(n);
+}
+
+// Two digits.
+fn write_hex(rt: &HostRuntime, n: u64) {
+    let _ = print!(rt; "{n:02x}");
+}
 
 // Case 12 as the paper has it, and one byte more.
 fn case_12() -> [u8; 31]
@@ -40,28 +53,28 @@ fn skip_bytes() -> [u8; 38] {
 }
 
 // A call's answer starts a line, and each number after it has a space before it.
-fn print_answer(n: u8) {
-    io::print_decimal(STDOUT_FILENO, n as u64);
+fn print_answer(rt: &HostRuntime, n: u8) {
+    write_number(rt, n as u64);
 }
 
-fn print_number(n: u64) {
-    io::write_all(STDOUT_FILENO, b" ");
-    io::print_decimal(STDOUT_FILENO, n);
+fn print_number(rt: &HostRuntime, n: u64) {
+    write(rt, b" ");
+    write_number(rt, n);
 }
 
-fn end_line() {
-    io::write_all(STDOUT_FILENO, b"\n");
+fn end_line(rt: &HostRuntime) {
+    write(rt, b"\n");
 }
 
 // The bytes in hexadecimal, and the end of the line.
-fn print_bytes(bytes: &[u8]) {
-    io::write_all(STDOUT_FILENO, b" ");
+fn print_bytes(rt: &HostRuntime, bytes: &[u8]) {
+    write(rt, b" ");
     let mut i: usize = 0;
     while i < bytes.len() {
-        io::print_hex(STDOUT_FILENO, wide(bytes[i]), 2);
+        write_hex(rt, wide(bytes[i]));
         i += 1;
     }
-    end_line();
+    end_line(rt);
 }
 
 fn wide(b: u8) -> u64 {
@@ -69,12 +82,12 @@ fn wide(b: u8) -> u64 {
 }
 
 // Sequence, kind, title and time, then what the kind carries.
-fn print_notice(n: Notice) {
+fn print_notice(rt: &HostRuntime, n: Notice) {
     let kind = n.kind;
-    print_number(n.sequence as u64);
-    print_number(notice::kind_number(kind) as u64);
-    print_number(n.title as u64);
-    print_number(n.time);
+    print_number(rt, n.sequence as u64);
+    print_number(rt, notice::kind_number(kind) as u64);
+    print_number(rt, n.title as u64);
+    print_number(rt, n.time);
     match kind {
         Kind::Open {
             length,
@@ -82,66 +95,66 @@ fn print_notice(n: Notice) {
             cap,
             count,
         } => {
-            print_number(length as u64);
-            print_number(floor as u64);
-            print_number(cap as u64);
-            print_number(count as u64);
+            print_number(rt, length as u64);
+            print_number(rt, floor as u64);
+            print_number(rt, cap as u64);
+            print_number(rt, count as u64);
         }
-        Kind::Change { count } => print_number(count as u64),
+        Kind::Change { count } => print_number(rt, count as u64),
         Kind::Close => {}
         Kind::Hold => {}
         Kind::Lift => {}
         Kind::Skip { length, count } => {
-            print_number(length as u64);
-            print_number(count as u64);
+            print_number(rt, length as u64);
+            print_number(rt, count as u64);
         }
     }
 }
 
 // The answer's number, and the notice where there is one.
-fn print_reading(r: Reading) {
+fn print_reading(rt: &HostRuntime, r: Reading) {
     match r {
         Reading::Whole(n) => {
-            print_answer(rules::DONE);
-            print_notice(n);
+            print_answer(rt, rules::DONE);
+            print_notice(rt, n);
         }
-        Reading::Malformed => print_answer(rules::MALFORMED),
+        Reading::Malformed => print_answer(rt, rules::MALFORMED),
     }
-    end_line();
+    end_line(rt);
 }
 
-fn print_found(f: Found) {
+fn print_found(rt: &HostRuntime, f: Found) {
     match f {
         Found::At(n, place) => {
-            print_answer(rules::DONE);
-            print_notice(n);
-            print_number(place as u64);
+            print_answer(rt, rules::DONE);
+            print_notice(rt, n);
+            print_number(rt, place as u64);
         }
         Found::End => {
-            io::write_all(STDOUT_FILENO, b"end");
+            write(rt, b"end");
         }
-        Found::Malformed => print_answer(rules::MALFORMED),
+        Found::Malformed => print_answer(rt, rules::MALFORMED),
     }
-    end_line();
+    end_line(rt);
 }
 
 // What the first n bytes read as.
-fn print_first(bytes: &[u8], n: usize) {
+fn print_first(rt: &HostRuntime, bytes: &[u8], n: usize) {
     if n <= bytes.len() {
-        print_reading(notice::read(&bytes[..n]));
+        print_reading(rt, notice::read(&bytes[..n]));
     }
 }
 
-fn neighbours() {
+fn neighbours(rt: &HostRuntime) {
     let bytes = case_12();
-    print_first(&bytes, 29);
-    print_first(&bytes, 30);
-    print_first(&bytes, 31);
-    print_first(&bytes, 0);
+    print_first(rt, &bytes, 29);
+    print_first(rt, &bytes, 30);
+    print_first(rt, &bytes, 31);
+    print_first(rt, &bytes, 0);
 }
 
 // Case 12 written, into room enough and into a byte too little.
-fn written() {
+fn written(rt: &HostRuntime) {
     let n = Notice {
         sequence: 2,
         title: 0,
@@ -149,24 +162,24 @@ fn written() {
         kind: Kind::Change { count: 3 },
     };
     let mut room = [255u8; 32];
-    print_answer(notice::write(n, &mut room));
-    print_bytes(&room);
+    print_answer(rt, notice::write(n, &mut room));
+    print_bytes(rt, &room);
     let mut short = [255u8; 29];
-    print_answer(notice::write(n, &mut short));
-    print_bytes(&short);
+    print_answer(rt, notice::write(n, &mut short));
+    print_bytes(rt, &short);
 }
 
 // A hold and a lift read from their bytes, whole and cut, and written again: the room's last byte stays.
-fn doors() {
+fn doors(rt: &HostRuntime) {
     let hold = hold_bytes();
-    print_first(&hold, 26);
-    print_first(&hold, 25);
-    print_first(&lift_bytes(), 26);
-    print_written(5, 8, Kind::Hold);
-    print_written(6, 12, Kind::Lift);
+    print_first(rt, &hold, 26);
+    print_first(rt, &hold, 25);
+    print_first(rt, &lift_bytes(), 26);
+    print_written(rt, 5, 8, Kind::Hold);
+    print_written(rt, 6, 12, Kind::Lift);
 }
 
-fn print_written(sequence: u32, time: u64, kind: Kind) {
+fn print_written(rt: &HostRuntime, sequence: u32, time: u64, kind: Kind) {
     let n = Notice {
         sequence,
         title: 3,
@@ -174,19 +187,19 @@ fn print_written(sequence: u32, time: u64, kind: Kind) {
         kind,
     };
     let mut room = [255u8; 27];
-    print_answer(notice::write(n, &mut room));
-    print_bytes(&room);
+    print_answer(rt, notice::write(n, &mut room));
+    print_bytes(rt, &room);
 }
 
 // The opening of a skip-forward title read from its bytes, cut, whole and with a byte more, and with an open's kind; then
 // written again, into room enough and into a byte too little.
-fn skipping() {
+fn skipping(rt: &HostRuntime) {
     let mut bytes = skip_bytes();
-    print_first(&bytes, 36);
-    print_first(&bytes, 37);
-    print_first(&bytes, 38);
+    print_first(rt, &bytes, 36);
+    print_first(rt, &bytes, 37);
+    print_first(rt, &bytes, 38);
     bytes[3] = notice::OPEN;
-    print_first(&bytes, 37);
+    print_first(rt, &bytes, 37);
     let n = Notice {
         sequence: 9,
         title: 4,
@@ -196,24 +209,24 @@ fn skipping() {
             count: 4,
         },
     };
-    print_number(notice::size(n) as u64);
-    end_line();
+    print_number(rt, notice::size(n) as u64);
+    end_line(rt);
     let mut room = [255u8; 38];
-    print_answer(notice::write(n, &mut room));
-    print_bytes(&room);
+    print_answer(rt, notice::write(n, &mut room));
+    print_bytes(rt, &room);
     let mut short = [255u8; 36];
-    print_answer(notice::write(n, &mut short));
-    print_bytes(&short);
-    print_reading(survives(n));
+    print_answer(rt, notice::write(n, &mut short));
+    print_bytes(rt, &short);
+    print_reading(rt, survives(n));
 }
 
 // Case 12 with one byte changed.
-fn changed(at: usize, to: u8)
+fn changed(rt: &HostRuntime, at: usize, to: u8)
     requires { at < 30 }
 {
     let mut bytes = case_12();
     bytes[at] = to;
-    print_first(&bytes, 30);
+    print_first(rt, &bytes, 30);
 }
 
 // What is written reads back: shown for every record, and run for one outside every limit.
@@ -242,51 +255,51 @@ fn outside() -> Notice {
 }
 
 // An open and a close back to back, and five bytes that are no notice.
-fn fill(bytes: &mut [u8]) {
+fn fill(rt: &HostRuntime, bytes: &mut [u8]) {
     let close = Notice {
         sequence: 7,
         title: 3,
         time: 8,
         kind: Kind::Close,
     };
-    print_answer(notice::write(outside(), bytes));
-    end_line();
+    print_answer(rt, notice::write(outside(), bytes));
+    end_line(rt);
     if 71 <= bytes.len() {
-        print_answer(notice::write(close, &mut bytes[45..71]));
-        end_line();
+        print_answer(rt, notice::write(close, &mut bytes[45..71]));
+        end_line(rt);
     }
 }
 
 // A log read from each notice's place, at its end and past it.
-fn log() {
+fn log(rt: &HostRuntime) {
     let mut bytes = [0u8; 76];
-    fill(&mut bytes);
-    print_log(&bytes);
+    fill(rt, &mut bytes);
+    print_log(rt, &bytes);
 }
 
-fn print_log(bytes: &[u8]) {
-    print_bytes(bytes);
-    print_found(notice::next_in(bytes, 0));
-    print_found(notice::next_in(bytes, 45));
-    print_found(notice::next_in(bytes, 71));
-    print_found(notice::next_in(bytes, 76));
-    print_found(notice::read_at(bytes, 18446744073709551615));
+fn print_log(rt: &HostRuntime, bytes: &[u8]) {
+    print_bytes(rt, bytes);
+    print_found(rt, notice::next_in(bytes, 0));
+    print_found(rt, notice::next_in(bytes, 45));
+    print_found(rt, notice::next_in(bytes, 71));
+    print_found(rt, notice::next_in(bytes, 76));
+    print_found(rt, notice::read_at(bytes, 18446744073709551615));
 }
 
-fn main() {
-    neighbours();
-    written();
-    doors();
-    skipping();
+fn main(rt: HostRuntime) {
+    neighbours(&rt);
+    written(&rt);
+    doors(&rt);
+    skipping(&rt);
     // an unknown kind, a hold and a lift with a count, a skip without a length, another tag, a descending tag, and another length in either byte
-    changed(3, 7);
-    changed(3, 4);
-    changed(3, 5);
-    changed(3, 6);
-    changed(4, 9);
-    changed(11, 1);
-    changed(6, 5);
-    changed(5, 1);
-    print_reading(survives(outside()));
-    log();
+    changed(&rt, 3, 7);
+    changed(&rt, 3, 4);
+    changed(&rt, 3, 5);
+    changed(&rt, 3, 6);
+    changed(&rt, 4, 9);
+    changed(&rt, 11, 1);
+    changed(&rt, 6, 5);
+    changed(&rt, 5, 1);
+    print_reading(&rt, survives(outside()));
+    log(&rt);
 }

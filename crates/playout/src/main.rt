@@ -5,6 +5,6 @@
 mod complaints;
 mod run;
 
-fn main() {
-    run::run();
+fn main(rt: HostRuntime) {
+    run::run(&rt);
 }

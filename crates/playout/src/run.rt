@@ -28,13 +28,13 @@ enum Asked {
     Nothing,
 }
 
-fn show(given: Numbers, log: &[u8], out: &mut [u8]) {
+fn show(rt: &HostRuntime, given: Numbers, log: &[u8], out: &mut [u8]) {
     let size = put_playout(out, given.pool, log, given.title, given.from, given.ticks);
-    write_page(out, size);
+    write_page(rt, out, size);
 }
 
-fn complain_beside(given: Numbers, log: &[u8]) {
-    let mut out = io::buffer();
+fn complain_beside(rt: &HostRuntime, given: Numbers, log: &[u8]) {
+    let mut out = [0u8; 4_096];
     let size = put_complaints(
         &mut out,
         given.pool,
@@ -43,35 +43,35 @@ fn complain_beside(given: Numbers, log: &[u8]) {
         given.from,
         given.ticks,
     );
-    write_complaints(&out, size);
+    write_complaints(rt, &out, size);
 }
 
-fn with_rooms(given: Numbers, log: &mut [u8], out: &mut [u8]) {
-    let read = load_log(log);
+fn with_rooms(rt: &HostRuntime, given: Numbers, log: &mut [u8], out: &mut [u8]) {
+    let read = load_log(rt, log);
     let size = read.size;
     if read.ok {
-        show(given, &log[..size], out);
-        complain_beside(given, &log[..size]);
+        show(rt, given, &log[..size], out);
+        complain_beside(rt, given, &log[..size]);
     }
 }
 
 // The rooms are lent as arrays first, whose lengths then need no proof.
-fn lend(given: Numbers, log: &mut [u8; LOG_ROOM], out: &mut [u8; TEXT_ROOM]) {
-    with_rooms(given, log, out);
+fn lend(rt: &HostRuntime, given: Numbers, log: &mut [u8; LOG_ROOM], out: &mut [u8; TEXT_ROOM]) {
+    with_rooms(rt, given, log, out);
 }
 
 // The numbers are tested in their order.
-fn numbers_given() -> Asked {
-    let Given::Number(pool) = number_named(1, b"POOL") else {
+fn numbers_given(rt: &HostRuntime) -> Asked {
+    let Given::Number(pool) = number_named(rt, 1, b"POOL") else {
         return Asked::Nothing;
     };
-    let Given::Number(title) = number_named(2, b"ID") else {
+    let Given::Number(title) = number_named(rt, 2, b"ID") else {
         return Asked::Nothing;
     };
-    let Given::Number(from) = number_named(4, b"FROM") else {
+    let Given::Number(from) = number_named(rt, 4, b"FROM") else {
         return Asked::Nothing;
     };
-    let Given::Number(ticks) = number_named(5, b"TICKS") else {
+    let Given::Number(ticks) = number_named(rt, 5, b"TICKS") else {
         return Asked::Nothing;
     };
     Asked::About(Numbers {
@@ -83,13 +83,13 @@ fn numbers_given() -> Asked {
 }
 
 // How many arguments there are is tested first, then the numbers, then the file.
-pub fn run() {
-    if count_is(6, b"playout POOL ID LOG FROM TICKS") {
-        let Asked::About(given) = numbers_given() else {
+pub fn run(rt: &HostRuntime) {
+    if count_is(rt, 6, b"playout POOL ID LOG FROM TICKS") {
+        let Asked::About(given) = numbers_given(rt) else {
             return;
         };
         let mut log = [0u8; LOG_ROOM];
         let mut out = [0u8; TEXT_ROOM];
-        lend(given, &mut log, &mut out);
+        lend(rt, given, &mut log, &mut out);
     }
 }

@@ -13,7 +13,6 @@ use figures::segments::{found_in, on_channel, segment_of, taken_in, unbuffered};
 use figures::steady::{on_lane, taken_from};
 use figures::times::{average_wait, increase, longest_slot, slot_ms, slot_seconds, slot_tenths};
 use figures::transitions::{fourth_lane, sent};
-use libc::STDOUT_FILENO;
 use rules::COUNT_MAX;
 
 // The numbers that a row has room for.
@@ -51,36 +50,45 @@ enum Figure {
     Sent(u64, u64),
 }
 
+// What can't be written is left out.
+fn write(rt: &HostRuntime, bytes: &[u8]) {
+    let _ = rt.write_all(bytes);
+}
+
+fn write_number(rt: &HostRuntime, n: u64) {
+    let _ = rt.print(n);
+}
+
 // A word and a row of numbers, on a line.
-fn print_row(word: &[u8], row: &[u64]) {
-    io::write_all(STDOUT_FILENO, word);
+fn print_row(rt: &HostRuntime, word: &[u8], row: &[u64]) {
+    write(rt, word);
     let mut i = 0;
     while i < row.len() {
-        print_number(row[i]);
+        print_number(rt, row[i]);
         i += 1;
     }
-    end_line();
+    end_line(rt);
 }
 
-fn print_number(n: u64) {
-    io::write_all(STDOUT_FILENO, b" ");
-    io::print_decimal(STDOUT_FILENO, n);
+fn print_number(rt: &HostRuntime, n: u64) {
+    write(rt, b" ");
+    write_number(rt, n);
 }
 
-fn end_line() {
-    io::write_all(STDOUT_FILENO, b"\n");
+fn end_line(rt: &HostRuntime) {
+    write(rt, b"\n");
 }
 
 // What a row is about, what the product computes, what is expected, and whether they agree.
-fn show(what: &[u8], computed: &[u64], expected: &[u64]) {
-    io::write_all(STDOUT_FILENO, what);
-    end_line();
-    print_row(b"  computed", computed);
-    print_row(b"  expected", expected);
+fn show(rt: &HostRuntime, what: &[u8], computed: &[u64], expected: &[u64]) {
+    write(rt, what);
+    end_line(rt);
+    print_row(rt, b"  computed", computed);
+    print_row(rt, b"  expected", expected);
     if agree(computed, expected) {
-        io::write_all(STDOUT_FILENO, b"  agree\n");
+        write(rt, b"  agree\n");
     } else {
-        io::write_all(STDOUT_FILENO, b"  DIFFER\n");
+        write(rt, b"  DIFFER\n");
     }
 }
 
@@ -161,25 +169,32 @@ fn with_each(row: Row, figure: Figure, numbers: &[u64]) -> Row {
 }
 
 // The first `many`.
-fn show_first(what: &[u8], numbers: [u64; ROW_MOST], many: usize, expected: &[u64]) {
+fn show_first(
+    rt: &HostRuntime,
+    what: &[u8],
+    numbers: [u64; ROW_MOST],
+    many: usize,
+    expected: &[u64],
+) {
     if many <= ROW_MOST {
-        show(what, &numbers[..many], expected);
+        show(rt, what, &numbers[..many], expected);
     }
 }
 
-fn show_row(what: &[u8], row: Row, expected: &[u64]) {
+fn show_row(rt: &HostRuntime, what: &[u8], row: Row, expected: &[u64]) {
     let numbers = row.numbers;
-    show_first(what, numbers, row.many, expected);
+    show_first(rt, what, numbers, row.many, expected);
 }
 
-fn show_each(what: &[u8], figure: Figure, numbers: &[u64], expected: &[u64]) {
-    show_row(what, with_each(no_row(), figure, numbers), expected);
+fn show_each(rt: &HostRuntime, what: &[u8], figure: Figure, numbers: &[u64], expected: &[u64]) {
+    show_row(rt, what, with_each(no_row(), figure, numbers), expected);
 }
 
 // Section II-A: with 4 channels, what the box that starts at t0 takes in its first three slots, channel by channel; it is done
 // with C0 after one slot and with C1 after two.
-fn figure_1_channels() {
+fn figure_1_channels(rt: &HostRuntime) {
     show_each(
+        rt,
         b"source 000, figure 1: segments in the first slot, C0 to C3",
         Figure::Channel(4, 0),
         &[0, 1, 2, 3],
@@ -188,6 +203,7 @@ fn figure_1_channels() {
     let a = with_each(no_row(), Figure::Channel(4, 1), &[1, 2, 3]);
     let b = with_each(a, Figure::Channel(4, 2), &[2, 3]);
     show_row(
+        rt,
         b"source 000, figure 1: in the second slot, C1 to C3, and in the third, C2 and C3",
         b,
         &[3, 5, 9, 6, 10],
@@ -195,8 +211,9 @@ fn figure_1_channels() {
 }
 
 // The same by the box plan: the slot, from 0, in which each of these nine segments is taken.
-fn figure_1_plan() {
+fn figure_1_plan(rt: &HostRuntime) {
     show_each(
+        rt,
         b"source 000, figure 1: slots in which the plan takes segments 1 2 4 8, 3 5 9, 6 10",
         Figure::Taken,
         &[1, 2, 4, 8, 3, 5, 9, 6, 10],
@@ -206,8 +223,9 @@ fn figure_1_plan() {
 
 // Section II-A: one start in each 2^(k-1) slots needs no buffer, since each segment is on a channel just when it plays. This is
 // of the channels; the plan takes what comes first. The text says that it is one of eight; which one is derived.
-fn figure_1_buffer() {
+fn figure_1_buffer(rt: &HostRuntime) {
     show_each(
+        rt,
         b"source 000, figure 1: which of the starts at slots 0 to 7 needs no buffer",
         Figure::Unbuffered,
         &[0, 1, 2, 3, 4, 5, 6, 7],
@@ -216,8 +234,9 @@ fn figure_1_buffer() {
 }
 
 // Section III-A: 1.43, 1.00 and 0.56 minutes with floor 2 and 3, 4 and 5 channels.
-fn padding() {
+fn padding(rt: &HostRuntime) {
     show(
+        rt,
         b"source 000, III-A: increase of the average wait by padding, floor 2, k 3 to 5, 1/100 minute",
         &[increase(2, 3), increase(2, 4), increase(2, 5)],
         &[143, 100, 56],
@@ -225,26 +244,30 @@ fn padding() {
 }
 
 // Figure 2 is a drawing; its values by the formula above it, whose numerator should read 2^k - 2^floor.
-fn figure_2() {
+fn figure_2(rt: &HostRuntime) {
     show_each(
+        rt,
         b"source 000, figure 2, derived: floor 2, k 2 to 10, 1/100 minute",
         Figure::Increase(2),
         &[2, 3, 4, 5, 6, 7, 8, 9, 10],
         &[0, 143, 100, 56, 30, 15, 8, 4, 2],
     );
     show_each(
+        rt,
         b"source 000, figure 2, derived: floor 3, k 3 to 10, 1/100 minute",
         Figure::Increase(3),
         &[3, 4, 5, 6, 7, 8, 9, 10],
         &[0, 29, 21, 12, 6, 3, 2, 1],
     );
     show_each(
+        rt,
         b"source 000, figure 2, derived: floor 4, k 4 to 10, 1/100 minute",
         Figure::Increase(4),
         &[4, 5, 6, 7, 8, 9, 10],
         &[0, 6, 5, 3, 1, 1, 0],
     );
     show_each(
+        rt,
         b"source 000, figure 2, derived: floor 5, k 5 to 10, 1/100 minute",
         Figure::Increase(5),
         &[5, 6, 7, 8, 9, 10],
@@ -253,26 +276,30 @@ fn figure_2() {
 }
 
 // Lemma 1 and figure 3, floor 2: a segment of 2 channels is two of 3 and four of 4. By the cells, of which cap 4 has 16.
-fn figure_3() {
+fn figure_3(rt: &HostRuntime) {
     show_each(
+        rt,
         b"source 000, figure 3: segments of 3 channels that make segments 1 to 4 of 2 channels",
         Figure::Segment(3),
         &[0, 3, 4, 7, 8, 11, 12, 15],
         &[1, 2, 3, 4, 5, 6, 7, 8],
     );
     show_each(
+        rt,
         b"source 000, figure 3: first and last segments of 4 channels that make segments 1 to 4 of 2 channels",
         Figure::Segment(4),
         &[0, 3, 4, 7, 8, 11, 12, 15],
         &[1, 4, 5, 8, 9, 12, 13, 16],
     );
     show_each(
+        rt,
         b"source 000, figure 3: segments of 2 channels that hold those",
         Figure::Segment(2),
         &[0, 3, 4, 7, 8, 11, 12, 15],
         &[1, 1, 2, 2, 3, 3, 4, 4],
     );
     show_each(
+        rt,
         b"source 000, figure 3: segments of 3 channels that hold segments 1 to 4 and 13 to 16 of 4 channels",
         Figure::Segment(3),
         &[0, 1, 2, 3, 12, 13, 14, 15],
@@ -282,8 +309,9 @@ fn figure_3() {
 
 // Figure 4(b), after Corollary 1: from t1, the second slot of 2 channels, to t2. The text prints S2 of 2 channels for S3 (twice),
 // S3 of 3 for S5, and S5 of 4 for S9; by Lemma 1, which it cites, and by its own equations these are the right ones.
-fn figure_4b_first() {
+fn figure_4b_first(rt: &HostRuntime) {
     show(
+        rt,
         b"source 000, figure 4(b), t1 to t2: segments of 2 channels",
         &[on_channel(2, 4, 2, 0, 4), on_channel(2, 4, 2, 1, 4)],
         &[1, 3],
@@ -291,16 +319,18 @@ fn figure_4b_first() {
     let a = with_each(no_row(), Figure::Found(3, 0, 0), &[4, 6]);
     let b = with_each(a, Figure::Found(3, 1, 0), &[4, 6]);
     show_row(
+        rt,
         b"source 000, figure 4(b), t1 to t2: found in these of 3 channels, half slot by half slot",
         b,
         &[1, 2, 5, 6],
     );
 }
 
-fn figure_4b_second() {
+fn figure_4b_second(rt: &HostRuntime) {
     let a = with_each(no_row(), Figure::Found(4, 0, 0), &[4, 5, 6, 7]);
     let b = with_each(a, Figure::Found(4, 1, 0), &[4, 5, 6, 7]);
     show_row(
+        rt,
         b"source 000, figure 4(b), t1 to t2: and in these of 4 channels, quarter by quarter",
         b,
         &[1, 2, 3, 4, 9, 10, 11, 12],
@@ -308,11 +338,12 @@ fn figure_4b_second() {
 }
 
 // The same holds "similarly" from t3 to t4, which the text does not place: the next slot of 2 channels, by Lemma 1.
-fn figure_4b_third() {
+fn figure_4b_third(rt: &HostRuntime) {
     let a = with_each(no_row(), Figure::Channel(2, 8), &[0, 1]);
     let b = with_each(a, Figure::Found(3, 0, 0), &[8, 10]);
     let c = with_each(b, Figure::Found(3, 1, 0), &[8, 10]);
     show_row(
+        rt,
         b"source 000, figure 4(b), t3 to t4, derived: segments of 2 channels, then of 3 in which they are found",
         c,
         &[1, 2, 1, 2, 3, 4],
@@ -320,6 +351,7 @@ fn figure_4b_third() {
     let a = with_each(no_row(), Figure::Found(4, 0, 0), &[8, 9, 10, 11]);
     let b = with_each(a, Figure::Found(4, 1, 0), &[8, 9, 10, 11]);
     show_row(
+        rt,
         b"source 000, figure 4(b), t3 to t4, derived: and of 4 channels",
         b,
         &[1, 2, 3, 4, 5, 6, 7, 8],
@@ -328,10 +360,11 @@ fn figure_4b_third() {
 
 // Figure 4(a): without the shift, S3 of 2 channels is found neither with 3 channels nor with 4. What k channels carry unshifted
 // is what they carry shifted 2^(k-2) - 1 slots later: 2 ticks for 3 channels, 3 ticks for 4. 0 is "not found".
-fn figure_4a() {
+fn figure_4a(rt: &HostRuntime) {
     let a = with_each(no_row(), Figure::Found(3, 1, 2), &[4, 5, 6, 7]);
     let b = with_each(a, Figure::Found(4, 1, 3), &[4, 5, 6, 7]);
     show_row(
+        rt,
         b"source 000, figure 4(a): S3 of 2 channels, in 3 and in 4 channels that are not shifted",
         b,
         &[0, 0, 0, 0, 0, 0, 0, 0],
@@ -344,13 +377,15 @@ fn below(a: u64, b: u64) -> u64 {
 
 // Section II-A: under 4 minutes with 5 channels and under 2 with 6, here with floor 5; section II-B: 8.57 and 4 minutes on
 // average at floors 3 and 4.
-fn waiting() {
+fn waiting(rt: &HostRuntime) {
     show(
+        rt,
         b"source 000, II-A: the longest wait with 5 and 6 channels is below 4 and 2 minutes, 1 is yes",
         &[below(slot_ms(5, 5), 240_000), below(slot_ms(5, 6), 120_000)],
         &[1, 1],
     );
     show(
+        rt,
         b"source 000, II-B: average wait at floors 3 and 4, 1/100 minute",
         &[average_wait(3, 3), average_wait(4, 4)],
         &[857, 400],
@@ -358,8 +393,9 @@ fn waiting() {
 }
 
 // Figure 6 is a drawing; by Definition 3 for floor 2, what 4 channels carry and 3 do not, slot by slot.
-fn figure_6a() {
+fn figure_6a(rt: &HostRuntime) {
     show_each(
+        rt,
         b"source 000, figure 6(a), derived: segments that 4 channels have and 3 have not, from slot 4",
         Figure::Fourth,
         &[4, 5, 6, 7, 8, 9, 10, 11],
@@ -369,8 +405,9 @@ fn figure_6a() {
 
 // By Definition 4 with t at slot 4, S3, S7 and S15 are left of these, at slots 4, 6 and 10; by Definition 5 they are packed. S15 is
 // padding, which is owed to nobody and not sent. 99 is a lane that is released.
-fn figure_6c() {
+fn figure_6c(rt: &HostRuntime) {
     show_each(
+        rt,
         b"source 000, figure 6(c), derived: what the fourth lane sends from slot 4 on, after 4 channels went to 3",
         Figure::Sent(3, 3),
         &[4, 5, 6, 7],
@@ -380,10 +417,11 @@ fn figure_6c() {
 
 // Figure 7 is a drawing; by the same definitions from 4 channels to 2, the third lane has S3 and S7 of 3 channels left, which are
 // S5, S6 and S13, S14 of 4. S13 to S16 are padding.
-fn figure_7() {
+fn figure_7(rt: &HostRuntime) {
     let a = with_each(no_row(), Figure::Sent(2, 3), &[4, 5, 6, 7]);
     let b = with_each(a, Figure::Sent(2, 2), &[4, 5, 6, 7, 8]);
     show_row(
+        rt,
         b"source 000, figure 7, derived: what the fourth and the third lane send from slot 4 on, after 4 channels went to 2",
         b,
         &[3, 7, 99, 99, 5, 6, 99, 99, 99],
@@ -391,26 +429,30 @@ fn figure_7() {
 }
 
 // Table 3.4: how long a channel that is given back is held, the longest over all drop moments, for each base number of channels.
-fn table_3_4() {
+fn table_3_4(rt: &HostRuntime) {
     show_each(
+        rt,
         b"source 002, table 3.4, base 2: held after 3 went to 2, up to 7 to 6, 1/10 minute",
         Figure::Held(2),
         &[3, 4, 5, 6, 7],
         &[200, 200, 150, 100, 63],
     );
     show_each(
+        rt,
         b"source 002, table 3.4, base 3: held after 4 went to 3, up to 7 to 6, 1/10 minute",
         Figure::Held(3),
         &[4, 5, 6, 7],
         &[171, 129, 86, 54],
     );
     show_each(
+        rt,
         b"source 002, table 3.4, base 4: held after 5 went to 4, up to 7 to 6, 1/10 minute",
         Figure::Held(4),
         &[5, 6, 7],
         &[120, 80, 50],
     );
     show_each(
+        rt,
         b"source 002, table 3.4, base 5: held after 6 went to 5 and 7 to 6, 1/10 minute",
         Figure::Held(5),
         &[6, 7],
@@ -419,23 +461,27 @@ fn table_3_4() {
 }
 
 // A skip-forward title with 4 channels: the block on each in slots t0 to t15.
-fn figure_3_5b() {
+fn figure_3_5b(rt: &HostRuntime) {
     show(
+        rt,
         b"source 002, figure 3.5b: blocks on channel 0 of 4, t0 to t15",
         &on_lane(4, 0),
         &[1, 1, 1, 1, 1, 1, 1, 1, 1, 1, 1, 1, 1, 1, 1, 1],
     );
     show(
+        rt,
         b"source 002, figure 3.5b: on channel 1",
         &on_lane(4, 1),
         &[2, 2, 2, 2, 2, 2, 2, 2, 2, 2, 2, 2, 2, 2, 2, 2],
     );
     show(
+        rt,
         b"source 002, figure 3.5b: on channel 2",
         &on_lane(4, 2),
         &[3, 4, 3, 4, 3, 4, 3, 4, 3, 4, 3, 4, 3, 4, 3, 4],
     );
     show(
+        rt,
         b"source 002, figure 3.5b: on channel 3",
         &on_lane(4, 3),
         &[5, 6, 7, 8, 5, 6, 7, 8, 5, 6, 7, 8, 5, 6, 7, 8],
@@ -443,28 +489,33 @@ fn figure_3_5b() {
 }
 
 // The same with 5 channels.
-fn figure_3_14b() {
+fn figure_3_14b(rt: &HostRuntime) {
     show(
+        rt,
         b"source 002, figure 3.14b: blocks on channel 0 of 5, t0 to t15",
         &on_lane(5, 0),
         &[1, 1, 1, 1, 1, 1, 1, 1, 1, 1, 1, 1, 1, 1, 1, 1],
     );
     show(
+        rt,
         b"source 002, figure 3.14b: on channel 1",
         &on_lane(5, 1),
         &[2, 2, 2, 2, 2, 2, 2, 2, 2, 2, 2, 2, 2, 2, 2, 2],
     );
     show(
+        rt,
         b"source 002, figure 3.14b: on channel 2",
         &on_lane(5, 2),
         &[3, 4, 3, 4, 3, 4, 3, 4, 3, 4, 3, 4, 3, 4, 3, 4],
     );
     show(
+        rt,
         b"source 002, figure 3.14b: on channel 3",
         &on_lane(5, 3),
         &[5, 6, 7, 8, 5, 6, 7, 8, 5, 6, 7, 8, 5, 6, 7, 8],
     );
     show(
+        rt,
         b"source 002, figure 3.14b: on channel 4",
         &on_lane(5, 4),
         &[9, 10, 11, 12, 13, 14, 15, 16, 9, 10, 11, 12, 13, 14, 15, 16],
@@ -473,23 +524,27 @@ fn figure_3_14b() {
 
 // A box of figure 3.5b takes each block at its first occurrence. The shading of figure 3.6a is not in the text; which slots
 // these are is derived from the table.
-fn figure_3_6a() {
+fn figure_3_6a(rt: &HostRuntime) {
     show(
+        rt,
         b"source 002, figure 3.6a, derived: slots after a start at t0 in which blocks 1 to 8 of 4 channels are taken",
         &taken_from(0),
         &[0, 0, 0, 1, 0, 1, 2, 3],
     );
     show(
+        rt,
         b"source 002, figure 3.6a, derived: after a start at t1",
         &taken_from(1),
         &[0, 0, 1, 0, 3, 0, 1, 2],
     );
     show(
+        rt,
         b"source 002, figure 3.6a, derived: after a start at t2",
         &taken_from(2),
         &[0, 0, 0, 1, 2, 3, 0, 1],
     );
     show(
+        rt,
         b"source 002, figure 3.6a, derived: after a start at t3",
         &taken_from(3),
         &[0, 0, 1, 0, 1, 2, 3, 0],
@@ -497,8 +552,9 @@ fn figure_3_6a() {
 }
 
 // Table II, 120 minutes: the row SSB has the numbers of floor 2.
-fn table_2_ssb() {
+fn table_2_ssb(rt: &HostRuntime) {
     show_each(
+        rt,
         b"source 004, table II, SSB: floor 2, k 2 to 9, 1/100 second",
         Figure::Slot(2),
         &[2, 3, 4, 5, 6, 7, 8, 9],
@@ -509,13 +565,15 @@ fn table_2_ssb() {
 }
 
 // The row SFB is this scheme at floor 3; its first number, 1028.6, has one digit behind the point.
-fn table_2_sfb() {
+fn table_2_sfb(rt: &HostRuntime) {
     show(
+        rt,
         b"source 004, table II, SFB: floor 3, k 3, 1/10 second",
         &[slot_tenths(3, 3)],
         &[10_286],
     );
     show_each(
+        rt,
         b"source 004, table II, SFB: floor 3, k 4 to 9, 1/100 second",
         Figure::Slot(3),
         &[4, 5, 6, 7, 8, 9],
@@ -524,8 +582,9 @@ fn table_2_sfb() {
 }
 
 // The row that is printed SEB is the same at floor 4.
-fn table_2_seb() {
+fn table_2_seb(rt: &HostRuntime) {
     show_each(
+        rt,
         b"source 004, table II, SEB: floor 4, k 4 to 9, 1/100 second",
         Figure::Slot(4),
         &[4, 5, 6, 7, 8, 9],
@@ -535,8 +594,9 @@ fn table_2_seb() {
 
 // Nobody published these: the longest wait of the longest film, at the largest cap of 01 and at that of 02's request 10,
 // worked out by hand from 01's rule of the tick.
-fn longest_film() {
+fn longest_film(rt: &HostRuntime) {
     show(
+        rt,
         b"derived: a film of 240 minutes, floor 2 to 5, cap and k 10, ms",
         &[
             longest_slot(2, 10),
@@ -547,6 +607,7 @@ fn longest_film() {
         &[18_750, 16_072, 15_000, 14_517],
     );
     show(
+        rt,
         b"derived: the same, cap and k 12, ms",
         &[
             longest_slot(2, 12),
@@ -558,27 +619,27 @@ fn longest_film() {
     );
 }
 
-fn main() {
-    figure_1_channels();
-    figure_1_plan();
-    figure_1_buffer();
-    padding();
-    figure_2();
-    figure_3();
-    figure_4b_first();
-    figure_4b_second();
-    figure_4b_third();
-    figure_4a();
-    waiting();
-    figure_6a();
-    figure_6c();
-    figure_7();
-    table_3_4();
-    figure_3_5b();
-    figure_3_14b();
-    figure_3_6a();
-    table_2_ssb();
-    table_2_sfb();
-    table_2_seb();
-    longest_film();
+fn main(rt: HostRuntime) {
+    figure_1_channels(&rt);
+    figure_1_plan(&rt);
+    figure_1_buffer(&rt);
+    padding(&rt);
+    figure_2(&rt);
+    figure_3(&rt);
+    figure_4b_first(&rt);
+    figure_4b_second(&rt);
+    figure_4b_third(&rt);
+    figure_4a(&rt);
+    waiting(&rt);
+    figure_6a(&rt);
+    figure_6c(&rt);
+    figure_7(&rt);
+    table_3_4(&rt);
+    figure_3_5b(&rt);
+    figure_3_14b(&rt);
+    figure_3_6a(&rt);
+    table_2_ssb(&rt);
+    table_2_sfb(&rt);
+    table_2_seb(&rt);
+    longest_film(&rt);
 }

@@ -9,17 +9,17 @@ ghost use Rattle.scanning.specs.inner.Steps.{Counts};
 ghost use Rattle.salvage.specs.Blocks.{block_room, Passes};
 
 use crate::blocks::{BLOCK_ROOM, scan_block};
-use libc::STDOUT_FILENO;
 use salvage_lines::{END_ROOM, put_end};
 use scanning::steps::{Progress, begun};
+use streams::ports::{Port, tell};
 use streams::{Filled, refill};
 use text::feed::compact;
 
 // Where the taken notices go, and where the report goes.
 #[derive(Clone, Copy)]
 pub struct Ports {
-    pub taken: i32,
-    pub told: i32,
+    pub taken: Port,
+    pub told: Port,
 }
 
 // A block's end, and whether all of it was written.
@@ -38,24 +38,24 @@ struct Fed {
 }
 
 // Writes all the bytes. A failure of standard output is said on standard error.
-fn give(port: i32, bytes: &[u8]) -> bool {
-    if port == STDOUT_FILENO {
-        return streams::write_all(bytes);
+fn give(rt: &HostRuntime, port: Port, bytes: &[u8]) -> bool {
+    match port {
+        Port::Output => streams::write_all(rt, bytes),
+        Port::Errors => tell(rt, port, bytes),
     }
-    io::write_all(port, bytes)
 }
 
 // The end of the report.
-fn say_end(port: i32, p: Progress) -> bool
+fn say_end(rt: &HostRuntime, port: Port, p: Progress) -> bool
     requires { Counts p }
 {
     let mut out = [0u8; END_ROOM];
     let n = put_end(&mut out, p);
-    give(port, &out[..n])
+    give(rt, port, &out[..n])
 }
 
 // A block, with what it takes and what is told of it written.
-fn pass_on(p: Progress, window: &[u8], over: bool, ports: Ports) -> Passed
+fn pass_on(rt: &HostRuntime, p: Progress, window: &[u8], over: bool, ports: Ports) -> Passed
     requires { Counts p × ((length window.now ≤ block_room) × (p.place + length window.now < 2 ^ 64)) }
     ensures { Passes window.now over p result.progress }
 {
@@ -65,9 +65,9 @@ fn pass_on(p: Progress, window: &[u8], over: bool, ports: Ports) -> Passed
     let told = block.told;
     let said = block.said;
     let progress = block.progress;
-    let mut written = give(ports.taken, &area[..at]);
+    let mut written = give(rt, ports.taken, &area[..at]);
     if written {
-        written = give(ports.told, &told[..said]);
+        written = give(rt, ports.told, &told[..said]);
     }
     Passed {
         progress: progress,
@@ -88,7 +88,13 @@ fn ended(progress: Progress) -> Fed
 
 // What is decided of the bytes up to `filled`, and what is left moved to the front. Counts end with the 64-bit numbers, where no
 // input does.
-fn pass_filled(progress: Progress, buffer: &mut [u8], filled: usize, ports: Ports) -> Fed
+fn pass_filled(
+    rt: &HostRuntime,
+    progress: Progress,
+    buffer: &mut [u8],
+    filled: usize,
+    ports: Ports,
+) -> Fed
     requires { Counts progress × ((filled ≤ length buffer.old) × (length buffer.old ≤ block_room)) }
     ensures { (result.more ≡ true → result.kept < longest_notice) × Counts result.progress }
 {
@@ -96,7 +102,7 @@ fn pass_filled(progress: Progress, buffer: &mut [u8], filled: usize, ports: Port
     if usize::MAX - filled < base {
         return ended(progress);
     }
-    let passed = pass_on(progress, &buffer[..filled], false, ports);
+    let passed = pass_on(rt, progress, &buffer[..filled], false, ports);
     let next = passed.progress;
     if passed.written {
         return Fed {
@@ -109,7 +115,7 @@ fn pass_filled(progress: Progress, buffer: &mut [u8], filled: usize, ports: Port
 }
 
 // What is left at the end of the input, and the end of the report.
-fn pass_last(progress: Progress, window: &[u8], ports: Ports) -> Fed
+fn pass_last(rt: &HostRuntime, progress: Progress, window: &[u8], ports: Ports) -> Fed
     requires { Counts progress × (length window.now ≤ block_room) }
     ensures { (result.more ≡ false) × Counts result.progress }
 {
@@ -117,31 +123,31 @@ fn pass_last(progress: Progress, window: &[u8], ports: Ports) -> Fed
     if usize::MAX - window.len() < base {
         return ended(progress);
     }
-    let passed = pass_on(progress, window, true, ports);
+    let passed = pass_on(rt, progress, window, true, ports);
     let next = passed.progress;
     if passed.written {
-        say_end(ports.told, next);
+        say_end(rt, ports.told, next);
     }
     ended(next)
 }
 
 // One read behind what is kept, and what is decided then. What is left is so short that the next read has room.
-fn feed(fed: Fed, buffer: &mut [u8], ports: Ports) -> Fed
+fn feed(rt: &HostRuntime, fed: Fed, buffer: &mut [u8], ports: Ports) -> Fed
     requires { Counts fed.progress × (length buffer.old ≤ block_room) }
     ensures { (result.more ≡ true → result.kept < longest_notice) × Counts result.progress }
 {
     let progress = fed.progress;
-    let filled = refill(buffer, fed.kept);
+    let filled = refill(rt, buffer, fed.kept);
     match filled {
-        Filled::More(n) => pass_filled(progress, buffer, n, ports),
-        Filled::Last(n) => pass_last(progress, &buffer[..n], ports),
+        Filled::More(n) => pass_filled(rt, progress, buffer, n, ports),
+        Filled::Last(n) => pass_last(rt, progress, &buffer[..n], ports),
         Filled::Failed => ended(progress),
     }
 }
 
 // Salvages standard input. A proved loop has to end, and nothing says that input does: the loop counts its turns down, from a
 // number that no run uses up.
-pub fn salvage_input(ports: Ports) {
+pub fn salvage_input(rt: &HostRuntime, ports: Ports) {
     let mut buffer = [0u8; BLOCK_ROOM];
     let progress = begun();
     let mut fed = Fed {
@@ -151,7 +157,7 @@ pub fn salvage_input(ports: Ports) {
     };
     let mut turns = u64::MAX;
     while turns > 0 && fed.more {
-        fed = feed(fed, &mut buffer, ports);
+        fed = feed(rt, fed, &mut buffer, ports);
         turns -= 1;
     }
 }

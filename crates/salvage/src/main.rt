@@ -4,14 +4,15 @@
 mod blocks;
 mod input;
 
+use streams::ports::Port;
 use streams::usage::count_is;
 
-fn main() {
-    if count_is(1, b"salvage < DAMAGED > LOG") {
+fn main(rt: HostRuntime) {
+    if count_is(&rt, 1, b"salvage < DAMAGED > LOG") {
         let ports = input::Ports {
-            taken: libc::STDOUT_FILENO,
-            told: libc::STDERR_FILENO,
+            taken: Port::Output,
+            told: Port::Errors,
         };
-        input::salvage_input(ports);
+        input::salvage_input(&rt, ports);
     }
 }

@@ -5,7 +5,7 @@
 // contract can say what is read and written.
 #![tactic(auto)]
 
-use libc::{STDIN_FILENO, STDOUT_FILENO};
+use std::io::IsTerminal;
 use streams::{Filled, refill};
 use text::bytes::Sort;
 use text::{bytes, feed};
@@ -33,15 +33,15 @@ pub struct Session {
 }
 
 // Whether lines are typed and answers are seen on a terminal.
-fn is_terminal() -> bool {
-    if libc::isatty(STDIN_FILENO) == 1 {
-        return libc::isatty(STDOUT_FILENO) == 1;
+fn is_terminal(rt: &HostRuntime) -> bool {
+    if rt.stdin().is_terminal() {
+        return rt.stdout().is_terminal();
     }
     false
 }
 
 // A session at its start.
-pub fn begun() -> Session {
+pub fn begun(rt: &HostRuntime) -> Session {
     Session {
         found: false,
         from: 0,
@@ -50,7 +50,7 @@ pub fn begun() -> Session {
         to: 0,
         passing: false,
         last: false,
-        prompts: is_terminal(),
+        prompts: is_terminal(rt),
         at: 0,
         more: true,
     }
@@ -63,11 +63,11 @@ fn over(session: Session) -> Session {
 }
 
 // The session with its answers written out, over where that failed.
-fn written(session: Session, out: &[u8]) -> Session {
+fn written(rt: &HostRuntime, session: Session, out: &[u8]) -> Session {
     let at = session.at;
     if at <= out.len() {
         let mut s = session;
-        s.more = streams::write_all(&out[..at]);
+        s.more = streams::write_all(rt, &out[..at]);
         s.at = 0;
         return s;
     }
@@ -75,8 +75,8 @@ fn written(session: Session, out: &[u8]) -> Session {
 }
 
 // The session ended by one of its lines: what was answered is written out, and nothing more is read.
-pub fn ended(session: Session, out: &[u8]) -> Session {
-    over(written(session, out))
+pub fn ended(rt: &HostRuntime, session: Session, out: &[u8]) -> Session {
+    over(written(rt, session, out))
 }
 
 // Whether the output row has room for one more answer, where `longest` is the longest.
@@ -161,49 +161,49 @@ fn with_last(session: Session, to: usize) -> Session {
 }
 
 // The session with a few bytes written on a terminal, over where that failed; unchanged where there is no prompt.
-fn shown(session: Session, bytes: &[u8]) -> Session {
+fn shown(rt: &HostRuntime, session: Session, bytes: &[u8]) -> Session {
     let mut s = session;
     if session.prompts {
-        s.more = streams::write_all(bytes);
+        s.more = streams::write_all(rt, bytes);
     }
     s
 }
 
 // The session with its prompt written. A line of which a part is there, or is passed over, has had its own.
-fn prompted(session: Session) -> Session {
+fn prompted(rt: &HostRuntime, session: Session) -> Session {
     if session.passing {
         return session;
     }
     if session.next < session.to {
         return session;
     }
-    shown(session, b"> ")
+    shown(rt, session, b"> ")
 }
 
 // The session with a block read behind the bytes that are no line yet. After a read that failed nothing is answered. The end of what
 // is typed leaves the prompt's line.
-fn read_block(session: Session, input: &mut [u8]) -> Session {
+fn read_block(rt: &HostRuntime, session: Session, input: &mut [u8]) -> Session {
     let kept = feed::compact(input, session.next, session.to);
-    let filled = refill(input, kept);
+    let filled = refill(rt, input, kept);
     match filled {
         Filled::More(n) => with_block(session, input, n),
-        Filled::Last(n) => with_last(shown(session, b"\n"), n),
+        Filled::Last(n) => with_last(shown(rt, session, b"\n"), n),
         Filled::Failed => over(session),
     }
 }
 
 // The session with a block read, and a prompt before it.
-fn waited_for(session: Session, input: &mut [u8]) -> Session {
-    let p = prompted(session);
+fn waited_for(rt: &HostRuntime, session: Session, input: &mut [u8]) -> Session {
+    let p = prompted(rt, session);
     if p.more {
-        return read_block(p, input);
+        return read_block(rt, p, input);
     }
     p
 }
 
 // The session with its answers written out, and one more block read where no line is at hand.
-fn written_on(session: Session, input: &mut [u8], out: &[u8]) -> Session {
-    let w = written(session, out);
+fn written_on(rt: &HostRuntime, session: Session, input: &mut [u8], out: &[u8]) -> Session {
+    let w = written(rt, session, out);
     if w.found {
         return w;
     }
@@ -211,7 +211,7 @@ fn written_on(session: Session, input: &mut [u8], out: &[u8]) -> Session {
         return over(w);
     }
     if w.more {
-        return waited_for(w, input);
+        return waited_for(rt, w, input);
     }
     w
 }
@@ -229,15 +229,28 @@ pub fn writes(session: Session, out: &[u8], answer: usize) -> bool {
 
 // The session that sought a line, with room for an answer to it: the output row is written out and begun anew where the
 // longest might not fit. Where no line is there yet, what was answered is written out, and more is read.
-pub fn turned(session: Session, input: &mut [u8], out: &[u8], answer: usize) -> Session {
+pub fn turned(
+    rt: &HostRuntime,
+    session: Session,
+    input: &mut [u8],
+    out: &[u8],
+    answer: usize,
+) -> Session {
     if writes(session, out, answer) {
-        return written_on(session, input, out);
+        return written_on(rt, session, input, out);
     }
     session
 }
 
 // Goes on to the next line, where `line` is the longest that is none too long, with room for an answer.
-pub fn turn(session: Session, input: &mut [u8], out: &[u8], line: usize, answer: usize) -> Session {
+pub fn turn(
+    rt: &HostRuntime,
+    session: Session,
+    input: &mut [u8],
+    out: &[u8],
+    line: usize,
+    answer: usize,
+) -> Session {
     let s = sought(session, input, line);
-    turned(s, input, out, answer)
+    turned(rt, s, input, out, answer)
 }

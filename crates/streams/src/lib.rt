@@ -4,12 +4,14 @@
 // bytes are read or written. `usage` is how many arguments a program takes, and the line that says what is wrong with them.
 #![tactic(auto)]
 
+pub mod ports;
 pub mod usage;
 
 ghost use Rattle.std.specs.Prelude.{length};
 ghost use Rattle.streams.specs.Reads.{Fits, Holds};
 
-use libc::{STDIN_FILENO, STDOUT_FILENO};
+use crate::ports::fail;
+use std::io::{Read, Write};
 
 // What one read gave.
 #[derive(Clone, Copy)]
@@ -34,29 +36,33 @@ pub enum Filled {
 }
 
 // Reads once, whatever is there, into the start of a room.
-fn read_some(file: i32, name: &[u8], room: &mut [u8]) -> Got
+fn read_some<R: Read>(rt: &HostRuntime, file: &mut R, name: &[u8], room: &mut [u8]) -> Got
     ensures { Fits (length room.old) result }
 {
-    let answer = libc::read(file, room);
-    if answer < 0 {
-        os::fail(name);
-        return Got::Failed;
+    match file.read(room) {
+        Ok(0) => Got::End,
+        Ok(n) => Got::Bytes(n),
+        Err(error) => {
+            fail(rt, name, error);
+            Got::Failed
+        }
     }
-    let n = io::count(answer, room);
-    if n == 0 {
-        return Got::End;
-    }
-    Got::Bytes(n)
 }
 
 // Reads once, from an open file, behind the first bytes of a buffer, which are kept; none are where it has not so many.
-pub fn refill_from(file: i32, name: &[u8], buffer: &mut [u8], kept: usize) -> Filled
+pub fn refill_from<R: Read>(
+    rt: &HostRuntime,
+    file: &mut R,
+    name: &[u8],
+    buffer: &mut [u8],
+    kept: usize,
+) -> Filled
     ensures { Holds (length buffer.old) result }
 {
     if buffer.len() < kept {
         return Filled::Last(0);
     }
-    let got = read_some(file, name, &mut buffer[kept..]);
+    let got = read_some(rt, file, name, &mut buffer[kept..]);
     match got {
         Got::Bytes(n) => Filled::More(kept + n),
         Got::End => Filled::Last(kept),
@@ -65,23 +71,27 @@ pub fn refill_from(file: i32, name: &[u8], buffer: &mut [u8], kept: usize) -> Fi
 }
 
 // The same from standard input.
-pub fn refill(buffer: &mut [u8], kept: usize) -> Filled
+pub fn refill(rt: &HostRuntime, buffer: &mut [u8], kept: usize) -> Filled
     ensures { Holds (length buffer.old) result }
 {
-    refill_from(STDIN_FILENO, b"standard input", buffer, kept)
+    let mut input = rt.stdin();
+    refill_from(rt, &mut input, b"standard input", buffer, kept)
 }
 
 // Writes all the bytes to an open file and answers true, or false where that failed and standard error says why; some
 // may be written then.
-pub fn write_to(file: i32, name: &[u8], bytes: &[u8]) -> bool {
-    if io::write_all(file, bytes) {
-        return true;
+pub fn write_to<W: Write>(rt: &HostRuntime, file: &mut W, name: &[u8], bytes: &[u8]) -> bool {
+    match file.write_all(bytes) {
+        Ok(()) => true,
+        Err(error) => {
+            fail(rt, name, error);
+            false
+        }
     }
-    os::fail(name);
-    false
 }
 
 // The same to standard output.
-pub fn write_all(bytes: &[u8]) -> bool {
-    write_to(STDOUT_FILENO, b"standard output", bytes)
+pub fn write_all(rt: &HostRuntime, bytes: &[u8]) -> bool {
+    let mut output = rt.stdout();
+    write_to(rt, &mut output, b"standard output", bytes)
 }

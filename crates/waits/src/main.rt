@@ -6,6 +6,6 @@ mod complaints;
 mod lines;
 mod run;
 
-fn main() {
-    run::run();
+fn main(rt: HostRuntime) {
+    run::run(&rt);
 }

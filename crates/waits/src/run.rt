@@ -16,51 +16,57 @@ const TEXT_ROOM: usize = 65_537;
 // As many numbers as a text of arrivals can have, with a byte between each two.
 const ROW_ROOM: usize = 32_768;
 
-fn show(report: Report) {
-    let mut out = io::buffer();
+fn show(rt: &HostRuntime, report: Report) {
+    let mut out = [0u8; 4_096];
     let size = put_report(&mut out, report);
-    write_page(&out, size);
+    write_page(rt, &out, size);
 }
 
-fn complain_beside(pool: u64, log: &[u8], title: u64, arrivals: usize) {
-    let mut out = io::buffer();
+fn complain_beside(rt: &HostRuntime, pool: u64, log: &[u8], title: u64, arrivals: usize) {
+    let mut out = [0u8; 4_096];
     let size = put_complaints(&mut out, pool, log, title, arrivals);
-    write_complaints(&out, size);
+    write_complaints(rt, &out, size);
 }
 
 // The report, once every word of the arrivals is a number.
-fn tell(pool: u64, title: u64, log: &[u8], text: &[u8]) {
+fn tell(rt: &HostRuntime, pool: u64, title: u64, log: &[u8], text: &[u8]) {
     let mut row = [0u64; ROW_ROOM];
     let scan = take_text(text, &mut row);
     if scan.ok {
         let count = scan.count;
-        show(report_of(pool, log, title, &row[..count]));
-        complain_beside(pool, log, title, count);
+        show(rt, report_of(pool, log, title, &row[..count]));
+        complain_beside(rt, pool, log, title, count);
         return;
     }
-    complain_at(b"ARRIVALS", b": no number at byte ", scan.place);
+    complain_at(rt, b"ARRIVALS", b": no number at byte ", scan.place);
 }
 
-fn with_rooms(pool: u64, title: u64, log: &mut [u8], text: &mut [u8]) {
-    let read = load_both(log, b"ARRIVALS", text);
+fn with_rooms(rt: &HostRuntime, pool: u64, title: u64, log: &mut [u8], text: &mut [u8]) {
+    let read = load_both(rt, log, b"ARRIVALS", text);
     let size = read.log;
     let length = read.own;
     if read.ok {
-        tell(pool, title, &log[..size], &text[..length]);
+        tell(rt, pool, title, &log[..size], &text[..length]);
     }
 }
 
 // The rooms are lent as arrays first, whose lengths then need no proof.
-fn lend(pool: u64, title: u64, log: &mut [u8; LOG_ROOM], text: &mut [u8; TEXT_ROOM]) {
-    with_rooms(pool, title, log, text);
+fn lend(
+    rt: &HostRuntime,
+    pool: u64,
+    title: u64,
+    log: &mut [u8; LOG_ROOM],
+    text: &mut [u8; TEXT_ROOM],
+) {
+    with_rooms(rt, pool, title, log, text);
 }
 
 // Arguments are tested in their order, then the files.
-pub fn run() {
-    let Asked::About(pool, title) = pool_and_title(b"waits POOL TITLE LOG ARRIVALS") else {
+pub fn run(rt: &HostRuntime) {
+    let Asked::About(pool, title) = pool_and_title(rt, b"waits POOL TITLE LOG ARRIVALS") else {
         return;
     };
     let mut log = [0u8; LOG_ROOM];
     let mut text = [0u8; TEXT_ROOM];
-    lend(pool, title, &mut log, &mut text);
+    lend(rt, pool, title, &mut log, &mut text);
 }

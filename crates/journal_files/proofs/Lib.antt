@@ -1,2 +1,0 @@
--- What holds of the numbers that the system gives.
-pub mod Given

@@ -1,0 +1,15 @@
+-- What the loop keeps, and what falls.
+use mathlib.Core.Path.{◌≡◌}
+use native.Mathlib.Omega.{arith}
+use lib.ListN.{length}
+use Rattle.scanning.specs.inner.Steps.{Counts}
+use Rattle.scanning.proofs.Stepping.{fresh_counts}
+use Rattle.salvage.specs.Blocks.{block_room}
+use borrow.Author.Rules.{rules}
+use Rattle.salvage.proofs.input.salvage_input.Given as goal
+
+abbrev pub invariant-loop-turns : goal.invariant-loop-turns
+invariant-loop-turns l = Counts l.fed.progress × (block_room ≡ length l.buffer)
+
+abbrev pub decreases-loop-turns : goal.decreases-loop-turns
+decreases-loop-turns l = l.turns

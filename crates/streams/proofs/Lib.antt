@@ -1,2 +1,0 @@
--- What a read that gave bytes says of them.
-pub mod Room

@@ -1,0 +1,10 @@
+-- `waits::arrivals::is_gap` meets its contract: a newline, or what parts words on a line.
+use borrow.Author.Tests.{eq-eqb, ne_eqb}
+use borrow.Author.Rules.{rules}
+use Rattle.waits.proofs.arrivals.is_gap.Goals as goal
+
+pub returns-then-b-eq10 : goal.returns-then-b-eq10
+returns-then-b-eq10 c = rw (eq-eqb _ _ c.if-b-eq10.true)
+
+pub returns : goal.returns
+returns c = rw (ne_eqb _ _ c.if-b-eq10.false) c.is_separator.ensures
