@@ -3,7 +3,7 @@
 use mathlib.Core.Path.{◌≡◌, refl, sym, ap, ◌∙◌}
 use Prim.Native.Nat.{ℕ, zero, suc, ◌+◌, ◌-◌, ◌*◌, ◌/◌, ◌%◌, ◌^◌, ◌≤◌, ◌<◌}
 use native.Mathlib.Omega.{arith}
-use native.Mathlib.Nat.{mod-lt, div-add-mod', le-div_iff_mul-le, div-le_of_le-mul, mul-le-mul, mul-le-mul_right}
+use native.Mathlib.Nat.{mod-lt, div-add-mod', le-div_iff_mul-le, div-le_of_le-mul, mul-le-mul}
 use lib.Pow.{pow_pos, pow-add, pow-lt, pow_mono}
 use Rattle.rules.specs.Limits.{count_max, length_max}
 use Rattle.grid.specs.Ticks.{slot, rounded_up, tick_of}

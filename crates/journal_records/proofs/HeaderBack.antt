@@ -5,7 +5,6 @@ use mathlib.Core.Bool.{true}
 use mathlib.Core.List.{List, ◌++◌}
 use Prim.Native.Nat.{ℕ, ◌+◌, ◌≤◌, ◌<◌, ◌^◌}
 use native.Mathlib.Omega.{arith}
-use lib.Dec.{eqb}
 use lib.ListN.{length, take, drop}
 use borrow.Author.Tests.{le-ltb, eq-eqb}
 use Rattle.rules.specs.Limits.{within, pool_min, pool_max}
@@ -17,7 +16,7 @@ use Rattle.notice_fields.proofs.Has.{Has, has_left, has_right, has_part, number_
 use Rattle.journal_records.specs.declared.headers.Origin.{Origin}
 use Rattle.journal_records.specs.declared.headers.Header.TheVariants.{Good}
 use Rattle.journal_records.specs.Header.{header_summed, header_size, identity_size, header_word, origin_bytes, summed_bytes, header_of, identity_in, header_found}
-use Rattle.journal_records.proofs.HeaderLaid.{length_origin, length_summed}
+use Rattle.journal_records.proofs.HeaderLaid.{length_summed}
 
 -- the numbers fit their eight bytes, and the pool its limits
 pub record Originates (o : Origin) : Type 0 where

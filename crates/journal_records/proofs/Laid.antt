@@ -1,22 +1,21 @@
 -- What the calls that write have laid: bytes one by one, the parts of a record one behind the other, and its sum behind them.
 -- Rests on runs of stores.
-use mathlib.Core.Path.{◌≡◌, refl, sym, ap, ◌∙◌}
+use mathlib.Core.Path.{◌≡◌, sym, ap, ◌∙◌}
 use mathlib.Core.Bool.{true, false}
 use mathlib.Core.List.{List, [], ◌∷◌, ◌++◌, append_assoc}
-use Prim.Native.Nat.{ℕ, suc, ◌+◌, ◌-◌, ◌≤◌, ◌<◌}
+use Prim.Native.Nat.{ℕ, ◌+◌, ◌≤◌, ◌<◌}
 use native.Mathlib.Numerals.{add-one}
 use native.Mathlib.Omega.{arith}
 use lib.Dec.{leb}
 use lib.ListN.{length, get_or, take, drop, set, length-append}
-use lib.Seq.{sets, take-suc, take_at, drop_at, sets-eq, length-sets, length-take-le}
+use lib.Seq.{sets, take-suc, take_at, drop_at, sets-eq, length-take-le}
 use borrow.Author.Tests.{le-leb, lt-leb}
-use Rattle.rules.specs.Limits.{both}
 use Rattle.sums.specs.Crc.{sum_of, sum_size}
 use Rattle.notice_fields.specs.Numbers.{big_endian}
 use Rattle.notice_fields.proofs.Digits.{length_big}
 use Rattle.notice_fields.proofs.Stores.{sets_append}
 use Rattle.journal_records.specs.Records.{record_head, record_least, payload_max, body_of, record_of}
-use Rattle.journal_records.specs.Laying.{is_room_for, LaysRecord}
+use Rattle.journal_records.specs.Laying.{LaysRecord}
 
 -- one byte more
 pub one_laid : (bs l : List ℕ) (at i : ℕ) → i < length bs

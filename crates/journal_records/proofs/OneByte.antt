@@ -1,7 +1,7 @@
 -- A record of which one byte was changed, in its payload or its sum, in its number or its kind, never verifies where it stood.
 -- Rests on one byte changing a sum, and on numbers that come back from their bytes.
 use mathlib.Core.Path.{◌≡◌, sym, ap, ◌∙◌}
-use mathlib.Core.Bool.{true, false}
+use mathlib.Core.Bool.{false}
 use mathlib.Core.Logic.{◌⊎◌, ⊎_elim}
 use mathlib.Core.List.{List, [], ◌∷◌, ◌++◌}
 use Prim.Native.Nat.{ℕ, zero, suc, ◌+◌, ◌-◌, ◌≤◌, ◌<◌}
@@ -15,9 +15,9 @@ use Rattle.sums.proofs.OneByte.{sum_one_byte}
 use Rattle.notice_fields.specs.Numbers.{Bytes, big_endian, number_at}
 use Rattle.notice_fields.proofs.Digits.{length_big}
 use Rattle.notice_fields.proofs.Each.{by_order}
-use Rattle.notice_fields.proofs.Has.{Has, has_left, has_right, number_back, bytes_back, bytes_append}
+use Rattle.notice_fields.proofs.Has.{Has, number_back, bytes_back, bytes_append}
 use Rattle.journal_records.specs.Records.{record_head, record_least, body_of, record_of, payload_size, verifies_at}
-use Rattle.journal_records.proofs.Standing.{Verified, verified}
+use Rattle.journal_records.proofs.Standing.{verified}
 use Rattle.journal_records.proofs.Laid.{length_body, length_record}
 use Rattle.journal_records.proofs.RoundTrip.{Recordable, bytes_body, sum_fits}
 

@@ -1,21 +1,20 @@
 -- A record that was written stands where it was written, and reads as what was written.
 -- Rests on numbers that come back from their bytes, and on a sum fitting four.
-use mathlib.Core.Path.{◌≡◌, sym, ap, ◌∙◌}
+use mathlib.Core.Path.{◌≡◌, ap, ◌∙◌}
 use mathlib.Core.Bool.{true}
 use mathlib.Core.List.{List, ◌++◌}
 use Prim.Native.Nat.{ℕ, ◌+◌, ◌≤◌, ◌<◌, ◌^◌}
-use native.Mathlib.Nat.{add_assoc}
 use native.Mathlib.Omega.{arith}
 use lib.ListN.{length, take, drop}
 use Rattle.sums.specs.Crc.{sum_of, sum_size}
 use Rattle.sums.proofs.Small.{sum_small}
-use Rattle.notice_fields.specs.Numbers.{Bytes, big_endian, number_at}
+use Rattle.notice_fields.specs.Numbers.{Bytes, big_endian}
 use Rattle.notice_fields.proofs.Digits.{length_big}
 use Rattle.notice_fields.proofs.Has.{Has, has_left, has_right, has_part, number_back, bytes_append, bytes_big}
 use Rattle.journal_records.specs.Records.{record_head, record_least, records_max, payload_max, body_of, record_of, record_number, record_kind, payload_size}
-use Rattle.journal_records.specs.Records.{payload_at, record_end, verifies_at}
+use Rattle.journal_records.specs.Records.{payload_at, verifies_at}
 use Rattle.journal_records.proofs.Standing.{verifies}
-use Rattle.journal_records.proofs.Laid.{length_body, length_record}
+use Rattle.journal_records.proofs.Laid.{length_body}
 
 -- the numbers of a record, and its payload, are within what its bytes hold
 pub record Recordable (n kind : ℕ) (payload : List ℕ) : Type 0 where

@@ -4,11 +4,10 @@ use mathlib.Core.Path.{◌≡◌}
 use mathlib.Core.Bool.{Bool, true, false}
 use mathlib.Core.List.{List, ◌++◌}
 use Prim.Native.Nat.{ℕ, ◌+◌, ◌≤◌}
-use native.Mathlib.Omega.{arith}
-use lib.Dec.{eqb, leb}
+use lib.Dec.{leb}
 use lib.ListN.{length, take, drop}
 use borrow.Author.Tests.{leb-true, le-leb, eqb-true, eq-eqb}
-use Rattle.rules.specs.Limits.{both, within}
+use Rattle.rules.specs.Limits.{within}
 use Rattle.rules.proofs.Tests.{both_l, both_r}
 use Rattle.sums.specs.Crc.{sum_of, sum_size}
 use Rattle.notice_fields.specs.Numbers.{number_at}

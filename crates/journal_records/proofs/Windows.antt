@@ -1,20 +1,17 @@
 -- What stands at a place of a part of a journal stands there in the journal: a part that begins later is read from its own start on, and bytes
 -- behind one matter only to a record that would reach them.
 -- Rests on the laws of lists.
-use mathlib.Core.Path.{◌≡◌, refl, sym, ap, ap₂, ◌∙◌}
-use mathlib.Core.Bool.{Bool}
+use mathlib.Core.Path.{◌≡◌, refl, ap, ◌∙◌}
 use mathlib.Core.List.{List, ◌++◌}
-use Prim.Native.Nat.{ℕ, zero, suc, ◌+◌, ◌*◌, ◌≤◌, ◌<◌, ◌^◌}
+use Prim.Native.Nat.{ℕ, zero, suc, ◌+◌, ◌≤◌, ◌<◌, ◌^◌}
 use native.Mathlib.Nat.{add_assoc, pow-suc}
 use native.Mathlib.Omega.{arith}
-use lib.Dec.{eqb, leb}
-use lib.ListN.{length, take, drop, get_or, length-append, length-drop, get_or-append}
+use lib.Dec.{leb}
+use lib.ListN.{length, drop, length-append, length-drop, get_or-append}
 use lib.Seq.{drop-append-add, drop-append-le, take-append-le, get_or-append-add}
-use Rattle.rules.specs.Refusals.{pick}
-use Rattle.sums.specs.Crc.{sum_of}
 use Rattle.notice_fields.specs.Numbers.{Bytes, number_at}
 use Rattle.notice_fields.proofs.Each.{same_order}
-use Rattle.journal_records.specs.Records.{record_head, record_least, longest_record, record_number, record_kind, payload_size, is_headed, verifies_at, found_at}
+use Rattle.journal_records.specs.Records.{record_head, record_least, longest_record, payload_size, is_headed, verifies_at, found_at}
 
 -- ---- a number, from bytes that begin later, or go on
 

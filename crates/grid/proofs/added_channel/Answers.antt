@@ -3,7 +3,6 @@
 use native.Mathlib.Omega.{arith}
 use native.Mathlib.Nat.{div-le_self}
 use Rattle.grid.proofs.Zeros.{parts_added}
-use borrow.Author.Rules.{rules}
 use Rattle.grid.proofs.added_channel.Goals as goal
 
 pub overflow_add-j : goal.overflow_add-j

@@ -7,7 +7,6 @@ use lib.Count.{count_leading_zeros}
 use lib.Pow.{pow_mono}
 use Rattle.rules.specs.Limits.{count_max}
 use Rattle.grid.proofs.Numbers.{TopBit, top_bit}
-use borrow.Author.Rules.{rules}
 use Rattle.grid.proofs.carrier.Tie as tie
 use Rattle.grid.proofs.carrier.Lts as lts
 use Rattle.grid.proofs.carrier.Reads as reads

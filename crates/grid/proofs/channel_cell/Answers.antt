@@ -4,7 +4,6 @@ use Prim.Native.Nat.{◌^◌, ◌≤◌}
 use native.Mathlib.Omega.{arith}
 use native.Mathlib.Nat.{div-le_self}
 use lib.Pow.{pow_mono}
-use borrow.Author.Rules.{rules}
 use Rattle.rules.specs.Limits.{count_max}
 use Rattle.grid.proofs.Channels.{cell_parts}
 use Rattle.grid.proofs.channel_cell.Goals as goal

@@ -1,6 +1,5 @@
 -- `grid::floor_rem` meets its contract: below zero it takes the remainder of what is missing, elsewhere the plain one.
 -- Rests on the laws of signed numbers.
-use borrow.Author.Rules.{rules}
 use Rattle.grid.proofs.Signed.{below, above, flipped_fits, flipped_read, cast_of, rem_below, rem_above}
 use mir.ValLaws.{to_z-of_z}
 use mir.Syntax.{w64}

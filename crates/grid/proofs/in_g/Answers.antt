@@ -4,7 +4,6 @@ use mathlib.Core.Path.{refl, sym, ◌∙◌}
 use borrow.Author.Tests.{lt-ltb, le-ltb}
 use native.Mathlib.Omega.{arith}
 use Rattle.grid.proofs.Carriers.{in_carried, in_cells}
-use borrow.Author.Rules.{rules}
 use Rattle.grid.proofs.in_g.Goals as goal
 
 pub returns-then-pow2-cell : goal.returns-then-pow2-cell

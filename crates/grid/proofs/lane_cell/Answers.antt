@@ -5,7 +5,6 @@ use Prim.Native.Nat.{suc}
 use native.Mathlib.Numerals.{add-one}
 use Rattle.grid.specs.Channels.{channel_cell}
 use Rattle.grid.proofs.Lanes.{lane_channel, lane_added}
-use borrow.Author.Rules.{rules}
 use Rattle.grid.proofs.lane_cell.Goals as goal
 
 pub returns-then-lane-floor : goal.returns-then-lane-floor

@@ -2,7 +2,6 @@
 -- Rests on the laws of signed numbers.
 use native.Mathlib.Omega.{arith}
 use Rattle.grid.proofs.Signed.{rest_parts}
-use borrow.Author.Rules.{rules}
 use Rattle.grid.proofs.place.Goals as goal
 
 pub returns : goal.returns

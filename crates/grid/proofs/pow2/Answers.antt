@@ -1,6 +1,5 @@
 -- `grid::pow2` meets its contract: a small power of two fits, so the shift loses nothing.
 -- Rests on the laws of bounds.
-use borrow.Author.Rules.{rules}
 use Rattle.grid.proofs.Bounds.{small_power}
 use Rattle.grid.proofs.pow2.Goals as goal
 

@@ -3,7 +3,6 @@ use native.Mathlib.Omega.{arith}
 use mathlib.Core.Path.{ap}
 use Prim.Native.Nat.{◌-◌}
 use Rattle.grid.specs.Channels.{shift}
-use borrow.Author.Rules.{rules}
 use Rattle.grid.proofs.shift.Goals as goal
 
 pub returns : goal.returns

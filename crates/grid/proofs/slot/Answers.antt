@@ -1,6 +1,5 @@
 -- `grid::slot` meets its contract: it is the power of two that a slot is defined by.
 -- Rests on what its callee ensures.
-use borrow.Author.Rules.{rules}
 use Rattle.grid.specs.Ticks.{slot}
 use Rattle.grid.proofs.slot.Goals as goal
 

@@ -1,6 +1,5 @@
 -- `grid::slot_difference` meets its contract: the two numbers are small enough for their difference to fit.
 -- Rests on the laws of signed numbers.
-use borrow.Author.Rules.{rules}
 use Rattle.grid.proofs.Signed.{diff_fits, diff_read}
 use Rattle.grid.proofs.slot_difference.Goals as goal
 

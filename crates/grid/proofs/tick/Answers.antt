@@ -1,6 +1,5 @@
 -- `grid::tick` meets its contract: the cells that hold film are more than none, and the division rounds up.
 -- Rests on the laws of ticks.
-use borrow.Author.Rules.{rules}
 use native.Mathlib.Omega.{arith}
 use Rattle.grid.proofs.Ticks.{held_pos, tick_exactly}
 use Rattle.grid.proofs.tick.Goals as goal

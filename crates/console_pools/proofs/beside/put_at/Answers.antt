@@ -3,7 +3,6 @@ use mathlib.Core.Path.{refl}
 use borrow.Author.Tests.{lt-ltb, le-ltb}
 use Rattle.text.specs.Output.{puts}
 use Rattle.console_pools.specs.Beside.{entry_at}
-use borrow.Author.Rules.{rules}
 use Rattle.console_pools.proofs.beside.put_at.Goals as goal
 
 pub returns-then-i-row : goal.returns-then-i-row

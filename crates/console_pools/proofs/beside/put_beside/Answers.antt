@@ -1,11 +1,8 @@
 -- `console_pools::beside::put_beside` meets its contract: of the four rows, the places passed are written.
-use Prim.Native.Nat.{◌-◌}
 use native.Mathlib.Omega.{arith}
-use Rattle.text.specs.Output.{page}
 use Rattle.text.proofs.Pages.{puts_then}
-use Rattle.console_answers.proofs.Rows.{Passed, passed_none, passed_on, passed_all}
+use Rattle.console_answers.proofs.Rows.{passed_none, passed_on, passed_all}
 use Rattle.console_pools.specs.Beside.{beside_at}
-use borrow.Author.Rules.{rules}
 use Rattle.console_pools.proofs.beside.put_beside.Goals as goal
 
 pub loop-i-preserved : goal.loop-i-preserved

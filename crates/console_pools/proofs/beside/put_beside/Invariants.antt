@@ -1,11 +1,8 @@
 -- What the loop keeps, and what falls.
 use Prim.Native.Nat.{◌-◌}
-use native.Mathlib.Omega.{arith}
 use Rattle.text.specs.Output.{page}
-use Rattle.text.proofs.Pages.{puts_then}
-use Rattle.console_answers.proofs.Rows.{Passed, passed_none, passed_on, passed_all}
+use Rattle.console_answers.proofs.Rows.{Passed}
 use Rattle.console_pools.specs.Beside.{beside_at}
-use borrow.Author.Rules.{rules}
 use Rattle.console_pools.proofs.beside.put_beside.Given as goal
 
 abbrev pub invariant-loop-i : goal.invariant-loop-i

@@ -1,5 +1,5 @@
 -- `console_pools::columns::column` meets its contract: the titles passed have their number.
-use Prim.Native.Nat.{◌+◌, ◌-◌, ◌*◌, ◌<◌, ◌≤◌}
+use Prim.Native.Nat.{◌+◌, ◌*◌, ◌<◌, ◌≤◌}
 use mathlib.Core.Path.{◌≡◌, refl, ◌∙◌, ap}
 use lib.ListN.{length}
 use Rattle.console_pools.proofs.Numbers.{column_length, in_line}
@@ -9,7 +9,6 @@ use native.Mathlib.Numerals.{add-one}
 use Rattle.console_pools.specs.Shares.{column}
 use Rattle.console_commands.specs.Commands.{titles_most, title_numbers}
 use Rattle.console_lines.specs.Lines.{numbers_most}
-use borrow.Author.Rules.{rules}
 use Rattle.console_pools.proofs.columns.column.Tie as tie
 use Rattle.console_pools.proofs.columns.column.Lts as lts
 use Rattle.console_pools.proofs.columns.column.Reads as reads

@@ -1,15 +1,8 @@
 -- What the loop keeps, and what falls.
-use Prim.Native.Nat.{◌+◌, ◌-◌, ◌*◌, ◌<◌, ◌≤◌}
-use mathlib.Core.Path.{◌≡◌, refl, ◌∙◌, ap}
-use lib.ListN.{length}
-use Rattle.console_pools.proofs.Numbers.{column_length, in_line}
-use native.Mathlib.Omega.{arith}
-use native.Mathlib.Nat.{le_antisymm}
-use native.Mathlib.Numerals.{add-one}
+use Prim.Native.Nat.{◌-◌, ◌≤◌}
+use mathlib.Core.Path.{◌≡◌}
 use Rattle.console_pools.specs.Shares.{column}
-use Rattle.console_commands.specs.Commands.{titles_most, title_numbers}
-use Rattle.console_lines.specs.Lines.{numbers_most}
-use borrow.Author.Rules.{rules}
+use Rattle.console_commands.specs.Commands.{titles_most}
 use Rattle.console_pools.proofs.columns.column.Given as goal
 
 abbrev pub invariant-loop-i : goal.invariant-loop-i

@@ -6,7 +6,6 @@ use Rattle.console_commands.specs.Commands.{titles_most, room_most}
 use Rattle.console_pools.specs.Moves.{rates_in, planner_in}
 use Rattle.console_answers.proofs.Rows.{counted}
 use Rattle.console_pools.proofs.Listed.{lent}
-use borrow.Author.Rules.{rules}
 use Rattle.console_pools.proofs.moves.put_planner.Goals as goal
 
 pub slice_bounds-put_rows-end : goal.slice_bounds-put_rows-end

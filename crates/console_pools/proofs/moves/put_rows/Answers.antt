@@ -1,7 +1,6 @@
 -- `console_pools::moves::put_rows` meets its contract: the planner's list stands behind its answer.
 use Rattle.text.specs.Output.{page}
 use Rattle.console_pools.proofs.Listed.{planner_told, planner_refused}
-use borrow.Author.Rules.{rules}
 use Rattle.console_pools.proofs.moves.put_rows.Goals as goal
 
 pub returns-then-answer-eq-DONE : goal.returns-then-answer-eq-DONE

@@ -4,7 +4,6 @@ use lib.ListN.{length-take}
 use Rattle.console_pools.specs.Shares.{share_in}
 use Rattle.console_answers.proofs.Rows.{counted}
 use Rattle.console_commands.specs.Commands.{titles_most}
-use borrow.Author.Rules.{rules}
 use Rattle.console_pools.proofs.shares.put_share.Goals as goal
 
 pub slice_bounds-put_rows-end : goal.slice_bounds-put_rows-end

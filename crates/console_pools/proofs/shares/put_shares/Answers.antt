@@ -1,11 +1,6 @@
 -- `console_pools::shares::put_shares` meets its contract: a row of counts, of which the entries passed are written.
-use Prim.Native.Nat.{ℕ, ◌-◌}
 use native.Mathlib.Omega.{arith}
-use lib.ListN.{length, get_or}
-use Rattle.text.specs.Output.{page}
-use Rattle.console_answers.specs.Entries.{entry}
-use Rattle.console_answers.proofs.Rows.{Passed, passed_none, passed_on, passed_all}
-use borrow.Author.Rules.{rules}
+use Rattle.console_answers.proofs.Rows.{passed_none, passed_on, passed_all}
 use Rattle.console_pools.proofs.shares.put_shares.Goals as goal
 
 pub overflow_cast-row : goal.overflow_cast-row

@@ -8,7 +8,6 @@ use lib.Seq.{drop-cons, take_all}
 use Rattle.text.specs.Output.{page, puts}
 use Rattle.console_pools.specs.Titles.{status_text}
 use Rattle.console_pools.proofs.Answered.{status_told, status_refused}
-use borrow.Author.Rules.{rules}
 use Rattle.console_pools.proofs.titles.put_rows.Goals as goal
 
 -- the part of a line behind its time
@@ -16,7 +15,6 @@ abbrev part : List ℕ → List ℕ
 part l = take (length l - 1) (drop 1 l)
 
 is_rest : (l : List ℕ) → part l ≡ drop 1 l
-
 is_rest l = let all : length (drop 1 l) ≤ length l - 1 = omega (arith, length-drop 1 l) in take_all (length l - 1) (drop 1 l) all
 
 part_length : (l : List ℕ) → length l - 1 ≡ length (part l)

@@ -6,7 +6,6 @@ use native.Mathlib.Omega.{arith}
 use native.Mathlib.Numerals.{add-one}
 use lib.ListN.{get_or, take, drop, length-take, length-drop}
 use Rattle.console_pools.specs.Titles.{ids_in}
-use borrow.Author.Rules.{rules}
 use Rattle.console_pools.proofs.titles.put_status.Goals as goal
 
 -- what stands behind the first of some numbers are the numbers behind the first

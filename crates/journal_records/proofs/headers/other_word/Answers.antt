@@ -1,6 +1,5 @@
 -- `other_word` meets its contract: each way out decides the test.
 use mathlib.Core.Path.{sym, ◌∙◌}
-use borrow.Author.Rules.{rules}
 use Rattle.journal_records.specs.Header.{other_word}
 use Rattle.journal_records.proofs.headers.other_word.Goals as goal
 

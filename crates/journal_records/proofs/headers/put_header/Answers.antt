@@ -6,7 +6,6 @@ use lib.Seq.{sets, length-take-le, length-sets}
 use Rattle.notice_fields.specs.Numbers.{big_endian}
 use Rattle.journal_records.specs.Header.{header_word, origin_bytes}
 use Rattle.journal_records.proofs.HeaderLaid.{summed_laid, summed_there, header_laid, odd_identity, short_room, header_put}
-use borrow.Author.Rules.{rules}
 use Rattle.journal_records.proofs.headers.put_header.Goals as goal
 
 pub returns-then-identity-ne-IDENTITY : goal.returns-then-identity-ne-IDENTITY

@@ -1,6 +1,5 @@
 -- `put_origin` meets its contract: each number behind the one before, and zeros.
 use Rattle.journal_records.proofs.HeaderLaid.{origin_laid}
-use borrow.Author.Rules.{rules}
 use Rattle.journal_records.proofs.headers.put_origin.Goals as goal
 
 pub returns : goal.returns

@@ -1,8 +1,7 @@
 -- `read_header` meets its contract: each way out has decided its tests.
 use native.Mathlib.Omega.{arith}
-use mathlib.Core.Path.{sym, ap, ◌∙◌}
+use mathlib.Core.Path.{sym, ◌∙◌}
 use lib.Seq.{length-take-le}
-use borrow.Author.Rules.{rules}
 use borrow.Author.Tests.{lt-ltb, le-ltb, eq-eqb, ne_eqb}
 use Rattle.journal_records.specs.Header.{header_found}
 use Rattle.journal_records.proofs.headers.read_header.Goals as goal

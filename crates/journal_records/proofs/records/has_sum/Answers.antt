@@ -6,7 +6,6 @@ use native.Mathlib.Omega.{arith}
 use lib.Dec.{eqb}
 use lib.ListN.{take, drop}
 use Rattle.sums.specs.Crc.{sum_of}
-use borrow.Author.Rules.{rules}
 use Rattle.journal_records.proofs.records.has_sum.Goals as goal
 
 pub returns : goal.returns

@@ -3,7 +3,6 @@ use mathlib.Core.Path.{ap, ap₂, ◌∙◌}
 use lib.Dec.{leb}
 use Rattle.rules.specs.Limits.{both, within}
 use Rattle.journal_records.specs.Records.{records_max, is_headed}
-use borrow.Author.Rules.{rules}
 use Rattle.journal_records.proofs.records.is_headed.Goals as goal
 
 pub returns : goal.returns

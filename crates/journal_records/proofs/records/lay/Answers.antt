@@ -1,13 +1,10 @@
 -- `lay` meets its contract: the bytes passed stand from the place on.
-use Prim.Native.Nat.{◌≤◌, ◌-◌}
 use mathlib.Core.Path.{◌≡◌, refl, ap, ◌∙◌}
 use native.Mathlib.Nat.{le_antisymm}
 use native.Mathlib.Omega.{arith}
-use borrow.Author.Rules.{rules}
 use lib.ListN.{length, take}
-use lib.Seq.{sets, length-sets, take-length}
+use lib.Seq.{length-sets, take-length}
 use Rattle.journal_records.proofs.Laid.{one_laid}
-use Rattle.journal_records.proofs.records.lay.Tie as tie
 use Rattle.journal_records.proofs.records.lay.Lts as lts
 use Rattle.journal_records.proofs.records.lay.Reads as reads
 use Rattle.journal_records.proofs.records.lay.Goals as goal

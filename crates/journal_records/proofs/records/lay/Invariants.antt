@@ -1,12 +1,8 @@
 -- What the loop keeps, and what falls.
 use Prim.Native.Nat.{◌≤◌, ◌-◌}
-use mathlib.Core.Path.{◌≡◌, refl, ap, ◌∙◌}
-use native.Mathlib.Nat.{le_antisymm}
-use native.Mathlib.Omega.{arith}
-use borrow.Author.Rules.{rules}
+use mathlib.Core.Path.{◌≡◌}
 use lib.ListN.{length, take}
-use lib.Seq.{sets, length-sets, take-length}
-use Rattle.journal_records.proofs.Laid.{one_laid}
+use lib.Seq.{sets}
 use Rattle.journal_records.proofs.records.lay.Given as goal
 
 abbrev pub invariant-loop-i : goal.invariant-loop-i

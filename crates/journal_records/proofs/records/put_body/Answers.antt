@@ -1,6 +1,5 @@
 -- `put_body` meets its contract: number, kind, length and payload, one behind the other.
 use Rattle.journal_records.proofs.Laid.{body_laid}
-use borrow.Author.Rules.{rules}
 use Rattle.journal_records.proofs.records.put_body.Goals as goal
 
 pub returns : goal.returns

@@ -1,13 +1,10 @@
 -- `put_record` meets its contract: the body, and behind it the sum of what stands in the room by then.
-use Prim.Native.Nat.{ℕ, ◌+◌, ◌-◌, ◌≤◌}
+use Prim.Native.Nat.{◌+◌, ◌-◌, ◌≤◌}
 use mathlib.Core.Path.{◌≡◌, sym, ap, ◌∙◌}
-use mathlib.Core.List.{◌++◌}
 use native.Mathlib.Omega.{arith}
-use lib.ListN.{length, take, drop}
-use lib.Seq.{sets, length-sets}
-use borrow.Author.Rules.{rules}
+use lib.ListN.{length}
+use lib.Seq.{length-sets}
 use borrow.Author.Tests.{leb-true}
-use Rattle.sums.specs.Crc.{sum_of}
 use Rattle.journal_records.specs.Records.{body_of}
 use Rattle.journal_records.proofs.Laid.{body_there, record_laid, too_long_lem, no_room_lem, record_put}
 use Rattle.journal_records.proofs.records.put_record.Tie as tie

@@ -1,8 +1,6 @@
 -- `record_at` meets its contract: where a record stands, what is read of it.
-use mathlib.Core.Path.{◌≡◌, sym, ap, ◌∙◌}
-use mathlib.Core.Bool.{true}
+use mathlib.Core.Path.{sym, ◌∙◌}
 use native.Mathlib.Omega.{arith}
-use borrow.Author.Rules.{rules}
 use Rattle.journal_records.specs.Records.{found_at}
 use Rattle.journal_records.proofs.Standing.{Verified, verified}
 use Rattle.journal_records.proofs.records.record_at.Tie as tie

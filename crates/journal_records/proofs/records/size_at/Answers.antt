@@ -3,7 +3,6 @@ use mathlib.Core.Path.{◌≡◌, ap, ◌∙◌}
 use Prim.Native.Nat.{ℕ, ◌+◌}
 use native.Mathlib.Omega.{arith}
 use Rattle.notice_fields.specs.Numbers.{number_at}
-use borrow.Author.Rules.{rules}
 use Rattle.journal_records.proofs.records.size_at.Goals as goal
 
 pub returns : goal.returns

@@ -1,9 +1,8 @@
 -- `verifies` meets its contract: each way out has decided its tests.
 use Prim.Native.Nat.{◌+◌}
-use mathlib.Core.Path.{sym, ap, ◌∙◌}
+use mathlib.Core.Path.{sym, ◌∙◌}
 use native.Mathlib.Omega.{arith}
 use lib.ListN.{length}
-use borrow.Author.Rules.{rules}
 use borrow.Author.Tests.{leb-true}
 use Rattle.journal_records.proofs.Standing.{none_short, none_headed, none_whole, by_sum}
 use Rattle.journal_records.proofs.records.verifies.Goals as goal

@@ -1,11 +1,9 @@
 -- `next_record` meets its contract: at the places passed no record stands.
-use Prim.Native.Nat.{ℕ, suc, max, ◌≤◌, ◌<◌, ◌-◌}
+use Prim.Native.Nat.{ℕ, suc, ◌≤◌, ◌<◌}
 use mathlib.Core.Path.{◌≡◌, sym, ◌∙◌}
 use mathlib.Core.Bool.{false}
 use mathlib.Core.List.{List}
 use native.Mathlib.Omega.{arith}
-use lib.ListN.{length}
-use borrow.Author.Rules.{rules}
 use Rattle.notice_fields.proofs.Each.{by_order}
 use Rattle.journal_records.specs.Records.{verifies_at}
 use Rattle.journal_records.proofs.search.next_record.Goals as goal

@@ -1,12 +1,8 @@
 -- What the loop keeps, and what falls.
-use Prim.Native.Nat.{ℕ, suc, max, ◌≤◌, ◌<◌, ◌-◌}
-use mathlib.Core.Path.{◌≡◌, sym, ◌∙◌}
+use Prim.Native.Nat.{ℕ, max, ◌≤◌, ◌<◌, ◌-◌}
+use mathlib.Core.Path.{◌≡◌}
 use mathlib.Core.Bool.{false}
-use mathlib.Core.List.{List}
-use native.Mathlib.Omega.{arith}
 use lib.ListN.{length}
-use borrow.Author.Rules.{rules}
-use Rattle.notice_fields.proofs.Each.{by_order}
 use Rattle.journal_records.specs.Records.{verifies_at}
 use Rattle.journal_records.proofs.search.next_record.Given as goal
 

@@ -1,0 +1,31 @@
+-- `console_boxes::cells::put_cells` meets its contract: of the plan, the cells passed are written.
+use Prim.Native.Nat.{ℕ, ◌-◌}
+use native.Mathlib.Omega.{arith}
+use lib.ListN.{get_or}
+use Rattle.text.specs.Output.{page}
+use Rattle.console_boxes.specs.Plan.{cell_entry}
+use Rattle.console_answers.proofs.Rows.{Passed, passed_none, passed_on, passed_all}
+use borrow.Author.Rules.{rules}
+use Rattle.console_boxes.proofs.cells.put_cells.Goals as goal
+
+pub loop-i-preserved : goal.loop-i-preserved
+loop-i-preserved c =
+    let at-put = c in
+    let at-loop-test = at-put in
+    let at-loop = at-loop-test in
+    passed_on _ _ _ _ at-loop.loop-i.invariant at-loop-test.loop-i-test.true at-put.put_cell-place.ensures
+
+pub loop-i-init : goal.loop-i-init
+loop-i-init c = passed_none _ _ _
+
+pub overflow_add-i : goal.overflow_add-i
+overflow_add-i c = omega arith
+
+pub loop-i-smaller : goal.loop-i-smaller
+loop-i-smaller c = omega arith
+
+pub shape_of-out : goal.shape_of-out
+shape_of-out c = c.loop-i.invariant.room
+
+pub returns : goal.returns
+returns c = passed_all _ _ _ _ c.loop-i.invariant c.loop-i-test.false
