@@ -20,6 +20,10 @@ def norm(s):
     return re.sub(r"^(overflow|nonzero)-", "", s.replace("_", "-"))
 
 
+def plain(s):
+    return norm(s).lower()
+
+
 def norms(s):
     s = norm(s)
     out = [s]
@@ -267,6 +271,9 @@ def turn_paths(text, names, place, heads=("c",), goal=False):
             new = chain.get(norm(g)) or names.flat.get(norm(g))
             if new:
                 return m[1] + "." + new + rest
+        for old, new in list(chain.items()) + list(names.flat.items()):
+            if plain(old) == plain(f):
+                return m[1] + "." + new + rest
         return m[0]
 
     text = path_pattern(heads).sub(sub, text)
@@ -323,7 +330,7 @@ def chunks(text):
             elif comment:
                 comment.append(line)
             continue
-        if line[0] in " \t":
+        if line[0] in " \t}":
             cur.append(line)
             continue
         if line.startswith("--"):

@@ -1,7 +1,5 @@
 -- The tests on a command that asks for a view, and what a line that asks when names.
-use Prim.Native.Nat.{ℕ}
 use mathlib.Core.Path.{◌≡◌}
-use mathlib.Core.List.{List}
 use borrow.Author.Tests.{eq-eqb, ne_eqb}
 use Rattle.story.specs.declared.State.{State}
 use Rattle.story.specs.declared.Event.{Event}

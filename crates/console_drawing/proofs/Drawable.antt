@@ -6,7 +6,7 @@ use mathlib.Core.Bool.{true, not}
 use native.Mathlib.Omega.{arith}
 use borrow.Author.Tests.{leb-true, eqb-false, not-true}
 use lib.Dec.{leb, eqb}
-use Rattle.rules.specs.Limits.{both, id_max, asked_max}
+use Rattle.rules.specs.Limits.{id_max, asked_max}
 use Rattle.rules.proofs.Tests.{both_l, both_r}
 use Rattle.story.specs.declared.State.{State}
 use Rattle.story.specs.Kept.{absent_mode, title_at, state_ok}

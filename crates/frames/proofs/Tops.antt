@@ -1,13 +1,12 @@
 -- Laws of where bands lie, one below the other, and of their texts.
 use Prim.Native.Nat.{ℕ, zero, ◌+◌}
-use mathlib.Core.Path.{◌≡◌, refl, ap}
+use mathlib.Core.Path.{◌≡◌, refl}
 use native.Mathlib.Numerals.{add-one}
 use native.Mathlib.Omega.{arith}
 use lib.ListN.{get_or}
 use Rattle.rules.specs.Search.{total}
 use Rattle.text.specs.Output.{Page, puts}
 use Rattle.text.proofs.Pages.{puts_then}
-use Rattle.strips.specs.declared.scale.Band.{Band}
 use Rattle.frames.specs.declared.bands.View.{View}
 use Rattle.frames.specs.Bands.{band_height, bands_top, top_of, band_of, band_text, bands_text}
 

@@ -14,14 +14,14 @@ use Rattle.notice.specs.declared.Found.{Found}
 use Rattle.notice.specs.declared.Found.TheVariants as found
 use Rattle.notice.specs.Encode.{bytes_of}
 use Rattle.notice.specs.Decode.{read_at}
-use Rattle.notice.specs.Log.{place_to, is_notice, with_found, notices_to, notices_of}
+use Rattle.notice.specs.Log.{place_to, is_notice, with_found, notices_to}
 use Rattle.notice.proofs.CaseSplits.{by_order, false_true}
 use Rattle.story.specs.declared.Event.{Event}
-use Rattle.story.specs.Story.{Accepted, none, more}
+use Rattle.story.specs.Story.{Accepted, more}
 use Rattle.story.specs.Runs.{lanes_of, state_after}
 use Rattle.agent.specs.declared.Agent.{Agent}
 use Rattle.agent.specs.Turns.{fresh_agent}
-use Rattle.agent.specs.Series.{agent_after, notices_for, sent, log_kept}
+use Rattle.agent.specs.Series.{agent_after, notices_for, log_kept}
 use Rattle.agent.specs.Played.{agent_told}
 use Rattle.agent.proofs.Played.{log_series, told_series}
 use Rattle.agent.proofs.HeadEnd.{kept_notices, as_sent}

@@ -1,7 +1,7 @@
 -- A log that is cut behind a number of its notices is whole and has just those.
 -- Rests on bytes that agree reading alike, and on a log being read through.
 use mathlib.Core.Path.{◌≡◌, refl, sym, ap, ◌∙◌}
-use mathlib.Core.Bool.{Bool, true, false}
+use mathlib.Core.Bool.{true, false}
 use mathlib.Core.List.{List}
 use Prim.Native.Nat.{ℕ, zero, suc, ◌+◌, ◌-◌, ◌≤◌, ◌<◌}
 use native.Mathlib.Nat.{add-zero, add-suc, zero-add}
@@ -14,8 +14,8 @@ use Rattle.notice.specs.declared.Notice.{Notice}
 use Rattle.notice.specs.declared.Found.{Found}
 use Rattle.notice.specs.declared.Found.TheVariants as found
 use Rattle.notice.specs.Decode.{kind_at, read_at, place_after, further}
-use Rattle.notice.specs.Log.{place_to, is_notice, with_found, notices_to, notices_of, stop_of, is_whole_log}
-use Rattle.notice.proofs.CaseSplits.{by_order, false_true}
+use Rattle.notice.specs.Log.{place_to, is_notice, notices_to, notices_of, stop_of, is_whole_log}
+use Rattle.notice.proofs.CaseSplits.{false_true}
 use Rattle.notice.proofs.Cases.{at_end}
 use Rattle.notice.proofs.NoticePlaces.{there, inside}
 use Rattle.notice.proofs.Alike.{found_alike}

@@ -7,17 +7,17 @@ use mathlib.Core.List.{List, [], ◌∷◌, ◌++◌, append-nil, map, reverse}
 use Prim.Native.Nat.{ℕ, zero, suc, ◌+◌, ◌*◌, ◌-◌, ◌/◌, ◌≤◌, ◌<◌, ◌^◌}
 use native.Mathlib.Nat.{mod-lt, add-zero, add-suc}
 use native.Mathlib.Omega.{arith}
-use lib.Dec.{eqb, ltb}
-use lib.ListN.{length, get_or, length-append, length-map, get_or-append}
+use lib.Dec.{eqb}
+use lib.ListN.{length, get_or, length-map, get_or-append}
 use lib.Seq.{get_or-append-add}
 use borrow.Author.Tests.{lt-ltb, eqb-true}
 use Rattle.rules.specs.Limits.{both}
-use Rattle.rules.specs.Refusals.{pick, out_of_turn}
+use Rattle.rules.specs.Refusals.{pick}
 use Rattle.rules.proofs.Tests.{both_l, both_r}
 use Rattle.sums.specs.Crc.{sum_of}
 use Rattle.sums.proofs.Small.{sum_small}
-use Rattle.notice_fields.specs.Fields.{tag_of, size_of, is_carried, rows}
-use Rattle.notice_fields.specs.Numbers.{Bytes, big_endian, number_at}
+use Rattle.notice_fields.specs.Fields.{size_of, is_carried, rows}
+use Rattle.notice_fields.specs.Numbers.{Bytes, big_endian}
 use Rattle.notice_fields.proofs.Digits.{length_big}
 use Rattle.notice_fields.proofs.Each.{by_order, false_true}
 use Rattle.notice_fields.proofs.Table.{sound}
@@ -34,13 +34,12 @@ use Rattle.notice.proofs.ReadThrough.{enough, still}
 use Rattle.story.specs.declared.Event.{Event}
 use Rattle.story.specs.Story.{answer, Accepted}
 use Rattle.story.specs.Runs.{lanes_of}
-use Rattle.agent.specs.declared.Agent.{Agent}
 use Rattle.agent.specs.Turns.{event_of, fresh_agent, notice_answer}
-use Rattle.agent.specs.Series.{hearing, notices_for, log_kept}
-use Rattle.agent.specs.Played.{agent_told, heard_of, events_played}
+use Rattle.agent.specs.Series.{notices_for, log_kept}
+use Rattle.agent.specs.Played.{agent_told, heard_of}
 use Rattle.agent.proofs.Played.{log_series, told_follows, told_notice}
 use Rattle.agent.proofs.HeadEnd.{kept_whole, kept_notices, kept_events}
-use Rattle.journals.specs.Start.{sum_bytes, sum_at}
+use Rattle.journals.specs.Start.{sum_at}
 use Rattle.journals.specs.Outcome.{notice_bytes}
 use Rattle.journals.specs.Summing.{sums_to}
 use Rattle.journals.specs.Restart.{KeptWith}

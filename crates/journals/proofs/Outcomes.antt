@@ -2,15 +2,14 @@
 -- Rests on the definitions, on steps going on, and on a cut log having just the notices before the cut.
 use mathlib.Core.Path.{◌≡◌, refl, sym, ap, ◌∙◌}
 use mathlib.Core.Bool.{Bool, true, false, not}
-use mathlib.Core.Logic.{◌⊎◌, inl, inr, ⊎_elim}
+use mathlib.Core.Logic.{inl, inr, ⊎_elim}
 use mathlib.Core.List.{List, ◌∷◌}
 use Prim.Native.Nat.{ℕ, zero, suc, ◌+◌, ◌-◌, ◌/◌, ◌≤◌, ◌<◌}
-use native.Mathlib.Nat.{add-zero}
 use native.Mathlib.Numerals.{add-one}
 use native.Mathlib.Omega.{arith}
-use lib.Dec.{eqb, leb, ltb}
-use lib.ListN.{length, take, drop}
-use borrow.Author.Tests.{lt-ltb, le-ltb, eq-eqb, ne_eqb, eqb-true, eqb-false, ltb-true, ltb-false}
+use lib.Dec.{eqb, ltb}
+use lib.ListN.{length, drop}
+use borrow.Author.Tests.{lt-ltb, le-ltb, eq-eqb, ne_eqb, eqb-true, eqb-false, ltb-true}
 use Rattle.rules.specs.Limits.{both}
 use Rattle.rules.specs.Refusals.{pick, out_of_turn}
 use Rattle.rules.proofs.Tests.{both_l, both_r, decide}
@@ -32,10 +31,10 @@ use Rattle.journals.specs.declared.Verdict.{Verdict}
 use Rattle.journals.specs.declared.Verdict.TheVariants.{Hearing, Heard, Torn, NoNotice, SumDiffers, Refused, SumsShort, SumsMissing}
 use Rattle.journals.specs.Torn.{is_torn, had_kind}
 use Rattle.journals.specs.Start.{sum_bytes, block_events, is_going, started_with, begun_with, ended_with, heard_one, passed_one, has_sum, after_summed, after_unsummed}
-use Rattle.journals.specs.Start.{at_stop, agent_hears, Stage, stage, view, sum_at, is_ready, part_of, notice_done, done_at, step_at, step_in, steps_in, hears_in, journal_start}
-use Rattle.journals.specs.Outcome.{notice_bytes, Heeded, NoticeHere, Says, Outcome}
+use Rattle.journals.specs.Start.{at_stop, agent_hears, Stage, stage, view, sum_at, is_ready, part_of, notice_done, done_at, step_in, steps_in, journal_start}
+use Rattle.journals.specs.Outcome.{notice_bytes, Heeded, Says, Outcome}
 use Rattle.journals.proofs.StartSteps.{Counted, Along, set_out, ready_goes, steps_along, ends}
-use Rattle.journals.proofs.WholeFiles.{whole_ready, none_ready}
+use Rattle.journals.proofs.WholeFiles.{whole_ready}
 use Rattle.journals.proofs.Cutting as cutting
 
 not_true : (b : Bool) → not b ≡ true → b ≡ false
@@ -116,7 +115,7 @@ module _ (pool : ℕ) (j : List ℕ) (there : Bool) (s : List ℕ) where
             few = omega (arith, low);
             sums_are = w.sums_are;
           },
-          goes_on x.start.verdict going _,
+          goes_on x.start.verdict going (stage (passed_one x.start (e - p)) g),
         )
 
     short : x.start.sums ≤ x.start.heard → block_events ≤ x.start.behind
@@ -173,7 +172,7 @@ module _ (pool : ℕ) (j : List ℕ) (there : Bool) (s : List ℕ) where
               few = w.few;
               sums_are = w.sums_are;
             },
-            goes_on x.start.verdict going _,
+            goes_on x.start.verdict going (stage (heard_one x.start (e - p)) (noticed g (reading.Whole n))),
           )
 
       refused : sum_of (part_of j p e) ≡ sum_at s x.start.heard → (notice_answer g (reading.Whole n) ≡ 0 → ⊥)

@@ -3,39 +3,37 @@
 -- Rests on what each verdict says, on a cut log having the notices before the cut, and on every beginning of a notice being torn.
 use mathlib.Core.Path.{◌≡◌, refl, sym, ap, ◌∙◌}
 use mathlib.Core.Bool.{Bool, true, false}
-use mathlib.Core.Logic.{◌⊎◌, inl, inr, ⊎_elim}
+use mathlib.Core.Logic.{inl, inr, ⊎_elim}
 use mathlib.Core.List.{List, [], ◌∷◌, ◌++◌}
 use Prim.Native.Nat.{ℕ, zero, suc, ◌+◌, ◌*◌, ◌-◌, ◌/◌, ◌≤◌, ◌<◌}
 use native.Mathlib.Nat.{zero-add}
 use native.Mathlib.Omega.{arith}
-use lib.Dec.{leb}
-use lib.ListN.{length, take, drop, get_or, length-drop, take-append-drop}
-use lib.Seq.{take-add, length-take-le, get_or-take, get_or-drop, take-nil, drop-nil}
+use lib.ListN.{length, take, drop, length-drop, take-append-drop}
+use lib.Seq.{take-add, length-take-le, take-nil}
 use borrow.Author.Tests.{leb-true}
 use Rattle.rules.specs.Refusals.{pick}
 use Rattle.sums.specs.Crc.{sum_of}
 use Rattle.notice.specs.declared.Notice.{Notice}
-use Rattle.notice.specs.declared.Reading.{Reading}
 use Rattle.notice.specs.declared.Reading.TheVariants as reading
 use Rattle.notice.specs.declared.Found.{Found}
 use Rattle.notice.specs.declared.Found.TheVariants as found
 use Rattle.notice.specs.Decode.{is_alone, read_at, read_of, place_after}
-use Rattle.notice.specs.Log.{Bytes, place_to, is_notice, with_found, notices_to, stop_of, is_whole_log}
+use Rattle.notice.specs.Log.{Bytes, place_to, is_notice, notices_to, stop_of, is_whole_log}
 use Rattle.notice.proofs.CaseSplits.{by_order, false_true}
-use Rattle.notice.proofs.NoticePlaces.{inside, ended}
+use Rattle.notice.proofs.NoticePlaces.{inside}
 use Rattle.notice.proofs.Cases.{at_end}
 use Rattle.notice.proofs.Alike.{by_itself}
 use Rattle.notice.proofs.Part.{whole_stays}
-use Rattle.notice.proofs.ReadThrough.{place_within, all_read, last_read}
+use Rattle.notice.proofs.ReadThrough.{all_read}
 use Rattle.agent.specs.declared.Agent.{Agent}
 use Rattle.agent.specs.Turns.{fresh_agent, notice_answer}
 use Rattle.agent.specs.Played.{agent_told}
 use Rattle.journals.specs.declared.Verdict.{Verdict}
 use Rattle.journals.specs.declared.Verdict.TheVariants.{Hearing, Heard, Torn, NoNotice, SumDiffers, Refused, SumsShort, SumsMissing}
-use Rattle.journals.specs.Torn.{is_torn, had_kind}
-use Rattle.journals.specs.Start.{sum_bytes, block_events, is_going, Stage, sum_at, part_of, journal_start}
+use Rattle.journals.specs.Torn.{is_torn}
+use Rattle.journals.specs.Start.{sum_bytes, is_going, Stage, sum_at, part_of, journal_start}
 use Rattle.journals.specs.Windows.{Part}
-use Rattle.journals.specs.Outcome.{notice_bytes, Heeded, Says, Outcome}
+use Rattle.journals.specs.Outcome.{notice_bytes, Heeded, Says}
 use Rattle.journals.specs.Restart.{KeptWith, LeftOf, GoesOn}
 use Rattle.journals.proofs.Cutting.{cut_stays}
 use Rattle.journals.proofs.WholeFiles.{part_bytes, sum_part}

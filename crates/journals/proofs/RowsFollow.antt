@@ -6,25 +6,23 @@ use mathlib.Core.Bool.{Bool, true, false}
 use mathlib.Core.List.{List, [], ◌∷◌, ◌++◌}
 use Prim.Native.Nat.{ℕ, zero, suc, ◌+◌, ◌-◌, ◌≤◌, ◌<◌, ◌^◌}
 use native.Mathlib.Omega.{arith}
-use lib.Dec.{eqb, leb}
-use lib.ListN.{length, take, drop, get_or, length-append}
+use lib.ListN.{length, take, drop, length-append}
 use lib.Seq.{get_or-drop}
 use borrow.Author.Tests.{lt-ltb, le-leb}
-use Rattle.rules.specs.Limits.{both}
 use Rattle.rules.specs.Refusals.{pick}
 use Rattle.notice.specs.declared.Notice.{Notice}
 use Rattle.notice.specs.declared.Reading.{Reading}
 use Rattle.notice.specs.declared.Reading.TheVariants as reading
 use Rattle.notice.specs.declared.Found.{Found}
 use Rattle.notice.specs.declared.Found.TheVariants as found
-use Rattle.notice.specs.Decode.{read_at, read_of}
+use Rattle.notice.specs.Decode.{read_at}
 use Rattle.notice.specs.Log.{Bytes}
 use Rattle.notice.proofs.Alike.{by_itself}
 use Rattle.agent.specs.declared.Agent.{Agent}
 use Rattle.agent.specs.Turns.{fresh_agent, notice_answer, noticed}
 use Rattle.agent.specs.Played.{agent_played}
-use Rattle.agent_rows.specs.Layout.{sequence_end, row_length}
-use Rattle.agent_rows.specs.Packed.{packed, unpacked, row_sound, WholeAgent}
+use Rattle.agent_rows.specs.Layout.{sequence_end}
+use Rattle.agent_rows.specs.Packed.{packed, WholeAgent}
 use Rattle.agent_rows.proofs.Inverse.{unpacked_packed}
 use Rattle.row_calls.specs.Answers.{row_notice, row_after_notice}
 use Rattle.row_calls.proofs.Follows.{noticed_as_agent}
@@ -33,11 +31,10 @@ use Rattle.row_calls.proofs.Whole.{whole_fresh, whole_noticed}
 use Rattle.row_snapshots.proofs.Sequence.{noticed_fits}
 use Rattle.row_snapshots.proofs.InPlace.{taken_in_place}
 use Rattle.journals.specs.declared.Start.{Start}
-use Rattle.journals.specs.Start.{is_going, begun_with, ended_with, has_sum, after_summed, after_unsummed, Hearer, agent_hears, Stage, stage, View, view}
+use Rattle.journals.specs.Start.{is_going, begun_with, has_sum, after_summed, after_unsummed, agent_hears, Stage, stage, View, view}
 use Rattle.journals.specs.Start.{is_ready, part_of, notice_done, done_at, step_at, step_in, steps_in, hears_in, journal_start}
 use Rattle.journals.specs.Rows.{row_hears, is_counted, row_heard}
 use Rattle.journals.specs.Windows.{Lent, InWindows}
-use Rattle.journals.proofs.StartSteps.{Counted, Along}
 use Rattle.journals.proofs.WholeFiles.{run_along, run_whole}
 use Rattle.journals.proofs.Outcomes.{begun_first, outcome}
 

@@ -23,7 +23,7 @@ use Rattle.notice.proofs.CaseSplits.{false_true}
 use Rattle.notice.proofs.NoticePlaces.{inside}
 use Rattle.journals.specs.declared.Start.{Start}
 use Rattle.journals.specs.declared.Verdict.{Verdict}
-use Rattle.journals.specs.declared.Verdict.TheVariants.{Hearing, Heard, Torn, NoNotice, SumDiffers, Refused, SumsShort, SumsMissing}
+use Rattle.journals.specs.declared.Verdict.TheVariants.{Heard, Torn, NoNotice, SumDiffers, Refused, SumsShort}
 use Rattle.journals.specs.Torn.{is_torn, had_kind}
 use Rattle.journals.specs.Start.{block_events, is_going, ended_with, heard_one, passed_one, has_sum, after_summed, after_unsummed, at_stop}
 use Rattle.journals.specs.Rows.{is_counted}

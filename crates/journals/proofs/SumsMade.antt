@@ -2,10 +2,9 @@
 -- Rests on runs of stores, and on a notice lying before its end.
 use mathlib.Core.Path.{◌≡◌, refl, sym, ap, ◌∙◌}
 use mathlib.Core.Bool.{Bool, true, false}
-use mathlib.Core.Logic.{◌⊎◌, inl, inr, ⊎_elim}
-use mathlib.Core.List.{List, ◌++◌}
+use mathlib.Core.Logic.{◌⊎◌, inl, inr}
+use mathlib.Core.List.{List}
 use Prim.Native.Nat.{ℕ, zero, suc, ◌+◌, ◌*◌, ◌-◌, ◌≤◌, ◌<◌}
-use native.Mathlib.Nat.{zero-add}
 use native.Mathlib.Omega.{arith}
 use borrow.Author.Tests.{leb-true, leb-false}
 use lib.Dec.{leb}
@@ -13,7 +12,7 @@ use lib.ListN.{length, length-append}
 use lib.Seq.{sets, length-sets}
 use Rattle.rules.specs.Limits.{both}
 use Rattle.rules.specs.Refusals.{pick}
-use Rattle.rules.proofs.Tests.{both_l, both_r, decide}
+use Rattle.rules.proofs.Tests.{both_l, both_r}
 use Rattle.sums.specs.Crc.{sum_of}
 use Rattle.notice_fields.specs.Numbers.{big_endian}
 use Rattle.notice_fields.proofs.Digits.{length_big}

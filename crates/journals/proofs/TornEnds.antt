@@ -1,7 +1,7 @@
 -- A torn end is the beginning of a notice, and every beginning of a notice is one: bytes are torn just where some bytes behind them would make
 -- them a whole notice. So what is left of a notice whose writing broke off is cut, and is never taken for damage.
 -- Rests on the heads of a kind's fields being the same bytes in every notice of it, and on the field table.
-use mathlib.Core.Path.{◌≡◌, refl, sym, ap, ◌∙◌}
+use mathlib.Core.Path.{◌≡◌, refl, sym, ◌∙◌}
 use mathlib.Core.Bool.{Bool, true, false}
 use mathlib.Core.List.{List, [], ◌∷◌, ◌++◌}
 use Prim.Native.Nat.{ℕ, zero, suc, ◌+◌, ◌*◌, ◌-◌, ◌≤◌, ◌<◌}
@@ -13,9 +13,9 @@ use borrow.Author.Tests.{lt-ltb, le-ltb, le-leb, eq-eqb, eqb-true, ltb-true}
 use Rattle.rules.specs.Limits.{both}
 use Rattle.rules.specs.Refusals.{pick}
 use Rattle.rules.proofs.Tests.{both_l, both_r, both_in}
-use Rattle.notice_fields.specs.Fields.{table, span_of, start_of, head_size, tag_of, size_of, is_carried, is_known, length_of, rows, open_kind}
+use Rattle.notice_fields.specs.Fields.{table, span_of, start_of, tag_of, size_of, is_carried, is_known, length_of, rows, open_kind}
 use Rattle.notice_fields.specs.Numbers.{Bytes, big_endian, number_at}
-use Rattle.notice_fields.proofs.Each.{by_order, each, false_true}
+use Rattle.notice_fields.proofs.Each.{by_order, each}
 use Rattle.notice_fields.proofs.Table.{sound, by_kind}
 use Rattle.notice_bytes.specs.Standing.{head_stands, row_stands, stands_to, kind_at, is_whole, is_alone}
 use Rattle.notice_bytes.specs.Laying.{field_bytes, row_bytes, bytes_to}

@@ -1,16 +1,14 @@
 -- Each call's contract settles what it gives back and the row that it leaves: two outcomes that it admits are equal. Rests on the contracts
 -- being equations to definitions, and on sums that are laid up to one place.
-use Prim.Native.Nat.{ℕ, ◌+◌, ◌*◌, ◌≤◌, ◌<◌}
-use mathlib.Core.Path.{◌≡◌, refl, sym, ap, ◌∙◌}
+use Prim.Native.Nat.{ℕ, ◌≤◌}
+use mathlib.Core.Path.{◌≡◌, sym, ap, ◌∙◌}
 use mathlib.Core.Bool.{Bool}
 use mathlib.Core.Logic.{⊎_elim}
 use mathlib.Core.List.{List}
 use native.Mathlib.Omega.{arith}
-use lib.ListN.{length}
 use lib.Seq.{sets}
 use Rattle.rules.specs.OneOutcome.{OneOutcome, OneEnd}
 use Rattle.notice.proofs.CaseSplits.{by_order, false_true}
-use Rattle.journals.specs.declared.Start.{Start}
 use Rattle.journals.specs.Start.{Stage}
 use Rattle.journals.specs.Summing.{sums_to, SumsLaid}
 use Rattle.journals.proofs.begun.Kinds as begun-kinds

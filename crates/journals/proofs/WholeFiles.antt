@@ -3,18 +3,18 @@
 -- Rests on places that are decided being read alike, and on steps going on.
 use mathlib.Core.Path.{◌≡◌, refl, sym, ap, ◌∙◌}
 use mathlib.Core.Bool.{Bool, true, false}
-use mathlib.Core.Logic.{◌⊎◌, inl, inr, ⊎_elim}
-use mathlib.Core.List.{List, [], ◌++◌, append-nil, append_assoc}
+use mathlib.Core.Logic.{⊎_elim}
+use mathlib.Core.List.{List, ◌++◌, append-nil}
 use Prim.Native.Nat.{ℕ, zero, suc, ◌+◌, ◌*◌, ◌-◌, ◌/◌, ◌≤◌, ◌<◌}
-use native.Mathlib.Nat.{add_assoc, add_comm}
+use native.Mathlib.Nat.{add_assoc}
 use native.Mathlib.Omega.{arith}
 use lib.Dec.{eqb, leb, ltb}
-use lib.ListN.{length, take, drop, get_or, length-append, length-drop, get_or-append}
+use lib.ListN.{length, drop, length-append, length-drop, get_or-append}
 use lib.Seq.{drop-append-add, drop-append-le, take-append-le, get_or-append-add}
-use borrow.Author.Tests.{lt-ltb, le-ltb, lt-leb, le-leb, leb-true, ltb-true, ltb-false}
+use borrow.Author.Tests.{lt-ltb, le-ltb, lt-leb, le-leb, leb-true, ltb-true}
 use Rattle.rules.specs.Limits.{both, either}
 use Rattle.rules.specs.Refusals.{pick}
-use Rattle.rules.proofs.Tests.{both_l, both_r, both_in, either_out, decide}
+use Rattle.rules.proofs.Tests.{both_l, both_r, decide}
 use Rattle.sums.specs.Crc.{sum_of}
 use Rattle.notice_fields.specs.Fields.{table, span_of, start_of, length_of}
 use Rattle.notice_fields.specs.Numbers.{number_at}
@@ -25,14 +25,13 @@ use Rattle.notice.specs.declared.Found.{Found}
 use Rattle.notice.specs.declared.Found.TheVariants as found
 use Rattle.notice.specs.Decode.{read_at, further}
 use Rattle.notice.specs.Window.{is_decided, Seen}
-use Rattle.notice.proofs.CaseSplits.{false_true}
 use Rattle.notice.proofs.NoticePlaces.{inside}
 use Rattle.notice.proofs.Windows.{seen_reads, few_left, at_end_decided}
 use Rattle.journals.specs.declared.Start.{Start}
 use Rattle.journals.specs.declared.Verdict.TheVariants.{NoNotice}
 use Rattle.journals.specs.Torn.{kind_begun, is_torn}
-use Rattle.journals.specs.Start.{sum_bytes, is_going, ended_with, has_sum, after_summed, after_unsummed, at_stop}
-use Rattle.journals.specs.Start.{Hearer, Stage, stage, View, view, sum_at, is_far, is_ready_at, is_ready, part_of, notice_done, done_at, step_at, step_in, steps_in, hears_in}
+use Rattle.journals.specs.Start.{sum_bytes, is_going, ended_with, has_sum, at_stop}
+use Rattle.journals.specs.Start.{Hearer, Stage, stage, View, view, sum_at, is_far, is_ready_at, is_ready, part_of, notice_done, done_at, step_in, steps_in, hears_in}
 use Rattle.journals.specs.Windows.{Part, Lent, InWindows, no_window, next_window}
 use Rattle.journals.proofs.Endings.{longest}
 use Rattle.journals.proofs.StartSteps.{Counted, Along, set_out, ready_goes, one_on, steps_along, all_heard}

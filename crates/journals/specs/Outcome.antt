@@ -10,11 +10,10 @@ use Rattle.notice.specs.Log.{place_to, is_notice, notices_to, is_whole_log}
 use Rattle.agent.specs.declared.Agent.{Agent}
 use Rattle.agent.specs.Turns.{fresh_agent, notice_answer}
 use Rattle.agent.specs.Played.{agent_told, agent_played}
-use Rattle.journals.specs.declared.Start.{Start}
 use Rattle.journals.specs.declared.Verdict.{Verdict}
 use Rattle.journals.specs.declared.Verdict.TheVariants.{Hearing, Heard, Torn, NoNotice, SumDiffers, Refused, SumsShort, SumsMissing}
 use Rattle.journals.specs.Torn.{is_torn, had_kind}
-use Rattle.journals.specs.Start.{sum_bytes, block_events, is_going, Stage, sum_at, part_of, journal_start}
+use Rattle.journals.specs.Start.{sum_bytes, block_events, is_going, Stage, sum_at, part_of}
 
 -- the bytes of a log's notice, which is number i from 0 on
 abbrev pub notice_bytes : List ℕ → ℕ → List ℕ

@@ -257,7 +257,7 @@ module _ (pool i : ℕ) (fits : in_limits pool i ≡ true) (log : List ℕ) (sma
   unfolding title_answer window_answer first_hit was_opened
   answers r w tick a is =
       is
-      ∙ rw (w.place-is, w.title_is, stops_short (stop_of log) (length log))
+      ∙ rw (w.place_is, w.title_is, stops_short (stop_of log) (length log))
       (one_order (is_whole_log log) standing.film.cap (ltb (tick_at standing asked_max) tick) (ltb 0 (life_in pool log i).film.cap) (is_askable (life_in pool log i) tick) (ap (ltb 0) alike.cap) (λ h. askable h tick))
 
   -- ---- what is filled in where the answer is done

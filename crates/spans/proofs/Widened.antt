@@ -9,21 +9,17 @@ use lib.ListN.{get_or, set}
 use Rattle.rules.specs.Limits.{both, id_max, titles_max}
 use Rattle.rules.specs.Refusals.{pick, done}
 use Rattle.rules.proofs.Tests.{both_r}
-use Rattle.notice.specs.declared.Notice.{Notice}
-use Rattle.notice.specs.declared.Reading.TheVariants as reading
 use Rattle.notice.specs.declared.Found.{Found}
 use Rattle.notice.specs.declared.Found.TheVariants as found
-use Rattle.notice.specs.Log.{notices_of}
 use Rattle.story.specs.declared.Title.{Title}
 use Rattle.story.specs.Kept.{title_at}
 use Rattle.agent.specs.declared.Agent.{Agent}
-use Rattle.agent.specs.Turns.{notice_answer}
 use Rattle.agent.specs.Played.{agent_played}
 use Rattle.agent_rows.specs.Packed.{unpacked}
 use Rattle.text.specs.Numbers.{byte_most}
 use Rattle.logs.specs.declared.ReadOn.{ReadOn}
 use Rattle.logs.specs.declared.PlayedLog.{PlayedLog}
-use Rattle.logs.specs.Reading.{stepped, agent_read, RowRead, kept_read, read_next, PlayedStep, ReadsLog, Plays}
+use Rattle.logs.specs.Reading.{stepped, agent_read, kept_read, read_next, PlayedStep, ReadsLog, Plays}
 use Rattle.spans.specs.declared.Extent.{Extent}
 use Rattle.spans.specs.Extents.{no_extent, widened, heard_extent, latest_over, measure_of}
 

@@ -2,7 +2,6 @@
 use mathlib.Core.Path.{ap, ◌∙◌}
 use Rattle.airing.specs.Air.{refused_judgement}
 use Rattle.airing.proofs.Calls.{air_first}
-use borrow.Author.Rules.{rules}
 use Rattle.airing.proofs.air.Goals as goal
 
 pub returns : goal.returns

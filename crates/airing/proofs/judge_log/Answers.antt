@@ -1,7 +1,6 @@
 -- `airing::judge_log` meets its contract: the refusals that the log and the record's numbers decide, then the judgement.
 use mathlib.Core.Path.{sym, ◌∙◌}
 use Rattle.airing.proofs.Calls.{fits, cap_high, judgeable, air_judged, air_number_lem, air_log}
-use borrow.Author.Rules.{rules}
 use Rattle.airing.proofs.judge_log.Goals as goal
 
 pub follow-ending-requires : goal.follow-ending-requires

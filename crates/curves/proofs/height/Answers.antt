@@ -1,6 +1,5 @@
 -- `curves::height` meets its contract: the part of the pool, above none.
 use Rattle.curves.proofs.Steps.{height_is}
-use borrow.Author.Rules.{rules}
 use Rattle.curves.proofs.height.Goals as goal
 
 pub returns : goal.returns

@@ -1,14 +1,11 @@
 -- `curves::next_release` meets its contract: slot by slot.
-use Prim.Native.Nat.{◌≤◌, ◌-◌}
-use mathlib.Core.Path.{◌≡◌, refl, ap, ◌∙◌}
+use mathlib.Core.Path.{refl, ap, ◌∙◌}
 use native.Mathlib.Omega.{arith}
 use native.Mathlib.Numerals.{add-one}
 use native.Mathlib.Nat.{le_antisymm}
-use Rattle.rules.specs.Limits.{titles_max}
 use Rattle.moments.specs.inner.Steps.{release_in}
 use Rattle.moments.proofs.Due.{title_timed}
 use Rattle.agent_rows.specs.Packed.{unpacked}
-use borrow.Author.Rules.{rules}
 use Rattle.curves.proofs.next_release.Goals as goal
 
 pub loop-id-init : goal.loop-id-init

@@ -3,7 +3,6 @@ use mathlib.Core.Path.{refl}
 use native.Mathlib.Omega.{arith}
 use borrow.Author.Tests.{lt-ltb, le-ltb}
 use Rattle.curves.specs.Curves.{next_step}
-use borrow.Author.Rules.{rules}
 use Rattle.curves.proofs.next_step.Goals as goal
 
 pub returns-then-time-next : goal.returns-then-time-next

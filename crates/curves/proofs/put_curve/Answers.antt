@@ -1,13 +1,8 @@
 -- `curves::put_curve` meets its contract: step by step, each a millisecond at least.
-use Prim.Native.Nat.{◌≤◌, ◌-◌}
-use mathlib.Core.Path.{◌≡◌, refl}
+use mathlib.Core.Path.{refl}
 use native.Mathlib.Omega.{arith}
-use lib.ListN.{length}
-use Rattle.agent_rows.specs.Packed.{unpacked}
-use Rattle.text.specs.Output.{page}
 use Rattle.text.proofs.Pages.{same_room}
-use Rattle.strips.specs.Kept.{kept_length}
-use Rattle.curves.proofs.Steps.{Walking, begins, steps_on, arrives}
+use Rattle.curves.proofs.Steps.{begins, steps_on, arrives}
 use borrow.Author.Rules.{rules}
 use Rattle.curves.proofs.put_curve.Goals as goal
 
@@ -51,5 +46,5 @@ shape_of-out c =
 
 pub returns : goal.returns
 returns c =
-    let at-loop = c in
-    arrives _ _ _ _ _ _ _ _ _ at-loop.loop-time.invariant c.loop-time-test.false
+    let p = arrives _ _ _ _ _ _ _ _ _ c.loop-time.invariant c.loop-time-test.false in
+    record { written = p.0; kept_after = p.1 }

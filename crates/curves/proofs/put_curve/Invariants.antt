@@ -1,14 +1,8 @@
 -- What the loop keeps, and what falls.
-use Prim.Native.Nat.{◌≤◌, ◌-◌}
-use mathlib.Core.Path.{◌≡◌, refl}
-use native.Mathlib.Omega.{arith}
-use lib.ListN.{length}
+use Prim.Native.Nat.{◌-◌}
 use Rattle.agent_rows.specs.Packed.{unpacked}
 use Rattle.text.specs.Output.{page}
-use Rattle.text.proofs.Pages.{same_room}
-use Rattle.strips.specs.Kept.{kept_length}
-use Rattle.curves.proofs.Steps.{Walking, begins, steps_on, arrives}
-use borrow.Author.Rules.{rules}
+use Rattle.curves.proofs.Steps.{Walking}
 use Rattle.curves.proofs.put_curve.Given as goal
 
 abbrev pub invariant-loop-time : goal.invariant-loop-time

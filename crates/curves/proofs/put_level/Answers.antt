@@ -5,7 +5,6 @@ use Rattle.text.specs.Texts.{text}
 use Rattle.text.proofs.Pages.{puts_then}
 use Rattle.text.specs.Output.{puts}
 use Rattle.curves.specs.Curves.{level_text, level_kept}
-use borrow.Author.Rules.{rules}
 use Rattle.curves.proofs.put_level.Goals as goal
 
 pub returns-then-x-end : goal.returns-then-x-end
@@ -20,11 +19,14 @@ returns-then-x-end c = let at-put-path-end = c in
     let at-if1 = at-height in
     let at-place2 = at-if1 in
     let at_place = at-place2 in
-    rw (← at_place.place-x.ensures.is, ← at-place2.place-end.ensures.is, lt-ltb _ _ at-if1.if-x-end.true, ← at-height.height-old.ensures, ← at-height2.height.ensures) record { written = puts_then _ _ _ (puts_then _ _ _ (puts_then _ _ _ (puts_then _ _ _ at-put-path.put_path-a.ensures
+    rw (← at_place.place-x.ensures.is, ← at-place2.place-end.ensures.is, lt-ltb _ _ at-if1.if-x-end.true, ← at-height.height-old.ensures, ← at-height2.height.ensures) record {
+      written = puts_then _ _ _ (puts_then _ _ _ (puts_then _ _ _ (puts_then _ _ _ at-put-path.put_path-a.ensures
           at-put-point.put_point-b.ensures)
           at-put-step.put_step-d.ensures)
           at-put-step2.put_step-e.ensures)
-          at-put-path-end.put_path_end.ensures; kept_after = refl }
+          at-put-path-end.put_path_end.ensures;
+      kept_after = refl;
+    }
 
 pub returns : goal.returns
 unfolding level_text level_kept puts

@@ -1,6 +1,5 @@
 -- `begun` meets its contract, by the test of the sums that are missing.
 use mathlib.Core.Path.{sym, ◌∙◌}
-use borrow.Author.Rules.{rules}
 use Rattle.journals.proofs.begun.Goals as goal
 
 pub returns-then-also : goal.returns-then-also

@@ -2,7 +2,6 @@ use Prim.Native.Nat.{◌<◌, ◌^◌}
 use native.Mathlib.Omega.{arith}
 use Rattle.journals.proofs.StartSteps.{room_test}
 use Rattle.journals.specs.Rows.{is_counted}
-use borrow.Author.Rules.{rules}
 use Rattle.journals.proofs.counted.Goals as goal
 
 pub returns : goal.returns

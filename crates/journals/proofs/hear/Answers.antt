@@ -1,6 +1,5 @@
 -- `hear` meets its contract, by whether its numbers are counted.
 use mathlib.Core.Path.{sym, ◌∙◌}
-use borrow.Author.Rules.{rules}
 use Rattle.journals.specs.Rows.{row_heard}
 use Rattle.journals.proofs.hear.Goals as goal
 

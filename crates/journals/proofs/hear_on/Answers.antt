@@ -2,9 +2,8 @@
 use mathlib.Core.Path.{◌≡◌, refl, sym, ◌∙◌}
 use native.Mathlib.Omega.{arith}
 use lib.ListN.{length}
-use Rattle.journals.specs.Start.{stage, view}
 use Rattle.journals.specs.Rows.{row_hears}
-use Rattle.journals.proofs.StartSteps.{Along, left, set_out, turn_on, turn_less, all_heard, counted_is, counted_fits}
+use Rattle.journals.proofs.StartSteps.{set_out, turn_on, turn_less, all_heard, counted_is, counted_fits}
 use borrow.Author.Rules.{rules}
 use Rattle.journals.proofs.hear_on.Goals as goal
 

@@ -1,6 +1,5 @@
 -- `sum_at` meets its contract, by whether the sum is there.
 use borrow.Author.Tests.{lt-ltb, le-ltb}
-use borrow.Author.Rules.{rules}
 use Rattle.journals.proofs.sum_at.Goals as goal
 
 pub returns-then-k-sums : goal.returns-then-k-sums

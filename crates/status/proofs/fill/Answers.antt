@@ -1,18 +1,16 @@
 -- `fill` meets its contract: the places passed have the counts, the lanes held and the marks of their ids.
-use Prim.Native.Nat.{◌≤◌, ◌-◌}
-use mathlib.Core.Path.{◌≡◌, sym, ap, ◌∙◌}
+use mathlib.Core.Path.{sym, ap, ◌∙◌}
 use native.Mathlib.Omega.{arith}
 use native.Mathlib.Numerals.{add-one}
 use native.Mathlib.Nat.{le_antisymm}
 use lib.Dec.{eqb}
-use lib.ListN.{length, length-set}
+use lib.ListN.{length-set}
 use Rattle.story.specs.declared.Title.{Title}
 use Rattle.rules.specs.Refusals.{pick}
 use Rattle.story.specs.Kept.{clear_mark, ruling, title_held}
 use Rattle.story.specs.Calls.{status_count, status_held, status_mark}
 use Rattle.measures.proofs.Within.{all_readable}
-use Rattle.status.proofs.Filled.{Filled, filled_more, filled_all, id_below}
-use borrow.Author.Rules.{rules}
+use Rattle.status.proofs.Filled.{filled_more, filled_all, id_below}
 use Rattle.status.proofs.fill.Goals as goal
 
 pub loop-i-init : goal.loop-i-init

@@ -1,18 +1,9 @@
 -- What the loop keeps, and what falls.
 use Prim.Native.Nat.{◌≤◌, ◌-◌}
-use mathlib.Core.Path.{◌≡◌, sym, ap, ◌∙◌}
-use native.Mathlib.Omega.{arith}
-use native.Mathlib.Numerals.{add-one}
-use native.Mathlib.Nat.{le_antisymm}
-use lib.Dec.{eqb}
-use lib.ListN.{length, length-set}
-use Rattle.story.specs.declared.Title.{Title}
-use Rattle.rules.specs.Refusals.{pick}
-use Rattle.story.specs.Kept.{clear_mark, ruling, title_held}
+use mathlib.Core.Path.{◌≡◌}
+use lib.ListN.{length}
 use Rattle.story.specs.Calls.{status_count, status_held, status_mark}
-use Rattle.measures.proofs.Within.{all_readable}
-use Rattle.status.proofs.Filled.{Filled, filled_more, filled_all, id_below}
-use borrow.Author.Rules.{rules}
+use Rattle.status.proofs.Filled.{Filled}
 use Rattle.status.proofs.fill.Given as goal
 
 abbrev pub invariant-loop-i : goal.invariant-loop-i

@@ -1,5 +1,4 @@
 -- `ids_ok` meets its contract: the test of a row, with the limit of an id.
-use borrow.Author.Rules.{rules}
 use Rattle.status.specs.Rows.{ids_ok}
 use Rattle.status.proofs.ids_ok.Goals as goal
 

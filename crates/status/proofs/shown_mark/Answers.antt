@@ -1,6 +1,5 @@
 -- `shown_mark` meets its contract: the one test of its definition.
 use borrow.Author.Tests.{eq-eqb, ne_eqb}
-use borrow.Author.Rules.{rules}
 use Rattle.status.proofs.shown_mark.Goals as goal
 
 pub returns-then-count-eq0 : goal.returns-then-count-eq0

@@ -3,7 +3,6 @@ use mathlib.Core.Path.{refl, sym, ◌∙◌}
 use lib.ListN.{length}
 use borrow.Author.Tests.{eq-eqb, ne_eqb}
 use Rattle.status.proofs.Asked.{count_row_lem, held_row, mark_row, rows_state, rows_ids}
-use borrow.Author.Rules.{rules}
 use Rattle.status.proofs.status.Goals as goal
 
 pub fill-requires : goal.fill-requires

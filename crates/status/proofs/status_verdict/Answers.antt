@@ -4,7 +4,6 @@ use Rattle.rules.specs.Refusals.{first_hit}
 use Rattle.story.specs.Calls.{status_answer}
 use Rattle.questions.specs.Asked.{asked_answer}
 use Rattle.status.specs.Rows.{ids_ok}
-use borrow.Author.Rules.{rules}
 use Rattle.status.proofs.status_verdict.Goals as goal
 
 pub returns-then-counts-n : goal.returns-then-counts-n

@@ -1,9 +1,7 @@
 -- `airing::follow::play` meets its contract and ends: each step is one read more, and one that goes on moves ahead.
 use mathlib.Core.Path.{refl, sym, ◌∙◌}
 use native.Mathlib.Omega.{arith}
-use borrow.Author.Rules.{rules}
-use Rattle.logs.proofs.Reading.{PlayedTo, not_begun, played_on, tested, all_played, left, falls}
-use Rattle.airing.specs.inner.Steps.{heard_marks}
+use Rattle.logs.proofs.Reading.{not_begun, played_on, tested, all_played, falls}
 use Rattle.airing.proofs.Answers.{pool_in_holds, id_low}
 use Rattle.airing.proofs.Reading.{ready, kept_length_lem}
 use Rattle.airing.proofs.follow.play.Goals as goal
@@ -18,8 +16,11 @@ loop-played-init c = not_begun _ _ _ _ _ _ _ c.not_begun-played.ensures refl
 pub step-played-requires : goal.step-played-requires
 step-played-requires c = let at-loop = c in
     let known = at-loop in
-    let s = known in record { tested = tested _ _ _ _ _ _ _ at-loop.loop-played.invariant (λ j. omega (arith, known.shared_slice_known-1.given j)); ready_to_mark = ready _ _ _ _ _ _ _ at-loop.loop-played.invariant (λ j. omega (arith, known.shared_slice_known-1.given j))
-          (id_low s.args.pool s.args.title s.requires.title_value) }
+    let s = known in record {
+      tested = tested _ _ _ _ _ _ _ at-loop.loop-played.invariant (λ j. omega (arith, known.shared_slice_known-1.given j));
+      ready_to_mark = ready _ _ _ _ _ _ _ at-loop.loop-played.invariant (λ j. omega (arith, known.shared_slice_known-1.given j))
+          (id_low s.args.pool s.args.title s.requires.title_value);
+    }
 
 pub loop-played-smaller : goal.loop-played-smaller
 loop-played-smaller c =

@@ -4,7 +4,6 @@ use Rattle.story.specs.Kept.{open_mode}
 use Rattle.logs.proofs.Own.{of_before, steps_own, steps_past}
 use Rattle.airing.specs.inner.Steps.{Markable}
 use Rattle.airing.proofs.Hearing.{marks_open, marks_opening}
-use borrow.Author.Rules.{rules}
 use Rattle.airing.proofs.follow.step.Goals as goal
 
 pub tick_at-requires : goal.tick_at-requires

@@ -1,6 +1,5 @@
 -- `airing::marks::mark_in` meets its contract: whether the title admits boxes, and whether the tick is a slot start.
 use Rattle.airing.specs.inner.Steps.{mark_in}
-use borrow.Author.Rules.{rules}
 use Rattle.airing.proofs.marks.mark_in.Goals as goal
 
 pub returns-then-starts : goal.returns-then-starts

@@ -1,13 +1,12 @@
 -- `airing::marks::mark_to` meets its contract: the ticks passed are marked.
-use mathlib.Core.Path.{◌≡◌, refl, ap, ◌∙◌}
-use Prim.Native.Nat.{◌-◌, ◌≤◌}
+use mathlib.Core.Path.{refl, ap, ◌∙◌}
+use Prim.Native.Nat.{◌-◌}
 use native.Mathlib.Nat.{le_antisymm}
 use native.Mathlib.Omega.{arith}
-use lib.ListN.{length, length-set}
+use lib.ListN.{length-set}
 use Rattle.story.specs.Kept.{tick_at}
 use Rattle.airing.specs.inner.Steps.{marked_from, marked_to}
 use Rattle.airing.proofs.Ticks.{marked_next, sub_zero}
-use borrow.Author.Rules.{rules}
 use Rattle.airing.proofs.marks.mark_to.Goals as goal
 
 pub loop-tick-init : goal.loop-tick-init

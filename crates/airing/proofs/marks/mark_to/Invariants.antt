@@ -1,13 +1,9 @@
 -- What the loop keeps, and what falls.
-use mathlib.Core.Path.{◌≡◌, refl, ap, ◌∙◌}
+use mathlib.Core.Path.{◌≡◌}
 use Prim.Native.Nat.{◌-◌, ◌≤◌}
-use native.Mathlib.Nat.{le_antisymm}
-use native.Mathlib.Omega.{arith}
-use lib.ListN.{length, length-set}
+use lib.ListN.{length}
 use Rattle.story.specs.Kept.{tick_at}
-use Rattle.airing.specs.inner.Steps.{marked_from, marked_to}
-use Rattle.airing.proofs.Ticks.{marked_next, sub_zero}
-use borrow.Author.Rules.{rules}
+use Rattle.airing.specs.inner.Steps.{marked_from}
 use Rattle.airing.proofs.marks.mark_to.Given as goal
 
 abbrev pub invariant-loop-tick : goal.invariant-loop-tick

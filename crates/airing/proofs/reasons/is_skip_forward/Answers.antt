@@ -1,7 +1,6 @@
 -- `airing::reasons::is_skip_forward` meets its contract: pool and title, then the log.
 use mathlib.Core.Path.{sym, ◌∙◌}
 use Rattle.airing.proofs.RefusalReasons.{skip_outside, skip_inside}
-use borrow.Author.Rules.{rules}
 use Rattle.airing.proofs.reasons.is_skip_forward.Goals as goal
 
 pub end_of-requires : goal.end_of-requires

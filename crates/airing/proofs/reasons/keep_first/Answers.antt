@@ -2,7 +2,6 @@
 use mathlib.Core.Path.{refl}
 use native.Mathlib.Numerals.{add-one}
 use borrow.Author.Tests.{lt-ltb, le-ltb}
-use borrow.Author.Rules.{rules}
 use Rattle.airing.proofs.reasons.keep_first.Goals as goal
 
 pub returns-then-first-i : goal.returns-then-first-i

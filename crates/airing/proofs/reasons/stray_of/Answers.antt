@@ -1,12 +1,12 @@
 -- `airing::reasons::stray_of` meets its contract: the first of the places passed.
-use Prim.Native.Nat.{◌≤◌, ◌-◌, ◌^◌}
-use mathlib.Core.Path.{◌≡◌, ap, ◌∙◌}
+use Prim.Native.Nat.{◌^◌}
+use mathlib.Core.Path.{ap, ◌∙◌}
 use mathlib.Core.Bool.{not}
 use native.Mathlib.Omega.{arith}
 use native.Mathlib.Numerals.{add-one}
 use native.Mathlib.Nat.{le_antisymm}
 use lib.Dec.{ltb, eqb}
-use lib.ListN.{get_or, length}
+use lib.ListN.{get_or}
 use Rattle.rules.specs.Limits.{either}
 use Rattle.rules.specs.Search.{first}
 use Rattle.judging.specs.Record.{nothing_seen}

@@ -1,11 +1,11 @@
 -- `airing::refusals::all_cells` meets its contract: the loop's value is the test of every number passed.
-use Prim.Native.Nat.{◌≤◌, ◌-◌, ◌^◌}
-use mathlib.Core.Path.{◌≡◌, ap, ◌∙◌}
+use Prim.Native.Nat.{◌^◌}
+use mathlib.Core.Path.{ap, ◌∙◌}
 use native.Mathlib.Omega.{arith}
 use native.Mathlib.Numerals.{add-one}
 use native.Mathlib.Nat.{le_antisymm}
 use lib.Dec.{ltb, eqb}
-use lib.ListN.{get_or, length}
+use lib.ListN.{get_or}
 use Rattle.rules.specs.Limits.{either}
 use Rattle.rules.specs.Search.{every}
 use Rattle.judging.specs.Record.{nothing_seen}

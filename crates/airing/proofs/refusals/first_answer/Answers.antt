@@ -1,7 +1,6 @@
 -- `airing::refusals::first_answer` meets its contract: the tests in their order.
 use Rattle.rules.specs.Refusals.{first_hit}
 use Rattle.airing.specs.inner.Steps.{rows_answer}
-use borrow.Author.Rules.{rules}
 use Rattle.airing.proofs.refusals.first_answer.Goals as goal
 
 pub returns-then-has_room : goal.returns-then-has_room

@@ -5,7 +5,6 @@ use Rattle.text.specs.Texts.{text}
 use Rattle.text.specs.Output.{puts}
 use Rattle.text.proofs.Pages.{puts_then}
 use Rattle.console_views.specs.Titles.{coming_text}
-use borrow.Author.Rules.{rules}
 use Rattle.console_views.proofs.coming.put_coming.Goals as goal
 
 pub returns-then-t-eq-OPEN : goal.returns-then-t-eq-OPEN

@@ -2,7 +2,6 @@
 use borrow.Author.Tests.{eq-eqb, ne_eqb}
 use Rattle.text.specs.Texts.{text}
 use Rattle.console_views.specs.Titles.{doors_text}
-use borrow.Author.Rules.{rules}
 use Rattle.console_views.proofs.coming.put_doors.Goals as goal
 
 pub returns-then-t-eq-HELD : goal.returns-then-t-eq-HELD

@@ -3,7 +3,6 @@ use borrow.Author.Tests.{eq-eqb, ne_eqb}
 use Rattle.text.specs.Texts.{text}
 use Rattle.text.proofs.Pages.{puts_then}
 use Rattle.console_views.specs.Titles.{settled_text}
-use borrow.Author.Rules.{rules}
 use Rattle.console_views.proofs.coming.put_settled.Goals as goal
 
 pub returns-then-t-eq-STEADY : goal.returns-then-t-eq-STEADY

@@ -2,7 +2,6 @@
 use Rattle.text.specs.Texts.{text}
 use Rattle.text.proofs.Pages.{puts_then}
 use Rattle.console_views.specs.Titles.{film_text}
-use borrow.Author.Rules.{rules}
 use Rattle.console_views.proofs.films.put_film.Goals as goal
 
 pub tick-tick-requires : goal.tick-tick-requires

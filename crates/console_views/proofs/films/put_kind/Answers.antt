@@ -1,7 +1,6 @@
 -- `console_views::films::put_kind` meets its contract: one text of two.
 use borrow.Author.Tests.{eq-eqb, ne_eqb}
 use Rattle.text.specs.Texts.{text}
-use borrow.Author.Rules.{rules}
 use Rattle.console_views.proofs.films.put_kind.Goals as goal
 
 pub returns-then-kind-eq-STEADY : goal.returns-then-kind-eq-STEADY

@@ -2,7 +2,6 @@
 use native.Mathlib.Omega.{arith}
 use Rattle.rules.specs.Limits.{lane_places}
 use Rattle.measures.proofs.Within.{in_row}
-use borrow.Author.Rules.{rules}
 use Rattle.console_views.proofs.holding.gone_tick.Goals as goal
 
 pub overflow_add-result : goal.overflow_add-result

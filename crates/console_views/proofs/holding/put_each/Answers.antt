@@ -1,9 +1,6 @@
 -- `console_views::holding::put_each` meets its contract: the lanes passed are written.
-use Prim.Native.Nat.{◌-◌}
 use native.Mathlib.Omega.{arith}
-use Rattle.text.specs.Output.{page}
-use Rattle.console_answers.proofs.Rows.{Passed, passed_none, passed_on, passed_all}
-use Rattle.console_views.specs.Titles.{sending_text}
+use Rattle.console_answers.proofs.Rows.{passed_none, passed_on, passed_all}
 use Rattle.console_views.proofs.holding.put_each.Goals as goal
 
 pub put_sending-place-requires : goal.put_sending-place-requires

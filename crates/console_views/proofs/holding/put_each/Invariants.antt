@@ -1,8 +1,7 @@
 -- What the loop keeps, and what falls.
 use Prim.Native.Nat.{◌-◌}
-use native.Mathlib.Omega.{arith}
 use Rattle.text.specs.Output.{page}
-use Rattle.console_answers.proofs.Rows.{Passed, passed_none, passed_on, passed_all}
+use Rattle.console_answers.proofs.Rows.{Passed}
 use Rattle.console_views.specs.Titles.{sending_text}
 use Rattle.console_views.proofs.holding.put_each.Given as goal
 

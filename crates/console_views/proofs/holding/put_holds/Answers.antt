@@ -2,7 +2,6 @@
 use Rattle.text.specs.Texts.{text}
 use Rattle.text.proofs.Pages.{puts_then}
 use Rattle.console_views.specs.Titles.{holds_text}
-use borrow.Author.Rules.{rules}
 use Rattle.console_views.proofs.holding.put_holds.Goals as goal
 
 pub title_held-requires : goal.title_held-requires

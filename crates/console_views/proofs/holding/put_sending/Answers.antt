@@ -4,7 +4,6 @@ use Rattle.text.specs.Texts.{text}
 use Rattle.text.specs.Output.{puts}
 use Rattle.text.proofs.Pages.{puts_then}
 use Rattle.console_views.specs.Titles.{sending_text}
-use borrow.Author.Rules.{rules}
 use Rattle.console_views.proofs.holding.put_sending.Goals as goal
 
 pub still_sends-requires : goal.still_sends-requires

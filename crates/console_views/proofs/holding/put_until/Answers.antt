@@ -4,7 +4,6 @@ use borrow.Author.Tests.{le-leb, lt-leb}
 use Rattle.text.specs.Texts.{text}
 use Rattle.text.proofs.Pages.{puts_then}
 use Rattle.console_views.specs.Titles.{until_text}
-use borrow.Author.Rules.{rules}
 use Rattle.console_views.proofs.holding.put_until.Goals as goal
 
 pub tick-tick-requires : goal.tick-tick-requires

@@ -1,7 +1,6 @@
 -- `console_views::holding::still_sends` meets its contract: the tests are those of the definition.
 use borrow.Author.Tests.{le-leb, lt-leb}
 use Rattle.console_views.specs.Titles.{still_sends}
-use borrow.Author.Rules.{rules}
 use Rattle.console_views.proofs.holding.still_sends.Goals as goal
 
 pub returns-then-lane-ruling : goal.returns-then-lane-ruling

@@ -10,7 +10,6 @@ use Rattle.rules.proofs.Tests.{both_l, both_r}
 use Rattle.story.specs.Kept.{state_ok}
 use Rattle.measures.proofs.Within.{all_readable}
 use Rattle.console_views.specs.Lanes.{lanes_answer}
-use borrow.Author.Rules.{rules}
 use Rattle.console_views.proofs.lanes.lanes_verdict.Goals as goal
 
 pub title_of-t-requires : goal.title_of-t-requires

@@ -1,6 +1,5 @@
 -- `console_views::lanes::numbers_ok` meets its contract: the tests are joined.
 use mathlib.Core.Path.{refl}
-use borrow.Author.Rules.{rules}
 use Rattle.console_views.proofs.lanes.numbers_ok.Goals as goal
 
 pub returns : goal.returns

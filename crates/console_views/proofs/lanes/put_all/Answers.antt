@@ -6,7 +6,6 @@ use Rattle.measures.specs.Readable.{Filmed}
 use Rattle.text.proofs.Pages.{puts_then}
 use Rattle.console_views.specs.Lanes.{lane_lines}
 use Rattle.console_views.proofs.Answered.{asked_id, asked_time, asked_ticks, asked_film}
-use borrow.Author.Rules.{rules}
 use Rattle.console_views.proofs.lanes.put_all.Tie as tie
 use Rattle.console_views.proofs.lanes.put_all.Lts as lts
 use Rattle.console_views.proofs.lanes.put_all.Reads as reads

@@ -1,7 +1,6 @@
 -- `console_views::lanes::put_lanes` meets its contract: the reason stands behind the answer.
 use Rattle.text.proofs.Pages.{puts_then}
 use Rattle.console_views.specs.Lanes.{lanes_text}
-use borrow.Author.Rules.{rules}
 use Rattle.console_views.proofs.lanes.put_lanes.Goals as goal
 
 pub returns : goal.returns

@@ -2,7 +2,6 @@
 use Rattle.text.specs.Texts.{text}
 use Rattle.text.proofs.Pages.{puts_then}
 use Rattle.console_views.specs.Lanes.{lane_line}
-use borrow.Author.Rules.{rules}
 use Rattle.console_views.proofs.lanes.put_line.Goals as goal
 
 pub returns : goal.returns

@@ -1,10 +1,6 @@
 -- `console_views::lanes::put_lines` meets its contract: the lanes passed have their lines.
-use Prim.Native.Nat.{◌-◌}
 use native.Mathlib.Omega.{arith}
-use Rattle.text.specs.Output.{page}
-use Rattle.console_answers.proofs.Rows.{Passed, passed_none, passed_on, passed_all}
-use Rattle.console_views.specs.Lanes.{lane_line}
-use borrow.Author.Rules.{rules}
+use Rattle.console_answers.proofs.Rows.{passed_none, passed_on, passed_all}
 use Rattle.console_views.proofs.lanes.put_lines.Goals as goal
 
 pub loop-lane-preserved : goal.loop-lane-preserved

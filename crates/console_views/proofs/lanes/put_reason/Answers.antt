@@ -1,7 +1,6 @@
 -- `console_views::lanes::put_reason` meets its contract: what is missing behind 3, else as of any question.
 use borrow.Author.Tests.{eq-eqb, ne_eqb}
 use Rattle.console_views.specs.Lanes.{lanes_reason}
-use borrow.Author.Rules.{rules}
 use Rattle.console_views.proofs.lanes.put_reason.Goals as goal
 
 pub returns-then-answer-eq-NOT_THERE : goal.returns-then-answer-eq-NOT_THERE

@@ -1,13 +1,10 @@
 -- `console_views::lanes::put_row` meets its contract: the ticks passed are written.
-use Prim.Native.Nat.{ℕ, ◌+◌, ◌-◌, ◌*◌, ◌≤◌}
+use Prim.Native.Nat.{◌*◌, ◌≤◌}
 use native.Mathlib.Omega.{arith}
 use Rattle.rules.specs.Limits.{length_max}
-use Rattle.text.specs.Output.{page}
-use Rattle.console_answers.proofs.Rows.{Passed, passed_none, passed_on, passed_all}
+use Rattle.console_answers.proofs.Rows.{passed_none, passed_on, passed_all}
 use Rattle.console_limits.specs.Quantities.{ticks_most}
-use Rattle.console_views.specs.Lanes.{shown_text}
 use Rattle.console_views.proofs.Ticks.{far}
-use borrow.Author.Rules.{rules}
 use Rattle.console_views.proofs.lanes.put_row.Tie as tie
 use Rattle.console_views.proofs.lanes.put_row.Lts as lts
 use Rattle.console_views.proofs.lanes.put_row.Reads as reads

@@ -1,13 +1,8 @@
 -- What the loop keeps, and what falls.
-use Prim.Native.Nat.{ℕ, ◌+◌, ◌-◌, ◌*◌, ◌≤◌}
-use native.Mathlib.Omega.{arith}
-use Rattle.rules.specs.Limits.{length_max}
+use Prim.Native.Nat.{ℕ, ◌+◌, ◌-◌, ◌*◌}
 use Rattle.text.specs.Output.{page}
-use Rattle.console_answers.proofs.Rows.{Passed, passed_none, passed_on, passed_all}
-use Rattle.console_limits.specs.Quantities.{ticks_most}
+use Rattle.console_answers.proofs.Rows.{Passed}
 use Rattle.console_views.specs.Lanes.{shown_text}
-use Rattle.console_views.proofs.Ticks.{far}
-use borrow.Author.Rules.{rules}
 use Rattle.console_views.proofs.lanes.put_row.Given as goal
 
 abbrev pub invariant-loop-j : goal.invariant-loop-j

@@ -2,7 +2,6 @@
 use borrow.Author.Tests.{eq-eqb, ne_eqb}
 use Rattle.text.specs.Texts.{text}
 use Rattle.console_views.specs.Lanes.{shown_text}
-use borrow.Author.Rules.{rules}
 use Rattle.console_views.proofs.lanes.put_shown.Goals as goal
 
 pub returns-then-answer-eq-DONE : goal.returns-then-answer-eq-DONE

@@ -4,7 +4,6 @@ use borrow.Author.Tests.{eq-eqb, ne_eqb}
 use Rattle.text.specs.Texts.{text}
 use Rattle.text.proofs.Pages.{puts_then}
 use Rattle.console_views.specs.Lanes.{lanes_told}
-use borrow.Author.Rules.{rules}
 use Rattle.console_views.proofs.lanes.put_told.Goals as goal
 
 pub put_all-requires : goal.put_all-requires

@@ -1,10 +1,6 @@
 -- `console_views::titles::put_each` meets its contract: the titles passed have their lines.
-use Prim.Native.Nat.{◌-◌}
 use native.Mathlib.Omega.{arith}
-use Rattle.text.specs.Output.{page}
-use Rattle.console_answers.proofs.Rows.{Passed, passed_none, passed_on, passed_all}
-use Rattle.rules.specs.Limits.{titles_max}
-use Rattle.console_views.specs.Titles.{title_line}
+use Rattle.console_answers.proofs.Rows.{passed_none, passed_on, passed_all}
 use Rattle.console_views.proofs.titles.put_each.Goals as goal
 
 pub put_title-place-requires : goal.put_title-place-requires

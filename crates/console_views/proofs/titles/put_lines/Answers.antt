@@ -1,7 +1,6 @@
 -- `console_views::titles::put_lines` meets its contract: the lines of the titles stand behind that of the pool.
 use Rattle.text.proofs.Pages.{puts_then}
 use Rattle.console_views.specs.Titles.{title_lines}
-use borrow.Author.Rules.{rules}
 use Rattle.console_views.proofs.titles.put_lines.Goals as goal
 
 pub returns : goal.returns

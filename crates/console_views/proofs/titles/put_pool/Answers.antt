@@ -3,7 +3,6 @@ use Rattle.text.specs.Texts.{text}
 use Rattle.text.proofs.Pages.{puts_then}
 use Rattle.measures.proofs.Within.{all_readable}
 use Rattle.console_views.specs.Titles.{pool_text}
-use borrow.Author.Rules.{rules}
 use Rattle.console_views.proofs.titles.put_pool.Goals as goal
 
 pub titles_there-requires : goal.titles_there-requires

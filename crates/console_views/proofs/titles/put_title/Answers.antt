@@ -7,7 +7,6 @@ use Rattle.text.proofs.Pages.{puts_then}
 use Rattle.measures.proofs.Within.{all_readable}
 use Rattle.console_views.specs.Titles.{title_line}
 use Rattle.console_views.proofs.Standing.{Standing, stands}
-use borrow.Author.Rules.{rules}
 use Rattle.console_views.proofs.titles.put_title.Tie as tie
 use Rattle.console_views.proofs.titles.put_title.Lts as lts
 use Rattle.console_views.proofs.titles.put_title.Reads as reads
@@ -67,7 +66,7 @@ returns-then-is_there c =
     (puts_then _ _ _
     (puts_then _ _ _ (puts_then _ _ _ at-put.put-a.ensures at-put-number.put_number-b.ensures) at-put-film.put_film-c.ensures)
     at-put-count.put_count-d.ensures)
-    at-put-holds.Put-Holds.ensures)
+    at-put-holds.put_holds-e.ensures)
     at-put-coming.put_coming.ensures)
 
 pub returns : goal.returns

@@ -1,7 +1,6 @@
 -- `console_views::titles::put_titles` meets its contract: the reason stands behind the answer.
 use Rattle.text.proofs.Pages.{puts_then}
 use Rattle.console_views.specs.Titles.{titles_text}
-use borrow.Author.Rules.{rules}
 use Rattle.console_views.proofs.titles.put_titles.Goals as goal
 
 pub returns : goal.returns

@@ -4,7 +4,6 @@ use mathlib.Core.Bool.{true}
 use borrow.Author.Tests.{eq-eqb, ne_eqb, leb-true}
 use Rattle.questions.proofs.Asked.{asked_state, asked_time}
 use Rattle.console_views.specs.Titles.{titles_told}
-use borrow.Author.Rules.{rules}
 use Rattle.console_views.proofs.titles.put_told.Goals as goal
 
 pub put_lines-requires : goal.put_lines-requires

@@ -1,12 +1,9 @@
 -- `console_views::titles::titles_there` meets its contract: the loop's number is how many of the titles passed are there.
-use Prim.Native.Nat.{◌≤◌, ◌-◌}
-use mathlib.Core.Path.{◌≡◌, refl, ap, ◌∙◌}
+use mathlib.Core.Path.{refl, ap, ◌∙◌}
 use native.Mathlib.Omega.{arith}
 use native.Mathlib.Numerals.{add-one}
 use native.Mathlib.Nat.{le_antisymm}
-use Rattle.rules.specs.Limits.{titles_max}
 use Rattle.rules.specs.Search.{how_many}
-use Rattle.story.specs.Kept.{title_at, is_there}
 use Rattle.measures.proofs.Within.{all_readable}
 use borrow.Author.Rules.{rules}
 use Rattle.console_views.proofs.titles.titles_there.Goals as goal

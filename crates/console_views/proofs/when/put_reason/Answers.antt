@@ -1,7 +1,6 @@
 -- `console_views::when::put_reason` meets its contract: what became of the title behind 3, else the event's own reason.
 use borrow.Author.Tests.{eq-eqb, ne_eqb}
 use Rattle.console_views.specs.When.{when_reason}
-use borrow.Author.Rules.{rules}
 use Rattle.console_views.proofs.when.put_reason.Goals as goal
 
 pub returns-then-answer-eq-NOT_THERE : goal.returns-then-answer-eq-NOT_THERE

@@ -1,7 +1,6 @@
 -- `console_views::when::put_when` meets its contract: the outlook's answer and time, and behind them the reason.
 use Rattle.text.proofs.Pages.{puts_then}
 use Rattle.console_views.specs.When.{when_text}
-use borrow.Author.Rules.{rules}
 use Rattle.console_views.proofs.when.put_when.Goals as goal
 
 pub returns : goal.returns

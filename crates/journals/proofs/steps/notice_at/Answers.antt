@@ -2,7 +2,6 @@
 use mathlib.Core.Path.{refl}
 use Rattle.journals.specs.Rows.{row_hears}
 use Rattle.journals.proofs.StepCases.{part_size, with_sum, without_sum}
-use borrow.Author.Rules.{rules}
 use Rattle.journals.proofs.steps.notice_at.Goals as goal
 
 pub returns-then-start : goal.returns-then-start

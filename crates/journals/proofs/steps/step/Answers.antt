@@ -4,7 +4,6 @@ use native.Mathlib.Omega.{arith}
 use Rattle.notice.proofs.NoticePlaces.{inside}
 use Rattle.journals.specs.Rows.{row_hears}
 use Rattle.journals.proofs.StepCases.{found_notice, found_end, found_none}
-use borrow.Author.Rules.{rules}
 use Rattle.journals.proofs.steps.step.Goals as goal
 
 pub notice_at-requires : goal.notice_at-requires

@@ -3,7 +3,6 @@ use mathlib.Core.Path.{sym, ap, ◌∙◌}
 use Rattle.rules.specs.Limits.{both}
 use Rattle.journals.specs.Start.{has_sum}
 use Rattle.journals.proofs.StepCases.{kind_was, is_torn_lem, no_notice}
-use borrow.Author.Rules.{rules}
 use Rattle.journals.proofs.steps.stopped.Goals as goal
 
 pub returns-then-also : goal.returns-then-also

@@ -5,7 +5,6 @@ use mathlib.Core.Path.{refl, sym, ap, ◌∙◌}
 use Rattle.journals.specs.declared.Verdict.TheVariants.{Refused}
 use Rattle.journals.specs.Start.{ended_with}
 use Rattle.journals.proofs.StepCases.{played, refused, differs}
-use borrow.Author.Rules.{rules}
 use Rattle.journals.proofs.steps.summed.Goals as goal
 
 pub returns-then-answer-eq-DONE : goal.returns-then-answer-eq-DONE

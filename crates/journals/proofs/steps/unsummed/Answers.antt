@@ -1,6 +1,5 @@
 -- `steps::unsummed` meets its contract, by whether a block of input may have held one more.
 use Rattle.journals.proofs.StepCases.{block_holds, block_full}
-use borrow.Author.Rules.{rules}
 use Rattle.journals.proofs.steps.unsummed.Goals as goal
 
 pub returns-then-start-lt-BLOCK_EVENTS : goal.returns-then-start-lt-BLOCK_EVENTS

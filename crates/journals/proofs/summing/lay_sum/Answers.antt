@@ -1,5 +1,4 @@
 -- `summing::lay_sum` meets its contract: the sum of the part is laid.
-use borrow.Author.Rules.{rules}
 use Rattle.journals.proofs.summing.lay_sum.Goals as goal
 
 pub returns : goal.returns

@@ -3,7 +3,6 @@ use mathlib.Core.Path.{refl, sym, ◌∙◌}
 use native.Mathlib.Omega.{arith}
 use Rattle.notice.proofs.NoticePlaces.{inside}
 use Rattle.journals.proofs.SumsMade.{sum_laid, no_sum}
-use borrow.Author.Rules.{rules}
 use Rattle.journals.proofs.summing.sum_next.Goals as goal
 
 pub lay_sum-requires : goal.lay_sum-requires

@@ -1,7 +1,7 @@
 -- `summing::sums_in` meets its contract and ends: each turn sums one notice more.
 use mathlib.Core.Path.{refl, sym, ◌∙◌}
 use native.Mathlib.Omega.{arith}
-use Rattle.journals.proofs.SumsMade.{Making, left_to_sum, not_begun, same_size, has_room, one_more, falls, all_made}
+use Rattle.journals.proofs.SumsMade.{not_begun, same_size, has_room, one_more, falls, all_made}
 use Rattle.journals.proofs.summing.sums_in.Goals as goal
 
 pub loop-out-init : goal.loop-out-init

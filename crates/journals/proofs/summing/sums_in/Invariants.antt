@@ -1,7 +1,5 @@
 -- What the loop keeps, and what falls.
-use mathlib.Core.Path.{refl, sym, ◌∙◌}
-use native.Mathlib.Omega.{arith}
-use Rattle.journals.proofs.SumsMade.{Making, left_to_sum, not_begun, same_size, has_room, one_more, falls, all_made}
+use Rattle.journals.proofs.SumsMade.{Making, left_to_sum}
 use Rattle.journals.proofs.summing.sums_in.Given as goal
 
 abbrev pub invariant-loop-out : goal.invariant-loop-out

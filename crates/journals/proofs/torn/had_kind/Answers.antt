@@ -1,11 +1,9 @@
 -- `torn::had_kind` meets its contract and ends: after each turn it has looked at one kind more.
 use mathlib.Core.Path.{◌≡◌, refl}
-use Prim.Native.Nat.{◌-◌, ◌≤◌}
 use native.Mathlib.Numerals.{add-one}
 use native.Mathlib.Omega.{arith}
-use borrow.Author.Rules.{rules}
 use Rattle.rules.specs.Search.{some}
-use Rattle.journals.specs.Torn.{is_kind, had_kind}
+use Rattle.journals.specs.Torn.{had_kind}
 use Rattle.journals.proofs.torn.had_kind.Goals as goal
 
 pub loop-kind-init : goal.loop-kind-init

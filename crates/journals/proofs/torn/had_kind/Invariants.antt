@@ -1,11 +1,8 @@
 -- What the loop keeps, and what falls.
-use mathlib.Core.Path.{◌≡◌, refl}
+use mathlib.Core.Path.{◌≡◌}
 use Prim.Native.Nat.{◌-◌, ◌≤◌}
-use native.Mathlib.Numerals.{add-one}
-use native.Mathlib.Omega.{arith}
-use borrow.Author.Rules.{rules}
 use Rattle.rules.specs.Search.{some}
-use Rattle.journals.specs.Torn.{is_kind, had_kind}
+use Rattle.journals.specs.Torn.{is_kind}
 use Rattle.journals.proofs.torn.had_kind.Given as goal
 
 abbrev pub invariant-loop-kind : goal.invariant-loop-kind

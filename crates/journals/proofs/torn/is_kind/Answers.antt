@@ -4,7 +4,6 @@ use native.Mathlib.Omega.{arith}
 use lib.ListN.{replicate, length-set}
 use lib.Seq.{length-take-le}
 use Rattle.journals.proofs.Endings.{longest, kind_room, kind_sum, other_length}
-use borrow.Author.Rules.{rules}
 use Rattle.journals.proofs.torn.is_kind.Goals as goal
 
 pub lay_over-requires : goal.lay_over-requires

@@ -4,7 +4,6 @@ use native.Mathlib.Omega.{arith}
 use lib.ListN.{length}
 use lib.Seq.{length-take-le, length-sets}
 use Rattle.journals.proofs.Endings.{longest, room_holds, torn_is, not_torn}
-use borrow.Author.Rules.{rules}
 use Rattle.journals.proofs.torn.is_torn.Goals as goal
 
 pub put_rows-requires : goal.put_rows-requires

@@ -1,13 +1,10 @@
 -- `torn::lay_over` meets its contract and ends: the places passed have the bytes, and the others what they had.
-use Prim.Native.Nat.{◌≤◌, ◌<◌, ◌-◌}
+use Prim.Native.Nat.{◌<◌}
 use mathlib.Core.Path.{◌≡◌, refl, ap, ◌∙◌}
-use mathlib.Core.List.{◌++◌}
 use native.Mathlib.Nat.{le_antisymm}
 use native.Mathlib.Omega.{arith}
-use borrow.Author.Rules.{rules}
-use lib.ListN.{length, take, drop}
+use lib.ListN.{length}
 use Rattle.journals.proofs.Endings.{length_over, one_over}
-use Rattle.journals.proofs.torn.lay_over.Tie as tie
 use Rattle.journals.proofs.torn.lay_over.Lts as lts
 use Rattle.journals.proofs.torn.lay_over.Reads as reads
 use Rattle.journals.proofs.torn.lay_over.Goals as goal

@@ -1,12 +1,8 @@
 -- What the loop keeps, and what falls.
-use Prim.Native.Nat.{◌≤◌, ◌<◌, ◌-◌}
-use mathlib.Core.Path.{◌≡◌, refl, ap, ◌∙◌}
+use Prim.Native.Nat.{◌≤◌, ◌-◌}
+use mathlib.Core.Path.{◌≡◌}
 use mathlib.Core.List.{◌++◌}
-use native.Mathlib.Nat.{le_antisymm}
-use native.Mathlib.Omega.{arith}
-use borrow.Author.Rules.{rules}
 use lib.ListN.{length, take, drop}
-use Rattle.journals.proofs.Endings.{length_over, one_over}
 use Rattle.journals.proofs.torn.lay_over.Given as goal
 
 abbrev pub invariant-loop-i : goal.invariant-loop-i

@@ -1,0 +1,16 @@
+-- What the loop keeps, and what falls.
+use Prim.Native.Nat.{◌≤◌, ◌-◌}
+use mathlib.Core.Path.{◌≡◌}
+use mathlib.Core.Bool.{not}
+use lib.Dec.{ltb, eqb}
+use lib.ListN.{get_or, length}
+use Rattle.rules.specs.Limits.{either}
+use Rattle.rules.specs.Search.{first}
+use Rattle.judging.specs.Record.{nothing_seen}
+use Rattle.airing.proofs.reasons.stray_of.Given as goal
+
+abbrev pub invariant-loop-i : goal.invariant-loop-i
+invariant-loop-i l = (l.i ≤ length l.«record») × (l.first ≡ first (λ j. not (either (eqb (get_or l.«record» j 0) nothing_seen) (ltb (get_or l.«record» j 0) l.cells))) l.i)
+
+abbrev pub decreases-loop-i : goal.decreases-loop-i
+decreases-loop-i l = length l.«record» - l.i

@@ -1,0 +1,19 @@
+-- `marks::lives::put_sort` meets its contract: by the kind of the film.
+use borrow.Author.Tests.{eq-eqb, ne_eqb}
+use Rattle.text.specs.Texts.{text}
+use Rattle.marks.specs.Marks.{sort_text}
+use Rattle.marks.proofs.lives.put_sort.Goals as goal
+
+pub returns-then-kind-eq-STEADY : goal.returns-then-kind-eq-STEADY
+unfolding sort_text text
+returns-then-kind-eq-STEADY c =
+    let at-put = c in
+    let at-if1 = at-put in
+    rw (eq-eqb _ _ at-if1.if-kind-eq-STEADY.true) at-put.put.ensures
+
+pub returns : goal.returns
+unfolding sort_text text
+returns c =
+    let at-put2 = c in
+    let at-if1 = at-put2 in
+    rw (ne_eqb _ _ at-if1.if-kind-eq-STEADY.false) at-put2.put-2.ensures
