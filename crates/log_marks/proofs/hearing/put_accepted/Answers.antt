@@ -20,8 +20,10 @@ returns c =
     let at-band-of = at-put-curve in
     let at_start = at-band-of in
     let x = at_start.args in
-    accepted_are x.v x.kept.now (unpacked x.was.now).state (unpacked x.row.now).state x.n _ _ _ at-band-of.band_of-band.ensures at-title-at.title_at.ensures at-title-at2.title_at-2.ensures _ _ _ _ _ _ _ _ _
-    at-put-curve.put_curve-a.ensures.written at-put-curve.put_curve-a.ensures.kept_after at-put-turn.put_turn-b.ensures.written at-put-turn.put_turn-b.ensures.kept_after at-put-tick.put_tick-c.ensures.written at-put-tick.put_tick-c.ensures.kept_after at-put-tick-label.put_tick_label.ensures.written at-put-tick-label.put_tick_label.ensures.kept_after
+    let p =
+        accepted_are x.v x.kept.now (unpacked x.was.now).state (unpacked x.row.now).state x.n _ _ _ at-band-of.band_of-band.ensures at-title-at.title_at.ensures at-title-at2.title_at-2.ensures _ _ _ _ _ _ _ _ _
+        at-put-curve.put_curve-a.ensures.written at-put-curve.put_curve-a.ensures.kept_after at-put-turn.put_turn-b.ensures.written at-put-turn.put_turn-b.ensures.kept_after at-put-tick.put_tick-c.ensures.written at-put-tick.put_tick-c.ensures.kept_after at-put-tick-label.put_tick_label.ensures.written at-put-tick-label.put_tick_label.ensures.kept_after in
+    record { written = p.0; kept_after = p.1 }
 
 pub put_curve-a-requires : goal.put_curve-a-requires
 put_curve-a-requires c = let at_start = c in
@@ -63,7 +65,7 @@ put_tick_label-requires c =
     (at-put-tick.put_tick-c.auto.kept ∙ (at-put-turn.put_turn-b.auto.kept ∙ (at-put-curve.put_curve-a.auto.kept ∙ at_start.requires.kept_len.0)), rw at-band-of.band_of-band.ensures at_start.requires.kept_len.1)
 
 pub shape_of-out : goal.shape_of-out
-shape_of-out c = same_room _ _ (returns c).0 refl
+shape_of-out c = same_room _ _ (returns c).written refl
 
 pub shape_of-kept : goal.shape_of-kept
 shape_of-kept c =

@@ -9,7 +9,7 @@ returns-in-At c =
     let at-hear = c in
     let at-found = at-hear in
     let at-next-in = at-found in
-    steps_notice _ _ _ _ _ _ _ _ _ _ _ _ _ (sym at-next-in.next_in-found.ensures.is ∙ at-found.in-At.is) at-hear.hear-behind.ensures
+    steps_notice _ _ _ _ _ _ _ _ _ _ _ _ _ (sym at-next-in.next_in-found.ensures.is ∙ at-found.in-At.is) (at-hear.hear-behind.ensures.written, (at-hear.hear-behind.ensures.kept_after, at-hear.hear-behind.ensures.takes))
 
 pub returns-in-End : goal.returns-in-End
 returns-in-End c =
