@@ -1,9 +1,5 @@
 -- `judging::judge` meets its contract: the two walks come to what every life with the marked admissions says.
-use borrow.Author.Rules.{rules}
 use Rattle.judging.proofs.Lives.{judges}
-use Rattle.judging.proofs.judge.Tie as tie
-use Rattle.judging.proofs.judge.Lts as lts
-use Rattle.judging.proofs.judge.Reads as reads
 use Rattle.judging.proofs.judge.Goals as goal
 
 pub returns : goal.returns

@@ -13,10 +13,13 @@ fill-requires c = let tested = c in
     let none = sym at-verdict.status_verdict-answer.ensures ∙ tested.if-answer-eq-DONE.true in
     let m = length a.counts.now in
     let h = length a.held.now in
-    let d = length a.marks.now in record { counts_len = (
+    let d = length a.marks.now in record {
+      counts_len = (
         count_row_lem a.s a.time a.ids.now m h d none,
         (held_row a.s a.time a.ids.now m h d none, mark_row a.s a.time a.ids.now m h d none),
-      ); s_value = (rows_state a.s a.time a.ids.now m h d none, rows_ids a.s a.time a.ids.now m h d none) }
+      );
+      s_value = (rows_state a.s a.time a.ids.now m h d none, rows_ids a.s a.time a.ids.now m h d none);
+    }
 
 pub returns-then-answer-eq-DONE : goal.returns-then-answer-eq-DONE
 returns-then-answer-eq-DONE c =

@@ -20,10 +20,10 @@ loop-tick-preserved c =
     let l = at-kept.loop-tick in (
       omega arith,
       elim c.if-before-many.branch [
-        then-before-many w ↦
-          w.most-is ∙ peak_higher _ l.tick _ l.most l.invariant.1 at-kept.kept_at-many.ensures.0 w.if-before-many.true
+        | then-before-many w ↦
+            w.most-is ∙ peak_higher _ l.tick _ l.most l.invariant.1 at-kept.kept_at-many.ensures.0 w.if-before-many.true
         | else-before-many w ↦
-          w.most-is ∙ peak_stays _ l.tick _ l.most l.invariant.1 at-kept.kept_at-many.ensures.0 w.if-before-many.false
+            w.most-is ∙ peak_stays _ l.tick _ l.most l.invariant.1 at-kept.kept_at-many.ensures.0 w.if-before-many.false
       ],
     )
 

@@ -6,7 +6,6 @@ use Rattle.text.proofs.Pages.{puts_then}
 use Rattle.files.specs.Lines.{line_of}
 use Rattle.words.specs.Words.{meaning_text}
 use Rattle.unheard_io.specs.Line.{missed_line}
-use borrow.Author.Rules.{rules}
 use Rattle.unheard_io.proofs.put_missed.Goals as goal
 
 pub returns : goal.returns

@@ -1,6 +1,5 @@
 -- `unheard_io::put_unheard` meets its contract: a line where some notice did not count.
 use Rattle.unheard_io.proofs.Line.{says_nothing, says_line}
-use borrow.Author.Rules.{rules}
 use Rattle.unheard_io.proofs.put_unheard.Goals as goal
 
 pub returns-then-missed-eq0 : goal.returns-then-missed-eq0

@@ -1,7 +1,6 @@
 -- `console_boxes::calls::fill` meets its contract: each test on the command is that of the definition.
 use borrow.Author.Tests.{eq-eqb, ne_eqb}
 use Rattle.console_boxes.specs.Plan.{plan_over, answer_over}
-use borrow.Author.Rules.{rules}
 use Rattle.console_boxes.proofs.calls.fill.Goals as goal
 
 pub returns-then-command-eq-SKIP_PLAN : goal.returns-then-command-eq-SKIP_PLAN

@@ -6,7 +6,6 @@ use Rattle.rules.specs.Refusals.{done}
 use Rattle.plans.specs.Forward.{blocks}
 use Rattle.plans.proofs.forward.Refusals.{Accepted, accepted_only}
 use Rattle.console_boxes.proofs.Answered.{forward_told, cells_fit}
-use borrow.Author.Rules.{rules}
 use Rattle.console_boxes.proofs.calls.forward.Tie as tie
 use Rattle.console_boxes.proofs.calls.forward.Lts as lts
 use Rattle.console_boxes.proofs.calls.forward.Reads as reads

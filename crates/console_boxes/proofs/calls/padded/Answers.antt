@@ -6,7 +6,6 @@ use lib.ListN.{length}
 use Rattle.rules.specs.Refusals.{done}
 use Rattle.plans.proofs.padded.Refusals.{Accepted, accepted_only}
 use Rattle.console_boxes.proofs.Answered.{padded_told, cells_fit}
-use borrow.Author.Rules.{rules}
 use Rattle.console_boxes.proofs.calls.padded.Tie as tie
 use Rattle.console_boxes.proofs.calls.padded.Lts as lts
 use Rattle.console_boxes.proofs.calls.padded.Reads as reads

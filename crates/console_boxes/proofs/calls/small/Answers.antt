@@ -7,7 +7,6 @@ use Rattle.rules.specs.Refusals.{done}
 use Rattle.rom.specs.Plan.{RomPlanned}
 use Rattle.rom.proofs.Planned.{RomAccepted, rom_accepted, table_plan}
 use Rattle.console_boxes.proofs.Answered.{small_told, cells_fit}
-use borrow.Author.Rules.{rules}
 use Rattle.console_boxes.proofs.calls.small.Tie as tie
 use Rattle.console_boxes.proofs.calls.small.Lts as lts
 use Rattle.console_boxes.proofs.calls.small.Reads as reads

@@ -2,7 +2,6 @@
 use borrow.Author.Tests.{eq-eqb, ne_eqb}
 use Rattle.text.specs.Texts.{text}
 use Rattle.console_boxes.specs.Plan.{cell_entry}
-use borrow.Author.Rules.{rules}
 use Rattle.console_boxes.proofs.cells.put_cell.Goals as goal
 
 pub returns-then-n-eq-NEVER : goal.returns-then-n-eq-NEVER

@@ -1,11 +1,6 @@
 -- `console_boxes::cells::put_cells` meets its contract: of the plan, the cells passed are written.
-use Prim.Native.Nat.{ℕ, ◌-◌}
 use native.Mathlib.Omega.{arith}
-use lib.ListN.{get_or}
-use Rattle.text.specs.Output.{page}
-use Rattle.console_boxes.specs.Plan.{cell_entry}
-use Rattle.console_answers.proofs.Rows.{Passed, passed_none, passed_on, passed_all}
-use borrow.Author.Rules.{rules}
+use Rattle.console_answers.proofs.Rows.{passed_none, passed_on, passed_all}
 use Rattle.console_boxes.proofs.cells.put_cells.Goals as goal
 
 pub loop-i-preserved : goal.loop-i-preserved

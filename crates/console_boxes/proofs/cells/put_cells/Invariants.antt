@@ -1,11 +1,9 @@
 -- What the loop keeps, and what falls.
 use Prim.Native.Nat.{ℕ, ◌-◌}
-use native.Mathlib.Omega.{arith}
 use lib.ListN.{get_or}
 use Rattle.text.specs.Output.{page}
 use Rattle.console_boxes.specs.Plan.{cell_entry}
-use Rattle.console_answers.proofs.Rows.{Passed, passed_none, passed_on, passed_all}
-use borrow.Author.Rules.{rules}
+use Rattle.console_answers.proofs.Rows.{Passed}
 use Rattle.console_boxes.proofs.cells.put_cells.Given as goal
 
 abbrev pub invariant-loop-i : goal.invariant-loop-i

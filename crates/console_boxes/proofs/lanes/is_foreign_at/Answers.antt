@@ -1,7 +1,6 @@
 -- `console_boxes::lanes::is_foreign_at` meets its contract: the tests in their order.
 use mathlib.Core.Path.{refl}
 use borrow.Author.Tests.{le-leb, lt-leb}
-use borrow.Author.Rules.{rules}
 use Rattle.console_boxes.proofs.lanes.is_foreign_at.Goals as goal
 
 pub returns-then-id-le-ID_MAX : goal.returns-then-id-le-ID_MAX

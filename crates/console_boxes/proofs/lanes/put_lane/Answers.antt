@@ -2,7 +2,6 @@
 use Rattle.text.specs.Output.{page}
 use Rattle.text.proofs.Pages.{puts_then}
 use Rattle.console_boxes.proofs.Answered.{lane_told_lem}
-use borrow.Author.Rules.{rules}
 use Rattle.console_boxes.proofs.lanes.put_lane.Goals as goal
 
 pub returns : goal.returns

@@ -4,7 +4,6 @@ use Rattle.text.specs.Output.{page}
 use Rattle.text.proofs.Pages.{puts_then}
 use Rattle.rom.proofs.Answered.{table_lane}
 use Rattle.console_boxes.proofs.Answered.{rom_lane_told}
-use borrow.Author.Rules.{rules}
 use Rattle.console_boxes.proofs.lanes.put_rom_lane.Goals as goal
 
 pub returns : goal.returns

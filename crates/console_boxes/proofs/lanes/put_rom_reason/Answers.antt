@@ -2,7 +2,6 @@
 use mathlib.Core.Path.{sym, ◌∙◌}
 use borrow.Author.Tests.{eq-eqb, ne_eqb}
 use Rattle.console_boxes.specs.Lanes.{rom_lane_reason}
-use borrow.Author.Rules.{rules}
 use Rattle.console_boxes.proofs.lanes.put_rom_reason.Goals as goal
 
 pub returns-then-is_foreign_at : goal.returns-then-is_foreign_at

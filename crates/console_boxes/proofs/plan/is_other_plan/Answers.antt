@@ -1,7 +1,6 @@
 -- `console_boxes::plan::is_other_plan` meets its contract: the tests in their order.
 use mathlib.Core.Path.{refl}
 use borrow.Author.Tests.{eq-eqb, ne_eqb}
-use borrow.Author.Rules.{rules}
 use Rattle.console_boxes.proofs.plan.is_other_plan.Goals as goal
 
 pub returns-then-command-eq-ROM_PLAN : goal.returns-then-command-eq-ROM_PLAN

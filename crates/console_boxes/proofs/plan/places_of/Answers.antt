@@ -2,7 +2,6 @@
 use native.Mathlib.Omega.{arith}
 use borrow.Author.Tests.{lt-ltb, le-ltb}
 use Rattle.console_boxes.specs.Plan.{places_in}
-use borrow.Author.Rules.{rules}
 use Rattle.console_boxes.proofs.plan.places_of.Goals as goal
 
 pub returns-then-places : goal.returns-then-places

@@ -2,7 +2,6 @@
 use Rattle.console_boxes.specs.Plan.{plan_in}
 use Rattle.console_answers.proofs.Rows.{counted}
 use Rattle.console_commands.specs.Commands.{places_most}
-use borrow.Author.Rules.{rules}
 use Rattle.console_boxes.proofs.plan.put_plan.Goals as goal
 
 pub slice_bounds-put_row-end : goal.slice_bounds-put_row-end

@@ -1,7 +1,6 @@
 -- `console_boxes::plan::put_plan_limits` meets its contract: two numbers of a skip-forward title's plan, four of any other.
 use borrow.Author.Tests.{eq-eqb, ne_eqb}
 use Rattle.console_boxes.specs.Plan.{plan_numbers}
-use borrow.Author.Rules.{rules}
 use Rattle.console_boxes.proofs.plan.put_plan_limits.Goals as goal
 
 pub returns-then-command-eq-SKIP_PLAN : goal.returns-then-command-eq-SKIP_PLAN

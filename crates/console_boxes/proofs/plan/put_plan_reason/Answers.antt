@@ -1,7 +1,6 @@
 -- `console_boxes::plan::put_plan_reason` meets its contract: the small box's own words, or which number is out of its limits.
 use mathlib.Core.Path.{sym, ◌∙◌}
 use Rattle.console_boxes.specs.Plan.{plan_reason}
-use borrow.Author.Rules.{rules}
 use Rattle.console_boxes.proofs.plan.put_plan_reason.Goals as goal
 
 pub returns-then-is_other_plan : goal.returns-then-is_other_plan

@@ -3,7 +3,6 @@ use mathlib.Core.Path.{◌∙◌, ap}
 use Rattle.text.specs.Output.{page, puts}
 use Rattle.text.proofs.Pages.{puts_then}
 use Rattle.console_boxes.specs.Plan.{plan_over, plan_said}
-use borrow.Author.Rules.{rules}
 use Rattle.console_boxes.proofs.plan.put_row.Goals as goal
 
 pub returns : goal.returns

@@ -6,7 +6,6 @@ use Rattle.text.specs.Digits.{decimal}
 use Rattle.text.proofs.Pages.{puts_then}
 use Rattle.rom_table.specs.Table.{rom_floor, rom_cap}
 use Rattle.console_boxes.specs.Small.{small_text}
-use borrow.Author.Rules.{rules}
 use Rattle.console_boxes.proofs.small.put_small.Goals as goal
 
 pub returns : goal.returns

@@ -1,7 +1,6 @@
 -- `console_boxes::small::table` meets its contract: a row of the table's length that was filled is the table.
 use mathlib.Core.Path.{refl}
 use Rattle.rom_table.proofs.Entries.{filled_table}
-use borrow.Author.Rules.{rules}
 use Rattle.console_boxes.proofs.small.table.Goals as goal
 
 pub returns : goal.returns

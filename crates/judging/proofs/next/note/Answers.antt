@@ -1,7 +1,6 @@
 -- `judging::next::note` meets its contract. The invariant: the lanes passed are noted.
-use mathlib.Core.Path.{◌≡◌, sym, ap, ◌∙◌}
-use mathlib.Core.Logic.{⊎_elim}
-use Prim.Native.Nat.{ℕ, ◌+◌, ◌*◌, ◌-◌, ◌≤◌, ◌<◌}
+use mathlib.Core.Path.{sym, ap, ◌∙◌}
+use Prim.Native.Nat.{ℕ, ◌+◌, ◌*◌, ◌<◌}
 use native.Mathlib.Omega.{arith}
 use native.Mathlib.Nat.{le_antisymm}
 use borrow.Author.Rules.{rules}
@@ -30,7 +29,7 @@ loop-lane-preserved c =
     let x : ℕ = get_or a.air.now at 0 in
     let noted_one = noted_next a.air.now a.tick a.next.now l.next l.lane x l.invariant.1.0 (get_d_any a.air.now at 0 nothing_seen there) in
     elim c.if-cell-next.branch [
-      then-cell-next w ↦ (omega arith, (w.next-is ∙ noted_one, ap length w.next-is ∙ length-set l.next x a.tick ∙ l.invariant.1.1))
+      | then-cell-next w ↦ (omega arith, (w.next-is ∙ noted_one, ap length w.next-is ∙ length-set l.next x a.tick ∙ l.invariant.1.1))
       | else-cell-next w ↦ (
         omega arith,
         (

@@ -6,7 +6,6 @@ use borrow.Author.Tests.{lt-ltb, le-ltb}
 use Rattle.rules.specs.Limits.{plan_places, length_max}
 use Rattle.scheme.specs.Scheme.{film_in}
 use Rattle.judging.specs.inner.Walk.{is_late}
-use borrow.Author.Rules.{rules}
 use Rattle.judging.proofs.results.is_late.Goals as goal
 
 pub overflow_mul-cell : goal.overflow_mul-cell

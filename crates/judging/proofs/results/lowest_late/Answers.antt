@@ -1,12 +1,8 @@
 -- `judging::results::lowest_late` meets its contract. The invariant: no cell passed is late.
-use mathlib.Core.Path.{◌≡◌, sym, ◌∙◌}
-use mathlib.Core.Bool.{false}
+use mathlib.Core.Path.{sym, ◌∙◌}
 use mathlib.Core.Logic.{⊎_elim}
-use Prim.Native.Nat.{ℕ, ◌-◌, ◌≤◌, ◌<◌}
 use native.Mathlib.Omega.{arith}
-use borrow.Author.Rules.{rules}
 use Rattle.rules.proofs.Search.{below_suc}
-use Rattle.judging.specs.inner.Walk.{is_late}
 use Rattle.judging.proofs.Walked.{lowest_hit, lowest_none}
 use Rattle.judging.proofs.results.lowest_late.Goals as goal
 

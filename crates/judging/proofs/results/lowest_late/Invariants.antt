@@ -1,13 +1,8 @@
 -- What the loop keeps, and what falls.
-use mathlib.Core.Path.{◌≡◌, sym, ◌∙◌}
+use mathlib.Core.Path.{◌≡◌}
 use mathlib.Core.Bool.{false}
-use mathlib.Core.Logic.{⊎_elim}
 use Prim.Native.Nat.{ℕ, ◌-◌, ◌≤◌, ◌<◌}
-use native.Mathlib.Omega.{arith}
-use borrow.Author.Rules.{rules}
-use Rattle.rules.proofs.Search.{below_suc}
 use Rattle.judging.specs.inner.Walk.{is_late}
-use Rattle.judging.proofs.Walked.{lowest_hit, lowest_none}
 use Rattle.judging.proofs.results.lowest_late.Given as goal
 
 abbrev pub invariant-loop-cell : goal.invariant-loop-cell

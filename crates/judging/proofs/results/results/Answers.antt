@@ -4,15 +4,11 @@ use mathlib.Core.Path.{◌≡◌, sym, subst, ◌∙◌}
 use mathlib.Core.List.{List}
 use Prim.Native.Nat.{ℕ, suc, ◌+◌, ◌-◌, ◌≤◌, ◌<◌}
 use native.Mathlib.Omega.{arith}
-use borrow.Author.Rules.{rules}
 use borrow.Author.Tests.{leb-true, leb-false}
 use Rattle.judging.specs.Record.{ticks_in}
 use Rattle.judging.specs.inner.Walk.{Nexts, Results}
 use Rattle.judging.proofs.Walked.{nexts_step}
 use Rattle.judging.proofs.Found.{found_end, found_short, found_whole}
-use Rattle.judging.proofs.results.results.Tie as tie
-use Rattle.judging.proofs.results.results.Lts as lts
-use Rattle.judging.proofs.results.results.Reads as reads
 use Rattle.judging.proofs.results.results.Goals as goal
 
 pub loop-start-init : goal.loop-start-init

@@ -1,14 +1,7 @@
 -- What the loop keeps, and what falls.
-use mathlib.Core.Path.{◌≡◌, sym, subst, ◌∙◌}
-use mathlib.Core.List.{List}
-use Prim.Native.Nat.{ℕ, suc, ◌+◌, ◌-◌, ◌≤◌, ◌<◌}
-use native.Mathlib.Omega.{arith}
-use borrow.Author.Rules.{rules}
-use borrow.Author.Tests.{leb-true, leb-false}
+use Prim.Native.Nat.{◌≤◌}
 use Rattle.judging.specs.Record.{ticks_in}
 use Rattle.judging.specs.inner.Walk.{Nexts, Results}
-use Rattle.judging.proofs.Walked.{nexts_step}
-use Rattle.judging.proofs.Found.{found_end, found_short, found_whole}
 use Rattle.judging.proofs.results.results.Given as goal
 
 abbrev pub invariant-loop-start : goal.invariant-loop-start

@@ -1,6 +1,5 @@
 -- `judging::telling::put` meets its contract: the two ways out are the two cases of the definition.
 use mathlib.Core.Path.{sym, ◌∙◌}
-use borrow.Author.Rules.{rules}
 use Rattle.judging.proofs.Told.{one_judged, none_judged}
 use Rattle.judging.proofs.telling.put.Goals as goal
 

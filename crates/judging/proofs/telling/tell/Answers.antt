@@ -1,15 +1,11 @@
 -- `judging::telling::tell` meets its contract. The invariant: the ticks passed are told.
 use mathlib.Core.Path.{◌≡◌, ap, ◌∙◌}
-use Prim.Native.Nat.{◌-◌, ◌≤◌}
 use native.Mathlib.Omega.{arith}
 use native.Mathlib.Nat.{le_antisymm}
 use borrow.Author.Rules.{rules}
 use lib.ListN.{length}
 use Rattle.judging.specs.inner.Walk.{row_to, counts_to}
 use Rattle.judging.proofs.Told.{row_length_lem, room_left_lem, told_next}
-use Rattle.judging.proofs.telling.tell.Tie as tie
-use Rattle.judging.proofs.telling.tell.Lts as lts
-use Rattle.judging.proofs.telling.tell.Reads as reads
 use Rattle.judging.proofs.telling.tell.Goals as goal
 
 pub loop-start-init : goal.loop-start-init

@@ -1,12 +1,7 @@
 -- What the loop keeps, and what falls.
-use mathlib.Core.Path.{◌≡◌, ap, ◌∙◌}
+use mathlib.Core.Path.{◌≡◌}
 use Prim.Native.Nat.{◌-◌, ◌≤◌}
-use native.Mathlib.Omega.{arith}
-use native.Mathlib.Nat.{le_antisymm}
-use borrow.Author.Rules.{rules}
-use lib.ListN.{length}
 use Rattle.judging.specs.inner.Walk.{row_to, counts_to}
-use Rattle.judging.proofs.Told.{row_length_lem, room_left_lem, told_next}
 use Rattle.judging.proofs.telling.tell.Given as goal
 
 abbrev pub invariant-loop-start : goal.invariant-loop-start

@@ -19,7 +19,7 @@ tested c =
     record { long = c.if-row-ne-ROW_LENGTH.false; sound = both_l (row_sound r) (state_ok (unpacked r).state) ok; ok = both_r (row_sound r) (state_ok (unpacked r).state) ok }
 
 pub returns-then-row-ne-ROW_LENGTH : goal.returns-then-row-ne-ROW_LENGTH
-returns-then-row-ne-ROW_LENGTH c = 
+returns-then-row-ne-ROW_LENGTH c =
     let a = c.args in
     let p = event_elsewhere a.row.now a.e c.if-row-ne-ROW_LENGTH.true in
     record { value = p.0; row_after = p.1 }

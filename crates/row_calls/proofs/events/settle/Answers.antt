@@ -20,11 +20,11 @@ returns c = let joined = c in
     let s = joined in
     let a = s.args in record {
       value = elim joined.if-asks.branch [
-        then-asks+else-row-others_held w ↦
-          rw w.if-asks.true (enough a.row.now a.id a.time a.next w.title_held.result s.requires.id_le_id_max.0
-          w.title_held.ensures.is (rw w.others_held.ensures.is at w.if-row-others_held.false))
+        | then-asks+else-row-others_held w ↦
+            rw w.if-asks.true (enough a.row.now a.id a.time a.next w.title_held.result s.requires.id_le_id_max.0
+            w.title_held.ensures.is (rw w.others_held.ensures.is at w.if-row-others_held.false))
         | else-asks w ↦
-          rw w.if-asks.false (asks_none (with_title (unpacked a.row.now).state a.id a.next a.time) a.time)
+            rw w.if-asks.false (asks_none (with_title (unpacked a.row.now).state a.id a.next a.time) a.time)
       ];
       row_after = search rules;
     }

@@ -60,10 +60,13 @@ next_title-requires c = let at-if = c in
 pub settle-requires : goal.settle-requires
 settle-requires c = let at-if = c in
     let s = at-if in
-    let g = unpacked s.args.row.now in record { tested = s.requires.tested; id_le_id_max = (
+    let g = unpacked s.args.row.now in record {
+      tested = s.requires.tested;
+      id_le_id_max = (
         event_id g.state s.args.id s.args.time (ok s.before.before.before.before.before.before.before),
         λ _. rw (c.next_title.ensures, at-if.title_at-t.ensures) (taken_filmed g.state s.args.id s.args.time s.args.act (none at-if.before.before.before)),
-      ) }
+      );
+    }
 
 pub returns-then-first-eq-DONE : goal.returns-then-first-eq-DONE
 returns-then-first-eq-DONE c = let counted = c in
@@ -75,10 +78,13 @@ returns-then-first-eq-DONE c = let counted = c in
     let τ = s.args.time in
     let next : counted.next_title.result ≡ next_title (title_at g.state i) τ s.args.act =
     counted.next_title.ensures ∙ ap (λ (t : Title). next_title t τ s.args.act) at-if.title_at-t.ensures in
-    let settled = c.settle in record { value = settled.ensures.value
+    let settled = c.settle in record {
+      value = settled.ensures.value
           ∙ ap (λ b. settled_answer b (with_title g.state i counted.next_title.result τ) τ) counted.sets_count.ensures
           ∙ ap (λ (t : Title). settled_answer (sets_count s.args.act) (with_title g.state i t τ) τ) next
-          ∙ by_lanes g.state i τ s.args.act at-if.title_verdict-first.result (is_first at-if.before.before.before.before.before.before.before.before) at-if.if-first-eq-DONE.true; row_after = settled.ensures.row_after ∙ ap (λ (t : Title). pick (eqb settled.result 0) (packed (with_state g (with_title g.state i t τ))) r) next }
+          ∙ by_lanes g.state i τ s.args.act at-if.title_verdict-first.result (is_first at-if.before.before.before.before.before.before.before.before) at-if.if-first-eq-DONE.true;
+      row_after = settled.ensures.row_after ∙ ap (λ (t : Title). pick (eqb settled.result 0) (packed (with_state g (with_title g.state i t τ))) r) next;
+    }
 
 pub returns : goal.returns
 returns c = let s = c in

@@ -42,10 +42,14 @@ cell_of-requires c = let a = c.args in
     let long = lane_long r a.id a.lane a.time (none c.before.before) in
     let low = below c.before.before in
     let place = c.title_place.ensures in
-    let same = title_at_lem r a.id low ∙ ap (title_from r) (sym place) in record { title_places_in_bounds = omega (arith, place, long, low); filmed = subst (λ (t : Title). Filmed t.film) same (lane_film (unpacked r).state a.id a.lane a.time asked); lane_bound = (
-          subst (λ (t : Title). a.lane < t.film.cap) same (lane_capped (unpacked r).state a.id a.lane a.time asked),
-          c.shown_tick-shown.ensures.1.high,
-        ) }
+    let same = title_at_lem r a.id low ∙ ap (title_from r) (sym place) in record {
+      title_places_in_bounds = omega (arith, place, long, low);
+      filmed = subst (λ (t : Title). Filmed t.film) same (lane_film (unpacked r).state a.id a.lane a.time asked);
+      lane_bound = (
+        subst (λ (t : Title). a.lane < t.film.cap) same (lane_capped (unpacked r).state a.id a.lane a.time asked),
+        c.shown_tick-shown.ensures.1.high,
+      );
+    }
 
 pub returns-then-answer-eq-DONE : goal.returns-then-answer-eq-DONE
 returns-then-answer-eq-DONE c =

@@ -59,13 +59,16 @@ owed_tick-requires c = let ruled = c in
     let capped = ruled in
     let there = capped in
     let s = capped in
-    let t = title_from s.args.row.now s.args.at in record { title_places_in_bounds = s.requires.title_places_in_bounds; above = record {
+    let t = title_from s.args.row.now s.args.at in record {
+      title_places_in_bounds = s.requires.title_places_in_bounds;
+      above = record {
         ok = s.requires.at_value.0;
         sending = sending t s.requires.at_value.0 there.if-mode-eq-ABSENT.false;
         above = rw ruled.ruling.ensures at c.if-lane-ruling.false;
         capped = capped.if-cap-lane.false;
         early = capped_tick ruled.before.before.before;
-      } }
+      };
+    }
 
 pub returns : goal.returns
 returns c =

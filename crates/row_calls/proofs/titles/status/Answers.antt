@@ -17,10 +17,13 @@ fill-requires c = let tested = c in
     let m = length a.counts.now in
     let h = length a.held.now in
     let d = length a.marks.now in
-    let answer = done_answer a.row.now a.time a.ids.now m h d none in record { counts_len = (
+    let answer = done_answer a.row.now a.time a.ids.now m h d none in record {
+      counts_len = (
         count_row_lem s a.time a.ids.now m h d answer,
         (held_row s a.time a.ids.now m h d answer, mark_row s a.time a.ids.now m h d answer),
-      ); tested = (done_tested a.row.now a.time a.ids.now m h d none, rows_ids s a.time a.ids.now m h d answer) }
+      );
+      tested = (done_tested a.row.now a.time a.ids.now m h d none, rows_ids s a.time a.ids.now m h d answer);
+    }
 
 pub returns-then-answer-eq-DONE : goal.returns-then-answer-eq-DONE
 returns-then-answer-eq-DONE c =

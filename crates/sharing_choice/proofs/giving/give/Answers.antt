@@ -68,7 +68,7 @@ loop-given-preserved c =
     let next = goes_on _ s.requires.sound.weighable at-loop.loop-given.invariant.1 c.next_title-at.ensures in (
       omega arith,
       elim c.if-at-rates.branch [
-        then-at-rates w ↦ next (inl (omega (arith, w.if-at-rates.true, n), w.counts-is))
+        | then-at-rates w ↦ next (inl (omega (arith, w.if-at-rates.true, n), w.counts-is))
         | else-at-rates w ↦ next (inr (omega (arith, w.if-at-rates.false, n), w.counts-is))
       ],
     )

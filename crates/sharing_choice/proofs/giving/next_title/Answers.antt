@@ -67,7 +67,7 @@ loop-i-preserved c =
     ∙ ap (λ (t : Rated). worth t (get_or ks l.i 0)) c.title_at-t.ensures in
     let next = leads_next ts ks l.invariant (inside c.before.before.before.before.before) e in
     elim c.if-most-worth.branch [
-      then-most-worth w ↦ next (inl (omega (arith, w.if-most-worth.true), w.best-is, w.most-is))
+      | then-most-worth w ↦ next (inl (omega (arith, w.if-most-worth.true), w.best-is, w.most-is))
       | else-most-worth w ↦ next (inr (omega (arith, w.if-most-worth.false), w.best-is, w.most-is))
     ]
 

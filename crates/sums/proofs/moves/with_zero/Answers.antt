@@ -9,7 +9,6 @@ use Rattle.sums.proofs.moves.with_zero.Goals as goal
 
 none : (b r : ℕ) → b < 2 → (b ≡ 1 → ⊥) → r ≡ shifted_by (8 * b) r
 unfolding shifted_by
-
 none b r l f = let e : b ≡ 0 = omega arith in rw e refl
 
 pub returns-then-bit-eq1 : goal.returns-then-bit-eq1

@@ -1,0 +1,30 @@
+-- `console_views::lanes::put_lines` meets its contract: the lanes passed have their lines.
+use Prim.Native.Nat.{◌-◌}
+use native.Mathlib.Omega.{arith}
+use Rattle.text.specs.Output.{page}
+use Rattle.console_answers.proofs.Rows.{Passed, passed_none, passed_on, passed_all}
+use Rattle.console_views.specs.Lanes.{lane_line}
+use borrow.Author.Rules.{rules}
+use Rattle.console_views.proofs.lanes.put_lines.Goals as goal
+
+pub loop-lane-preserved : goal.loop-lane-preserved
+loop-lane-preserved c =
+    let at-put = c in
+    let at-loop-test = at-put in
+    let at-loop = at-loop-test in
+    passed_on _ _ _ _ at-loop.loop-lane.invariant at-loop-test.loop-lane-test.true at-put.put_line-place.ensures
+
+pub loop-lane-init : goal.loop-lane-init
+loop-lane-init c = passed_none _ _ _
+
+pub overflow_add-lane : goal.overflow_add-lane
+overflow_add-lane c = omega arith
+
+pub loop-lane-smaller : goal.loop-lane-smaller
+loop-lane-smaller c = omega arith
+
+pub shape_of-out : goal.shape_of-out
+shape_of-out c = c.loop-lane.invariant.room
+
+pub returns : goal.returns
+returns c = passed_all _ _ _ _ c.loop-lane.invariant c.loop-lane-test.false

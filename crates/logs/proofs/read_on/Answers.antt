@@ -1,0 +1,20 @@
+-- `logs::read_on` meets its contract, by what the reader finds at the place.
+use mathlib.Core.Path.{sym, ◌∙◌}
+use Rattle.logs.proofs.Own.{reads_notice, reads_end, reads_none}
+use Rattle.logs.proofs.read_on.Goals as goal
+
+pub returns-in-At : goal.returns-in-At
+returns-in-At c =
+    let at-heed = c in
+    let read = at-heed in
+    reads_notice _ _ _ _ _ _ _ (sym read.next_in-found.ensures.is ∙ read.in-At.is) at-heed.heed_tested-answer.ensures
+
+pub returns-in-End : goal.returns-in-End
+returns-in-End c =
+    let read = c in
+    reads_end _ _ _ read.requires _ (sym read.next_in-found.ensures.is ∙ c.in-End.is) c.nothing_read.ensures
+
+pub returns-in-Malformed : goal.returns-in-Malformed
+returns-in-Malformed c =
+    let read = c in
+    reads_none _ _ _ read.requires _ (sym read.next_in-found.ensures.is ∙ c.in-Malformed.is) c.nothing_read-in-Malformed.ensures
