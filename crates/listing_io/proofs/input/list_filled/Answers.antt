@@ -7,15 +7,11 @@ use borrow.Author.Rules.{rules}
 use Rattle.listing_io.proofs.input.list_filled.Goals as goal
 
 pub slice_bounds-drain-end-2 : goal.slice_bounds-drain-end-2
-slice_bounds-drain-end-2 c = sym (length-take-le _ _ (slice_bounds-drain-end c.before))
+slice_bounds-drain-end-2 c = sym (length-take-le _ _ c.requires)
 
 pub returns-then-printed : goal.returns-then-printed
 returns-then-printed c =
-    let moved = c in
-    let written = moved in
-    let printed = written in
-    kept_few _ _ _ _ _ _ _ printed.drain-printed.ensures written.if-printed.true (slice_bounds-drain-end-2 printed.before)
-    moved.compact.ensures.many
+    kept_few _ _ _ _ _ _ _ c.drain-printed.ensures c.if-printed.true (sym (length-take-le _ _ c.requires)) c.compact.ensures.many
 
 pub returns : goal.returns
 returns c = λ q. false_true (sym c.ended.ensures ∙ q)
