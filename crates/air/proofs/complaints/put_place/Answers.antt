@@ -14,7 +14,7 @@ pub returns : goal.returns
 unfolding stray_line text
 returns c =
     let x = c.args in
-    let line = c.before.before.before.before.before.before.before.before.before.before.before.before.Line-of in
+    let line = c.line_of-line in
     rw (← line.ensures)
     (puts_then (page x.out.now x.at) (line_of (text "? RECORD: line ") line.result (text ", lane "))
     (line_of [] (x.k % lane_places) (text ": the title has no such cell\n")) c.put_line-a.ensures c.put_line.ensures)

@@ -12,6 +12,7 @@ use Rattle.text.specs.Output.{page, puts}
 use Rattle.text.proofs.Pages.{same_room}
 use Rattle.air.specs.inner.Steps.{is_marked, marked_lines}
 use Rattle.air.proofs.Told.{counts_marked, counts_unmarked, lines_none, lines_marked, lines_unmarked}
+use Rattle.air.proofs.lines.put_admissions.Goals.{then-marks-tick-eq1, else-marks-tick-eq1}
 use Rattle.air.proofs.lines.put_admissions.Goals as goal
 
 pub loop-tick-init : goal.loop-tick-init
@@ -27,22 +28,25 @@ overflow_add-j c =
 
 pub loop-tick-preserved : goal.loop-tick-preserved
 loop-tick-preserved c =
-    let at-loop = c.before.before.before in
-    let x = at-loop.args in
+    let x = c.args in
     let marks = x.marks.now in
-    let l = at-loop.loop-tick in (
+    let l = c.loop-tick in (
       omega arith,
-      ⊎_elim
-          (λ w. w.7 ∙ ap (λ j. j + 1) l.invariant.1 ∙ counts_marked marks l.tick w.0.taken)
-          (λ w. w.3 ∙ l.invariant.1 ∙ counts_unmarked marks l.tick w.0.left)
-          c.if-marks-tick-eq1.branch,
-      ⊎_elim
-          (λ w. rw (w.5, w.6)
+      elim c.if-marks-tick-eq1.branch [
+        then-marks-tick-eq1 w ↦
+          w.j-is ∙ ap (λ j. j + 1) l.invariant.1 ∙ counts_marked marks l.tick w.if-marks-tick-eq1.true
+        | else-marks-tick-eq1 w ↦ w.j-is ∙ l.invariant.1 ∙ counts_unmarked marks l.tick w.if-marks-tick-eq1.false
+      ],
+      elim c.if-marks-tick-eq1.branch [
+        then-marks-tick-eq1 w ↦
+          rw (w.out-is, w.at-is)
           (lines_marked marks x.row.now x.judged (page x.out.now 0) l.tick (page l.out l.at) l.invariant.2 _
-          w.0.taken (rw (← l.invariant.1) w.2.ensures)))
-          (λ w. rw (w.1, w.2)
-          (lines_unmarked marks x.row.now x.judged (page x.out.now 0) l.tick (page l.out l.at) l.invariant.2 w.0.left))
-          c.if-marks-tick-eq1.branch,
+          w.if-marks-tick-eq1.true (rw (← l.invariant.1) w.put_judged-at.ensures))
+        | else-marks-tick-eq1 w ↦
+          rw (w.out-is, w.at-is)
+          (lines_unmarked marks x.row.now x.judged (page x.out.now 0) l.tick (page l.out l.at) l.invariant.2
+          w.if-marks-tick-eq1.false)
+      ],
     )
 
 pub shape_of-out : goal.shape_of-out

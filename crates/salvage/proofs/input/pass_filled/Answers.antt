@@ -28,7 +28,7 @@ returns-then-passed c =
     let moved = c in
     let passed = moved in
     let w = passed.pass_on-passed.ensures in (
-      (λ _. kept_few _ _ _ _ _ _ _ w (slice_bounds-pass_on-end-2 passed.before) moved.compact.ensures.many),
+      (λ _. kept_few _ _ _ _ _ _ _ w (sym (length-take-le _ _ c.requires.1.0)) moved.compact.ensures.many),
       block_counts _ _ _ _ w,
     )
 
