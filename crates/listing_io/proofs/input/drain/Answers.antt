@@ -1,8 +1,7 @@
 -- `listing_io::input::drain` meets its contract and ends: each turn is one read further, and one that goes on moves ahead.
 use mathlib.Core.Path.{sym, ◌∙◌}
 use Rattle.notice.proofs.CaseSplits.{false_true}
-use Rattle.listing_io.specs.Listing.{UpTo}
-use Rattle.listing_io.proofs.StepPlaces.{onward, left, falls, begun, low, further_on}
+use Rattle.listing_io.proofs.StepPlaces.{onward, falls, begun, low, further_on}
 use Rattle.listing_io.proofs.input.drain.Goals as goal
 
 pub loop-written-init : goal.loop-written-init

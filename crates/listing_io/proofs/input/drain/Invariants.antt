@@ -1,8 +1,6 @@
 -- What the loop keeps, and what falls.
-use mathlib.Core.Path.{sym, ◌∙◌}
-use Rattle.notice.proofs.CaseSplits.{false_true}
 use Rattle.listing_io.specs.Listing.{UpTo}
-use Rattle.listing_io.proofs.StepPlaces.{onward, left, falls, begun, low, further_on}
+use Rattle.listing_io.proofs.StepPlaces.{left}
 use Rattle.listing_io.proofs.input.drain.Given as goal
 
 abbrev pub invariant-loop-written : goal.invariant-loop-written

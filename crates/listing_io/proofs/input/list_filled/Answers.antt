@@ -3,7 +3,6 @@ use mathlib.Core.Path.{sym, ◌∙◌}
 use lib.Seq.{length-take-le}
 use Rattle.notice.proofs.CaseSplits.{false_true}
 use Rattle.listing_io.proofs.StepPlaces.{kept_few}
-use borrow.Author.Rules.{rules}
 use Rattle.listing_io.proofs.input.list_filled.Goals as goal
 
 pub slice_bounds-drain-end-2 : goal.slice_bounds-drain-end-2

@@ -1,7 +1,6 @@
 -- `listing_io::input::list_input` is safe and ends. The buffer keeps its length; the measure is the number of turns left.
 use mathlib.Core.Path.{◌≡◌}
 use lib.ListN.{length}
-use borrow.Author.Rules.{rules}
 use Rattle.listing_io.proofs.input.list_input.Given as goal
 
 abbrev pub invariant-loop-turns : goal.invariant-loop-turns

@@ -1,7 +1,6 @@
 -- `listing_io::input::list_line` meets its contract: its row has room for any line.
 use native.Mathlib.Omega.{arith}
 use Rattle.listing_io.proofs.LinesFit.{shown}
-use borrow.Author.Rules.{rules}
 use Rattle.listing_io.proofs.input.list_line.Goals as goal
 
 pub returns : goal.returns

@@ -1,7 +1,6 @@
 -- `listing_io::input::show` meets its contract: what it writes is the step's line, which lies within its row.
 use mathlib.Core.Path.{sym}
 use lib.Seq.{length-take-le}
-use borrow.Author.Rules.{rules}
 use Rattle.listing_io.proofs.input.show.Goals as goal
 
 pub slice_bounds-row-end : goal.slice_bounds-row-end

@@ -4,7 +4,6 @@ use Rattle.text.specs.Output.{page, puts}
 use Rattle.text.specs.Digits.{decimal}
 use Rattle.text.proofs.Pages.{puts_then}
 use Rattle.listing_io.specs.Lines.{number_then}
-use borrow.Author.Rules.{rules}
 use Rattle.listing_io.proofs.lines.put_ended.Goals as goal
 
 pub returns : goal.returns

@@ -6,7 +6,6 @@ use Rattle.text.specs.Output.{page}
 use Rattle.text.proofs.Pages.{puts_then}
 use Rattle.text.specs.Bytes.{newline}
 use Rattle.listing_io.specs.Lines.{number_then, last_line, space}
-use borrow.Author.Rules.{rules}
 use Rattle.listing_io.proofs.lines.put_last.Goals as goal
 
 pub returns : goal.returns

@@ -1,7 +1,6 @@
 -- `listing_io::steps::held_after_lem` meets its contract, by the answer.
 use borrow.Author.Tests.{eq-eqb, ne_eqb}
 use Rattle.listing_io.specs.Step.{held_after}
-use borrow.Author.Rules.{rules}
 use Rattle.listing_io.proofs.steps.held_after.Goals as goal
 
 pub returns-then-answer-eq-DONE : goal.returns-then-answer-eq-DONE

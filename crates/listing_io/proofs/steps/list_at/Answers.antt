@@ -1,7 +1,6 @@
 -- `listing_io::steps::list_at` meets its contract, by what its reader finds at the place.
 use mathlib.Core.Path.{sym, ◌∙◌}
 use Rattle.listing_io.proofs.Stepping.{end_step, last_step, found_step, notice_at}
-use borrow.Author.Rules.{rules}
 use Rattle.listing_io.proofs.steps.list_at.Goals as goal
 
 pub returns-in-At : goal.returns-in-At

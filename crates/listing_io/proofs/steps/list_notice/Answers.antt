@@ -1,6 +1,5 @@
 -- `listing_io::steps::list_notice` meets its contract: the agent hears the notice, and the line tells its answer.
 use Rattle.listing_io.proofs.Stepping.{notice_step}
-use borrow.Author.Rules.{rules}
 use Rattle.listing_io.proofs.steps.list_notice.Goals as goal
 
 pub returns : goal.returns
