@@ -5,14 +5,14 @@ use mathlib.Core.Bool.{Bool, true, false}
 use mathlib.Core.List.{List, [], ◌∷◌, ◌++◌}
 use mathlib.Core.Logic.{⊎_elim}
 use native.Mathlib.Omega.{arith}
-use borrow.Author.Tests.{lt-ltb, le-ltb, ltb-true, ltb-false, leb-true, leb-false}
+use borrow.Author.Tests.{ltb-true, ltb-false, leb-true, leb-false}
 use lib.Dec.{ltb, leb}
 use lib.ListN.{length, take, drop, set, replicate, length-replicate, length-take, take-append-drop}
 use Rattle.rules.specs.Limits.{both}
 use Rattle.rules.specs.Refusals.{pick}
 use Rattle.rules.proofs.Tests.{decide, both_l, both_r}
 use Rattle.text.specs.Output.{Page, page, put, puts, Written}
-use Rattle.text.proofs.Pages.{puts_append, puts_fits, puts_length}
+use Rattle.text.proofs.Pages.{puts_append, puts_fits}
 use Rattle.charts.specs.Charts.{chart_text, coarser, finest_text, first_columns, first_grain, tries}
 
 -- ---- where a text ends

@@ -1,5 +1,4 @@
 -- Lines of the head-end, computed: which begin with a word that it does not know, and which say an event.
-use Prim.Native.Nat.{ℕ}
 use Prim.Native.String.{String}
 use mathlib.Core.Path.{◌≡◌, refl}
 use mathlib.Core.Bool.{Bool, true, false}

@@ -9,7 +9,7 @@ use borrow.Author.Tests.{ne_eqb}
 use lib.Dec.{eqb}
 use Rattle.rules.proofs.Tests.{either_false}
 use Rattle.console_commands.specs.Commands
-use Rattle.console_lines.specs.Lines.{begun, meaning}
+use Rattle.console_lines.specs.Lines.{meaning}
 use Rattle.console_lines.proofs.Kept.{first_decides}
 use Rattle.headend_desk.specs.Desk.{is_apart, starts_apart}
 

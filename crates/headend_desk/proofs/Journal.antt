@@ -42,7 +42,7 @@ use Rattle.console_lines.specs.Lines.{meaning}
 use Rattle.console_acts.specs.Events.{event_in}
 use Rattle.headend_desk.specs.Desk.{is_event_line, head_answer, head_next, next_bytes, sum_text, event_notice, event_sum}
 use Rattle.headend_desk.specs.Desk.{head_after, head_notice, head_sum}
-use Rattle.headend_desk.specs.Journal.{head_of, journal_of, journal_sums, is_taken, events_taken, sums_of, UpToNotice, CutAt, TornEnd}
+use Rattle.headend_desk.specs.Journal.{head_of, journal_of, journal_sums, is_taken, events_taken, sums_of, UpToNotice, CutAt}
 use Rattle.headend_desk.specs.Journal.{JournalKept}
 use Rattle.headend_desk.proofs.Taking.{accepts, moves_on}
 

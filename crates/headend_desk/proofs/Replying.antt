@@ -2,12 +2,12 @@
 use Prim.Native.Nat.{ℕ, ◌≤◌}
 use mathlib.Core.Path.{◌≡◌, refl, sym, ap, ◌∙◌}
 use mathlib.Core.Bool.{Bool, true, false}
-use mathlib.Core.List.{List, [], ◌++◌}
+use mathlib.Core.List.{List, ◌++◌}
 use borrow.Author.Tests.{eq-eqb, ne_eqb, eqb-true}
 use lib.Dec.{eqb}
 use lib.ListN.{length}
 use Rattle.rules.specs.Limits.{within}
-use Rattle.rules.specs.Refusals.{pick, done}
+use Rattle.rules.specs.Refusals.{done}
 use Rattle.rules.proofs.Tests.{both_l}
 use Rattle.story.specs.declared.Event.{Event}
 use Rattle.notice.specs.declared.Notice.{Notice}

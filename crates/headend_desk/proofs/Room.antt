@@ -15,7 +15,7 @@ use Rattle.notice_fields.proofs.Digits.{length_big}
 use Rattle.notice.proofs.Worked.{open_length, none_longer}
 use Rattle.sums.specs.Crc.{sum_of, sum_size}
 use Rattle.agent.specs.declared.Agent.{Agent}
-use Rattle.text.specs.Output.{Page, page, puts, Written}
+use Rattle.text.specs.Output.{Page, page, Written}
 use Rattle.text.proofs.Pages.{puts_fits, puts_length}
 use Rattle.console_lines.specs.Lines.{meaning}
 use Rattle.console_acts.specs.Events.{event_in}

@@ -1,6 +1,6 @@
 -- An event put to the head-end, as the code meets its cases: accepted, refused by the scheduler, or refused for want of a sequence; what it
 -- is answered; and that the notice of an accepted one is not cut. Rests on accepted events fitting the fields of their notices.
-use Prim.Native.Nat.{ℕ, suc, ◌+◌, ◌<◌, ◌≤◌, ◌^◌}
+use Prim.Native.Nat.{ℕ, suc, ◌+◌, ◌<◌, ◌≤◌}
 use mathlib.Core.Path.{◌≡◌, refl, sym, ap, ◌∙◌}
 use mathlib.Core.Bool.{Bool, true, false}
 use mathlib.Core.Logic.{⊎_elim}
@@ -14,7 +14,6 @@ use Rattle.rules.proofs.Tests.{decide}
 use Rattle.story.specs.declared.State.{State}
 use Rattle.story.specs.declared.Event.{Event}
 use Rattle.story.specs.Runs.{answered, called}
-use Rattle.notice.specs.declared.Notice.{Notice}
 use Rattle.agent.specs.declared.Agent.{Agent}
 use Rattle.agent.specs.Series.{notice_for}
 use Rattle.agent.proofs.HeadEnd.{typed_called}

@@ -1,16 +1,16 @@
 -- What is told of a moment: the report of one arrival as a beginning, and that the admission told of is at the very moment exactly where a
 -- box begins then. Rests on an arrival's next admission being the first that lets it in.
 use mathlib.Core.Path.{◌≡◌, refl, sym, subst, ◌∙◌}
-use mathlib.Core.Bool.{Bool, true, false, false≢true}
+use mathlib.Core.Bool.{true, false, false≢true}
 use mathlib.Core.Logic.{⊎_elim}
 use mathlib.Core.List.{List, [], ◌∷◌}
-use Prim.Native.Nat.{ℕ, zero, suc, ◌+◌, ◌-◌, ◌*◌, ◌/◌, ◌≤◌, ◌<◌, max}
+use Prim.Native.Nat.{ℕ, ◌+◌, ◌*◌, ◌≤◌, ◌<◌}
 use native.Mathlib.Omega.{arith}
 use native.Mathlib.Nat.{mul-le-mul_right, div-eq_of_lt-le}
 use borrow.Author.Tests.{eqb-true, eq-eqb, ltb-true, ltb-false, le-leb}
 use lib.Dec.{leb, ltb, eqb}
-use lib.ListN.{get_or, length}
-use Rattle.rules.specs.Limits.{both, within, pool_min, pool_max, id_max, asked_max, event_time_max}
+use lib.ListN.{get_or}
+use Rattle.rules.specs.Limits.{within, pool_min, pool_max, id_max, asked_max}
 use Rattle.rules.specs.Refusals.{first_hit, done}
 use Rattle.rules.specs.Search.{every}
 use Rattle.rules.proofs.Tests.{both_l, both_r, both_in, decide, same}

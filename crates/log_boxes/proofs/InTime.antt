@@ -3,23 +3,20 @@
 use mathlib.Core.Path.{◌≡◌, refl, sym, ap, subst, ◌∙◌}
 use mathlib.Core.Bool.{Bool, true}
 use mathlib.Core.List.{List}
-use Prim.Native.Nat.{ℕ, suc, ◌+◌, ◌-◌, ◌*◌, ◌/◌, ◌%◌, ◌≤◌, ◌<◌}
+use Prim.Native.Nat.{ℕ, ◌+◌, ◌-◌, ◌*◌, ◌/◌, ◌%◌, ◌≤◌, ◌<◌}
 use native.Mathlib.Omega.{arith}
 use native.Mathlib.Nat.{mul-le-mul_right}
 use borrow.Author.Tests.{eq-eqb, leb-true, ltb-true}
-use lib.Dec.{leb, ltb, eqb}
-use Rattle.rules.specs.Limits.{within, pool_min, pool_max, id_max, titles_max, asked_max, count_max, lane_places}
+use lib.Dec.{leb, eqb}
+use Rattle.rules.specs.Limits.{within, pool_min, pool_max, id_max, asked_max, lane_places}
 use Rattle.rules.specs.Refusals.{done}
 use Rattle.rules.specs.Search.{first}
 use Rattle.rules.proofs.Tests.{both_l, both_r}
 use Rattle.rules.proofs.Search.{first_least}
-use Rattle.grid.specs.Ticks.{cells}
-use Rattle.scheme.specs.Scheme.{film_in}
 use Rattle.notice.specs.Log.{Bytes}
-use Rattle.story.specs.declared.State.{State}
 use Rattle.story.specs.declared.Event.{Event}
 use Rattle.story.specs.Life.{Life, cell, is_film, is_admission, on_air}
-use Rattle.story.specs.Story.{life_of, life_at, air_at, moment_of, tick_in, tick_length, InTick, Received}
+use Rattle.story.specs.Story.{life_at, moment_of, tick_in, tick_length, InTick, Received}
 use Rattle.story.specs.Runs.{lanes_of, Reached}
 use Rattle.story.proofs.Runs.{lanes_limit}
 use Rattle.story.proofs.Boxes.{stood, air_stood}
@@ -29,13 +26,10 @@ use Rattle.agent.specs.Played.{agent_played, events_played, life_in}
 use Rattle.agent.proofs.Played.{log_reached}
 use Rattle.admissions.specs.Waits.{lets_in}
 use Rattle.admissions.proofs.GetsIn.{let_in}
-use Rattle.airing.specs.Air.{in_limits}
-use Rattle.airing.specs.Own.{own_number}
 use Rattle.airing.proofs.OwnAnswers.{numbers, begins}
 use Rattle.playouts.specs.Playout.{was_opened, is_askable, last_tick_of, playout_number}
-use Rattle.playouts.specs.inner.Steps.{air_number}
 use Rattle.playouts.proofs.OwnNumbers.{own_is}
-use Rattle.takings.specs.Takings.{taking_place, place_tick}
+use Rattle.takings.specs.Takings.{taking_place}
 use Rattle.log_boxes.specs.Box.{box_ticks, box_answer, is_box_start, box_place}
 use Rattle.log_boxes.specs.InTime.{TakenInTime, EveryCellInTime}
 use Rattle.log_boxes.proofs.Standing.{given_in, granted}

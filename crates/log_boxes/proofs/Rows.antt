@@ -1,24 +1,21 @@
 -- What the rows hold: the places taken from the numbers that were filled in are those of the box, and the picture over a row is the picture
 -- over its places. Rests on the laws of written rows and of searches and counts over the same tests.
-use mathlib.Core.Path.{◌≡◌, refl, sym, ap, ◌∙◌}
-use mathlib.Core.Bool.{Bool}
-use mathlib.Core.List.{List, ◌++◌}
+use mathlib.Core.Path.{◌≡◌, refl, ap}
+use mathlib.Core.List.{List}
 use Prim.Native.Nat.{ℕ, zero, suc, ◌/◌, ◌≤◌, ◌<◌}
 use native.Mathlib.Omega.{arith}
 use lib.Dec.{leb, ltb, eqb}
 use lib.ListN.{length, get_or}
 use Rattle.rules.specs.Limits.{both, lane_places}
 use Rattle.rules.specs.Refusals.{pick}
-use Rattle.rules.specs.Search.{first, how_many}
 use Rattle.rules.proofs.Search.{first_ext, how_many_ext}
 use Rattle.scheme.specs.Scheme.{film_in}
 use Rattle.plans.specs.Row.{written}
 use Rattle.plans.proofs.Row.{written_first, written_length}
-use Rattle.takings.specs.declared.Peak.{Peak}
 use Rattle.takings.specs.Takings.{taking_place, is_kept, kept_at, peak_to}
 use Rattle.box_charts.specs.declared.Begun.{Begun}
-use Rattle.box_charts.specs.Marks.{mark_if, marks_to}
-use Rattle.box_charts.specs.Curve.{curve_to, kept_curve, peak_text}
+use Rattle.box_charts.specs.Marks.{marks_to}
+use Rattle.box_charts.specs.Curve.{curve_to, kept_curve}
 use Rattle.box_charts.specs.Picture.{drawn_text, box_drawing}
 
 -- ---- places from numbers

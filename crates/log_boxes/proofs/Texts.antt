@@ -1,5 +1,5 @@
 -- What is written of a box, by what is told of its beginning: the three ways of `box_text`. Rests on `now_exactly`.
-use mathlib.Core.Path.{◌≡◌, refl, sym, ap, ◌∙◌}
+use mathlib.Core.Path.{◌≡◌, refl, sym, ◌∙◌}
 use mathlib.Core.Bool.{true, false}
 use mathlib.Core.List.{List}
 use Prim.Native.Nat.{ℕ}

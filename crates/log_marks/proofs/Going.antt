@@ -2,7 +2,7 @@
 use Prim.Native.Nat.{ℕ}
 use mathlib.Core.Path.{◌≡◌, refl, sym, ap, ◌∙◌}
 use mathlib.Core.Bool.{true, false}
-use mathlib.Core.List.{List, [], ◌++◌, append-nil}
+use mathlib.Core.List.{List, ◌++◌, append-nil}
 use lib.ListN.{length}
 use Rattle.notice.specs.declared.Notice.{Notice}
 use Rattle.notice.specs.declared.Found.{Found}
@@ -12,9 +12,9 @@ use Rattle.notice.specs.Log.{Bytes}
 use Rattle.agent_rows.specs.Packed.{unpacked}
 use Rattle.row_calls.specs.inner.Steps.{Tested}
 use Rattle.logs.specs.declared.PlayedLog.{PlayedLog}
-use Rattle.logs.specs.Reading.{played_of, Unplayed, stepped, agent_read, RowRead, kept_read, PlayedStep}
+use Rattle.logs.specs.Reading.{played_of, Unplayed, stepped, agent_read, RowRead, kept_read}
 use Rattle.logs.proofs.Reading.{PlayedTo, not_begun, played_on, tested, all_played}
-use Rattle.text.specs.Output.{Page, page, puts, Written}
+use Rattle.text.specs.Output.{page, puts, Written}
 use Rattle.text.proofs.Pages.{puts_then}
 use Rattle.strips.specs.Kept.{kept_length}
 use Rattle.frames.specs.declared.bands.View.{View}

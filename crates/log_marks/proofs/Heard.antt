@@ -1,17 +1,14 @@
 -- A notice that was told to the agent of a row, by what it was answered.
 use Prim.Native.Nat.{ℕ, ◌≤◌, ◌<◌}
 use mathlib.Core.Path.{◌≡◌, sym, ap, ◌∙◌}
-use mathlib.Core.Bool.{Bool, true, false}
+use mathlib.Core.Bool.{true, false}
 use mathlib.Core.List.{List}
 use borrow.Author.Tests.{eq-eqb, ne_eqb, le-leb, lt-leb}
 use lib.Dec.{leb, eqb}
 use Rattle.rules.specs.Limits.{both, id_max}
-use Rattle.rules.specs.Refusals.{pick, done}
-use Rattle.rules.proofs.Tests.{decide}
+use Rattle.rules.specs.Refusals.{done}
 use Rattle.notice.specs.declared.Notice.{Notice}
-use Rattle.notice.specs.declared.Reading.TheVariants as reading
 use Rattle.agent.specs.declared.Agent.{Agent}
-use Rattle.agent.specs.Turns.{notice_answer, noticed}
 use Rattle.agent_rows.specs.Packed.{unpacked}
 use Rattle.row_calls.specs.inner.Steps.{TakesNotice}
 use Rattle.text.specs.Output.{Page, puts}

@@ -5,7 +5,6 @@ use mathlib.Core.Path.{◌≡◌, refl, sym, ap, ◌∙◌}
 use mathlib.Core.Bool.{Bool, true, false}
 use mathlib.Core.List.{List, [], ◌∷◌}
 use native.Mathlib.Omega.{arith}
-use lib.Dec.{eqb}
 use lib.ListN.{length, get_or}
 use borrow.Author.Tests.{lt-ltb, le-ltb, ltb-true, ltb-false, eq-eqb, ne_eqb}
 use Rattle.rules.specs.Refusals.{pick, done, wrong_rows}
@@ -17,13 +16,13 @@ use Rattle.salvaging.specs.declared.Salvaged.{Salvaged}
 use Rattle.scanning.specs.Scan.{scan_of}
 use Rattle.salvaging.specs.Rows.{Salvages, lacks_room, salvaged, no_room, flat, filled}
 use Rattle.rongalishu.specs.Results.{needing, resulting, OneGiven}
-use Rattle.rongalishu.specs.Reports.{WaitsTold, WaitsGiven, wait_numbers, waits_places}
+use Rattle.rongalishu.specs.Reports.{WaitsGiven, wait_numbers, waits_places}
 use Rattle.notice_rows.specs.declared.Written.{Written}
 use Rattle.notice_rows.specs.declared.Step.{Step}
 use Rattle.notice_rows.specs.Calls.{WritesRow, StepsRow}
 use Rattle.row_questions.specs.Questions.{RowListed}
-use Rattle.rongalishu.specs.Notices.{WrittenTold, WrittenGiven, NextTold, NextGiven}
-use Rattle.rongalishu.specs.Pools.{PlannerTold, PlannerGiven}
+use Rattle.rongalishu.specs.Notices.{WrittenGiven, NextGiven}
+use Rattle.rongalishu.specs.Pools.{PlannerGiven}
 use Rattle.rongalishu.specs.Reports.{AirGiven, air_numbers, air_places, SalvageGiven, salvage_gives, salvage_numbers, salvage_places}
 
 -- a row with its numbers, and one that stayed

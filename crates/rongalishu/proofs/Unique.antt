@@ -10,17 +10,11 @@ use Rattle.rules.specs.OneOutcome.{OneEnd}
 use Rattle.rules.proofs.Tests.{decide}
 use Rattle.waiting.specs.declared.Report.{Report}
 use Rattle.waiting.proofs.Telling.{told_once}
-use Rattle.airing.specs.Air.{air_gives}
-use Rattle.scanning.specs.Scan.{scan_of}
-use Rattle.salvaging.specs.Rows.{flat}
 use Rattle.rongalishu.specs.Results.{resulting, OneGiven}
 use Rattle.rongalishu.specs.Reports.{WaitsTold, WaitsGiven, wait_numbers, waits_places}
-use Rattle.notice_rows.specs.declared.Written.{Written}
-use Rattle.notice_rows.specs.declared.Step.{Step}
 use Rattle.row_questions.proofs.Unique.{listed_alike}
-use Rattle.rongalishu.specs.Notices.{WrittenTold, WrittenGiven, NextTold, NextGiven}
-use Rattle.rongalishu.specs.Pools.{PlannerTold, PlannerGiven}
-use Rattle.rongalishu.specs.Reports.{air_numbers, salvage_gives, salvage_numbers}
+use Rattle.rongalishu.specs.Notices.{WrittenTold, NextTold}
+use Rattle.rongalishu.specs.Pools.{PlannerTold}
 use Rattle.rongalishu.proofs.events.rl_fresh_row.Kinds as fresh-kinds
 use Rattle.rongalishu.proofs.events.rl_fresh_row.Reads as fresh-call
 use Rattle.rongalishu.proofs.events.rl_open_row.Kinds as open-kinds
@@ -82,22 +76,22 @@ pub fresh_one_outcome : OneEnd 1 fresh-kinds.ps fresh-kinds.r (λ κs e f. e.0.n
 fresh_one_outcome κs a x y e f p q = (p.0 ∙ sym q.0, p.1 ∙ sym q.1)
 
 pub open_one_outcome : OneEnd 1 open-kinds.ps open-kinds.r (λ κs e f. e.0.now ≡ f.0.now) open-call.Learnt
-open_one_outcome κs a x y e f p q = (p.value ∙ sym q.value, p.agent_after ∙ sym q.agent_after)
+open_one_outcome κs a x y e f p q = (p.0 ∙ sym q.0, p.1 ∙ sym q.1)
 
 pub skip_one_outcome : OneEnd 1 skip-kinds.ps skip-kinds.r (λ κs e f. e.0.now ≡ f.0.now) skip-call.Learnt
-skip_one_outcome κs a x y e f p q = (p.value ∙ sym q.value, p.agent_after ∙ sym q.agent_after)
+skip_one_outcome κs a x y e f p q = (p.0 ∙ sym q.0, p.1 ∙ sym q.1)
 
 pub change_one_outcome : OneEnd 1 change-kinds.ps change-kinds.r (λ κs e f. e.0.now ≡ f.0.now) change-call.Learnt
-change_one_outcome κs a x y e f p q = (p.value ∙ sym q.value, p.agent_after ∙ sym q.agent_after)
+change_one_outcome κs a x y e f p q = (p.0 ∙ sym q.0, p.1 ∙ sym q.1)
 
 pub close_one_outcome : OneEnd 1 close-kinds.ps close-kinds.r (λ κs e f. e.0.now ≡ f.0.now) close-call.Learnt
-close_one_outcome κs a x y e f p q = (p.value ∙ sym q.value, p.agent_after ∙ sym q.agent_after)
+close_one_outcome κs a x y e f p q = (p.0 ∙ sym q.0, p.1 ∙ sym q.1)
 
 pub hold_one_outcome : OneEnd 1 hold-kinds.ps hold-kinds.r (λ κs e f. e.0.now ≡ f.0.now) hold-call.Learnt
-hold_one_outcome κs a x y e f p q = (p.value ∙ sym q.value, p.agent_after ∙ sym q.agent_after)
+hold_one_outcome κs a x y e f p q = (p.0 ∙ sym q.0, p.1 ∙ sym q.1)
 
 pub lift_one_outcome : OneEnd 1 lift-kinds.ps lift-kinds.r (λ κs e f. e.0.now ≡ f.0.now) lift-call.Learnt
-lift_one_outcome κs a x y e f p q = (p.value ∙ sym q.value, p.agent_after ∙ sym q.agent_after)
+lift_one_outcome κs a x y e f p q = (p.0 ∙ sym q.0, p.1 ∙ sym q.1)
 
 pub take_one_outcome : OneEnd 2 take-kinds.ps take-kinds.r (λ κs e f. e.0.now ≡ f.0.now) take-call.Learnt
 take_one_outcome κs a x y e f p q = (p.0 ∙ sym q.0, p.1 ∙ sym q.1)
@@ -271,11 +265,11 @@ pub status_one_outcome :
     × ((e.1.1.1.1.0.now ≡ f.1.1.1.1.0.now) × (e.1.1.1.1.1.0.now ≡ f.1.1.1.1.1.0.now)))
     status-call.Learnt
 status_one_outcome κs a x y e f p q =
-    let same : x ≡ y = p.value ∙ sym q.value in (
+    let same : x ≡ y = p.0 ∙ sym q.0 in (
       same,
       (
-        rw same at p.counts_after ∙ sym q.counts_after,
-        (rw same at p.held_after ∙ sym q.held_after, rw same at p.marks_after ∙ sym q.marks_after),
+        rw same at p.1.0 ∙ sym q.1.0,
+        (rw same at p.1.1.0 ∙ sym q.1.1.0, rw same at p.1.1.1 ∙ sym q.1.1.1),
       ),
     )
 

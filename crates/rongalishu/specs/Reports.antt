@@ -7,7 +7,7 @@ use Rattle.airing.specs.declared.Judgement.{Judgement}
 use Rattle.airing.specs.Air.{air_gives, air_leaves}
 use Rattle.salvaging.specs.declared.Salvaged.{Salvaged}
 use Rattle.scanning.specs.Scan.{scan_of}
-use Rattle.salvaging.specs.Rows.{lacks_room, salvaged, no_room, flat, filled}
+use Rattle.salvaging.specs.Rows.{lacks_room, salvaged, no_room, flat}
 use Rattle.rongalishu.specs.Results.{needing, resulting}
 
 -- how many numbers each has

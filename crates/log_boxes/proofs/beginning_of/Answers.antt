@@ -1,6 +1,5 @@
 -- `log_boxes::beginning_of` meets its contract: the wait where nothing is refused, else the refusal.
 use mathlib.Core.Path.{refl}
-use borrow.Author.Rules.{rules}
 use Rattle.log_boxes.proofs.beginning_of.Goals as goal
 
 pub returns : goal.returns

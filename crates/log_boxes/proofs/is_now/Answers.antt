@@ -1,7 +1,6 @@
 -- `log_boxes::is_now` meets its contract: its tests joined.
 use mathlib.Core.Path.{refl, ◌∙◌}
 use Rattle.log_boxes.specs.Box.{is_now}
-use borrow.Author.Rules.{rules}
 use Rattle.log_boxes.proofs.is_now.Goals as goal
 
 pub returns : goal.returns

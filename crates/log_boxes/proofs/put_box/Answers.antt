@@ -1,9 +1,8 @@
 -- `log_boxes::put_box` meets its contract: the picture at an admission, nothing at another moment, else the refusal.
-use mathlib.Core.Path.{refl, sym, ap, ◌∙◌}
+use mathlib.Core.Path.{sym, ap, ◌∙◌}
 use native.Mathlib.Omega.{arith}
-use Rattle.text.specs.Output.{page, puts}
+use Rattle.text.specs.Output.{puts}
 use Rattle.log_boxes.proofs.Texts.{begins_text, waits_text, refused_text}
-use borrow.Author.Rules.{rules}
 use Rattle.log_boxes.proofs.put_box.Goals as goal
 
 pub draw-requires : goal.draw-requires

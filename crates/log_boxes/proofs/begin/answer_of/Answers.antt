@@ -4,7 +4,6 @@ use native.Mathlib.Omega.{arith}
 use Rattle.playouts.specs.inner.Steps.{window_answer}
 use Rattle.log_boxes.specs.inner.Steps.{last_tick}
 use Rattle.log_boxes.proofs.Standing.{given_in, time_in, outside, inside}
-use borrow.Author.Rules.{rules}
 use Rattle.log_boxes.proofs.begin.answer_of.Goals as goal
 
 pub end_of-end-requires : goal.end_of-end-requires

@@ -1,7 +1,6 @@
 -- `log_boxes::begin::in_limits` meets its contract: its tests joined.
 use mathlib.Core.Path.{refl, ◌∙◌}
 use Rattle.log_boxes.specs.Box.{box_limits}
-use borrow.Author.Rules.{rules}
 use Rattle.log_boxes.proofs.begin.in_limits.Goals as goal
 
 pub returns : goal.returns

@@ -3,7 +3,6 @@ use mathlib.Core.Path.{refl}
 use borrow.Author.Tests.{eq-eqb, ne_eqb}
 use Rattle.grid.proofs.Numbers.{ne_zero_pos}
 use Rattle.log_boxes.specs.inner.Steps.{last_tick}
-use borrow.Author.Rules.{rules}
 use Rattle.log_boxes.proofs.begin.last_tick.Goals as goal
 
 pub returns-then-cap-eq0 : goal.returns-then-cap-eq0

@@ -1,10 +1,8 @@
 -- `log_boxes::begin::wait_of` meets its contract: the report of one arrival.
-use mathlib.Core.Path.{sym, ◌∙◌}
 use native.Mathlib.Omega.{arith}
 use Rattle.notice.specs.Log.{Bytes}
 use Rattle.log_boxes.proofs.Standing.{given_in, granted, asked_soon}
 use Rattle.log_boxes.proofs.Beginnings.{report_told, begins_told}
-use borrow.Author.Rules.{rules}
 use Rattle.log_boxes.proofs.begin.wait_of.Goals as goal
 
 pub end_of-end-requires : goal.end_of-end-requires

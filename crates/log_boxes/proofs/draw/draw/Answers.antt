@@ -6,7 +6,6 @@ use Prim.Native.Nat.{◌*◌}
 use Rattle.rules.specs.Limits.{lane_places}
 use Rattle.notice.specs.Log.{Bytes}
 use Rattle.log_boxes.proofs.Standing.{given_in, granted, stands, filmed}
-use borrow.Author.Rules.{rules}
 use Rattle.log_boxes.proofs.draw.draw.Goals as goal
 
 pub end_of-end-requires : goal.end_of-end-requires
@@ -38,7 +37,10 @@ draw_into-requires c = let at_places = c in
     let at_cells = at-numbers in
     let at_end = at_cells in
     let start = at_end in
-    let many = at_cells.pow2-cells.ensures in record { box_stands = stands _ _ _ _ _ at_end.end_of-end.ensures start.requires; box_rooms = record {
+    let many = at_cells.pow2-cells.ensures in record {
+      box_stands = stands _ _ _ _ _ at_end.end_of-end.ensures start.requires;
+      box_rooms = record {
         numbers_long = length-take-le _ _ (omega (arith, at-numbers.blank_numbers-numbers.ensures, many.high)) ∙ ap (λ n. n * lane_places) many.is;
         places_long = length-take-le _ _ (omega (arith, at_places.blank_places-places.ensures, many.high)) ∙ many.is;
-      } }
+      };
+    }

@@ -6,7 +6,6 @@ use Rattle.notice.specs.Log.{Bytes}
 use Rattle.text.specs.Output.{puts}
 use Rattle.plans.proofs.Row.{written_length}
 use Rattle.log_boxes.proofs.Standing.{time_in, granted, filmed, cells_high, picture_is}
-use borrow.Author.Rules.{rules}
 use Rattle.log_boxes.proofs.draw.draw_into.Goals as goal
 
 pub tick-requires : goal.tick-requires
@@ -23,11 +22,14 @@ put_picture-requires c = let at_tick = c in
     let start = known in
     let small : Bytes start.args.log.now = λ j. omega (arith, known.shared_slice_known-1.given j) in
     let w = start.requires.box_stands in
-    let f = filmed _ _ _ _ small w.granted _ w in record { moment_le_asked_max = (
+    let f = filmed _ _ _ _ small w.granted _ w in record {
+      moment_le_asked_max = (
         time_in _ _ _ (granted _ _ _ _ w.granted).limits,
         omega (arith, at_tick.tick.ensures.high, f.sized.high),
         f.cut.high,
-      ); taken_len_bound = omega (arith, ap length at_take.take_places.ensures ∙ written_length _ _ _, start.requires.box_rooms.places_long, cells_high _ _ _ _ small w.granted _ w) }
+      );
+      taken_len_bound = omega (arith, ap length at_take.take_places.ensures ∙ written_length _ _ _, start.requires.box_rooms.places_long, cells_high _ _ _ _ small w.granted _ w);
+    }
 
 pub returns : goal.returns
 returns c =

@@ -5,7 +5,6 @@ use lib.ListN.{length}
 use Rattle.notice.specs.Log.{Bytes}
 use Rattle.plans.proofs.Row.{written_length}
 use Rattle.log_boxes.proofs.Standing.{given_in, time_in, granted, filmed, filled_in, places_are}
-use borrow.Author.Rules.{rules}
 use Rattle.log_boxes.proofs.draw.take_places.Goals as goal
 
 pub tick-tick-requires : goal.tick-tick-requires

@@ -2,7 +2,6 @@
 use mathlib.Core.Path.{refl}
 use borrow.Author.Tests.{eq-eqb, ne_eqb}
 use Rattle.log_marks.specs.Ending.{left_until}
-use borrow.Author.Rules.{rules}
 use Rattle.log_marks.proofs.ending.left_until.Goals as goal
 
 pub returns-then-t-eq-OPEN : goal.returns-then-t-eq-OPEN

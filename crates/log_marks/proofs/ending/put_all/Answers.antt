@@ -1,18 +1,13 @@
 -- `log_marks::ending::put_all` meets its contract: title by title.
-use mathlib.Core.Path.{◌≡◌, refl, sym, ap, ◌∙◌}
-use Prim.Native.Nat.{◌≤◌, ◌-◌}
+use mathlib.Core.Path.{refl, sym, ap, ◌∙◌}
 use native.Mathlib.Nat.{le_antisymm}
 use native.Mathlib.Omega.{arith}
-use lib.ListN.{length}
-use Rattle.rules.specs.Limits.{titles_max}
 use Rattle.agent_rows.specs.Packed.{unpacked}
 use Rattle.text.specs.Output.{page, puts}
 use Rattle.text.proofs.Pages.{same_room}
-use Rattle.strips.specs.Kept.{kept_length}
 use Rattle.log_marks.specs.Ending.{all_marks, all_kept}
 use Rattle.moments.proofs.Due.{title_timed}
 use Rattle.log_marks.proofs.Threaded.{all_next}
-use borrow.Author.Rules.{rules}
 use Rattle.log_marks.proofs.ending.put_all.Goals as goal
 
 pub loop-id-init : goal.loop-id-init

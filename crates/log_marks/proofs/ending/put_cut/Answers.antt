@@ -9,7 +9,6 @@ use Rattle.drawing.specs.Axis.{plot_left}
 use Rattle.marks.specs.Marks.{refused_label, refused_label_kept}
 use Rattle.log_marks.specs.Ending.{cut_marks, cut_kept}
 use Rattle.log_marks.proofs.Threaded.{then_text, then_kept}
-use borrow.Author.Rules.{rules}
 use Rattle.log_marks.proofs.ending.put_cut.Goals as goal
 
 pub returns-then-place-size : goal.returns-then-place-size

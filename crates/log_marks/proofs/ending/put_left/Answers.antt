@@ -11,7 +11,6 @@ use Rattle.strips.specs.Doors.{doors_mark, doors_kept}
 use Rattle.log_marks.specs.Ending.{left_marks, left_kept}
 use Rattle.log_marks.proofs.Threaded.{then_text, then_kept}
 use mathlib.Core.Path.{◌∙◌}
-use borrow.Author.Rules.{rules}
 use Rattle.log_marks.proofs.ending.put_left.Goals as goal
 
 pub returns-then-t-eq-ABSENT : goal.returns-then-t-eq-ABSENT
@@ -53,6 +52,9 @@ returns c = let at-put-doors = c in
     let x = at_start.args in
     let life = at-put-ended.put_ended-a.ensures in
     let lanes = then_kept (λ (k : List ℕ). lanes_kept x.band k x.t at-ruling.ruling.result true x.end count_max) life.kept_after at-put-lanes.put_lanes-b.ensures.kept_after in
-    rw (ne_eqb _ _ at-if1.if-t-eq-ABSENT.false, ← at-left-until.left_until.ensures, ← at-ruling.ruling.ensures) record { written = then_text (λ (k : List ℕ). doors_mark x.band k x.t false x.end) _ _
+    rw (ne_eqb _ _ at-if1.if-t-eq-ABSENT.false, ← at-left-until.left_until.ensures, ← at-ruling.ruling.ensures) record {
+      written = then_text (λ (k : List ℕ). doors_mark x.band k x.t false x.end) _ _
           (then_text (λ (k : List ℕ). lanes_marks x.band k x.t at-ruling.ruling.result true x.end count_max) _ _ life.written life.kept_after at-put-lanes.put_lanes-b.ensures.written)
-          lanes at-put-doors.put_doors.ensures.written; kept_after = then_kept (λ (k : List ℕ). doors_kept x.band k x.t false x.end) lanes at-put-doors.put_doors.ensures.kept_after }
+          lanes at-put-doors.put_doors.ensures.written;
+      kept_after = then_kept (λ (k : List ℕ). doors_kept x.band k x.t false x.end) lanes at-put-doors.put_doors.ensures.kept_after;
+    }

@@ -1,11 +1,8 @@
 -- `log_marks::hearing::copy` meets its contract: the numbers passed are copied.
-use mathlib.Core.Path.{◌≡◌, refl, ap, ◌∙◌}
-use Prim.Native.Nat.{◌≤◌, ◌-◌}
+use mathlib.Core.Path.{refl, ◌∙◌}
 use native.Mathlib.Omega.{arith}
-use native.Mathlib.Nat.{le_antisymm}
-use lib.ListN.{length, take, get_or, length-set}
-use Rattle.log_marks.proofs.Copied.{copied_none, copied_next, copied_all}
-use borrow.Author.Rules.{rules}
+use lib.ListN.{length-set}
+use Rattle.log_marks.proofs.Copied.{copied_next, copied_all}
 use Rattle.log_marks.proofs.hearing.copy.Goals as goal
 
 pub loop-i-init : goal.loop-i-init

@@ -1,11 +1,7 @@
 -- What the loop keeps, and what falls.
-use mathlib.Core.Path.{◌≡◌, refl, ap, ◌∙◌}
+use mathlib.Core.Path.{◌≡◌}
 use Prim.Native.Nat.{◌≤◌, ◌-◌}
-use native.Mathlib.Omega.{arith}
-use native.Mathlib.Nat.{le_antisymm}
-use lib.ListN.{length, take, get_or, length-set}
-use Rattle.log_marks.proofs.Copied.{copied_none, copied_next, copied_all}
-use borrow.Author.Rules.{rules}
+use lib.ListN.{length, take}
 use Rattle.log_marks.proofs.hearing.copy.Given as goal
 
 abbrev pub invariant-loop-i : goal.invariant-loop-i

@@ -6,7 +6,6 @@ use Rattle.moments.proofs.Due.{title_timed}
 use Rattle.log_marks.proofs.Heard.{accepted_are}
 use Rattle.text.proofs.Pages.{same_room}
 use mathlib.Core.Path.{refl}
-use borrow.Author.Rules.{rules}
 use Rattle.log_marks.proofs.hearing.put_accepted.Goals as goal
 
 pub returns : goal.returns
@@ -21,8 +20,8 @@ returns c =
     let at_start = at-band-of in
     let x = at_start.args in
     let p =
-        accepted_are x.v x.kept.now (unpacked x.was.now).state (unpacked x.row.now).state x.n _ _ _ at-band-of.band_of-band.ensures at-title-at.title_at.ensures at-title-at2.title_at-2.ensures _ _ _ _ _ _ _ _ _
-        at-put-curve.put_curve-a.ensures.written at-put-curve.put_curve-a.ensures.kept_after at-put-turn.put_turn-b.ensures.written at-put-turn.put_turn-b.ensures.kept_after at-put-tick.put_tick-c.ensures.written at-put-tick.put_tick-c.ensures.kept_after at-put-tick-label.put_tick_label.ensures.written at-put-tick-label.put_tick_label.ensures.kept_after in
+    accepted_are x.v x.kept.now (unpacked x.was.now).state (unpacked x.row.now).state x.n _ _ _ at-band-of.band_of-band.ensures at-title-at.title_at.ensures at-title-at2.title_at-2.ensures _ _ _ _ _ _ _ _ _
+    at-put-curve.put_curve-a.ensures.written at-put-curve.put_curve-a.ensures.kept_after at-put-turn.put_turn-b.ensures.written at-put-turn.put_turn-b.ensures.kept_after at-put-tick.put_tick-c.ensures.written at-put-tick.put_tick-c.ensures.kept_after at-put-tick-label.put_tick_label.ensures.written at-put-tick-label.put_tick_label.ensures.kept_after in
     record { written = p.0; kept_after = p.1 }
 
 pub put_curve-a-requires : goal.put_curve-a-requires

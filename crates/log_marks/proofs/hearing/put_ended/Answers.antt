@@ -4,7 +4,6 @@ use Prim.Native.Nat.{ℕ}
 use Rattle.marks.specs.Marks.{life_label_text, life_label_kept}
 use Rattle.log_marks.specs.Hearing.{life_marks}
 use Rattle.log_marks.proofs.Threaded.{then_text, then_kept}
-use borrow.Author.Rules.{rules}
 use Rattle.log_marks.proofs.hearing.put_ended.Goals as goal
 
 pub put_life-a-requires : goal.put_life-a-requires

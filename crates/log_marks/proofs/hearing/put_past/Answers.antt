@@ -4,7 +4,6 @@ use native.Mathlib.Omega.{arith}
 use borrow.Author.Tests.{eq-eqb, ne_eqb}
 use Rattle.text.specs.Output.{puts}
 use Rattle.log_marks.specs.Hearing.{past_marks, past_kept}
-use borrow.Author.Rules.{rules}
 use Rattle.log_marks.proofs.hearing.put_past.Goals as goal
 
 pub title_until-requires : goal.title_until-requires

@@ -34,6 +34,9 @@ returns c = let at-put-doors = c in
     let x = at_start.args in
     let past = at-put-past.put_past-a.ensures in
     let lanes = then_kept (λ (k : List ℕ). lanes_kept x.band k x.t at-ruling.ruling.result (not (eqb x.t.mode open_mode)) x.time count_max) past.kept_after at-put-lanes.put_lanes-b.ensures.kept_after in
-    rw (← at-ruling.ruling.ensures) record { written = then_text (λ (k : List ℕ). doors_mark x.band k x.t (is_shut x.after) x.time) _ _
+    rw (← at-ruling.ruling.ensures) record {
+      written = then_text (λ (k : List ℕ). doors_mark x.band k x.t (is_shut x.after) x.time) _ _
           (then_text (λ (k : List ℕ). lanes_marks x.band k x.t at-ruling.ruling.result (not (eqb x.t.mode open_mode)) x.time count_max) _ _ past.written past.kept_after at-put-lanes.put_lanes-b.ensures.written)
-          lanes at-put-doors.put_doors.ensures.written; kept_after = then_kept (λ (k : List ℕ). doors_kept x.band k x.t (is_shut x.after) x.time) lanes at-put-doors.put_doors.ensures.kept_after }
+          lanes at-put-doors.put_doors.ensures.written;
+      kept_after = then_kept (λ (k : List ℕ). doors_kept x.band k x.t (is_shut x.after) x.time) lanes at-put-doors.put_doors.ensures.kept_after;
+    }

@@ -4,7 +4,6 @@ use Prim.Native.Nat.{ℕ}
 use Rattle.marks.specs.Marks.{refused_label, refused_label_kept}
 use Rattle.log_marks.specs.Hearing.{unheard_marks, unheard_kept}
 use Rattle.log_marks.proofs.Threaded.{then_text, then_kept}
-use borrow.Author.Rules.{rules}
 use Rattle.log_marks.proofs.hearing.put_unheard.Goals as goal
 
 pub returns : goal.returns

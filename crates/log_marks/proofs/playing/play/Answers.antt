@@ -1,10 +1,8 @@
 -- `log_marks::playing::play` meets its contract: each step is one read more, and one that goes on moves ahead.
-use mathlib.Core.Path.{◌≡◌, refl, sym, ◌∙◌}
+use mathlib.Core.Path.{refl, sym, ◌∙◌}
 use native.Mathlib.Omega.{arith}
-use lib.ListN.{length}
-use Rattle.agent_rows.specs.Layout.{row_length}
-use Rattle.logs.proofs.Reading.{left, falls}
-use Rattle.log_marks.proofs.Going.{Going, begins, goes_on, is_tested, arrives}
+use Rattle.logs.proofs.Reading.{falls}
+use Rattle.log_marks.proofs.Going.{begins, goes_on, is_tested, arrives}
 use Rattle.text.proofs.Pages.{same_room}
 use borrow.Author.Rules.{rules}
 use Rattle.log_marks.proofs.playing.play.Goals as goal

@@ -1,12 +1,9 @@
 -- What the loop keeps, and what falls.
-use mathlib.Core.Path.{◌≡◌, refl, sym, ◌∙◌}
-use native.Mathlib.Omega.{arith}
+use mathlib.Core.Path.{◌≡◌}
 use lib.ListN.{length}
 use Rattle.agent_rows.specs.Layout.{row_length}
-use Rattle.logs.proofs.Reading.{left, falls}
-use Rattle.log_marks.proofs.Going.{Going, begins, goes_on, is_tested, arrives}
-use Rattle.text.proofs.Pages.{same_room}
-use borrow.Author.Rules.{rules}
+use Rattle.logs.proofs.Reading.{left}
+use Rattle.log_marks.proofs.Going.{Going}
 use Rattle.log_marks.proofs.playing.play.Given as goal
 
 abbrev pub invariant-loop-d : goal.invariant-loop-d

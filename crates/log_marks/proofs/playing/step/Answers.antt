@@ -1,7 +1,6 @@
 -- `log_marks::playing::step` meets its contract: by what the reader finds at the place.
 use mathlib.Core.Path.{sym, ◌∙◌}
 use Rattle.log_marks.proofs.Going.{steps_notice, steps_end, steps_none}
-use borrow.Author.Rules.{rules}
 use Rattle.log_marks.proofs.playing.step.Goals as goal
 
 pub returns-in-At : goal.returns-in-At

@@ -1,6 +1,5 @@
 -- `rl_lift_row` meets its contract: it is the call of its event.
 use Rattle.rongalishu.proofs.Entered.{as_event_lem}
-use borrow.Author.Rules.{rules}
 use Rattle.rongalishu.proofs.events.rl_lift_row.Goals as goal
 
 pub returns : goal.returns

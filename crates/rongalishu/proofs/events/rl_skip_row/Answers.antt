@@ -2,7 +2,6 @@
 use mathlib.Core.Path.{ap, ◌∙◌}
 use Rattle.story.specs.Story.{event}
 use Rattle.rongalishu.proofs.Entered.{as_event_lem}
-use borrow.Author.Rules.{rules}
 use Rattle.rongalishu.proofs.events.rl_skip_row.Goals as goal
 
 pub returns : goal.returns

@@ -1,7 +1,6 @@
 -- `rl_lane_row` meets its contract: 10 first, then the cell that the lane question told.
 use mathlib.Core.Path.{◌∙◌}
 use Rattle.rongalishu.proofs.Told.{with_numbers, as_it_was, one_short, one_told}
-use borrow.Author.Rules.{rules}
 use Rattle.rongalishu.proofs.lanes.rl_lane_row.Goals as goal
 
 pub returns-then-cell-lt1 : goal.returns-then-cell-lt1

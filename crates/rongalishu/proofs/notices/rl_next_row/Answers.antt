@@ -1,7 +1,6 @@
 -- `rl_next_row` meets its contract: 10 first, then what the log told.
 use mathlib.Core.Path.{◌∙◌}
 use Rattle.rongalishu.proofs.Told.{with_numbers, as_it_was, next_short, next_told}
-use borrow.Author.Rules.{rules}
 use Rattle.rongalishu.proofs.notices.rl_next_row.Goals as goal
 
 pub returns-then-place-lt1 : goal.returns-then-place-lt1

@@ -1,7 +1,6 @@
 -- `rl_write_row` meets its contract: 10 first, then what the writing told.
 use mathlib.Core.Path.{◌∙◌}
 use Rattle.rongalishu.proofs.Told.{with_numbers, as_it_was, written_short, written_told}
-use borrow.Author.Rules.{rules}
 use Rattle.rongalishu.proofs.notices.rl_write_row.Goals as goal
 
 pub returns-then-written-lt1 : goal.returns-then-written-lt1

@@ -1,7 +1,6 @@
 -- `rl_planner_row` meets its contract: 10 first, then the list that the planner told.
 use mathlib.Core.Path.{◌∙◌}
 use Rattle.rongalishu.proofs.Told.{with_numbers, as_it_was, planner_short, planner_told}
-use borrow.Author.Rules.{rules}
 use Rattle.rongalishu.proofs.pools.rl_planner_row.Goals as goal
 
 pub returns-then-moves-lt1 : goal.returns-then-moves-lt1

@@ -1,7 +1,6 @@
 -- `rl_air_row` meets its contract: 10 first, then what the judgement of the air told.
 use mathlib.Core.Path.{◌∙◌}
 use Rattle.rongalishu.proofs.Told.{with_numbers, as_it_was, air_short, air_told}
-use borrow.Author.Rules.{rules}
 use Rattle.rongalishu.proofs.reports.rl_air_row.Goals as goal
 
 pub returns-then-report-lt-AIR_PLACES : goal.returns-then-report-lt-AIR_PLACES

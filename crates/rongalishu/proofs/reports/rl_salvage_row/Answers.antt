@@ -1,7 +1,6 @@
 -- `rl_salvage_row` meets its contract: 10 first, then what the salvage told.
 use mathlib.Core.Path.{◌∙◌}
 use Rattle.rongalishu.proofs.Told.{with_numbers, as_it_was, salvage_short, salvage_told}
-use borrow.Author.Rules.{rules}
 use Rattle.rongalishu.proofs.reports.rl_salvage_row.Goals as goal
 
 pub returns-then-report-lt-SALVAGE_PLACES : goal.returns-then-report-lt-SALVAGE_PLACES

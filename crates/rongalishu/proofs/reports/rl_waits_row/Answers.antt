@@ -1,7 +1,6 @@
 -- `rl_waits_row` meets its contract: 10 first, then what the report of waits told.
 use mathlib.Core.Path.{◌∙◌}
 use Rattle.rongalishu.proofs.Told.{with_numbers, as_it_was, waits_short, waits_told}
-use borrow.Author.Rules.{rules}
 use Rattle.rongalishu.proofs.reports.rl_waits_row.Goals as goal
 
 pub returns-then-report-lt-WAITS_PLACES : goal.returns-then-report-lt-WAITS_PLACES

@@ -1,13 +1,12 @@
 -- `put` meets its contract. The loop's invariant: the places passed have their numbers, and later places stay.
-use mathlib.Core.Path.{◌≡◌, refl, ap, ◌∙◌}
+use mathlib.Core.Path.{refl, ap, ◌∙◌}
 use mathlib.Core.List.{◌++◌}
-use Prim.Native.Nat.{ℕ, ◌-◌, ◌≤◌}
+use Prim.Native.Nat.{ℕ}
 use native.Mathlib.Omega.{arith}
 use native.Mathlib.Numerals.{add-one}
 use native.Mathlib.Nat.{le_antisymm}
-use lib.ListN.{length, get_or, take, drop, length-set}
+use lib.ListN.{get_or, take, drop, length-set}
 use Rattle.row_questions.proofs.Filling.{put_more}
-use borrow.Author.Rules.{rules}
 use Rattle.rongalishu.proofs.results.put.Goals as goal
 
 pub loop-i-init : goal.loop-i-init
