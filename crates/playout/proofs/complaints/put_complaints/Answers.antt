@@ -6,7 +6,6 @@ use Rattle.text.specs.Output.{Page, page, puts}
 use Rattle.text.proofs.Pages.{puts_then}
 use Rattle.unheard_io.specs.Line.{unheard_line}
 use Rattle.playout.specs.Complaints.{unopened_line, playout_complaints}
-use borrow.Author.Rules.{rules}
 use Rattle.playout.proofs.complaints.put_complaints.Goals as goal
 
 -- the second line, by what is answered

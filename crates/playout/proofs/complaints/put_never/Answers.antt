@@ -4,7 +4,6 @@ use borrow.Author.Tests.{eq-eqb, ne_eqb}
 use Rattle.text.specs.Texts.{text}
 use Rattle.text.specs.Output.{puts}
 use Rattle.playout.specs.Complaints.{unopened_line}
-use borrow.Author.Rules.{rules}
 use Rattle.playout.proofs.complaints.put_never.Goals as goal
 
 pub returns-then-answer-eq-NOT_THERE : goal.returns-then-answer-eq-NOT_THERE

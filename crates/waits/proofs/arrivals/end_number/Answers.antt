@@ -1,6 +1,5 @@
 -- `waits::arrivals::end_number` meets its contract: whether a number was being spelt.
 use Rattle.waits.proofs.Taking.{ends_in, ends_out}
-use borrow.Author.Rules.{rules}
 use Rattle.waits.proofs.arrivals.end_number.Goals as goal
 
 pub returns-then-inside : goal.returns-then-inside

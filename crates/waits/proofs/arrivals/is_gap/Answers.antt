@@ -1,6 +1,5 @@
 -- `waits::arrivals::is_gap` meets its contract: a newline, or what parts words on a line.
 use borrow.Author.Tests.{eq-eqb, ne_eqb}
-use borrow.Author.Rules.{rules}
 use Rattle.waits.proofs.arrivals.is_gap.Goals as goal
 
 pub returns-then-b-eq10 : goal.returns-then-b-eq10

@@ -1,7 +1,6 @@
 -- `waits::arrivals::take_byte` meets its contract: a digit, a gap, or neither.
 use mathlib.Core.Path.{sym, ◌∙◌}
 use Rattle.waits.proofs.Taking.{takes_none, takes_digit, takes_gap, takes_other}
-use borrow.Author.Rules.{rules}
 use Rattle.waits.proofs.arrivals.take_byte.Goals as goal
 
 pub returns-then-is_digit : goal.returns-then-is_digit

@@ -1,10 +1,9 @@
 -- `waits::arrivals::take_text` meets its contract: byte by byte, and the last word's end.
-use mathlib.Core.Path.{◌≡◌, refl, ap, ◌∙◌}
-use Prim.Native.Nat.{suc, ◌+◌, ◌≤◌, ◌-◌}
+use mathlib.Core.Path.{refl, ap, ◌∙◌}
+use Prim.Native.Nat.{suc, ◌+◌}
 use native.Mathlib.Nat.{le_antisymm}
 use native.Mathlib.Numerals.{add-one}
 use native.Mathlib.Omega.{arith}
-use borrow.Author.Rules.{rules}
 use lib.ListN.{length, get_or}
 use Rattle.waits.specs.Arrivals.{ArrivalsSoFar, arrivals_so_far, taking_arrival, arrivals_to, ending_arrival}
 use Rattle.waits.proofs.Taking.{ending_length, taking_length}

@@ -1,13 +1,8 @@
 -- What the loop keeps, and what falls.
-use mathlib.Core.Path.{◌≡◌, refl, ap, ◌∙◌}
-use Prim.Native.Nat.{suc, ◌+◌, ◌≤◌, ◌-◌}
-use native.Mathlib.Nat.{le_antisymm}
-use native.Mathlib.Numerals.{add-one}
-use native.Mathlib.Omega.{arith}
-use borrow.Author.Rules.{rules}
-use lib.ListN.{length, get_or}
-use Rattle.waits.specs.Arrivals.{ArrivalsSoFar, arrivals_so_far, taking_arrival, arrivals_to, ending_arrival}
-use Rattle.waits.proofs.Taking.{ending_length, taking_length}
+use mathlib.Core.Path.{◌≡◌}
+use Prim.Native.Nat.{◌≤◌, ◌-◌}
+use lib.ListN.{length}
+use Rattle.waits.specs.Arrivals.{arrivals_so_far, arrivals_to}
 use Rattle.waits.proofs.arrivals.take_text.Given as goal
 
 abbrev pub invariant-loop-i : goal.invariant-loop-i

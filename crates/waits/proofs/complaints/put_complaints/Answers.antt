@@ -4,7 +4,6 @@ use Rattle.text.specs.Output.{page}
 use Rattle.text.proofs.Pages.{puts_then}
 use Rattle.unheard_io.specs.Line.{unheard_line}
 use Rattle.waits.specs.Complaints.{many_line, never_line, waits_complaints}
-use borrow.Author.Rules.{rules}
 use Rattle.waits.proofs.complaints.put_complaints.Goals as goal
 
 pub returns : goal.returns

@@ -4,7 +4,6 @@ use borrow.Author.Tests.{lt-ltb, le-ltb}
 use Rattle.text.specs.Texts.{text}
 use Rattle.text.specs.Output.{puts}
 use Rattle.waits.specs.Complaints.{many_line}
-use borrow.Author.Rules.{rules}
 use Rattle.waits.proofs.complaints.put_many.Goals as goal
 
 pub returns-then-arrivals-gt-ROW_MAX : goal.returns-then-arrivals-gt-ROW_MAX

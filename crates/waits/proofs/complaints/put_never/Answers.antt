@@ -3,7 +3,6 @@ use mathlib.Core.Path.{refl, sym, ◌∙◌}
 use Rattle.text.specs.Texts.{text}
 use Rattle.text.specs.Output.{puts}
 use Rattle.waits.specs.Complaints.{never_line}
-use borrow.Author.Rules.{rules}
 use Rattle.waits.proofs.complaints.put_never.Goals as goal
 
 pub returns-then-never_opened : goal.returns-then-never_opened

@@ -5,7 +5,6 @@ use Rattle.text.specs.Output.{page}
 use Rattle.text.proofs.Pages.{puts_then}
 use Rattle.files.specs.Lines.{line_of}
 use Rattle.waits.specs.Lines.{count_lines}
-use borrow.Author.Rules.{rules}
 use Rattle.waits.proofs.lines.put_counts.Goals as goal
 
 pub returns : goal.returns

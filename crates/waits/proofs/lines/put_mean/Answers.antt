@@ -2,7 +2,6 @@
 use borrow.Author.Tests.{eq-eqb, ne_eqb}
 use Rattle.text.specs.Texts.{text}
 use Rattle.waits.specs.Lines.{mean_line}
-use borrow.Author.Rules.{rules}
 use Rattle.waits.proofs.lines.put_mean.Goals as goal
 
 pub returns-then-n-eq0 : goal.returns-then-n-eq0

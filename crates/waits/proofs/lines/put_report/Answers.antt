@@ -5,7 +5,6 @@ use Rattle.text.specs.Output.{page}
 use Rattle.words.specs.Words.{refusal_text}
 use Rattle.text.proofs.Pages.{puts_then}
 use Rattle.waits.specs.Lines.{count_lines, wait_lines, report_text}
-use borrow.Author.Rules.{rules}
 use Rattle.waits.proofs.lines.put_report.Goals as goal
 
 pub returns-then-answer-eq-DONE : goal.returns-then-answer-eq-DONE

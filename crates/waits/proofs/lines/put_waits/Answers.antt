@@ -5,7 +5,6 @@ use Rattle.text.specs.Output.{page}
 use Rattle.text.proofs.Pages.{puts_then}
 use Rattle.files.specs.Lines.{line_of}
 use Rattle.waits.specs.Lines.{mean_line, wait_lines}
-use borrow.Author.Rules.{rules}
 use Rattle.waits.proofs.lines.put_waits.Goals as goal
 
 pub returns : goal.returns

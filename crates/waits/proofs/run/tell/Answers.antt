@@ -2,7 +2,6 @@
 use mathlib.Core.Path.{sym}
 use lib.Seq.{length-take-le}
 use Rattle.waits.proofs.Taking.{taken_within}
-use borrow.Author.Rules.{rules}
 use Rattle.waits.proofs.run.tell.Goals as goal
 
 pub slice_bounds-row-end : goal.slice_bounds-row-end
