@@ -33,19 +33,19 @@ loop-tick-preserved c =
     let l = c.loop-tick in (
       omega arith,
       elim c.if-marks-tick-eq1.branch [
-        then-marks-tick-eq1 w ↦
-          w.j-is ∙ ap (λ j. j + 1) l.invariant.1 ∙ counts_marked marks l.tick w.if-marks-tick-eq1.true
+        | then-marks-tick-eq1 w ↦
+            w.j-is ∙ ap (λ j. j + 1) l.invariant.1 ∙ counts_marked marks l.tick w.if-marks-tick-eq1.true
         | else-marks-tick-eq1 w ↦ w.j-is ∙ l.invariant.1 ∙ counts_unmarked marks l.tick w.if-marks-tick-eq1.false
       ],
       elim c.if-marks-tick-eq1.branch [
-        then-marks-tick-eq1 w ↦
-          rw (w.out-is, w.at-is)
-          (lines_marked marks x.row.now x.judged (page x.out.now 0) l.tick (page l.out l.at) l.invariant.2 _
-          w.if-marks-tick-eq1.true (rw (← l.invariant.1) w.put_judged-at.ensures))
+        | then-marks-tick-eq1 w ↦
+            rw (w.out-is, w.at-is)
+            (lines_marked marks x.row.now x.judged (page x.out.now 0) l.tick (page l.out l.at) l.invariant.2 _
+            w.if-marks-tick-eq1.true (rw (← l.invariant.1) w.put_judged-at.ensures))
         | else-marks-tick-eq1 w ↦
-          rw (w.out-is, w.at-is)
-          (lines_unmarked marks x.row.now x.judged (page x.out.now 0) l.tick (page l.out l.at) l.invariant.2
-          w.if-marks-tick-eq1.false)
+            rw (w.out-is, w.at-is)
+            (lines_unmarked marks x.row.now x.judged (page x.out.now 0) l.tick (page l.out l.at) l.invariant.2
+            w.if-marks-tick-eq1.false)
       ],
     )
 
