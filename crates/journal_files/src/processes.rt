@@ -8,7 +8,7 @@ use crate::windows::least;
 use files::arguments::same;
 use files::pages::within_row;
 use files::paths::path;
-use std::io::{Error, Read, Result};
+use std::io::{Error, ErrorKind, Read, Result};
 use std::path::PathBuf;
 use std::{fs, process};
 use text::bytes::{Sort, run_end};
@@ -139,7 +139,7 @@ pub fn name_of(rt: &HostRuntime, record: Record, room: &mut [u8]) -> Told
 }
 
 // Whether another process has the file of this name open, as a record says. One that may not be looked at, as it is another
-// user's, counts as one that has.
+// user's, counts as one that has, and so does one for whose name no memory is left.
 pub fn holds(rt: &HostRuntime, record: Record, name: &[u8]) -> bool {
     if is_own(rt, record.process) {
         return false;
@@ -152,7 +152,8 @@ pub fn holds(rt: &HostRuntime, record: Record, name: &[u8]) -> bool {
     };
     match error.raw_os_error() {
         Some(NO_ACCESS) => lives(rt, record.process),
-        _ => false,
+        Some(_) => false,
+        None => error.kind() == ErrorKind::OutOfMemory,
     }
 }
 
