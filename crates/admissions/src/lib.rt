@@ -3,7 +3,7 @@
 // in here. These functions are for the crate above, and say in a `requires` what they build on.
 #![tactic(auto)]
 
-ghost use Rattle.std.specs.Prelude.{◌≤◌, max, ◌≡◌, length};
+ghost use Rattle.std.specs.Prelude.{◌≤◌, ◌≡◌, length};
 ghost use Rattle.rules.specs.Limits.{asked_max, event_time_max};
 ghost use Rattle.admissions.specs.Stretches.{
   Spaced,
@@ -21,7 +21,6 @@ ghost use Rattle.admissions.specs.Stretches.{
 };
 
 use rules::ASKED_MAX;
-use rules::truth::also;
 use story::{HELD, OPEN, Title};
 
 // What a row of arrivals comes to: how many got in, the longest wait and the sum of the waits, in ms.
@@ -47,15 +46,6 @@ pub struct Tally {
     pub waits: Waits,
 }
 
-fn later(a: u64, b: u64) -> u64
-    ensures { result ≡ max a b }
-{
-    if a < b {
-        return b;
-    }
-    a
-}
-
 // The first admission of a stretch, were it endless, at or after a moment.
 fn next(s: Stretch, moment: u64) -> u64
     requires spaced { Spaced s }
@@ -64,7 +54,7 @@ fn next(s: Stretch, moment: u64) -> u64
 {
     let opened = s.opened;
     let slot = s.slot;
-    let slots = (later(moment, s.start) - opened + (slot - 1)) / slot;
+    let slots = (moment.max(s.start) - opened + (slot - 1)) / slot;
     opened + slots * slot
 }
 
@@ -78,16 +68,13 @@ fn admit(s: Stretch, from: u64, upto: u64, x: u64, w: Waits) -> Waits
     let admitted = w.admitted;
     let longest = w.longest;
     let sum = w.sum;
-    if x < from {
-        return w;
-    }
-    if upto < x {
+    if x < from || upto < x {
         return w;
     }
     let wait = next(s, x) - x;
     Waits {
         admitted: admitted + 1,
-        longest: later(longest, wait),
+        longest: longest.max(wait),
         sum: sum + wait,
     }
 }
@@ -100,10 +87,8 @@ fn admit_all(s: Stretch, from: u64, upto: u64, arrivals: &[u64], w: Waits) -> Wa
     ensures { result ≡ gathered s from upto arrivals.now w (length arrivals.now) }
 {
     let mut all = w;
-    let mut i = 0;
-    while i < arrivals.len() {
-        all = admit(s, from, upto, arrivals[i], all);
-        i += 1;
+    for arrival in arrivals {
+        all = admit(s, from, upto, *arrival, all);
     }
     all
 }
@@ -117,18 +102,17 @@ fn stretch_of(t: Title) -> Stretch
         * scheme::tick(t.film.kind, t.film.length, t.film.floor, t.film.cap);
     Stretch {
         opened: t.opened,
-        slot: slot,
+        slot,
         start: t.last,
     }
 }
 
 // Whether a title admits boxes: it is open, and its doors are not held.
+#[tactic(auto, using(std::proofs::lemmas::Bool::Decides::nat_tests), unfolding(crate::specs::Stretches::admitting))]
 pub fn admitting(t: Title) -> bool
     ensures { result ≡ is_admitting t }
 {
-    let mode = t.mode;
-    let mark = t.mark;
-    also(mode == OPEN, mark != HELD)
+    t.mode == OPEN && t.mark != HELD
 }
 
 // An opening: nobody who came before it gets in.
@@ -140,10 +124,7 @@ pub fn opened(time: u64) -> Tally
         longest: 0,
         sum: 0,
     };
-    Tally {
-        from: time,
-        waits: waits,
-    }
+    Tally { from: time, waits }
 }
 
 // An event at `until` ends the stretch of a title: whoever comes up to its last admission is settled.

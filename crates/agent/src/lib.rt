@@ -34,14 +34,12 @@ pub fn fresh_agent(pool: u64) -> Followed
     ensures { (result.answer ≡ fresh_answer pool) × (result.agent ≡ fresh_agent pool) }
 {
     let started = scheduler::fresh(pool);
-    let state = started.state;
-    let agent = Agent {
-        sequence: 0,
-        state: state,
-    };
     Followed {
         answer: started.answer,
-        agent: agent,
+        agent: Agent {
+            sequence: 0,
+            state: started.state,
+        },
     }
 }
 
@@ -97,32 +95,26 @@ pub fn enact(s: State, n: Notice) -> Outcome
 pub fn heed(agent: Agent, n: Notice) -> Followed
     ensures { (result.answer ≡ notice_answer agent (reading.Whole n)) × (result.agent ≡ noticed agent (reading.Whole n)) }
 {
-    let sequence = n.sequence;
     let last = agent.sequence;
-    if sequence as u64 == last as u64 + 1 {
-        let s = agent.state;
-        let outcome = enact(s, n);
-        let answer = outcome.answer;
-        if answer == DONE {
-            let state = outcome.state;
-            let next = Agent {
-                sequence: sequence,
-                state: state,
-            };
-            return Followed {
-                answer: answer,
-                agent: next,
-            };
-        }
+    if n.sequence as u64 != last as u64 + 1 {
         return Followed {
-            answer: answer,
-            agent: agent,
+            answer: OUT_OF_TURN,
+            agent,
         };
     }
-    Followed {
-        answer: OUT_OF_TURN,
-        agent: agent,
+    let outcome = enact(agent.state, n);
+    let answer = outcome.answer;
+    if answer == DONE {
+        let next = Agent {
+            sequence: n.sequence,
+            state: outcome.state,
+        };
+        return Followed {
+            answer,
+            agent: next,
+        };
     }
+    Followed { answer, agent }
 }
 
 // One notice's bytes, and nothing after them.
@@ -134,7 +126,7 @@ pub fn take(agent: Agent, bytes: &[u8]) -> Followed
         Reading::Whole(n) => heed(agent, n),
         Reading::Malformed => Followed {
             answer: MALFORMED,
-            agent: agent,
+            agent,
         },
     }
 }

@@ -3,11 +3,11 @@
 use mathlib.Core.Path.{◌≡◌, refl, sym, ap, ap₂, ◌∙◌}
 use mathlib.Core.Bool.{true}
 use mathlib.Core.List.{List, [], ◌∷◌, ◌++◌, append_assoc}
-use Prim.Native.Nat.{ℕ, zero, suc, ◌+◌, ◌*◌, ◌≤◌, ◌<◌}
+use Prim.Native.Nat.{ℕ, zero, suc, ◌+◌, ◌*◌, ◌-◌, ◌≤◌, ◌<◌}
 use native.Mathlib.Omega.{arith}
 use native.Mathlib.Nat.{zero-add}
-use lib.ListN.{length, get_or, take, drop, set, replicate, length-append, length-drop, length-replicate}
-use lib.Seq.{paste, paste-suc, take-length, take_at, drop_at, drop-drop, get_or-drop, length-take-le, take-append-add, drop-append-add}
+use lib.ListN.{length, take, drop, set, length-append}
+use lib.Seq.{take_at, drop_at, drop-drop, length-take-le, take-append-add, drop-append-add}
 use Rattle.rules.specs.Limits.{titles_max}
 use Rattle.story.specs.declared.Title.{Title}
 use Rattle.story.specs.Next.{with_title}
@@ -17,20 +17,12 @@ use Rattle.agent_rows.specs.Packed.{packed_title, packed_titles, packed, unpacke
 use Rattle.agent_rows.proofs.Inverse.{AllWhole, packed_length, titles_length, whole_unpacked, packed_unpacked}
 use Rattle.agent_rows.specs.inner.Laid.{laid}
 
--- what a loop that writes has laid once it has passed all numbers
-pub all_pasted : (r : List ℕ) (at : ℕ) (xs : List ℕ) → paste r at xs (length xs) ≡ laid r at xs
+-- numbers that take the place of as many
+pub taken_over : (r : List ℕ) (at : ℕ) (xs : List ℕ) → take at r ++ (xs ++ drop (at + length xs - at) (drop at r)) ≡ laid r at xs
 unfolding laid
-all_pasted r at xs = rw (take-length xs, append_assoc (take at r) xs (drop (at + length xs) r)) refl
-
--- a row of n numbers, the first i of them copied from place at on
-abbrev pub copied : List ℕ → ℕ → ℕ → ℕ → List ℕ
-copied r at n i = paste (replicate n 0) 0 (drop at r) i
-
-pub copied_more : (r : List ℕ) (at n i : ℕ) → at + n ≤ length r → i < n →
-    set (copied r at n i) i (get_or r (at + i) 0) ≡ copied r at n (suc i)
-copied_more r at n i fits l =
-    ap₂ (λ (k x : ℕ). set (copied r at n i) k x) (sym (zero-add i)) (sym (get_or-drop at r i 0))
-    ∙ paste-suc (replicate n 0) 0 (drop at r) i 0 (omega (arith, length-replicate {A = ℕ} n 0)) (omega (arith, length-drop at r))
+taken_over r at xs =
+    let many : at + length xs - at ≡ length xs = omega arith in
+    rw (many, drop-drop (length xs) at r) refl
 
 pub laid_join : (r : List ℕ) (at : ℕ) (xs ys : List ℕ) → at ≤ length r → laid (laid r at xs) (at + length xs) ys ≡ laid r at (xs ++ ys)
 unfolding laid

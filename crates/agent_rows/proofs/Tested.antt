@@ -1,7 +1,8 @@
 -- The limits of a row's numbers, as they are tested: those of its titles in two parts, and the limit of times where no number is above it.
 -- Rests on the laws of tests, searches and lists.
 use mathlib.Core.Path.{◌≡◌, refl, sym, ap, ap₂, ◌∙◌}
-use mathlib.Core.Bool.{Bool, true, false}
+use mathlib.Core.Bool.{Bool, true, false, false≢true}
+use mathlib.Core.Logic.{⊎_elim}
 use mathlib.Core.List.{List}
 use Prim.Native.Nat.{ℕ, zero, suc, ◌+◌, ◌≤◌, ◌<◌}
 use native.Mathlib.Omega.{arith}
@@ -14,8 +15,8 @@ use Rattle.rules.specs.Limits.{both, either, pool_min, pool_max, floor_max, stea
 use Rattle.rules.specs.Limits.{count_places, lane_places}
 use Rattle.rules.specs.Refusals.{pick}
 use Rattle.rules.specs.Search.{every}
-use Rattle.rules.proofs.Tests.{both_none}
-use Rattle.rules.proofs.Search.{every_in}
+use Rattle.rules.proofs.Tests.{both_none, decide}
+use Rattle.rules.proofs.Search.{every_in, every_out}
 use Rattle.scheme.specs.Scheme.{steady_kind}
 use Rattle.story.specs.declared.Title.{Title}
 use Rattle.story.specs.Kept.{absent_mode, closing_mode, held_mark, is_steady_title, row_ok, numbers_ok, order_ok, title_ok, slot_ok, state_ok}
@@ -41,6 +42,9 @@ every_both : (p q : ℕ → Bool) (n : ℕ) → every (λ i. both (p i) (q i)) n
 unfolding every
 every_both p q zero = refl
 every_both p q (suc n) = ap (both (both (p n) (q n))) (every_both p q n) ∙ crossed (p n) (q n) (every p n) (every q n)
+
+pub every_fails : (p : ℕ → Bool) (n i : ℕ) → i < n → p i ≡ false → every p n ≡ false
+every_fails p n i l h = ⊎_elim (λ t. absurd (false≢true (sym h ∙ every_out p n i t l))) (λ f. f) (decide (every p n))
 
 -- ---- a title's limits in two parts
 
@@ -119,13 +123,6 @@ head_out true false last b h = refl
 head_out false pool last b h = refl
 
 -- ---- the limit of times
-
--- a part of a row, number by number
-pub part_more : (r : List ℕ) (from n i : ℕ) → i < n →
-    both (leb (get_or r (from + i) 0) asked_max) (every (λ j. leb (get_or (take n (drop from r)) j 0) asked_max) i)
-    ≡ every (λ j. leb (get_or (take n (drop from r)) j 0) asked_max) (suc i)
-unfolding every
-part_more r from n i l = rw (get_or-take n (drop from r) i 0 l, get_or-drop from r i 0) refl
 
 part_within : (r : List ℕ) (from n : ℕ) → every (λ j. leb (get_or (drop from r) j 0) asked_max) n ≡ row_ok (take n (drop from r)) n
 part_within r from n =

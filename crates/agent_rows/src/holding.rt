@@ -15,9 +15,7 @@ use crate::reading::title_place;
 use crate::{
     CAP_AT, COUNT_AT, DROPPED_AT, FLOOR_AT, KIND_AT, LENGTH_AT, MODE_AT, OPENED_AT, OWED_AT,
 };
-use measures::ticks::since;
 use rules::TITLES_MAX;
-use rules::truth::one_if;
 use story::{ABSENT, OPEN};
 
 // The ruling count of the title at a place, 0 where it isn't open.
@@ -39,7 +37,7 @@ pub fn tick_at(row: &[u64], at: usize, time: u64) -> u64
     let length = row[at + LENGTH_AT];
     let floor = row[at + FLOOR_AT];
     let cap = row[at + CAP_AT];
-    since(row[at + OPENED_AT], time) / scheme::tick(kind, length, floor, cap)
+    time.saturating_sub(row[at + OPENED_AT]) / scheme::tick(kind, length, floor, cap)
 }
 
 // Of the title at a place, when the lanes from one on were dropped and how many cells they owed then, or-ed: 0 where none ever was.
@@ -51,10 +49,8 @@ fn drops_from(row: &[u64], at: usize, from: u64) -> u64
 {
     let cap = row[at + CAP_AT];
     let mut all = 0;
-    let mut lane = from;
-    while lane < cap {
+    for lane in from..cap {
         all |= row[at + DROPPED_AT + lane as usize] | row[at + OWED_AT + lane as usize];
-        lane += 1;
     }
     all
 }
@@ -79,10 +75,8 @@ fn held_at(row: &[u64], at: usize, active: u64, tick: u64) -> u64
 {
     let cap = row[at + CAP_AT];
     let mut n = active;
-    let mut lane = active;
-    while lane < cap {
-        n += one_if(is_sending(row, at, lane, tick));
-        lane += 1;
+    for lane in active..cap {
+        n += u64::from(is_sending(row, at, lane, tick));
     }
     n
 }
@@ -123,10 +117,8 @@ pub fn others_held(row: &[u64], but: u64, time: u64) -> u64
     ensures { Exactly (others_held (unpacked row.now).state but time) 0 (count_max * titles_max) result }
 {
     let mut n = 0;
-    let mut id = 0;
-    while id < TITLES_MAX as u64 {
+    for id in 0..TITLES_MAX as u64 {
         n += held_unless(row, id, but, time);
-        id += 1;
     }
     n
 }

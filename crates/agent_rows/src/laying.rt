@@ -16,11 +16,7 @@ fn lay(row: &mut [u64], at: usize, numbers: &[u64])
     requires { at + length numbers.now ≤ length row.old }
     ensures { row.new ≡ laid row.old at numbers.now }
 {
-    let mut i = 0;
-    while i < numbers.len() {
-        row[at + i] = numbers[i];
-        i += 1;
-    }
+    row[at..at + numbers.len()].copy_from_slice(numbers);
 }
 
 // Writes a title's numbers into a row, from a place on.

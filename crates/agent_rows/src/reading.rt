@@ -1,7 +1,7 @@
 // A title read out of its places.
 
 ghost use Rattle.std.specs.Prelude.{◌+◌, ◌≤◌, ◌≡◌, length, take, drop};
-ghost use Rattle.rules.specs.Limits.{id_max, count_places, lane_places};
+ghost use Rattle.rules.specs.Limits.{id_max};
 ghost use Rattle.story.specs.Kept.{title_at};
 ghost use Rattle.agent_rows.specs.Layout.{row_length, title_places, title_place};
 ghost use Rattle.agent_rows.specs.Packed.{title_from, unpacked};
@@ -21,31 +21,13 @@ pub fn title_place(id: u64) -> usize
     TITLES_AT + id as usize * TITLE_PLACES
 }
 
-// A row of counts, from a place on.
-fn counts_from(row: &[u64], at: usize) -> [u64; COUNT_PLACES]
-    requires { at + count_places ≤ length row.now }
-    ensures { result ≡ take count_places (drop at row.now) }
+// So many numbers, from a place on.
+fn numbers_from<const N: usize>(row: &[u64], at: usize) -> [u64; N]
+    requires { at + N ≤ length row.now }
+    ensures { result ≡ take N (drop at row.now) }
 {
-    let mut numbers = [0; COUNT_PLACES];
-    let mut i = 0;
-    while i < COUNT_PLACES {
-        numbers[i] = row[at + i];
-        i += 1;
-    }
-    numbers
-}
-
-// A row of lanes, from a place on.
-fn lanes_from(row: &[u64], at: usize) -> [u64; LANE_PLACES]
-    requires { at + lane_places ≤ length row.now }
-    ensures { result ≡ take lane_places (drop at row.now) }
-{
-    let mut numbers = [0; LANE_PLACES];
-    let mut i = 0;
-    while i < LANE_PLACES {
-        numbers[i] = row[at + i];
-        i += 1;
-    }
+    let mut numbers = [0; N];
+    numbers.copy_from_slice(&row[at..at + N]);
     numbers
 }
 
@@ -60,20 +42,20 @@ pub fn title_from(row: &[u64], at: usize) -> Title
         floor: row[at + FLOOR_AT],
         cap: row[at + CAP_AT],
     };
-    let ends = counts_from(row, at + ENDS_AT);
-    let dropped = lanes_from(row, at + DROPPED_AT);
-    let owed = lanes_from(row, at + OWED_AT);
+    let ends = numbers_from::<COUNT_PLACES>(row, at + ENDS_AT);
+    let dropped = numbers_from::<LANE_PLACES>(row, at + DROPPED_AT);
+    let owed = numbers_from::<LANE_PLACES>(row, at + OWED_AT);
     Title {
         mode: row[at + MODE_AT],
-        film: film,
+        film,
         opened: row[at + OPENED_AT],
         count: row[at + COUNT_AT],
         mark: row[at + MARK_AT],
         last: row[at + TITLE_LAST_AT],
         tuned: row[at + TUNED_AT],
-        ends: ends,
-        dropped: dropped,
-        owed: owed,
+        ends,
+        dropped,
+        owed,
     }
 }
 

@@ -15,7 +15,7 @@ use crate::{
     TITLE_PLACES, TITLES_AT, TUNED_AT, VERSION_AT,
 };
 use limits::{floor_ok, is_level};
-use rules::truth::also;
+use rules::truth::row_within;
 use rules::{
     ASKED_MAX, COUNT_MAX, COUNT_PLACES, FLOOR_MIN, LANE_PLACES, LENGTH_MAX, LENGTH_MIN, POOL_MAX,
     POOL_MIN, TITLES_MAX, within,
@@ -35,41 +35,24 @@ fn numbers_ok(
 ) -> bool
     ensures { result ≡ small_numbers mode kind length floor cap count mark }
 {
-    if mode > CLOSING {
-        return false;
-    }
-    if kind > STEADY {
-        return false;
-    }
-    if length > LENGTH_MAX {
-        return false;
-    }
-    if cap > COUNT_MAX {
-        return false;
-    }
-    if count > COUNT_MAX {
-        return false;
-    }
-    if mark > HELD {
-        return false;
-    }
-    floor_ok(kind, floor)
+    mode <= CLOSING
+        && kind <= STEADY
+        && length <= LENGTH_MAX
+        && cap <= COUNT_MAX
+        && count <= COUNT_MAX
+        && mark <= HELD
+        && floor_ok(kind, floor)
 }
 
 // The lower limits and the order of those of a title that is there.
 fn order_ok(kind: u64, length: u64, floor: u64, cap: u64, count: u64) -> bool
     ensures { result ≡ ordered_numbers kind length floor cap count }
 {
-    if length < LENGTH_MIN {
-        return false;
-    }
-    if floor < FLOOR_MIN {
-        return false;
-    }
-    if floor > cap {
-        return false;
-    }
-    also(within(floor, cap, count), is_level(kind, floor, cap))
+    LENGTH_MIN <= length
+        && FLOOR_MIN <= floor
+        && floor <= cap
+        && within(floor, cap, count)
+        && is_level(kind, floor, cap)
 }
 
 // The small numbers of the title at a place, in a row with some pool.
@@ -83,16 +66,13 @@ fn small_ok(row: &[u64], at: usize, pool: u64) -> bool
     let floor = row[at + FLOOR_AT];
     let cap = row[at + CAP_AT];
     let count = row[at + COUNT_AT];
-    if numbers_ok(mode, kind, length, floor, cap, count, row[at + MARK_AT]) {
-        if mode == ABSENT {
-            return true;
-        }
-        if pool < POOL_MIN {
-            return false;
-        }
-        return order_ok(kind, length, floor, cap, count);
+    if !numbers_ok(mode, kind, length, floor, cap, count, row[at + MARK_AT]) {
+        return false;
     }
-    false
+    if mode == ABSENT {
+        return true;
+    }
+    POOL_MIN <= pool && order_ok(kind, length, floor, cap, count)
 }
 
 // The numbers of the title at a place or-ed: none is above that.
@@ -101,10 +81,8 @@ fn all_of(row: &[u64], at: usize) -> u64
     ensures { (j : ℕ) → j < title_places → get_or row.now (at + j) 0 ≤ result }
 {
     let mut all = 0;
-    let mut i = 0;
-    while i < TITLE_PLACES {
-        all |= row[at + i];
-        i += 1;
+    for number in &row[at..at + TITLE_PLACES] {
+        all |= *number;
     }
     all
 }
@@ -114,13 +92,7 @@ fn part_ok(row: &[u64], from: usize, n: usize) -> bool
     requires { from + n ≤ length row.now }
     ensures { result ≡ row_ok (take n (drop from row.now)) n }
 {
-    let mut ok = true;
-    let mut i = 0;
-    while i < n {
-        ok = also(row[from + i] <= ASKED_MAX, ok);
-        i += 1;
-    }
-    ok
+    row_within(&row[from..from + n], n, ASKED_MAX)
 }
 
 // The times and the rows of the title at a place.
@@ -128,21 +100,12 @@ fn title_times_ok(row: &[u64], at: usize) -> bool
     requires { at + title_places ≤ length row.now }
     ensures { result ≡ times_ok (title_from row.now at) }
 {
-    let opened = row[at + OPENED_AT];
-    if opened > ASKED_MAX {
-        return false;
-    }
-    let last = row[at + TITLE_LAST_AT];
-    if last > ASKED_MAX {
-        return false;
-    }
-    let tuned = row[at + TUNED_AT];
-    if tuned > ASKED_MAX {
-        return false;
-    }
-    let ends = part_ok(row, at + ENDS_AT, COUNT_PLACES);
-    let dropped = part_ok(row, at + DROPPED_AT, LANE_PLACES);
-    also(ends, also(dropped, part_ok(row, at + OWED_AT, LANE_PLACES)))
+    row[at + OPENED_AT] <= ASKED_MAX
+        && row[at + TITLE_LAST_AT] <= ASKED_MAX
+        && row[at + TUNED_AT] <= ASKED_MAX
+        && part_ok(row, at + ENDS_AT, COUNT_PLACES)
+        && part_ok(row, at + DROPPED_AT, LANE_PLACES)
+        && part_ok(row, at + OWED_AT, LANE_PLACES)
 }
 
 // Those of every title.
@@ -150,13 +113,12 @@ fn each_times_ok(row: &[u64]) -> bool
     requires { length row.now ≡ row_length }
     ensures { result ≡ every (λ i. times_ok (title_from row.now (title_place i))) titles_max }
 {
-    let mut ok = true;
-    let mut i = 0;
-    while i < TITLES_MAX {
-        ok = also(title_times_ok(row, TITLES_AT + i * TITLE_PLACES), ok);
-        i += 1;
+    for i in 0..TITLES_MAX {
+        if !title_times_ok(row, TITLES_AT + i * TITLE_PLACES) {
+            return false;
+        }
     }
-    ok
+    true
 }
 
 // The titles of a row with some pool, in one pass; their times one by one only where some number is above the limit.
@@ -167,17 +129,12 @@ fn titles_ok(row: &[u64], pool: u64) -> bool
 {
     let mut ok = true;
     let mut all = 0;
-    let mut i = 0;
-    while i < TITLES_MAX {
+    for i in 0..TITLES_MAX {
         let at = TITLES_AT + i * TITLE_PLACES;
-        ok = also(small_ok(row, at, pool), ok);
+        ok = small_ok(row, at, pool) && ok;
         all |= all_of(row, at);
-        i += 1;
     }
-    if all <= ASKED_MAX {
-        return ok;
-    }
-    also(ok, each_times_ok(row))
+    ok && (all <= ASKED_MAX || each_times_ok(row))
 }
 
 // The version, the sequence, the pool and the time of the last event.
@@ -186,15 +143,10 @@ fn head_ok(row: &[u64]) -> bool
     ensures { result ≡ both (row_sound row.now)
         (both (leb (get_or row.now pool_at 0) pool_max) (leb (get_or row.now last_at 0) asked_max)) }
 {
-    let version = row[VERSION_AT];
-    if version == ROW_VERSION {
-        let sequence = row[SEQUENCE_AT];
-        let pool = row[POOL_AT];
-        if sequence < SEQUENCE_END {
-            return also(pool <= POOL_MAX, row[LAST_AT] <= ASKED_MAX);
-        }
-    }
-    false
+    row[VERSION_AT] == ROW_VERSION
+        && row[SEQUENCE_AT] < SEQUENCE_END
+        && row[POOL_AT] <= POOL_MAX
+        && row[LAST_AT] <= ASKED_MAX
 }
 
 // Whether a row is sound and every number of its state within its limits.
@@ -202,8 +154,5 @@ pub fn row_ok(row: &[u64]) -> bool
     requires { length row.now ≡ row_length }
     ensures { result ≡ both (row_sound row.now) (state_ok (unpacked row.now).state) }
 {
-    if head_ok(row) {
-        return titles_ok(row, row[POOL_AT]);
-    }
-    false
+    head_ok(row) && titles_ok(row, row[POOL_AT])
 }

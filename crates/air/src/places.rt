@@ -59,11 +59,9 @@ pub fn line_of(text: &[u8], k: u64) -> u64
         line: 1,
     };
     let mut line = 1;
-    let mut i = 0;
-    while i < text.len() {
+    for b in text {
         line = keep_line(line, passed, k);
-        passed = pass(passed, text[i]);
-        i += 1;
+        passed = pass(passed, *b);
     }
     line
 }

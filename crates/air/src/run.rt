@@ -5,7 +5,7 @@ use crate::complaints::put_complaints;
 use crate::lines::put_fault;
 use crate::report::put_air;
 use air_record::record::{SOUND, Scan, take_text};
-use files::arguments::{Asked, pool_and_title};
+use files::arguments::pool_and_title;
 use files::complaints::write_complaints;
 use files::loading::{LOG_ROOM, load_both};
 use files::pages::{within_row, write_page};
@@ -59,11 +59,8 @@ fn tell(rt: &HostRuntime, pool: u64, title: u64, log: &[u8], text: &[u8]) {
 }
 
 fn with_rooms(rt: &HostRuntime, pool: u64, title: u64, log: &mut [u8], text: &mut [u8]) {
-    let read = load_both(rt, log, b"RECORD", text);
-    let size = read.log;
-    let length = read.own;
-    if read.ok {
-        tell(rt, pool, title, &log[..size], &text[..length]);
+    if let Some(read) = load_both(rt, log, b"RECORD", text) {
+        tell(rt, pool, title, &log[..read.log], &text[..read.own]);
     }
 }
 
@@ -80,7 +77,7 @@ fn lend(
 
 // Arguments are tested in their order, then the files.
 pub fn run(rt: &HostRuntime) {
-    let Asked::About(pool, title) = pool_and_title(rt, b"air POOL TITLE LOG RECORD") else {
+    let Some((pool, title)) = pool_and_title(rt, b"air POOL TITLE LOG RECORD") else {
         return;
     };
     let mut log = [0u8; LOG_ROOM];

@@ -3,7 +3,7 @@ use mathlib.Core.Path.{◌≡◌, refl, sym, ap, ◌∙◌}
 use mathlib.Core.Bool.{Bool, true, false}
 use mathlib.Core.Logic.{⊎_elim}
 use mathlib.Core.List.{List}
-use Prim.Native.Nat.{ℕ, zero, suc, ◌+◌, ◌<◌, ◌≤◌}
+use Prim.Native.Nat.{ℕ, zero, suc, ◌<◌, ◌≤◌}
 use native.Mathlib.Omega.{arith}
 use borrow.Author.Tests.{lt-ltb, le-ltb, eq-eqb, ne_eqb}
 use lib.ListN.{length, get_or}
@@ -13,14 +13,14 @@ use Rattle.rules.specs.Refusals.{pick}
 use Rattle.rules.proofs.Tests.{decide, pick_true, pick_false}
 use Rattle.text.specs.declared.numbers.Number.{Number}
 use Rattle.text.specs.Bytes.{newline, separator, digit}
-use Rattle.text.specs.Numbers.{top, grow}
+use Rattle.text.specs.Numbers.{grow}
 use Rattle.text.specs.Output.{Page, page, put}
 use Rattle.text.proofs.Pages.{put_length, put_within}
 use Rattle.judging.specs.Record.{nothing_seen}
 use Rattle.air_record.specs.declared.record.Scan.{Scan}
 use Rattle.air_record.specs.Record.{no_cell, cell_spelt, no_number, not_twelve, dash, sound, one_more_of, SoFar, so_far, ending_cell, closing, failing, longer, dashed, spelling, taking_byte, taken_to, all_taken}
 
--- ---- a number as the record has it, and one more
+-- ---- a number as the record has it
 
 pub cell_large : (v : ℕ) → nothing_seen < v → no_cell ≡ cell_spelt v
 unfolding cell_spelt
@@ -29,14 +29,6 @@ cell_large v h = rw (lt-ltb nothing_seen v h)
 pub cell_small : (v : ℕ) → v ≤ nothing_seen → v ≡ cell_spelt v
 unfolding cell_spelt
 cell_small v h = rw (le-ltb nothing_seen v h)
-
-pub more_within : (n : ℕ) → n < top → n + 1 ≡ one_more_of n
-unfolding one_more_of
-more_within n h = omega arith
-
-pub more_top : (n : ℕ) → top ≤ n → top ≡ one_more_of n
-unfolding one_more_of
-more_top n h = omega arith
 
 -- ---- the end of a word
 

@@ -8,7 +8,7 @@ ghost use Rattle.air_record.specs.Record.{so_far, cell_spelt, one_more_of, endin
 use judging::NOTHING_SEEN;
 use rules::LANE_PLACES;
 use text::bytes::{is_digit, is_separator};
-use text::numbers::{Number, TOP, grow};
+use text::numbers::{Number, grow};
 
 // What a number that 16 bits do not hold is handed on as: no title has such a cell.
 const NO_CELL: u16 = 65_534;
@@ -45,10 +45,7 @@ fn cell_of(value: u64) -> u16
 pub fn one_more(n: u64) -> u64
     ensures { result ≡ one_more_of n }
 {
-    if n < TOP {
-        return n + 1;
-    }
-    TOP
+    n.saturating_add(1)
 }
 
 // One number, where there is room for it.
@@ -80,8 +77,8 @@ fn end_word(scan: Scan, row: &mut [u16]) -> Scan
             inside: false,
             dash: false,
             words: one_more(words),
-            line: line,
-            fault: fault,
+            line,
+            fault,
         };
     }
     scan
@@ -130,10 +127,7 @@ fn spell(scan: Scan, b: u8) -> Scan
         if dash {
             return fail(scan);
         }
-        let n = Number {
-            value: value,
-            over: false,
-        };
+        let n = Number { value, over: false };
         let longer = grow(n, b);
         next.value = longer.value;
         next.inside = true;
@@ -182,10 +176,8 @@ pub fn take_text(text: &[u8], row: &mut [u16]) -> Scan
         line: 1,
         fault: SOUND,
     };
-    let mut i = 0;
-    while i < text.len() {
-        scan = take_byte(scan, text[i], row);
-        i += 1;
+    for b in text {
+        scan = take_byte(scan, *b, row);
     }
     take_byte(scan, b'\n', row)
 }

@@ -19,6 +19,7 @@ use scheme::PADDED;
 use story::{OPEN, Title};
 
 // What a log answers, and the title as it stands at its end.
+// kept: a Result would be no plainer, as `reasons::is_steady` asks for the title beside answer 3.
 #[derive(Clone, Copy)]
 pub struct Ending {
     pub answer: u8,
@@ -89,10 +90,7 @@ pub fn follow(pool: u64, log: &[u8], title: u64, marks: &mut [u8]) -> Ending
     if answer == DONE {
         mark_to(t, marks.len() as u64, marks);
     }
-    Ending {
-        answer: answer,
-        title: t,
-    }
+    Ending { answer, title: t }
 }
 
 // A log played to its end, with no tick marked.

@@ -37,7 +37,7 @@ fn refused(answer: u8) -> Judgement
     ensures { result ≡ refused_judgement answer }
 {
     Judgement {
-        answer: answer,
+        answer,
         judged: 0,
         played: 0,
         outlast: 0,

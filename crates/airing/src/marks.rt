@@ -6,7 +6,6 @@ ghost use Rattle.airing.specs.inner.Steps.{mark_in, marked_to, Markable};
 
 use admissions::admitting;
 use measures::ticks::tick_at;
-use rules::truth::smaller;
 use scheme::starts;
 use story::Title;
 
@@ -15,12 +14,11 @@ fn mark_in(t: Title, tick: u64) -> u8
     requires { CountCap t.count t.film.cap }
     ensures { result ≡ mark_in t tick }
 {
-    if admitting(t) {
-        if starts(t.film.kind, t.film.floor, t.film.cap, t.count, tick) {
-            return 1;
-        }
+    if admitting(t) && starts(t.film.kind, t.film.floor, t.film.cap, t.count, tick) {
+        1
+    } else {
+        0
     }
-    0
 }
 
 // Marks the ticks from a title's latest event up to `upto`, as far as the row goes, as the title stands.
@@ -28,10 +26,8 @@ pub fn mark_to(t: Title, upto: u64, marks: &mut [u8])
     requires { Markable t }
     ensures { marks.new ≡ marked_to t upto marks.old }
 {
-    let end = smaller(upto, marks.len() as u64);
-    let mut tick = tick_at(t, t.last);
-    while tick < end {
+    let end = upto.min(marks.len() as u64);
+    for tick in tick_at(t, t.last)..end {
         marks[tick as usize] = mark_in(t, tick);
-        tick += 1;
     }
 }

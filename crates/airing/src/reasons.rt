@@ -1,34 +1,24 @@
 // Why a record was refused, where the refusal's number alone does not tell: a title that was last opened as a skip-forward title,
 // and the first number of the record that the title can't have.
 
-ghost use Rattle.std.specs.Prelude.{◌+◌, ◌<◌, ◌≤◌, ◌^◌, ◌≡◌};
+ghost use Rattle.std.specs.Prelude.{◌≤◌, ◌≡◌};
 ghost use Rattle.rules.specs.Limits.{count_max};
-ghost use Rattle.rules.specs.Search.{keep_first};
 ghost use Rattle.airing.specs.Reasons.{first_stray, stray_in, is_skip_forward};
 ghost use Rattle.airing.specs.inner.Steps.{is_steady_ending};
 
 use crate::follow::{Ending, end_of};
-use crate::refusals::in_limits;
+use crate::refusals::{in_limits, is_cell};
 use grid::pow2;
-use judging::NOTHING_SEEN;
-use rules::truth::either;
 use rules::{DONE, NOT_THERE};
 use scheme::STEADY;
 
 // Whether a log was read to its end, and the title stands as a skip-forward title.
+#[tactic(auto, using(std::proofs::lemmas::Bool::Decides::nat_tests), unfolding(crate::specs::inner::Steps::is_steady_ending))]
 fn is_steady(ending: Ending) -> bool
     ensures { result ≡ is_steady_ending ending }
 {
-    let answer = ending.answer;
-    let t = ending.title;
-    let cap = t.film.cap;
-    let kind = t.film.kind;
-    if answer == NOT_THERE {
-        if cap > 0 {
-            return kind == STEADY;
-        }
-    }
-    false
+    let film = ending.title.film;
+    ending.answer == NOT_THERE && film.cap > 0 && film.kind == STEADY
 }
 
 // Whether a log has no film title of an id because it was last opened as a skip-forward title.
@@ -41,34 +31,18 @@ pub fn is_skip_forward(pool: u64, log: &[u8], title: u64) -> bool
     false
 }
 
-// Where the first of the places below i + 1 is, if it is `first` among those below i.
-fn keep_first(first: usize, i: usize, hit: bool) -> usize
-    requires { i + 1 < 2 ^ 64 }
-    ensures { result ≡ keep_first first i hit }
-{
-    if first < i {
-        return first;
-    }
-    if hit {
-        return i;
-    }
-    i + 1
-}
-
 // The first number of a record that is neither a cell of a title with this cap nor nothing; the record's end if there is none.
 fn stray_of(cap: u64, record: &[u16]) -> usize
     requires { cap ≤ count_max }
     ensures { result ≡ first_stray cap «record».now }
 {
     let cells = pow2(cap) as u16;
-    let mut first = 0;
-    let mut i = 0;
-    while i < record.len() {
-        let seen = record[i];
-        first = keep_first(first, i, !either(seen == NOTHING_SEEN, seen < cells));
-        i += 1;
+    for (i, seen) in record.iter().enumerate() {
+        if !is_cell(*seen, cells) {
+            return i;
+        }
     }
-    first
+    record.len()
 }
 
 // The first number of a record that the title of a log can't have; the record's end if there is none, or no such title.

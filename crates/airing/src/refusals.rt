@@ -1,31 +1,30 @@
 // The refusals that do not hang on the log, and that of a record's numbers.
 
-ghost use Rattle.std.specs.Prelude.{◌≤◌, ◌≡◌};
-ghost use Rattle.rules.specs.Limits.{count_max};
+ghost use Rattle.std.specs.Prelude.{◌≤◌, ◌≡◌, eqb, ltb};
+ghost use Rattle.rules.specs.Limits.{count_max, either};
+ghost use Rattle.judging.specs.Record.{nothing_seen};
 ghost use Rattle.airing.specs.Air.{in_limits, has_room_for, all_cells};
 ghost use Rattle.airing.specs.inner.Steps.{rows_answer};
 
 use grid::pow2;
 use judging::{NOTHING_SEEN, TICKS_MAX};
-use rules::truth::{also, either};
 use rules::{DONE, ID_MAX, LANE_PLACES, OUTSIDE_LIMITS, POOL_MAX, POOL_MIN, WRONG_ROWS, within};
 
 // Whether pool and title are within their limits.
+#[tactic(auto, using(std::proofs::lemmas::Bool::Decides::nat_tests))]
 pub fn in_limits(pool: u64, title: u64) -> bool
     ensures { result ≡ in_limits pool title }
 {
-    also(within(POOL_MIN, POOL_MAX, pool), title <= ID_MAX)
+    within(POOL_MIN, POOL_MAX, pool) && title <= ID_MAX
 }
 
 // Whether a record has whole ticks, not too many, and a room a place for each.
+#[tactic(auto, using(std::proofs::lemmas::Bool::Decides::nat_tests), unfolding(crate::specs::Air::has_room_for))]
 fn has_room(record: &[u16], room: usize) -> bool
     ensures { result ≡ has_room_for «record».now room }
 {
     let ticks = record.len() / LANE_PLACES;
-    also(
-        record.len() % LANE_PLACES == 0,
-        also(ticks <= TICKS_MAX, ticks <= room),
-    )
+    record.len() % LANE_PLACES == 0 && ticks <= TICKS_MAX && ticks <= room
 }
 
 // The refusals before the log is read, in their order.
@@ -41,18 +40,23 @@ pub fn first_answer(pool: u64, title: u64, record: &[u16], room: usize) -> u8
     OUTSIDE_LIMITS
 }
 
+// Whether a number is one of so many cells, or nothing.
+pub fn is_cell(seen: u16, cells: u16) -> bool
+    ensures { result ≡ either (eqb seen nothing_seen) (ltb seen cells) }
+{
+    seen == NOTHING_SEEN || seen < cells
+}
+
 // Whether every number of a record is a cell of a title, or nothing.
 pub fn all_cells(cap: u64, record: &[u16]) -> bool
     requires { cap ≤ count_max }
     ensures { result ≡ all_cells cap «record».now }
 {
     let cells = pow2(cap) as u16;
-    let mut ok = true;
-    let mut i = 0;
-    while i < record.len() {
-        let seen = record[i];
-        ok = also(either(seen == NOTHING_SEEN, seen < cells), ok);
-        i += 1;
+    for seen in record {
+        if !is_cell(*seen, cells) {
+            return false;
+        }
     }
-    ok
+    true
 }

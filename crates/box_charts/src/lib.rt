@@ -9,7 +9,7 @@ pub mod marks;
 
 ghost use Rattle.std.specs.Prelude.{◌≤◌, length, get_or};
 ghost use Rattle.rules.specs.Limits.{plan_places, asked_max, length_max, count_max};
-ghost use Rattle.text.specs.Output.{Written};
+ghost use Rattle.text.specs.Pages.{Puts};
 ghost use Rattle.box_charts.specs.Picture.{box_frame, drawn_text, box_drawing};
 
 use axes::{put_frames, put_quarters};
@@ -18,6 +18,7 @@ use drawing::document::{put_foot, put_head};
 use heading::{put_heading, put_lane_keys, put_meaning_line};
 use marks::{put_marks, put_plays};
 use takings::peak_of;
+use text::page::Page;
 
 const CHART_WIDTH: u64 = 13_600;
 
@@ -33,41 +34,41 @@ pub struct Begun {
 }
 
 // What stands above the plots, and their frames.
-fn put_frame(out: &mut [u8], at: usize, begun: Begun, cells: u64) -> usize
+fn put_frame(page: &mut Page<'_>, begun: Begun, cells: u64)
     requires { (begun.moment ≤ asked_max) × (begun.tick ≤ length_max) × (begun.lanes ≤ count_max) × (cells ≤ plan_places) }
-    ensures { Written out.old at (box_frame begun cells) out.new result }
+    ensures { Puts page.old (box_frame begun cells) page.new }
 {
     let title = begun.title;
     let moment = begun.moment;
     let tick = begun.tick;
     let lanes = begun.lanes;
-    let a = put_head(out, at, CHART_WIDTH, CHART_HEIGHT);
-    let b = put_heading(out, a, title, moment);
-    let c = put_meaning_line(out, b, cells, tick);
-    let d = put_lane_keys(out, c, lanes);
-    let e = put_quarters(out, d, moment, tick, cells);
-    put_frames(out, e)
+    put_head(page, CHART_WIDTH, CHART_HEIGHT);
+    put_heading(page, title, moment);
+    put_meaning_line(page, cells, tick);
+    put_lane_keys(page, lanes);
+    put_quarters(page, moment, tick, cells);
+    put_frames(page);
 }
 
 // What is drawn into them.
-fn put_drawn(out: &mut [u8], at: usize, taken: &[u16]) -> usize
+fn put_drawn(page: &mut Page<'_>, taken: &[u16])
     requires { length taken.now ≤ plan_places }
-    ensures { Written out.old at (drawn_text (λ c. get_or taken.now c 0) (length taken.now)) out.new result }
+    ensures { Puts page.old (drawn_text (λ c. get_or taken.now c 0) (length taken.now)) page.new }
 {
     let peak = peak_of(taken);
     let many = peak.many;
-    let a = put_plays(out, at, taken.len() as u64);
-    let b = put_marks(out, a, taken);
-    let c = put_curve(out, b, taken, many);
-    put_peak(out, c, peak)
+    put_plays(page, taken.len() as u64);
+    put_marks(page, taken);
+    put_curve(page, taken, many);
+    put_peak(page, peak);
 }
 
-pub fn put_picture(out: &mut [u8], at: usize, begun: Begun, taken: &[u16]) -> usize
+pub fn put_picture(page: &mut Page<'_>, begun: Begun, taken: &[u16])
     requires moment_le_asked_max { (begun.moment ≤ asked_max) × (begun.tick ≤ length_max) × (begun.lanes ≤ count_max) }
     requires taken_len_bound { length taken.now ≤ plan_places }
-    ensures { Written out.old at (box_drawing begun (λ c. get_or taken.now c 0) (length taken.now)) out.new result }
+    ensures { Puts page.old (box_drawing begun (λ c. get_or taken.now c 0) (length taken.now)) page.new }
 {
-    let a = put_frame(out, at, begun, taken.len() as u64);
-    let b = put_drawn(out, a, taken);
-    put_foot(out, b)
+    put_frame(page, begun, taken.len() as u64);
+    put_drawn(page, taken);
+    put_foot(page);
 }

@@ -2,55 +2,44 @@
 
 ghost use Rattle.std.specs.Prelude.{◌-◌, ◌*◌, ◌≤◌, ◌<◌, max, ◌≡◌, length, get_or};
 ghost use Rattle.rules.specs.Limits.{plan_places, lane_places};
-ghost use Rattle.text.specs.Output.{Written};
+ghost use Rattle.text.specs.Pages.{Puts};
 ghost use Rattle.box_charts.specs.Marks.{plays_to, plays_text, mark_least, mark_area, taken_line, mark_text, mark_if, marks_to};
 
 use crate::axes::{TAKEN_BOTTOM, y_of};
 use drawing::axis::{PLOT_LEFT, x_of};
 use drawing::pieces::{Area, put_path, put_path_end, put_point, put_rect, put_rect_end, put_step};
 use rules::LANE_PLACES;
-use text::digits::put_number;
-use text::output::put;
+use text::page::Page;
 
 // No mark is smaller.
 const MARK_LEAST: u64 = 15;
 
 // The steps of the line.
-fn put_plays_steps(out: &mut [u8], at: usize, cells: u64) -> usize
+fn put_plays_steps(page: &mut Page<'_>, cells: u64)
     requires { cells ≤ plan_places }
-    ensures { Written out.old at (plays_to cells cells) out.new result }
+    ensures { Puts page.old (plays_to cells cells) page.new }
 {
-    let mut place = at;
-    let mut cell = 0;
-    while cell < cells {
-        cell += 1;
-        let a = put_step(out, place, b'H', x_of(cells, cell));
-        place = put_step(out, a, b'V', y_of(cells, cell));
+    for cell in 0..cells {
+        put_step(page, b'H', x_of(cells, cell + 1));
+        put_step(page, b'V', y_of(cells, cell + 1));
     }
-    place
 }
 
-pub fn put_plays(out: &mut [u8], at: usize, cells: u64) -> usize
+pub fn put_plays(page: &mut Page<'_>, cells: u64)
     requires { cells ≤ plan_places }
-    ensures { Written out.old at (plays_text cells) out.new result }
+    ensures { Puts page.old (plays_text cells) page.new }
 {
-    let a = put_path(out, at, b"plays");
-    let b = put_point(out, a, b'M', PLOT_LEFT, TAKEN_BOTTOM);
-    let c = put_plays_steps(out, b, cells);
-    put_path_end(out, c)
+    put_path(page, b"plays");
+    put_point(page, b'M', PLOT_LEFT, TAKEN_BOTTOM);
+    put_plays_steps(page, cells);
+    put_path_end(page);
 }
 
 // How far a mark goes that has a room, from a place on.
 fn mark_size(from: u64, to: u64) -> u64
     ensures { result ≡ max (to - from) mark_least }
 {
-    if to < from {
-        return MARK_LEAST;
-    }
-    if to - from < MARK_LEAST {
-        return MARK_LEAST;
-    }
-    to - from
+    to.saturating_sub(from).max(MARK_LEAST)
 }
 
 // The mark of a cell that is taken in a tick: it ends where the tick ends.
@@ -65,58 +54,53 @@ fn mark_area(cells: u64, tick: u64, cell: u64) -> Area
     Area {
         x: end - width,
         y: top,
-        width: width,
-        height: height,
+        width,
+        height,
     }
 }
 
 // What hovering tells.
-fn put_taken_line(out: &mut [u8], at: usize, place: u64, cell: u64) -> usize
-    ensures { Written out.old at (taken_line place cell) out.new result }
+fn put_taken_line(page: &mut Page<'_>, place: u64, cell: u64)
+    ensures { Puts page.old (taken_line place cell) page.new }
 {
     let lanes = LANE_PLACES as u64;
-    let a = put(out, at, b"cell ");
-    let b = put_number(out, a, cell);
-    let c = put(out, b, b": taken in tick ");
-    let d = put_number(out, c, place / lanes);
-    let e = put(out, d, b" from lane ");
-    let f = put_number(out, e, place % lanes);
-    let g = put(out, f, b", plays in tick ");
-    put_number(out, g, cell)
+    page.put(b"cell ");
+    page.put_number(cell);
+    page.put(b": taken in tick ");
+    page.put_number(place / lanes);
+    page.put(b" from lane ");
+    page.put_number(place % lanes);
+    page.put(b", plays in tick ");
+    page.put_number(cell);
 }
 
-fn put_mark(out: &mut [u8], at: usize, cells: u64, place: u64, cell: u64) -> usize
+fn put_mark(page: &mut Page<'_>, cells: u64, place: u64, cell: u64)
     requires { (place < plan_places * lane_places) × (cell < plan_places) }
-    ensures { Written out.old at (mark_text cells place cell) out.new result }
+    ensures { Puts page.old (mark_text cells place cell) page.new }
 {
     let lanes = LANE_PLACES as u64;
     let area = mark_area(cells, place / lanes, cell);
-    let a = put_rect(out, at, b"l", place % lanes, area);
-    let b = put_taken_line(out, a, place, cell);
-    put_rect_end(out, b)
+    put_rect(page, b"l", place % lanes, area);
+    put_taken_line(page, place, cell);
+    put_rect_end(page);
 }
 
 // A cell that is never taken has none.
-fn put_mark_if(out: &mut [u8], at: usize, cells: u64, place: u64, cell: u64) -> usize
+fn put_mark_if(page: &mut Page<'_>, cells: u64, place: u64, cell: u64)
     requires { (cells ≤ plan_places) × (cell < plan_places) }
-    ensures { Written out.old at (mark_if cells place cell) out.new result }
+    ensures { Puts page.old (mark_if cells place cell) page.new }
 {
     if place < cells * LANE_PLACES as u64 {
-        return put_mark(out, at, cells, place, cell);
+        put_mark(page, cells, place, cell);
     }
-    at
 }
 
-pub fn put_marks(out: &mut [u8], at: usize, taken: &[u16]) -> usize
+pub fn put_marks(page: &mut Page<'_>, taken: &[u16])
     requires { length taken.now ≤ plan_places }
-    ensures { Written out.old at (marks_to (length taken.now) (λ c. get_or taken.now c 0) (length taken.now)) out.new result }
+    ensures { Puts page.old (marks_to (length taken.now) (λ c. get_or taken.now c 0) (length taken.now)) page.new }
 {
     let cells = taken.len() as u64;
-    let mut place = at;
-    let mut cell: usize = 0;
-    while cell < taken.len() {
-        place = put_mark_if(out, place, cells, taken[cell] as u64, cell as u64);
-        cell += 1;
+    for (cell, taking) in taken.iter().enumerate() {
+        put_mark_if(page, cells, u64::from(*taking), cell as u64);
     }
-    place
 }

@@ -3,12 +3,13 @@
 
 use crate::complaints::put_beginning;
 use crate::input::time_given;
-use files::arguments::{Given, number_named};
+use files::arguments::number_named;
 use files::complaints::write_complaints;
 use files::loading::{LOG_ROOM, load_input};
 use files::pages::write_page;
 use log_boxes::{beginning_of, put_box};
 use streams::usage::are_right;
+use text::page::Page;
 use unheard_io::put_unheard;
 
 // No picture is longer: that of a box by proofs/Fits, that of a log by how it is drawn.
@@ -22,13 +23,6 @@ struct Asked {
     time: u64,
 }
 
-// It, or that standard error says what is wrong.
-#[derive(Clone, Copy)]
-enum Box {
-    Of(Asked),
-    Nothing,
-}
-
 fn show(rt: &HostRuntime, asked: Asked, log: &[u8], out: &mut [u8]) {
     let size = put_box(out, asked.pool, log, asked.title, asked.time);
     write_page(rt, out, size);
@@ -37,15 +31,15 @@ fn show(rt: &HostRuntime, asked: Asked, log: &[u8], out: &mut [u8]) {
 fn complain_beside(rt: &HostRuntime, asked: Asked, log: &[u8]) {
     let mut out = [0u8; 4_096];
     let found = beginning_of(asked.pool, log, asked.title, asked.time);
-    let a = put_unheard(&mut out, 0, asked.pool, log);
-    let size = put_beginning(&mut out, a, asked.title, asked.time, found);
+    let mut page = Page::new(&mut out);
+    put_unheard(&mut page, asked.pool, log);
+    put_beginning(&mut page, asked.title, asked.time, found);
+    let size = page.end();
     write_complaints(rt, &out, size);
 }
 
 fn with_rooms(rt: &HostRuntime, asked: Asked, log: &mut [u8], out: &mut [u8]) {
-    let read = load_input(rt, log);
-    let size = read.size;
-    if read.ok {
+    if let Some(size) = load_input(rt, log) {
         show(rt, asked, &log[..size], out);
         complain_beside(rt, asked, &log[..size]);
     }
@@ -56,28 +50,18 @@ fn lend(rt: &HostRuntime, asked: Asked, log: &mut [u8; LOG_ROOM], out: &mut [u8;
     with_rooms(rt, asked, log, out);
 }
 
-// The numbers are tested in their order.
-fn box_given(rt: &HostRuntime) -> Box {
-    let Given::Number(pool) = number_named(rt, 1, b"POOL") else {
-        return Box::Nothing;
-    };
-    let Given::Number(title) = number_named(rt, 2, b"ID") else {
-        return Box::Nothing;
-    };
-    let Given::Number(time) = time_given(rt, 3) else {
-        return Box::Nothing;
-    };
-    Box::Of(Asked {
-        pool: pool,
-        title: title,
-        time: time,
-    })
+// It, its numbers tested in their order, or that standard error says what is wrong.
+fn box_given(rt: &HostRuntime) -> Option<Asked> {
+    let pool = number_named(rt, 1, b"POOL")?;
+    let title = number_named(rt, 2, b"ID")?;
+    let time = time_given(rt, 3)?;
+    Some(Asked { pool, title, time })
 }
 
 // How many arguments there are is tested first, then the numbers, then the log.
 pub fn draw(rt: &HostRuntime, usage: &[u8]) {
     if are_right(rt, 1, 4, 4, usage) {
-        let Box::Of(asked) = box_given(rt) else {
+        let Some(asked) = box_given(rt) else {
             return;
         };
         let mut log = [0u8; LOG_ROOM];

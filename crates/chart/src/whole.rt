@@ -3,7 +3,7 @@
 
 use crate::boxed::PICTURE_ROOM;
 use charts::put_chart;
-use files::arguments::{Pool, pool_or};
+use files::arguments::pool_or;
 use files::loading::{LOG_ROOM, load_input};
 use files::pages::write_page;
 
@@ -16,9 +16,7 @@ fn show(rt: &HostRuntime, pool: u64, log: &[u8], out: &mut [u8]) {
 }
 
 fn with_rooms(rt: &HostRuntime, pool: u64, log: &mut [u8], out: &mut [u8]) {
-    let read = load_input(rt, log);
-    let size = read.size;
-    if read.ok {
+    if let Some(size) = load_input(rt, log) {
         show(rt, pool, &log[..size], out);
     }
 }
@@ -30,7 +28,7 @@ fn lend(rt: &HostRuntime, pool: u64, log: &mut [u8; LOG_ROOM], out: &mut [u8; PI
 
 // How many arguments there are is tested first, then the pool, then the log.
 pub fn draw(rt: &HostRuntime, usage: &[u8]) {
-    let Pool::Lanes(pool) = pool_or(rt, USUAL_POOL, usage) else {
+    let Some(pool) = pool_or(rt, USUAL_POOL, usage) else {
         return;
     };
     let mut log = [0u8; LOG_ROOM];

@@ -5,12 +5,11 @@ use mathlib.Core.Bool.{Bool, true, false}
 use mathlib.Core.List.{List, [], ◌∷◌, ◌++◌}
 use mathlib.Core.Logic.{⊎_elim}
 use native.Mathlib.Omega.{arith}
-use borrow.Author.Tests.{ltb-true, ltb-false, leb-true, leb-false}
-use lib.Dec.{ltb, leb}
+use borrow.Author.Tests.{ltb-true, ltb-false}
+use lib.Dec.{ltb}
 use lib.ListN.{length, take, drop, set, replicate, length-replicate, length-take, take-append-drop}
-use Rattle.rules.specs.Limits.{both}
 use Rattle.rules.specs.Refusals.{pick}
-use Rattle.rules.proofs.Tests.{decide, both_l, both_r}
+use Rattle.rules.proofs.Tests.{decide}
 use Rattle.text.specs.Output.{Page, page, put, puts, Written}
 use Rattle.text.proofs.Pages.{puts_append, puts_fits}
 use Rattle.charts.specs.Charts.{chart_text, coarser, finest_text, first_columns, first_grain, tries}
@@ -107,43 +106,38 @@ module _ (pool : ℕ) (log : List ℕ) (size : ℕ) where
   blank_long : length blank ≡ size
   blank_long = length-replicate size 0
 
-  module _ (out' : List ℕ) (columns grain left end : ℕ) (t : Trying out' columns grain left end) (b : Bool)
-      (is : b ≡ both (ltb 0 left) (leb (length out') end)) where
-    pub tries_on : b ≡ true → (g : ℕ) → g ≡ coarser grain → (out'' : List ℕ) (end'' : ℕ) →
+  module _ (out' : List ℕ) (columns grain left end : ℕ) (t : Trying out' columns grain left end) where
+    pub tries_on : length out' ≤ end → 0 < left → (rest : ℕ) → rest ≡ left - 1 → (g : ℕ) → g ≡ coarser grain → (out'' : List ℕ) (end'' : ℕ) →
         Written (replicate (length out') 0) 0 (chart_text pool log (columns / 2) g) out'' end'' → length out'' ≡ length out' →
-        Trying out'' (columns / 2) g (left - 1) end''
-    tries_on cut g wide out'' end'' w long =
-        let some : 0 < left = ltb-true 0 left (both_l (ltb 0 left) (leb (length out') end) (sym is ∙ cut)) in
-        let over : length out' ≤ end = leb-true (length out') end (both_r (ltb 0 left) (leb (length out') end) (sym is ∙ cut)) in
+        Trying out'' (columns / 2) g rest end''
+    tries_on over some rest fewer g wide out'' end'' w long =
         let high : length blank ≤ end = omega (arith, blank_long, t.long) in
         let none : ltb (length (chart_text pool log columns grain)) size ≡ false =
         subst (λ n. ltb (length (chart_text pool log columns grain)) n ≡ false) blank_long
         (has_none blank (chart_text pool log columns grain) out' end t.written high) in
-        let up : left ≡ suc (left - 1) = omega (arith, some) in
+        let up : left ≡ suc rest = omega (arith, some) in
         record {
-          same = ap (λ x. wanted (columns / 2) x (left - 1)) wide ∙ sym (finest_on size pool log columns grain (left - 1) none)
+          same = ap (λ x. wanted (columns / 2) x rest) wide ∙ sym (finest_on size pool log columns grain rest none)
               ∙ ap (wanted columns grain) (sym up) ∙ t.same;
           written = subst (λ n. Written (replicate n 0) 0 (chart_text pool log (columns / 2) g) out'' end'') t.long w;
           long = long ∙ t.long;
         }
 
-    settled : b ≡ false → wanted columns grain left ≡ chart_text pool log columns grain
-    settled over =
-        ⊎_elim
-        (λ x.
-        let low : end < length out' = leb-false (length out') end (rw x at (sym is ∙ over)) in
+    found : (n : ℕ) → size ≡ n → wanted columns grain left ≡ chart_text pool log columns grain →
+        Written (replicate n 0) 0 (finest_text n pool log first_columns first_grain tries) out' end
+    found n e settled =
+        subst (λ k. Written (replicate k 0) 0 (finest_text k pool log first_columns first_grain tries) out' end) e
+        (t.written ∙ ap (puts (page blank 0)) (sym settled ∙ t.same))
+
+    -- where the picture has room
+    pub found_room : (n : ℕ) → size ≡ n → end < length out' → Written (replicate n 0) 0 (finest_text n pool log first_columns first_grain tries) out' end
+    found_room n e low =
         let under : end < length blank = omega (arith, blank_long, t.long) in
-        finest_here size pool log columns grain left
+        found n e
+        (finest_here size pool log columns grain left
         (subst (λ n. ltb (length (chart_text pool log columns grain)) n ≡ true) blank_long
         (has_room blank (chart_text pool log columns grain) out' end t.written under)))
-        (λ x. finest_last size pool log columns grain left (let none = ltb-false 0 left x in omega arith))
-        (decide (ltb 0 left))
 
-    pub found : (n : ℕ) → size ≡ n → b ≡ false → Written (replicate n 0) 0 (finest_text n pool log first_columns first_grain tries) out' end
-    found n e over =
-        subst (λ k. Written (replicate k 0) 0 (finest_text k pool log first_columns first_grain tries) out' end) e
-        (t.written ∙ ap (puts (page blank 0)) (sym (settled over) ∙ t.same))
-
--- a try is left
-pub left_some : (left size end : ℕ) (b : Bool) → b ≡ both (ltb 0 left) (leb size end) → b ≡ true → 0 < left
-left_some left size end b is cut = ltb-true 0 left (both_l (ltb 0 left) (leb size end) (sym is ∙ cut))
+    -- and where no try is left
+    pub found_last : (n : ℕ) → size ≡ n → left ≡ 0 → Written (replicate n 0) 0 (finest_text n pool log first_columns first_grain tries) out' end
+    found_last n e none = found n e (finest_last size pool log columns grain left none)

@@ -2,3 +2,4 @@
 pub mod Viewed
 pub mod Fitting
 pub mod Pool
+pub mod Ended

@@ -1,6 +1,6 @@
 -- The whole picture of a log of notices: what stands in every picture, the marks of its notices, what is left at its end, and the lanes held
 -- under the line of the pool. It is drawn in the finest columns in which it has room.
-use Rattle.std.specs.Prelude.{ℕ, zero, suc, ◌+◌, ◌-◌, ◌*◌, ◌/◌, Bool, List, [], ◌++◌, ltb, length, replicate}
+use Rattle.std.specs.Prelude.{ℕ, zero, suc, ◌+◌, ◌-◌, ◌*◌, ◌/◌, List, ◌++◌, ltb, length, replicate, unwrap_or}
 use Rattle.rules.specs.Limits.{within, pool_min, pool_max, titles_max}
 use Rattle.rules.specs.Refusals.{pick, outside_limits}
 use Rattle.story.specs.declared.State.{State}
@@ -21,10 +21,14 @@ use Rattle.frames.specs.Times.{times_most, times_text}
 use Rattle.log_marks.specs.Played.{Drawn, drawn_of}
 use Rattle.log_marks.specs.Ending.{all_marks, all_kept, cut_marks, cut_kept}
 
+-- the time of the first accepted event, or 0
+abbrev pub first_drawn : Outline → ℕ
+first_drawn m = unwrap_or m.extent.first 0
+
 -- the scale of a log in so many columns of so many tenths of a pixel
 abbrev pub scale_of : Outline → ℕ → ℕ → Scale
 scale_of m columns grain =
-    record { first = m.extent.first; span = m.end - m.extent.first; columns = columns; grain = grain }
+    record { first = first_drawn m; span = m.end - first_drawn m; columns = columns; grain = grain }
 
 -- a curve whose line of no lanes lies at a place
 abbrev pub curve_at : Outline → ℕ → ℕ → ℕ → ℕ → Curve
@@ -45,7 +49,7 @@ view_of m pool columns grain = view_at m pool columns grain (base_of m pool colu
 -- what stands in every picture
 unfoldable pub still_text : Outline → View → List ℕ
 still_text m v =
-    svg_head (plot_left + plot_width + 800) (v.curve.base + 350) ++ heading_text v.curve.pool m.extent.first m.end ++ legend_text
+    svg_head (plot_left + plot_width + 800) (v.curve.base + 350) ++ heading_text v.curve.pool (first_drawn m) m.end ++ legend_text
     ++ bands_text v titles_max ++ times_text v.curve.scale v.curve.base times_most ++ pool_lines v.curve
 
 -- the marks of the log's notices

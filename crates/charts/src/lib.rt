@@ -10,7 +10,8 @@ ghost use Rattle.charts.specs.Charts.{picture_text};
 
 use rules::{OUTSIDE_LIMITS, POOL_MAX, POOL_MIN, within};
 use spans::measure;
-use whole::{clear, put_finest};
+use text::page::Page;
+use whole::put_finest;
 use words::put_refusal;
 
 // The picture at the start of a row whose other bytes are 0 then, drawn in the finest columns in which it has room; a pool outside its
@@ -22,6 +23,8 @@ pub fn put_chart(out: &mut [u8], pool: u64, log: &[u8]) -> usize
     if within(POOL_MIN, POOL_MAX, pool) {
         return put_finest(out, measure(pool, log), pool, log);
     }
-    clear(out);
-    put_refusal(out, 0, OUTSIDE_LIMITS, 0)
+    out.fill(0);
+    let mut page = Page::new(out);
+    put_refusal(&mut page, OUTSIDE_LIMITS, 0);
+    page.end()
 }

@@ -3,10 +3,10 @@
 #![tactic(auto)]
 
 ghost use Rattle.std.specs.Prelude.{◌≡◌};
-ghost use Rattle.text.specs.Output.{Written};
+ghost use Rattle.text.specs.Pages.{Puts};
 ghost use Rattle.clocks.specs.Clocks.{last_digit, clock_text, part_text, thousandths_text};
 
-use text::{digits, output};
+use text::page::Page;
 
 pub mod reading;
 
@@ -25,31 +25,30 @@ fn last_digit(n: u64) -> u8
 }
 
 // A colon and two digits: minutes or seconds.
-fn put_part(out: &mut [u8], at: usize, n: u64) -> usize
-    ensures { Written out.old at (part_text n) out.new result }
+fn put_part(page: &mut Page<'_>, n: u64)
+    ensures { Puts page.old (part_text n) page.new }
 {
     let row = [b':', last_digit(n / 10), last_digit(n)];
-    output::put(out, at, &row)
+    page.put(&row);
 }
 
 // A point and three digits.
-fn put_thousandths(out: &mut [u8], at: usize, n: u64) -> usize
-    ensures { Written out.old at (thousandths_text n) out.new result }
+fn put_thousandths(page: &mut Page<'_>, n: u64)
+    ensures { Puts page.old (thousandths_text n) page.new }
 {
     let row = [b'.', last_digit(n / 100), last_digit(n / 10), last_digit(n)];
-    output::put(out, at, &row)
+    page.put(&row);
 }
 
 // Milliseconds as h:mm:ss, with .mmm behind it where a part of a second is left.
-pub fn put_clock(out: &mut [u8], at: usize, ms: u64) -> usize
-    ensures { Written out.old at (clock_text ms) out.new result }
+pub fn put_clock(page: &mut Page<'_>, ms: u64)
+    ensures { Puts page.old (clock_text ms) page.new }
 {
-    let a = digits::put_number(out, at, ms / HOUR);
-    let b = put_part(out, a, ms % HOUR / MINUTE);
-    let c = put_part(out, b, ms % MINUTE / SECOND);
+    page.put_number(ms / HOUR);
+    put_part(page, ms % HOUR / MINUTE);
+    put_part(page, ms % MINUTE / SECOND);
     let left = ms % SECOND;
-    if left == 0 {
-        return c;
+    if left != 0 {
+        put_thousandths(page, left);
     }
-    put_thousandths(out, c, left)
 }

@@ -22,24 +22,14 @@ use text::{bytes, numbers};
 pub fn has_colon(word: &[u8]) -> bool
     ensures { result ≡ has_colon word.now }
 {
-    let mut i = 0;
-    while i < word.len() {
-        if word[i] == b':' {
-            return true;
-        }
-        i += 1;
-    }
-    false
+    word.contains(&b':')
 }
 
 // The byte at a place; 0 past the end.
 fn byte_at(word: &[u8], i: usize) -> u8
     ensures { result ≡ get_or word.now i 0 }
 {
-    if i < word.len() {
-        return word[i];
-    }
-    0
+    word.get(i).copied().unwrap_or(0)
 }
 
 // Whether a colon and two digits, 00 to 59, stand at a place.
@@ -47,26 +37,19 @@ fn is_part(tail: &[u8], at: usize) -> bool
     requires { at ≤ 3 }
     ensures { result ≡ is_part tail.now at }
 {
-    if byte_at(tail, at) == b':' {
-        if rules::within(48, 53, byte_at(tail, at + 1) as u64) {
-            return bytes::is_digit(byte_at(tail, at + 2));
-        }
-    }
-    false
+    byte_at(tail, at) == b':'
+        && matches!(byte_at(tail, at + 1), b'0'..=b'5')
+        && bytes::is_digit(byte_at(tail, at + 2))
 }
 
 // Whether a point and three digits stand behind minutes and seconds.
 fn is_thousandths(tail: &[u8]) -> bool
     ensures { result ≡ is_thousandths tail.now }
 {
-    if byte_at(tail, 6) == b'.' {
-        if bytes::is_digit(byte_at(tail, 7)) {
-            if bytes::is_digit(byte_at(tail, 8)) {
-                return bytes::is_digit(byte_at(tail, 9));
-            }
-        }
-    }
-    false
+    byte_at(tail, 6) == b'.'
+        && bytes::is_digit(byte_at(tail, 7))
+        && bytes::is_digit(byte_at(tail, 8))
+        && bytes::is_digit(byte_at(tail, 9))
 }
 
 // Whether what stands behind the hours is :mm, :mm:ss or :mm:ss.mmm.
@@ -74,20 +57,8 @@ fn is_tail(tail: &[u8]) -> bool
     ensures { result ≡ is_tail tail.now }
 {
     let size = tail.len();
-    if is_part(tail, 0) {
-        if size == 3 {
-            return true;
-        }
-        if is_part(tail, 3) {
-            if size == 6 {
-                return true;
-            }
-            if size == 10 {
-                return is_thousandths(tail);
-            }
-        }
-    }
-    false
+    is_part(tail, 0)
+        && (size == 3 || is_part(tail, 3) && (size == 6 || size == 10 && is_thousandths(tail)))
 }
 
 // Whether a word is a time in one of the three forms.
@@ -95,10 +66,7 @@ pub fn is_clock(word: &[u8]) -> bool
     ensures { result ≡ is_clock word.now }
 {
     let n = bytes::run_end(word, 0, Sort::Digit);
-    if n == 0 {
-        return false;
-    }
-    is_tail(&word[n..])
+    n != 0 && is_tail(&word[n..])
 }
 
 // The number of two digits.

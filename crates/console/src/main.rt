@@ -8,6 +8,7 @@ use console_drawing::drawn::{put_drawn, switched};
 use console_lines::lines::LONGEST_LINE;
 use sessions::Session;
 use streams::usage::count_is;
+use text::page::Page;
 
 // The pool that a session starts with.
 const POOL: u64 = 8;
@@ -23,7 +24,9 @@ fn answered(
     let s = sessions::line(session, input);
     let mut line = console_desk::answer(agent, s, out, session.at);
     if drawing {
-        line.at = put_drawn(out, line.at, agent, s);
+        let mut page = Page::from(out, line.at);
+        put_drawn(&mut page, agent, s);
+        line.at = page.end();
     }
     line
 }
@@ -45,7 +48,7 @@ fn go_on(rt: &HostRuntime, over: bool, session: Session, input: &mut [u8], out: 
 }
 
 // Answers the lines of standard input until one of them or it ends, or a read or a write fails. A proved loop has to end, and nothing
-// says that the input does: so the turns are counted down from a number that no run uses up.
+// says that the input does: so the turns are counted up to a number that no run reaches.
 fn answer_lines(rt: &HostRuntime) {
     let mut input = [0u8; 65_536];
     let mut out = [0u8; 65_536];
@@ -53,14 +56,15 @@ fn answer_lines(rt: &HostRuntime) {
     let mut agent = fresh.agent;
     let mut drawing = false;
     let mut session = sessions::begun(rt);
-    let mut turns = u64::MAX;
-    while turns > 0 && session.more {
+    for _ in 0..u64::MAX {
+        if !session.more {
+            break;
+        }
         let line = answered(agent, drawing, session, &input, &mut out);
         agent = line.agent;
         drawing = draws_on(drawing, session, &input);
         session.at = line.at;
         session = go_on(rt, line.over, session, &mut input, &out);
-        turns -= 1;
     }
 }
 

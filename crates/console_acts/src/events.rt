@@ -23,25 +23,18 @@ fn word_of(command: u8) -> u8
 }
 
 // What a word says with the numbers behind id and time.
+#[tactic(auto, unfolding(crate::specs::Events::act_by))]
 fn act_by(command: u8, w: u64, x: u64, y: u64, z: u64) -> Act
     ensures { result ≡ act_by command w x y z }
 {
-    if command == commands::OPEN {
-        return opening(PADDED, w, x, y, z);
+    match command {
+        commands::OPEN => opening(PADDED, w, x, y, z),
+        commands::CHANGE => Act::Changes { count: w },
+        commands::HOLD => Act::Doors { held: true },
+        commands::LIFT => Act::Doors { held: false },
+        commands::SKIP => opening(STEADY, w, x, x, x),
+        _ => Act::Closes,
     }
-    if command == commands::CHANGE {
-        return Act::Changes { count: w };
-    }
-    if command == commands::HOLD {
-        return Act::Doors { held: true };
-    }
-    if command == commands::LIFT {
-        return Act::Doors { held: false };
-    }
-    if command == commands::SKIP {
-        return opening(STEADY, w, x, x, x);
-    }
-    Act::Closes
 }
 
 // The event of a line.

@@ -52,10 +52,10 @@ pub fn notice_with(sequence: u32, e: Event) -> Notice
     let act = e.act;
     let kind = kind_for(act);
     Notice {
-        sequence: sequence,
+        sequence,
         title: as_byte(e.title),
         time: e.time,
-        kind: kind,
+        kind,
     }
 }
 

@@ -1,38 +1,24 @@
 -- Laws of rows: the loops that write one place by place, and the lengths of those that the questions lend.
 use Prim.Native.Nat.{ℕ, zero, suc, ◌+◌, ◌<◌, ◌≤◌}
-use mathlib.Core.Path.{◌≡◌, refl, ap, ◌∙◌}
+use mathlib.Core.Path.{◌≡◌, refl}
 use mathlib.Core.List.{List}
-use native.Mathlib.Nat.{le_antisymm}
 use native.Mathlib.Omega.{arith}
 use native.Mathlib.Numerals.{add-one}
 use lib.ListN.{length, take, length-take}
-use Rattle.text.specs.Output.{Page, puts}
-use Rattle.text.proofs.Pages.{puts_then, same_room}
+use Rattle.text.specs.declared.page.Page.{Page}
+use Rattle.text.specs.Pages.{Puts}
+use Rattle.text.proofs.Pages.{then, nothing}
 use Rattle.console_answers.specs.Entries.{each}
 
--- of n places in all the first i are written, each by its text: p is the page before the loop, q the page so far
-pub record Passed (f : ℕ → List ℕ) (n : ℕ) (p : Page) (i : ℕ) (q : Page) : Type 0 where
-  pub within : i ≤ n
-  pub so_far_holds : q ≡ puts p (each f i)
-  pub room : length q.row ≡ length p.row
-
--- the loop's start, a turn of it and its end
-module _ (f : ℕ → List ℕ) (n : ℕ) (p : Page) where
-  pub passed_none : Passed f n p 0 p
-  unfolding each puts
-  passed_none = record { within = omega arith; so_far_holds = refl; room = refl }
-
-  pub passed_on : (i : ℕ) {q r : Page} → Passed f n p i q → i < n → r ≡ puts q (f i) → Passed f n p (i + 1) r
+-- places written one by one, each by its text: p is the page before the first of them, q the page behind the i-th
+module _ (f : ℕ → List ℕ) {p : Page} where
+  pub each_none : Puts p (each f 0) p
   unfolding each
-  passed_on i {q} h l g =
-      record {
-        within = omega arith;
-        so_far_holds = rw add-one (puts_then p (each f i) (f i) h.so_far_holds g);
-        room = same_room q (f i) g h.room;
-      }
+  each_none = nothing
 
-  pub passed_all : (i : ℕ) {q : Page} → Passed f n p i q → n ≤ i → q ≡ puts p (each f n)
-  passed_all i h l = h.so_far_holds ∙ ap (λ (j : ℕ). puts p (each f j)) (le_antisymm h.within l)
+  pub each_more : (i : ℕ) {q r : Page} → Puts p (each f i) q → Puts q (f i) r → Puts p (each f (i + 1)) r
+  unfolding each
+  each_more i h g = rw add-one (then h g)
 
 -- rows that agree in their first places are written alike
 pub each_same : (f g : ℕ → List ℕ) (n : ℕ) → ((j : ℕ) → j < n → f j ≡ g j) → each f n ≡ each g n

@@ -1,16 +1,16 @@
 // What is wrong with a line, in words, and help.
 
 ghost use Rattle.std.specs.Prelude.{◌≡◌};
-ghost use Rattle.text.specs.Output.{Written};
+ghost use Rattle.text.specs.Pages.{Puts};
 ghost use Rattle.console_answers.specs.Faults.{fault_words, usage_of, fault_text, help_text, from_one};
 
 use console_commands::commands;
-use text::{digits, output};
+use text::page::Page;
 use words::lines::put_line;
 
 // What is wrong with a line, each the line of its number, of which 0 is none.
-fn fault_words(out: &mut [u8], at: usize, fault: u8) -> usize
-    ensures { Written out.old at (fault_words fault) out.new result }
+fn fault_words(page: &mut Page<'_>, fault: u8)
+    ensures { Puts page.old (fault_words fault) page.new }
 {
     let words = b"\n\
         line longer than 4095 bytes\n\
@@ -25,25 +25,19 @@ fn fault_words(out: &mut [u8], at: usize, fault: u8) -> usize
         more than 17 titles\n\
         more than 4096 places\n\
         not a time\n";
-    put_line(out, at, words, fault)
+    put_line(page, words, fault);
 }
-
-// The last place that has a number when it is counted from 1.
-const LAST_PLACE: usize = 18_446_744_073_709_551_615;
 
 // A place of a line, counted from 1.
 fn from_one(place: usize) -> u64
     ensures { result ≡ from_one place }
 {
-    if place < LAST_PLACE {
-        return (place + 1) as u64;
-    }
-    place as u64
+    place.saturating_add(1) as u64
 }
 
 // How a command is written, each the line of its number, of which that of no command leads to help.
-pub fn put_usage(out: &mut [u8], at: usize, command: u8) -> usize
-    ensures { Written out.old at (usage_of command) out.new result }
+pub fn put_usage(page: &mut Page<'_>, command: u8)
+    ensures { Puts page.old (usage_of command) page.new }
 {
     let words = b"help lists the commands\n\
         fresh POOL\n\
@@ -80,25 +74,25 @@ pub fn put_usage(out: &mut [u8], at: usize, command: u8) -> usize
         when ID TIME close|hold|lift\n\
         when ID TIME close|hold|lift\n\
         when ID TIME close|hold|lift\n";
-    put_line(out, at, words, command)
+    put_line(page, words, command);
 }
 
 // What is wrong with a line, at which of its bytes, and how its command is written.
-pub fn put_fault(out: &mut [u8], at: usize, fault: u8, place: usize, command: u8) -> usize
-    ensures { Written out.old at (fault_text fault place command) out.new result }
+pub fn put_fault(page: &mut Page<'_>, fault: u8, place: usize, command: u8)
+    ensures { Puts page.old (fault_text fault place command) page.new }
 {
-    let a = output::put(out, at, b"? ");
-    let b = fault_words(out, a, fault);
-    let c = output::put(out, b, b" at byte ");
-    let d = digits::put_number(out, c, from_one(place));
-    let e = output::put(out, d, b": ");
-    put_usage(out, e, command)
+    page.put(b"? ");
+    fault_words(page, fault);
+    page.put(b" at byte ");
+    page.put_number(from_one(place));
+    page.put(b": ");
+    put_usage(page, command);
 }
 
 // The commands as help lists them.
 const LISTED: usize = 31;
 
-const HELP_ORDER: [u8; LISTED] = [
+static HELP_ORDER: [u8; LISTED] = [
     commands::FRESH,
     commands::OPEN,
     commands::CHANGE,
@@ -133,16 +127,12 @@ const HELP_ORDER: [u8; LISTED] = [
 ];
 
 // The commands, a line each.
-pub fn put_help(out: &mut [u8], at: usize) -> usize
-    ensures { Written out.old at help_text out.new result }
+pub fn put_help(page: &mut Page<'_>)
+    ensures { Puts page.old help_text page.new }
 {
-    let order = HELP_ORDER;
-    let mut place = put_usage(out, at, order[0]);
-    let mut i: usize = 1;
-    while i < LISTED {
-        let p = output::put(out, place, b"\n");
-        place = put_usage(out, p, order[i]);
-        i += 1;
+    put_usage(page, HELP_ORDER[0]);
+    for command in &HELP_ORDER[1..] {
+        page.put(b"\n");
+        put_usage(page, *command);
     }
-    place
 }

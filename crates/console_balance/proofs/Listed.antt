@@ -10,7 +10,9 @@ use Rattle.rules.specs.Refusals.{done}
 use Rattle.story.specs.declared.State.{State}
 use Rattle.planner.specs.Moves.{Move}
 use Rattle.planner.specs.Outcome.{Answered, given, room_of, row_from}
-use Rattle.text.specs.Output.{Page, puts}
+use Rattle.text.specs.declared.page.Page.{Page}
+use Rattle.text.specs.Pages.{Puts}
+use Rattle.text.proofs.Pages.{told_as}
 use Rattle.words.specs.Words.{refusal_text}
 use Rattle.console_answers.proofs.Rows.{each_same}
 use Rattle.console_balance.specs.Balance.{no_move, many_text, changes_text, rows_text, listed_text}
@@ -47,11 +49,11 @@ module _ (s : State) (τ : ℕ) (rates is ts ks : List ℕ) (a n : ℕ) (is' ts'
       rw (stands (λ m. m.title) refl ms is is' e.ids j h, stands (λ m. m.time) refl ms ts ts' e.times j h, stands (λ m. m.count) refl ms ks ks' e.counts j h)
       refl)))
 
-  module _ (p q : Page) where
-    pub list_told : a ≡ done → q ≡ puts p (rows_text is' ts' ks' n) → q ≡ puts p (listed_text s τ rates (room_of is ts ks))
+  module _ {p q : Page} where
+    pub list_told : a ≡ done → Puts p (rows_text is' ts' ks' n) q → Puts p (listed_text s τ rates (room_of is ts ks)) q
     unfolding listed_text
-    list_told z f = rw (sym e.answer, eq-eqb _ _ z) (f ∙ ap (puts p) listed)
+    list_told z f = rw (sym e.answer, eq-eqb _ _ z) (told_as listed f)
 
-    pub list_refused : (a ≡ done → ⊥) → q ≡ puts p (refusal_text a 0) → q ≡ puts p (listed_text s τ rates (room_of is ts ks))
+    pub list_refused : (a ≡ done → ⊥) → Puts p (refusal_text a 0) q → Puts p (listed_text s τ rates (room_of is ts ks)) q
     unfolding listed_text
     list_refused z f = rw (sym e.answer, ne_eqb _ _ z) f

@@ -1,6 +1,5 @@
 // The changes that bring a pool to its sharing, as lines that can be entered: the planner's list over rates that a line gives
-// by id. `put_balance` takes a lent row and a place in it and gives back the place behind what it wrote; nothing is written
-// past the row's end.
+// by id. `put_balance` writes on a page; nothing is written past the end of its row.
 #![tactic(auto)]
 
 mod changes;
@@ -8,7 +7,7 @@ mod rates;
 
 ghost use Rattle.std.specs.Prelude.{◌≡◌};
 ghost use Rattle.planner.specs.Outcome.{room_of};
-ghost use Rattle.text.specs.Output.{Written};
+ghost use Rattle.text.specs.Pages.{Puts};
 ghost use Rattle.console_balance.specs.Balance.{listed_text, balance_answer, balance_told, balance_reason, balance_text};
 
 use console_commands::commands;
@@ -16,28 +15,28 @@ use console_limits::asked::put_asked;
 use console_lines::lines::NUMBERS_MOST;
 use rules::{DONE, OUTSIDE_LIMITS, TITLES_MAX};
 use story::State;
+use text::page::Page;
 
 // What the planner lists, into rows that are lent.
 fn put_listed(
-    out: &mut [u8],
-    at: usize,
+    page: &mut Page<'_>,
     s: State,
     time: u64,
     rates: &[u32],
     ids: &mut [u64],
     times: &mut [u64],
     counts: &mut [u64],
-) -> usize
-    ensures { Written out.old at
-        (listed_text s time rates.now (room_of ids.old times.old counts.old))
-        out.new result }
+)
+    ensures { Puts page.old (listed_text s time rates.now (room_of ids.old times.old counts.old))
+        page.new }
 {
     let listed = planner::planner(s, time, rates, ids, times, counts);
     let answer = listed.answer;
     if answer == DONE {
-        return changes::put_changes(out, at, ids, times, counts, listed.many);
+        changes::put_changes(page, ids, times, counts, listed.many);
+    } else {
+        words::put_refusal(page, answer, 0);
     }
-    words::put_refusal(out, at, answer, 0)
 }
 
 // What the line is answered by number, for what stands behind a refusal.
@@ -57,14 +56,8 @@ pub fn balance_verdict(s: State, numbers: [u64; NUMBERS_MOST], count: usize) -> 
 }
 
 // The list, or the refusal.
-fn put_told(
-    out: &mut [u8],
-    at: usize,
-    s: State,
-    numbers: [u64; NUMBERS_MOST],
-    count: usize,
-) -> usize
-    ensures { Written out.old at (balance_told s numbers count) out.new result }
+fn put_told(page: &mut Page<'_>, s: State, numbers: [u64; NUMBERS_MOST], count: usize)
+    ensures { Puts page.old (balance_told s numbers count) page.new }
 {
     let pairs = rates::pairs_of(count);
     if rates::ids_ok(&numbers, pairs) {
@@ -72,47 +65,32 @@ fn put_told(
         let mut ids = [0u64; TITLES_MAX];
         let mut times = [0u64; TITLES_MAX];
         let mut counts = [0u64; TITLES_MAX];
-        return put_listed(
-            out,
-            at,
-            s,
-            numbers[0],
-            &row,
-            &mut ids,
-            &mut times,
-            &mut counts,
-        );
+        put_listed(page, s, numbers[0], &row, &mut ids, &mut times, &mut counts);
+    } else {
+        words::put_refusal(page, OUTSIDE_LIMITS, 0);
     }
-    words::put_refusal(out, at, OUTSIDE_LIMITS, 0)
 }
 
 // What stands behind a refusal, where the last accepted event was at a time.
 fn put_reason(
-    out: &mut [u8],
-    at: usize,
+    page: &mut Page<'_>,
     answer: u8,
     last: u64,
     numbers: [u64; NUMBERS_MOST],
     count: usize,
-) -> usize
-    ensures { Written out.old at (balance_reason answer last numbers count) out.new result }
+)
+    ensures { Puts page.old (balance_reason answer last numbers count) page.new }
 {
     let pairs = rates::pairs_of(count);
     let end = 1 + 2 * pairs;
-    put_asked(out, at, answer, commands::BALANCE, &numbers[..end], last)
+    put_asked(page, answer, commands::BALANCE, &numbers[..end], last);
 }
 
 // The numbers of the line: a time, and an id and a rate for each title that has another rate than the usual one.
-pub fn put_balance(
-    out: &mut [u8],
-    at: usize,
-    s: State,
-    numbers: [u64; NUMBERS_MOST],
-    count: usize,
-) -> usize
-    ensures { Written out.old at (balance_text s numbers count) out.new result }
+pub fn put_balance(page: &mut Page<'_>, s: State, numbers: [u64; NUMBERS_MOST], count: usize)
+    ensures { Puts page.old (balance_text s numbers count) page.new }
 {
     let answer = balance_verdict(s, numbers, count);
-    let a = put_told(out, at, s, numbers, count);
-    put_reason(out, a, answer, s.last, numbers, count)
+    put_told(page, s, numbers, count);
+    put_reason(page, answer, s.last, numbers, count);
 }

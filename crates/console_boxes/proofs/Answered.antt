@@ -15,7 +15,8 @@ use Rattle.plans.specs.Forward.{blocks}
 use Rattle.plans.specs.Row.{SkipPlanned}
 use Rattle.rom.specs.Lanes.{rom_lane_answer, rom_lane_shows}
 use Rattle.rom.specs.Plan.{RomPlanned}
-use Rattle.text.specs.Output.{Page, puts}
+use Rattle.text.specs.declared.page.Page.{Page}
+use Rattle.text.specs.Pages.{Puts}
 use Rattle.words.specs.Words.{missed}
 use Rattle.console_answers.specs.Entries.{each}
 use Rattle.console_reasons.specs.Lanes.{lane_reason}
@@ -23,14 +24,14 @@ use Rattle.console_answers.specs.Outcomes.{done_text, with_text, value_text}
 use Rattle.console_boxes.specs.Lanes.{lane_text, rom_lane_reason, rom_lane_text}
 use Rattle.console_boxes.specs.Plan.{cells_text, planned_text, plan_text, rom_plan_text, skip_plan_text}
 
-module _ (p r : Page) where
+module _ {p r : Page} where
   pub lane_told_lem : (s : State) (i l τ a v : ℕ) → a ≡ lane_answer s i l τ → v ≡ lane_shows s i l τ
-      → r ≡ puts p (value_text a v 0 ++ lane_reason a s i l τ) → r ≡ puts p (lane_text s i l τ)
+      → Puts p (value_text a v 0 ++ lane_reason a s i l τ) r → Puts p (lane_text s i l τ) r
   unfolding lane_text
   lane_told_lem s i l τ a v e f g = rw (← e, ← f) g
 
   pub rom_lane_told : (s : State) (i l τ a v : ℕ) → a ≡ rom_lane_answer s i l τ → v ≡ rom_lane_shows s i l τ
-      → r ≡ puts p (value_text a v 0 ++ rom_lane_reason a s i l τ) → r ≡ puts p (rom_lane_text s i l τ)
+      → Puts p (value_text a v 0 ++ rom_lane_reason a s i l τ) r → Puts p (rom_lane_text s i l τ) r
   unfolding rom_lane_text
   rom_lane_told s i l τ a v e f g = rw (← e, ← f) g
 

@@ -64,10 +64,7 @@ fn small(floor: u64, cap: u64, count: u64, arrival: u64, row: &mut [u16]) -> Tol
 fn one_less(count: u64) -> u64
     ensures { result ≡ count - 1 }
 {
-    if count < 1 {
-        return 0;
-    }
-    count - 1
+    count.saturating_sub(1)
 }
 
 // A skip-forward title of a count has 2^(count-1) blocks.

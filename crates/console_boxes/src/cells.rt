@@ -1,33 +1,30 @@
 // The cells of a plan, each behind a space.
 
 ghost use Rattle.std.specs.Prelude.{◌≤◌, length};
-ghost use Rattle.text.specs.Output.{Written};
+ghost use Rattle.text.specs.Pages.{Puts};
 ghost use Rattle.console_boxes.specs.Plan.{cell_entry, cells_text};
 
 use console_answers::entries::put_entry;
 use plans::NEVER;
-use text::output;
+use text::page::Page;
 
 // A cell of a plan: its number, or `-` where it is never taken.
-fn put_cell(out: &mut [u8], at: usize, n: u16) -> usize
-    ensures { Written out.old at (cell_entry n) out.new result }
+fn put_cell(page: &mut Page<'_>, n: u16)
+    ensures { Puts page.old (cell_entry n) page.new }
 {
     if n == NEVER {
-        return output::put(out, at, b" -");
+        page.put(b" -");
+    } else {
+        put_entry(page, n as u64);
     }
-    put_entry(out, at, n as u64)
 }
 
 // The first n cells of a plan.
-pub fn put_cells(out: &mut [u8], at: usize, row: &[u16], n: usize) -> usize
+pub fn put_cells(page: &mut Page<'_>, row: &[u16], n: usize)
     requires { n ≤ length row.now }
-    ensures { Written out.old at (cells_text row.now n) out.new result }
+    ensures { Puts page.old (cells_text row.now n) page.new }
 {
-    let mut place = at;
-    let mut i = 0;
-    while i < n {
-        place = put_cell(out, place, row[i]);
-        i += 1;
+    for cell in &row[..n] {
+        put_cell(page, *cell);
     }
-    place
 }

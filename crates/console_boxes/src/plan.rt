@@ -1,7 +1,7 @@
 // The plan that a line asks for, written.
 
 ghost use Rattle.std.specs.Prelude.{◌≡◌, ◌<◌, ◌≤◌, length};
-ghost use Rattle.text.specs.Output.{Written};
+ghost use Rattle.text.specs.Pages.{Puts};
 ghost use Rattle.console_commands.specs.Commands.{places_most};
 ghost use Rattle.console_limits.specs.Asked.{limit_reason};
 ghost use Rattle.console_lines.specs.Lines.{numbers_most};
@@ -26,6 +26,7 @@ use console_limits::asked::put_limits;
 use console_lines::lines::Line;
 use rom_table::is_other;
 use rules::OUTSIDE_LIMITS;
+use text::page::Page;
 
 // Where the places stand in a line that asks for a plan: behind the four numbers of a title and a box, or behind count and
 // arrival.
@@ -43,17 +44,13 @@ fn place_of(command: u8) -> usize
 }
 
 // How many places a plan is lent, up to the most, which it is where the line leaves them out.
+#[tactic(auto, unfolding(crate::specs::Plan::places_in))]
 fn places_of(line: Line) -> usize
     ensures { (result ≡ places_in line) × (result ≤ places_most) }
 {
-    let count = line.count;
-    let n = line.numbers;
     let place = place_of(line.command);
-    if place < count {
-        let places = n[place];
-        if places < PLACES_MOST as u64 {
-            return places as usize;
-        }
+    if place < line.count {
+        return line.numbers[place].min(PLACES_MOST as u64) as usize;
     }
     PLACES_MOST
 }
@@ -69,57 +66,52 @@ fn blank_row() -> [u16; PLACES_MOST]
 fn is_other_plan(answer: u8, line: Line) -> bool
     ensures { result ≡ is_other_plan answer line }
 {
-    let command = line.command;
     let n = line.numbers;
-    if answer == OUTSIDE_LIMITS {
-        if command == commands::ROM_PLAN {
-            return is_other(n[0], n[1]);
-        }
-        return false;
-    }
-    false
+    answer == OUTSIDE_LIMITS && line.command == commands::ROM_PLAN && is_other(n[0], n[1])
 }
 
 // Which number of the title or of the box is out of its limits.
-fn put_plan_limits(out: &mut [u8], at: usize, answer: u8, line: Line) -> usize
-    ensures { Written out.old at (limit_reason answer line.command (plan_numbers line))
-        out.new result }
+fn put_plan_limits(page: &mut Page<'_>, answer: u8, line: Line)
+    ensures { Puts page.old (limit_reason answer line.command (plan_numbers line))
+        page.new }
 {
     let command = line.command;
     let n = line.numbers;
     if command == commands::SKIP_PLAN {
         let numbers = [n[0], n[1]];
-        return put_limits(out, at, answer, command, &numbers);
+        put_limits(page, answer, command, &numbers);
+    } else {
+        let numbers = [n[0], n[1], n[2], n[3]];
+        put_limits(page, answer, command, &numbers);
     }
-    let numbers = [n[0], n[1], n[2], n[3]];
-    put_limits(out, at, answer, command, &numbers)
 }
 
 // What stands behind a refusal.
-fn put_plan_reason(out: &mut [u8], at: usize, answer: u8, line: Line) -> usize
-    ensures { Written out.old at (plan_reason answer line) out.new result }
+fn put_plan_reason(page: &mut Page<'_>, answer: u8, line: Line)
+    ensures { Puts page.old (plan_reason answer line) page.new }
 {
     if is_other_plan(answer, line) {
-        return put_small(out, at);
+        put_small(page);
+    } else {
+        put_plan_limits(page, answer, line);
     }
-    put_plan_limits(out, at, answer, line)
 }
 
 // Over a row that is lent: the answer, and behind it the cells, or why it is refused.
-fn put_row(out: &mut [u8], at: usize, line: Line, row: &mut [u16]) -> usize
-    ensures { Written out.old at (plan_said line row.old) out.new result }
+fn put_row(page: &mut Page<'_>, line: Line, row: &mut [u16])
+    ensures { Puts page.old (plan_said line row.old) page.new }
 {
     let told = calls::fill(line, row);
     let answer = told.answer;
-    let a = outcomes::put_done(out, at, answer, told.named);
-    let b = put_cells(out, a, row, told.cells);
-    put_plan_reason(out, b, answer, line)
+    outcomes::put_done(page, answer, told.named);
+    put_cells(page, row, told.cells);
+    put_plan_reason(page, answer, line);
 }
 
-pub fn put_plan(out: &mut [u8], at: usize, line: Line) -> usize
-    ensures { Written out.old at (plan_in line) out.new result }
+pub fn put_plan(page: &mut Page<'_>, line: Line)
+    ensures { Puts page.old (plan_in line) page.new }
 {
     let n = places_of(line);
     let mut row = blank_row();
-    put_row(out, at, line, &mut row[..n])
+    put_row(page, line, &mut row[..n]);
 }

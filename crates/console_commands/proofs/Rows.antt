@@ -1,18 +1,21 @@
 -- Laws of the table of commands: a computed test over all rows holds of each, and the search for a word goes row by row from
 -- the last.
-use Prim.Native.Nat.{ℕ, zero, suc, ◌+◌, ◌-◌, ◌<◌, ◌≤◌}
-use mathlib.Core.Path.{◌≡◌, refl, sym, ap, ◌∙◌}
+use Prim.Native.Nat.{ℕ, zero, suc, ◌-◌, ◌<◌, ◌≤◌}
+use mathlib.Core.Path.{◌≡◌, refl, ap, ◌∙◌}
 use mathlib.Core.Bool.{Bool, true}
 use mathlib.Core.List.{List, [], ◌∷◌}
 use native.Mathlib.Omega.{arith}
 use borrow.Author.Tests.{leb-true, eqb-true}
-use lib.ListN.{length, get_or, take, drop, get_or-eq_default}
-use lib.Seq.{drop-cons, get_or-take, get_or-drop}
+use lib.ListN.{length, get_or, take, drop}
+use lib.Seq.{drop-cons}
 use lib.Dec.{leb, eqb}
 use Rattle.rules.specs.Limits.{both}
 use Rattle.rules.specs.Refusals.{pick}
 use Rattle.rules.proofs.Tests.{both_l, both_r}
 use Rattle.text.specs.declared.bytes.Sort.TheVariants.{Word}
+use Rattle.std.specs.Slice.{IsItemAt}
+use Rattle.std.specs.Option.{unwrap_or, option_copied}
+use Rattle.std.proofs.Common.{Option, Bor, rules}
 use Rattle.text.specs.Texts.{text, same}
 use Rattle.text.specs.Bytes.{run, run_end}
 use Rattle.text.proofs.Runs.{run_end_high}
@@ -42,25 +45,11 @@ inside : (i : ℕ) → i < command_count → i < length command_table
 unfolding command_table
 inside i h = h
 
--- the first rows of the table are those of the first commands, and a part from the a-th on those of the commands from a on
-pub in_front : (n i : ℕ) (d : Command) → i < n → i < command_count → get_or (take n command_table) i d ≡ command_of i
+-- what a lent row at a place, or else the row of no command, is
+pub lent_row : (c : ℕ) (r : Option (Bor Command)) → IsItemAt command_table c r
+    → unwrap_or (option_copied r) no_command ≡ command_of c
 unfolding command_of
-in_front n i d few h = get_or-take n _ i d few ∙ any_default command_table i d no_command (inside i h)
-
-pub in_part : (a n i : ℕ) (d : Command) → i < n → a + i < command_count
-    → get_or (take n (drop a command_table)) i d ≡ command_of (a + i)
-unfolding command_of
-in_part a n i d few h =
-    get_or-take n _ i d few ∙ get_or-drop a command_table i d ∙ any_default command_table (a + i) d no_command (inside (a + i) h)
-
--- counted from a and from the start
-pub from_part : (a c : ℕ) → a ≤ c → command_of (a + (c - a)) ≡ command_of c
-from_part a c h = let e : a + (c - a) ≡ c = omega arith in ap command_of e
-
--- past the last row stands that of a line that asks nothing
-pub past_rows : (c : ℕ) → command_count ≤ c → no_command ≡ command_of c
-unfolding command_of command_table
-past_rows c h = sym (get_or-eq_default command_table no_command h)
+lent_row c r h = search rules
 
 -- no command takes more words than a share
 pub most_few : (c : ℕ) → (command_of c).most ≤ words_most

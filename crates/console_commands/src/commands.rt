@@ -1,7 +1,7 @@
 // The console's commands by number, the words that name them, and how many numbers each takes, of which size and which are
 // times.
 
-ghost use Rattle.std.specs.Prelude.{◌≡◌, ◌+◌, ◌-◌, ◌<◌, ◌≤◌};
+ghost use Rattle.std.specs.Prelude.{◌≡◌, ◌≤◌};
 ghost use Rattle.rules.specs.Refusals.{pick};
 ghost use Rattle.text.specs.Texts.{same};
 ghost use Rattle.console_commands.specs.Commands.{
@@ -19,10 +19,6 @@ ghost use Rattle.console_commands.specs.Commands.{
   is_timed,
   asks_plan,
   words_most,
-  do_lane,
-  write_open,
-  do_when,
-  command_count,
 };
 ghost use Rattle.console_commands.specs.Letters.{lowered};
 
@@ -32,6 +28,7 @@ use text::bytes;
 use text::bytes::Sort;
 use text::numbers::{BYTE_MOST, FOUR_BYTES_MOST, TOP};
 
+// kept: numbers and no enum, since `most`, `limit`, `crowded_fault` and the calls above answer for every u8 (docs/PROMISES.md).
 // A line that asks nothing.
 pub const NONE: u8 = 0;
 
@@ -111,6 +108,7 @@ pub const WHEN_HOLD: u8 = 33;
 pub const WHEN_LIFT: u8 = 34;
 
 // What can be wrong with a line.
+// kept: numbers, since `fault_words` of `console_answers` has a line for each and an empty one for every other u8 (specs/Faults).
 pub const NO_FAULT: u8 = 0;
 
 pub const TOO_LONG: u8 = 1;
@@ -222,9 +220,9 @@ const NOTHING: Command = Command {
     limits: FREE,
 };
 
-// The rows of the commands by their number, in parts, since a table is built wherever it is named: fresh and the events, what
-// asks and tells, the kinds of a write, which two words name, and what shows a pool to people, with quit and draw.
-const ACTS: [Command; ASKS_FROM] = [
+// The rows of the commands by their number.
+static TABLE: [Command; COMMANDS] = [
+    // none, fresh and the events
     NOTHING,
     Command {
         word: *b"fresh   ",
@@ -282,9 +280,7 @@ const ACTS: [Command; ASKS_FROM] = [
         times: 2,
         limits: FREE,
     },
-];
-
-const ASKS: [Command; WRITES_FROM - ASKS_FROM] = [
+    // what asks and tells
     Command {
         word: *b"lane    ",
         least: 3,
@@ -381,9 +377,7 @@ const ASKS: [Command; WRITES_FROM - ASKS_FROM] = [
         times: 0,
         limits: FREE,
     },
-];
-
-const WRITES: [Command; VIEWS_FROM - WRITES_FROM] = [
+    // the kinds of a write, which two words name
     Command {
         word: *b"        ",
         least: 7,
@@ -432,9 +426,7 @@ const WRITES: [Command; VIEWS_FROM - WRITES_FROM] = [
         times: 2,
         limits: [SEQUENCE, ID, TIME, LENGTH, COUNT, ANY, ANY],
     },
-];
-
-const VIEWS: [Command; COMMANDS - VIEWS_FROM] = [
+    // what shows a pool to people, with quit and draw
     Command {
         word: *b"when    ",
         least: 3,
@@ -509,58 +501,11 @@ const VIEWS: [Command; COMMANDS - VIEWS_FROM] = [
     },
 ];
 
-const ASKS_FROM: usize = LANE as usize;
-
-const WRITES_FROM: usize = WRITE_OPEN as usize;
-
-const VIEWS_FROM: usize = WHEN as usize;
-
-fn act_row(i: usize) -> Command
-    requires { i < do_lane }
-    ensures { result ≡ command_of i }
-{
-    ACTS[i]
-}
-
-fn ask_row(i: usize) -> Command
-    requires { i < write_open - do_lane }
-    ensures { result ≡ command_of (do_lane + i) }
-{
-    ASKS[i]
-}
-
-fn write_row(i: usize) -> Command
-    requires { i < do_when - write_open }
-    ensures { result ≡ command_of (write_open + i) }
-{
-    WRITES[i]
-}
-
-fn view_row(i: usize) -> Command
-    requires { i < command_count - do_when }
-    ensures { result ≡ command_of (do_when + i) }
-{
-    VIEWS[i]
-}
-
 // The row of a command; past the last, that of a line that asks nothing.
 fn entry(command: u8) -> Command
     ensures { result ≡ command_of command }
 {
-    let k = command as usize;
-    if k < ASKS_FROM {
-        return act_row(k);
-    }
-    if k < WRITES_FROM {
-        return ask_row(k - ASKS_FROM);
-    }
-    if k < VIEWS_FROM {
-        return write_row(k - WRITES_FROM);
-    }
-    if k < COMMANDS {
-        return view_row(k - VIEWS_FROM);
-    }
-    NOTHING
+    TABLE.get(command as usize).copied().unwrap_or(NOTHING)
 }
 
 // command where the word is its name, in either case, or other.
@@ -581,10 +526,8 @@ pub fn verb(word: &[u8]) -> u8
     ensures { result ≡ verb_of word.now }
 {
     let mut found = NONE;
-    let mut left = COMMANDS as u8;
-    while 0 < left {
-        left -= 1;
-        found = named(word, left, found);
+    for command in (0..COMMANDS as u8).rev() {
+        found = named(word, command, found);
     }
     found
 }
@@ -597,49 +540,43 @@ pub fn most(command: u8) -> usize
 }
 
 // Whether a command may end after so many words.
+#[tactic(auto, unfolding(crate::specs::Commands::enough, crate::specs::Commands::least_of))]
 pub fn enough(command: u8, count: usize) -> bool
     ensures { result ≡ suffices command count }
 {
-    if command == SHARE {
-        return count % TITLE_NUMBERS == 1;
+    match command {
+        SHARE => count % TITLE_NUMBERS == 1,
+        BALANCE => count % RATED_NUMBERS == 1,
+        _ => entry(command).least <= count,
     }
-    if command == BALANCE {
-        return count % RATED_NUMBERS == 1;
-    }
-    entry(command).least <= count
 }
 
 // Whether a command's word is HEX.
+#[tactic(auto, unfolding(crate::specs::Commands::takes_hex))]
 pub fn takes_hex(command: u8) -> bool
     ensures { result ≡ takes_hex command }
 {
-    if command == READ {
-        return true;
-    }
-    command == NOTICE
+    matches!(command, READ | NOTICE)
 }
 
 // Whether the next word is the kind of a notice to write, which follows the sequence.
+#[tactic(auto, unfolding(crate::specs::Commands::takes_kind))]
 pub fn takes_kind(command: u8, count: usize) -> bool
     ensures { result ≡ takes_kind command count }
 {
-    if command == WRITE {
-        return count == 1;
-    }
-    false
+    command == WRITE && count == 1
 }
 
 // Whether the next word may be an event whose time is asked for, which follows id and time.
+#[tactic(auto, unfolding(crate::specs::Commands::takes_act))]
 pub fn takes_act(command: u8, count: usize) -> bool
     ensures { result ≡ takes_act command count }
 {
-    if command == WHEN {
-        return count == 2;
-    }
-    false
+    command == WHEN && count == 2
 }
 
 // Whether the n-th number, from 0, is a time or a length.
+#[tactic(auto, unfolding(crate::specs::Commands::is_timed))]
 pub fn is_timed(command: u8, n: usize) -> bool
     ensures { result ≡ is_timed command n }
 {
@@ -647,49 +584,35 @@ pub fn is_timed(command: u8, n: usize) -> bool
         return n % TITLE_NUMBERS == SHARE_LENGTH;
     }
     let row = entry(command);
-    let time = row.time;
-    let times = row.times;
-    if n < time {
-        return false;
-    }
-    n - time < times
+    row.time <= n && n - row.time < row.times
 }
 
 // Whether a command asks for a plan, whose places may stand last.
+#[tactic(auto, unfolding(crate::specs::Commands::asks_plan))]
 pub fn asks_plan(command: u8) -> bool
     ensures { result ≡ asks_plan command }
 {
-    if command == PLAN {
-        return true;
-    }
-    if command == SKIP_PLAN {
-        return true;
-    }
-    command == ROM_PLAN
+    matches!(command, PLAN | SKIP_PLAN | ROM_PLAN)
 }
 
 // The limit of the n-th number, from 0.
+#[tactic(auto, unfolding(crate::specs::Commands::limit_of))]
 pub fn limit(command: u8, n: usize) -> u64
     ensures { result ≡ limit_of command n }
 {
-    if n < LIMITED {
-        let row = entry(command);
-        return row.limits[n];
-    }
-    0
+    entry(command).limits.get(n).copied().unwrap_or(0)
 }
 
 // The fault of a word too many.
+#[tactic(auto, unfolding(crate::specs::Commands::crowded))]
 pub fn crowded_fault(command: u8) -> u8
     ensures { result ≡ crowded command }
 {
-    if command == STATUS {
-        return TOO_MANY_IDS;
+    match command {
+        STATUS => TOO_MANY_IDS,
+        SHARE => TOO_MANY_TITLES,
+        _ => TOO_MANY,
     }
-    if command == SHARE {
-        return TOO_MANY_TITLES;
-    }
-    TOO_MANY
 }
 
 // The fault of a number above its limit.

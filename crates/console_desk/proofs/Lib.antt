@@ -1,7 +1,5 @@
--- Laws of the desk: each test on a line says which case of the definitions it is; and that what stands behind a refusal is so.
-pub mod Asking
-pub mod Viewed
+-- Laws of the desk: that what stands behind a refusal is so, what a page leaves in its row, and that a call has one outcome.
 pub mod Spelt
-pub mod Acting
-pub mod Lines
+pub mod Silent
+pub mod Ended
 pub mod Unique

@@ -1,8 +1,8 @@
 // The operator's desk: one line of the console, answered over an agent. `answer` takes the agent, the line's bytes, a
 // lent row and a place in it, and gives back the agent after the line and the place behind its answer, as
 // specs/Desk.antt defines them. It has no `requires`: any agent and any bytes have an answer, and no answer goes past
-// the row's end. `reply`, `ends`, `put_followed` and `put_fault_line` are for the head-end's desk, which reads lines alike,
-// and so is `behind`, what stands behind the refusal of a line that would change the agent.
+// the row's end. `reply`, which answers on a page, `ends`, `put_followed` and `put_fault_line` are for the head-end's desk,
+// which reads lines alike, and so is `behind`, what stands behind the refusal of a line that would change the agent.
 #![tactic(auto)]
 
 mod asks;
@@ -12,7 +12,7 @@ mod viewing;
 mod whens;
 
 ghost use Rattle.std.specs.Prelude.{◌≡◌, ◌≤◌, length};
-ghost use Rattle.text.specs.Output.{Written};
+ghost use Rattle.text.specs.Pages.{Puts};
 ghost use Rattle.console_lines.specs.Lines.{longest, meaning};
 ghost use Rattle.console_acts.specs.Acts.{agent_acted};
 ghost use Rattle.console_desk.specs.Desk.{
@@ -37,7 +37,7 @@ use console_answers::{faults, outcomes};
 use console_commands::commands;
 use console_lines::lines;
 use console_lines::lines::Line;
-use text::output;
+use text::page::Page;
 
 // A number of a plan has 16 bits: a blank, and five digits at most.
 const NUMBER_BYTES: usize = 6;
@@ -45,14 +45,7 @@ const NUMBER_BYTES: usize = 6;
 // No answer is longer: the longest is a plan's, with its 0 and its newline.
 pub const ANSWER_MAX: usize = 2 + NUMBER_BYTES * commands::PLACES_MOST;
 
-// What a line leaves: the agent, and the place behind what was answered.
-#[derive(Clone, Copy)]
-pub struct Turned {
-    pub agent: Agent,
-    pub at: usize,
-}
-
-// The same, and whether the session is over.
+// What a line leaves: the agent, the place behind what was answered, and whether the session is over.
 #[derive(Clone, Copy)]
 pub struct Answered {
     pub agent: Agent,
@@ -64,130 +57,107 @@ pub struct Answered {
 fn is_silent(command: u8) -> bool
     ensures { result ≡ is_silent command }
 {
-    if command == commands::NONE {
-        return true;
-    }
-    command == commands::QUIT
+    matches!(command, commands::NONE | commands::QUIT)
 }
 
 // Whether a command may change the agent.
+#[tactic(auto, unfolding(crate::specs::Desk::may_change))]
 fn may_change(command: u8) -> bool
     ensures { result ≡ may_change command }
 {
-    if command == commands::NOTICE {
-        return true;
-    }
-    rules::within(
-        commands::FRESH as u64,
-        commands::SKIP as u64,
-        command as u64,
-    )
+    command == commands::NOTICE
+        || rules::within(
+            commands::FRESH as u64,
+            commands::SKIP as u64,
+            command as u64,
+        )
 }
 
 // What an event or a notice was answered, and the lanes held at the time of the last that was accepted.
-pub fn put_followed(out: &mut [u8], at: usize, answer: u8, agent: Agent, named: u64) -> usize
-    ensures { Written out.old at (followed_text answer agent named) out.new result }
+pub fn put_followed(page: &mut Page<'_>, answer: u8, agent: Agent, named: u64)
+    ensures { Puts page.old (followed_text answer agent named) page.new }
 {
     let state = agent.state;
     let time = state.last;
     let held = scheduler::held(state, time).lanes;
-    outcomes::put_value(out, at, answer, held, named)
+    outcomes::put_value(page, answer, held, named);
 }
 
 // What is said of a command that may change the agent, by its answer and the agent after it.
-fn put_told(
-    out: &mut [u8],
-    at: usize,
-    answer: u8,
-    next: Agent,
-    agent: Agent,
-    line: Line,
-    s: &[u8],
-) -> usize
+fn put_told(page: &mut Page<'_>, answer: u8, next: Agent, agent: Agent, line: Line, s: &[u8])
     requires { length s.now ≤ longest }
-    ensures { Written out.old at (told_text answer next agent line s.now) out.new result }
+    ensures { Puts page.old (told_text answer next agent line s.now) page.new }
 {
     let command = line.command;
     if command == commands::FRESH {
-        return outcomes::put_done(out, at, answer, 0);
+        outcomes::put_done(page, answer, 0);
+    } else {
+        put_followed(page, answer, next, named::by_line(answer, agent, line, s));
     }
-    put_followed(
-        out,
-        at,
-        answer,
-        next,
-        named::by_line(answer, agent, line, s),
-    )
 }
 
-// A command that may change the agent.
-fn act(agent: Agent, line: Line, s: &[u8], out: &mut [u8], at: usize) -> Turned
+// A command that may change the agent: the agent after it.
+fn act(page: &mut Page<'_>, agent: Agent, line: Line, s: &[u8]) -> Agent
     requires { length s.now ≤ longest }
-    ensures { Left (agent_acted agent line s.now) out.old at
-        (act_text agent line s.now) result.agent out.new result.at }
+    ensures agent { result ≡ agent_acted agent line s.now }
+    ensures written { Puts page.old (act_text agent line s.now) page.new }
 {
     let f = acts::follow(agent, line, s);
     let next = f.agent;
     let answer = f.answer;
-    let p = put_told(out, at, answer, next, agent, line, s);
-    let q = behind::put_behind(out, p, answer, agent, line, s);
-    Turned { agent: next, at: q }
+    put_told(page, answer, next, agent, line, s);
+    behind::put_behind(page, answer, agent, line, s);
+    next
 }
 
-// A line with nothing wrong.
-fn whole(agent: Agent, line: Line, s: &[u8], out: &mut [u8], at: usize) -> Turned
+// A line with nothing wrong: the agent after it.
+fn whole(page: &mut Page<'_>, agent: Agent, line: Line, s: &[u8]) -> Agent
     requires { length s.now ≤ longest }
-    ensures { Left (after_whole agent line s.now) out.old at
-        (whole_text agent line s.now) result.agent out.new result.at }
+    ensures agent { result ≡ after_whole agent line s.now }
+    ensures written { Puts page.old (whole_text agent line s.now) page.new }
 {
     let command = line.command;
     if is_silent(command) {
-        return Turned { agent, at };
+        return agent;
     }
     if may_change(command) {
-        let t = act(agent, line, s, out, at);
-        let next = t.agent;
-        let p = output::put(out, t.at, b"\n");
-        return Turned { agent: next, at: p };
+        let next = act(page, agent, line, s);
+        page.put(b"\n");
+        return next;
     }
-    let state = agent.state;
-    let q = ask(state, line, s, out, at);
-    let e = output::put(out, q, b"\n");
-    Turned { agent, at: e }
+    ask(page, agent.state, line, s);
+    page.put(b"\n");
+    agent
 }
 
 // What is wrong with a line of a command, and its newline.
-pub fn put_fault_line(out: &mut [u8], at: usize, fault: u8, place: usize, command: u8) -> usize
-    ensures { Written out.old at (fault_line fault place command) out.new result }
+pub fn put_fault_line(page: &mut Page<'_>, fault: u8, place: usize, command: u8)
+    ensures { Puts page.old (fault_line fault place command) page.new }
 {
-    let p = faults::put_fault(out, at, fault, place, command);
-    output::put(out, p, b"\n")
+    faults::put_fault(page, fault, place, command);
+    page.put(b"\n");
 }
 
-// Answers one line that has been read.
-pub fn reply(agent: Agent, line: Line, s: &[u8], out: &mut [u8], at: usize) -> Turned
+// Answers one line that has been read: the agent after it.
+pub fn reply(page: &mut Page<'_>, agent: Agent, line: Line, s: &[u8]) -> Agent
     requires { line ≡ meaning s.now }
-    ensures { Left (after_line agent s.now) out.old at
-        (line_text agent s.now) result.agent out.new result.at }
+    ensures agent { result ≡ after_line agent s.now }
+    ensures written { Puts page.old (line_text agent s.now) page.new }
 {
     let fault = line.fault;
     if fault == commands::NO_FAULT {
-        return whole(agent, line, s, out, at);
+        return whole(page, agent, line, s);
     }
-    let e = put_fault_line(out, at, fault, line.place, line.command);
-    Turned { agent, at: e }
+    put_fault_line(page, fault, line.place, line.command);
+    agent
 }
 
 // Whether the session is over after a line that has been read.
+#[tactic(auto, unfolding(crate::specs::Desk::is_last))]
 pub fn ends(line: Line) -> bool
     ensures { result ≡ is_last line }
 {
-    let fault = line.fault;
-    let command = line.command;
-    if fault == commands::NO_FAULT {
-        return command == commands::QUIT;
-    }
-    false
+    line.fault == commands::NO_FAULT && line.command == commands::QUIT
 }
 
 // Answers one line, given without its newline.
@@ -198,11 +168,11 @@ pub fn answer(agent: Agent, s: &[u8], out: &mut [u8], at: usize) -> Answered
 {
     let line = lines::parse(s);
     let over = ends(line);
-    let t = reply(agent, line, s, out, at);
-    let next = t.agent;
+    let mut page = Page::from(out, at);
+    let after = reply(&mut page, agent, line, s);
     Answered {
-        agent: next,
-        at: t.at,
-        over: over,
+        agent: after,
+        at: page.end(),
+        over,
     }
 }

@@ -1,7 +1,7 @@
 // Help, draw, and what concerns notices alone.
 
 ghost use Rattle.std.specs.Prelude.{◌≡◌, ◌≤◌, length};
-ghost use Rattle.text.specs.Output.{Written};
+ghost use Rattle.text.specs.Pages.{Puts};
 ghost use Rattle.console_lines.specs.Lines.{longest};
 ghost use Rattle.console_desk.specs.Asks.{tell_text};
 
@@ -10,22 +10,21 @@ use console_answers::faults;
 use console_commands::commands;
 use console_lines::lines::Line;
 use console_notices::{hex, reading, writing};
-use text::output;
+use text::page::Page;
 
-pub fn tell(line: Line, s: &[u8], out: &mut [u8], at: usize) -> usize
+pub fn tell(page: &mut Page<'_>, line: Line, s: &[u8])
     requires { length s.now ≤ longest }
-    ensures { Written out.old at (tell_text line s.now) out.new result }
+    ensures { Puts page.old (tell_text line s.now) page.new }
 {
     let command = line.command;
-    if command == commands::HELP {
-        return faults::put_help(out, at);
-    }
-    if command == commands::DRAW {
-        return output::put(out, at, b"0");
-    }
     let n = line.numbers;
-    if command == commands::READ {
-        return reading::put_reading(out, at, hex::reading(s, n[0], n[1]));
+    if command == commands::HELP {
+        faults::put_help(page);
+    } else if command == commands::DRAW {
+        page.put(b"0");
+    } else if command == commands::READ {
+        reading::put_reading(page, hex::reading(s, n[0], n[1]));
+    } else {
+        writing::put_bytes(page, notice_of(line));
     }
-    writing::put_bytes(out, at, notice_of(line))
 }

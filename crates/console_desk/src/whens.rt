@@ -8,19 +8,16 @@ use console_lines::lines::Line;
 use story::{Act, Event};
 
 // What it does to its title: a change to a count where it names one.
+#[tactic(auto, unfolding(crate::specs::Asks::when_act))]
 fn act_asked(command: u8, count: u64) -> Act
     ensures { result ≡ when_act command count }
 {
-    if command == commands::WHEN_CLOSE {
-        return Act::Closes;
+    match command {
+        commands::WHEN_CLOSE => Act::Closes,
+        commands::WHEN_HOLD => Act::Doors { held: true },
+        commands::WHEN_LIFT => Act::Doors { held: false },
+        _ => Act::Changes { count },
     }
-    if command == commands::WHEN_HOLD {
-        return Act::Doors { held: true };
-    }
-    if command == commands::WHEN_LIFT {
-        return Act::Doors { held: false };
-    }
-    Act::Changes { count: count }
 }
 
 pub fn event_asked(line: Line) -> Event
@@ -31,6 +28,6 @@ pub fn event_asked(line: Line) -> Event
     Event {
         title: n[0],
         time: n[1],
-        act: act,
+        act,
     }
 }

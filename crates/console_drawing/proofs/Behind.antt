@@ -6,7 +6,9 @@ use mathlib.Core.List.{List}
 use borrow.Author.Tests.{eq-eqb, ne_eqb}
 use Rattle.rules.specs.Refusals.{done}
 use Rattle.agent.specs.declared.Agent.{Agent}
-use Rattle.text.specs.Output.{Page, puts}
+use Rattle.text.specs.declared.page.Page.{Page}
+use Rattle.text.specs.Pages.{Puts}
+use Rattle.text.proofs.Pages.{nothing}
 use Rattle.console_commands.specs.Commands
 use Rattle.console_lines.specs.declared.lines.Line.{Line}
 use Rattle.console_lines.specs.Lines.{meaning}
@@ -15,30 +17,30 @@ use Rattle.console_drawing.specs.Pictures.{title_picture}
 use Rattle.console_drawing.specs.Drawn.{says_event, title_in, event_drawn, drawn_behind, draws_after}
 
 -- an event, by what it was answered
-module _ (g next : Agent) (l : Line) (s : List ℕ) (a : ℕ) (e : a ≡ answer_after g l s) where
-  pub draws_accepted : (i : ℕ) (p q : Page) → a ≡ done → next ≡ agent_acted g l s → i ≡ title_in l s
-      → q ≡ puts p (title_picture next.state i) → q ≡ puts p (event_drawn g l s)
+module _ (g next : Agent) (l : Line) (s : List ℕ) (a : ℕ) (e : a ≡ answer_after g l s) {p : Page} where
+  pub draws_accepted : (i : ℕ) {q : Page} → a ≡ done → next ≡ agent_acted g l s → i ≡ title_in l s
+      → Puts p (title_picture next.state i) q → Puts p (event_drawn g l s) q
   unfolding event_drawn
-  draws_accepted i p q h f k w = rw (← e, eq-eqb _ _ h, ← f, ← k) w
+  draws_accepted i h f k w = rw (← e, eq-eqb _ _ h, ← f, ← k) w
 
-  pub draws_refused : (p : Page) → (a ≡ done → ⊥) → p ≡ puts p (event_drawn g l s)
-  unfolding event_drawn puts
-  draws_refused p h = rw (← e, ne_eqb _ _ h)
+  pub draws_refused : (a ≡ done → ⊥) → Puts p (event_drawn g l s) p
+  unfolding event_drawn
+  draws_refused h = rw (← e, ne_eqb _ _ h) nothing
 
 -- any line
-module _ (g : Agent) (s : List ℕ) (l : Line) (is : l ≡ meaning s) (p : Page) where
-  pub draws_none : (l.fault ≡ Commands.no_fault → ⊥) → p ≡ puts p (drawn_behind g s)
-  unfolding drawn_behind puts
-  draws_none h = rw (← is, ne_eqb _ _ h)
+module _ (g : Agent) (s : List ℕ) (l : Line) (is : l ≡ meaning s) {p : Page} where
+  pub draws_none : (l.fault ≡ Commands.no_fault → ⊥) → Puts p (drawn_behind g s) p
+  unfolding drawn_behind
+  draws_none h = rw (← is, ne_eqb _ _ h) nothing
 
   module _ (clear : l.fault ≡ Commands.no_fault) (b : Bool) (f : b ≡ says_event l.command) where
-    pub draws_event : b ≡ true → (q : Page) → q ≡ puts p (event_drawn g l s) → q ≡ puts p (drawn_behind g s)
+    pub draws_event : b ≡ true → {q : Page} → Puts p (event_drawn g l s) q → Puts p (drawn_behind g s) q
     unfolding drawn_behind
-    draws_event y q w = rw (← is, eq-eqb _ _ clear, sym f ∙ y) w
+    draws_event y w = rw (← is, eq-eqb _ _ clear, sym f ∙ y) w
 
-    pub draws_other : b ≡ false → p ≡ puts p (drawn_behind g s)
-    unfolding drawn_behind puts
-    draws_other n = rw (← is, eq-eqb _ _ clear, sym f ∙ n)
+    pub draws_other : b ≡ false → Puts p (drawn_behind g s) p
+    unfolding drawn_behind
+    draws_other n = rw (← is, eq-eqb _ _ clear, sym f ∙ n) nothing
 
 -- the switch
 module _ (on : Bool) (s : List ℕ) (l : Line) (is : l ≡ meaning s) where

@@ -1,7 +1,7 @@
 // Behind which lines a picture stands, and how `draw` switches it.
 
 ghost use Rattle.std.specs.Prelude.{◌≡◌, ◌≤◌, length};
-ghost use Rattle.text.specs.Output.{Written};
+ghost use Rattle.text.specs.Pages.{Puts};
 ghost use Rattle.console_lines.specs.Lines.{longest, meaning};
 ghost use Rattle.console_drawing.specs.Drawn.{
   says_event,
@@ -21,15 +21,15 @@ use console_lines::lines::Line;
 use console_notices::hex;
 use notice::Reading;
 use rules::{DONE, within};
+use text::page::Page;
 
 // Whether a command is that of an event: its own word, or notice.
+#[tactic(auto, unfolding(crate::specs::Drawn::says_event))]
 fn says_event(command: u8) -> bool
     ensures { result ≡ says_event command }
 {
-    if command == commands::NOTICE {
-        return true;
-    }
-    within(commands::OPEN as u64, commands::SKIP as u64, command as u64)
+    command == commands::NOTICE
+        || within(commands::OPEN as u64, commands::SKIP as u64, command as u64)
 }
 
 // The id of a notice, where the bytes are one.
@@ -56,31 +56,26 @@ fn title_in(line: Line, s: &[u8]) -> u64
 }
 
 // Behind a line that says an event: its title in the state after it, where the agent accepts it.
-fn put_event(out: &mut [u8], at: usize, agent: Agent, line: Line, s: &[u8]) -> usize
+fn put_event(page: &mut Page<'_>, agent: Agent, line: Line, s: &[u8])
     requires { length s.now ≤ longest }
-    ensures { Written out.old at (event_drawn agent line s.now) out.new result }
+    ensures { Puts page.old (event_drawn agent line s.now) page.new }
 {
     let f = follow(agent, line, s);
     let answer = f.answer;
     if answer == DONE {
         let state = f.agent.state;
-        return put_picture(out, at, state, title_in(line, s));
+        put_picture(page, state, title_in(line, s));
     }
-    at
 }
 
 // Behind any line, given without its newline and with the agent before it.
-pub fn put_drawn(out: &mut [u8], at: usize, agent: Agent, s: &[u8]) -> usize
-    ensures { Written out.old at (drawn_behind agent s.now) out.new result }
+pub fn put_drawn(page: &mut Page<'_>, agent: Agent, s: &[u8])
+    ensures { Puts page.old (drawn_behind agent s.now) page.new }
 {
     let line = lines::parse(s);
-    let fault = line.fault;
-    if fault == commands::NO_FAULT {
-        if says_event(line.command) {
-            return put_event(out, at, agent, line, s);
-        }
+    if line.fault == commands::NO_FAULT && says_event(line.command) {
+        put_event(page, agent, line, s);
     }
-    at
 }
 
 // Whether events are drawn after a line, by whether they were before it.
@@ -88,12 +83,8 @@ pub fn switched(on: bool, s: &[u8]) -> bool
     ensures { result ≡ draws_after on (meaning s.now) }
 {
     let line = lines::parse(s);
-    let fault = line.fault;
-    let command = line.command;
-    if fault == commands::NO_FAULT {
-        if command == commands::DRAW {
-            return !on;
-        }
+    if line.fault == commands::NO_FAULT && line.command == commands::DRAW {
+        return !on;
     }
     on
 }

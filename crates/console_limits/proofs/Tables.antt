@@ -1,32 +1,41 @@
--- Laws of the tables of quantities: within a table it does not matter what stands past its end. Rest on the definitions.
-use Prim.Native.Nat.{ℕ, zero, suc, ◌<◌, ◌≤◌}
-use mathlib.Core.Path.{◌≡◌, refl, sym}
-use mathlib.Core.List.{List, [], ◌∷◌}
+-- Laws of the tables of quantities and of the first number that is out of its limits. Rest on the definitions.
+use Prim.Native.Nat.{ℕ, ◌<◌}
+use mathlib.Core.Path.{◌≡◌, sym, ◌∙◌}
+use mathlib.Core.Bool.{Bool, true, false}
 use native.Mathlib.Omega.{arith}
-use lib.ListN.{length, get_or, get_or-eq_default}
+use native.Mathlib.Nat.{le_antisymm}
+use Rattle.std.proofs.lemmas.Bool.{cases_lt}
+use Rattle.std.specs.Option.{MatchOption, unwrap_or, option_copied}
+use Rattle.std.specs.Slice.{IsItemAt}
+use Rattle.std.proofs.Common.{Option, Some, None, Bor, rules, inl, inr}
+use Rattle.rules.specs.Search.{first}
+use Rattle.rules.proofs.Search.{first_le, first_least, first_hit_lem}
 use Rattle.text.specs.Numbers.{top}
-use Rattle.console_commands.specs.Commands.{command_count}
 use Rattle.console_limits.specs.declared.quantities.Bounds.{Bounds}
 use Rattle.console_limits.specs.declared.quantities.Row.{Row}
-use Rattle.console_limits.specs.Quantities.{quantity_count, bounds, bounds_table, bounds_of, quantity_table, row_of, no_quantities}
+use Rattle.console_limits.specs.Quantities.{bounds, bounds_table, bounds_of, quantity_table, row_of, no_quantities}
 
-any_default : {A : Type 0} (rows : List A) (i : ℕ) (d e : A) → i < length rows → get_or rows i d ≡ get_or rows i e
-any_default [] i d e h = absurd (omega arith)
-any_default (r ∷ rows) zero d e h = refl
-any_default (r ∷ rows) (suc i) d e h = any_default rows i d e (omega arith)
+-- what a lent entry of a table, or else that of no number, is
+pub bounds_lent : (q : ℕ) (r : Option (Bor Bounds)) → IsItemAt bounds_table q r
+    → unwrap_or (option_copied r) (bounds 0 top) ≡ bounds_of q
+unfolding bounds_of
+bounds_lent q r h = search rules
 
-pub bounds_in : (q : ℕ) (d : Bounds) → q < quantity_count → get_or bounds_table q d ≡ bounds_of q
-unfolding bounds_of bounds_table
-bounds_in q d h = any_default bounds_table q d (bounds 0 top) h
+pub row_lent : (c : ℕ) (r : Option (Bor Row)) → IsItemAt quantity_table c r
+    → unwrap_or (option_copied r) no_quantities ≡ row_of c
+unfolding row_of
+row_lent c r h = search rules
 
-pub bounds_past : (q : ℕ) → quantity_count ≤ q → bounds 0 top ≡ bounds_of q
-unfolding bounds_of bounds_table
-bounds_past q h = sym (get_or-eq_default bounds_table (bounds 0 top) h)
+-- a place that passes and has none before it that does is the first, and where none passes there is none
+module _ (p : ℕ → Bool) (n : ℕ) where
+  first_here : (i : ℕ) → i < n → p i ≡ true → ((k : ℕ) → k < i → p k ≡ false) → i ≡ first p n
+  first_here i l h b = elim (cases_lt (first p n) i) [ inl x ↦ let e : false ≡ true = sym (b (first p n) x) ∙ first_hit_lem p n (omega arith) in cc | inr x ↦ le_antisymm x (first_least p n i h) ]
 
-pub row_in : (c : ℕ) (d : Row) → c < command_count → get_or quantity_table c d ≡ row_of c
-unfolding row_of quantity_table
-row_in c d h = any_default quantity_table c d no_quantities h
+  first_nowhere : ((k : ℕ) → k < n → p k ≡ false) → first p n ≡ n
+  first_nowhere b = elim (cases_lt (first p n) n) [ inl x ↦ let e : false ≡ true = sym (b (first p n) x) ∙ first_hit_lem p n x in cc | inr x ↦ le_antisymm (first_le p n) x ]
 
-pub row_past : (c : ℕ) → command_count ≤ c → no_quantities ≡ row_of c
-unfolding row_of quantity_table
-row_past c h = sym (get_or-eq_default quantity_table no_quantities h)
+  pub first_told : (r : Option ℕ)
+      → MatchOption r ((k : ℕ) → k < n → p k ≡ false) (λ i. (i < n) × ((p i ≡ true) × ((k : ℕ) → k < i → p k ≡ false)))
+      → MatchOption r (first p n ≡ n) (λ i. (i < n) × (i ≡ first p n))
+  first_told None h = first_nowhere h
+  first_told (Some i) h = (h.0, first_here i h.0 h.1.0 h.1.1)

@@ -1,7 +1,7 @@
 // The numbers of a line: which quantity stands at each place behind a command, with its name as in the usage and its limits.
 
 ghost use Rattle.std.specs.Prelude.{◌<◌, ◌≡◌};
-ghost use Rattle.text.specs.Output.{Written};
+ghost use Rattle.text.specs.Pages.{Puts};
 ghost use Rattle.console_limits.specs.Quantities.{
   bounds_of,
   quantity_name,
@@ -18,9 +18,11 @@ use rules::{
     LENGTH_MAX, LENGTH_MIN, POOL_MAX, POOL_MIN, RATE_MAX, RATE_MIN, STEADY_MAX, within,
 };
 use text::numbers::TOP;
+use text::page::Page;
 use words::lines::put_line;
 
 // The quantities by number; any number will do where none stands.
+// kept: numbers and no enum, since `bounds_of` and `put_name` answer for every u8 (specs/Quantities `bounds_of`).
 const ANY: u8 = 0;
 
 const POOL: u8 = 1;
@@ -70,7 +72,7 @@ pub struct Bounds {
 const FREE: Bounds = Bounds { low: 0, high: TOP };
 
 // The limits of each quantity, by its number.
-const BOUNDS: [Bounds; QUANTITIES] = [
+static BOUNDS: [Bounds; QUANTITIES] = [
     FREE,
     Bounds {
         low: POOL_MIN,
@@ -129,16 +131,12 @@ const BOUNDS: [Bounds; QUANTITIES] = [
 pub fn bounds_of(quantity: u8) -> Bounds
     ensures { result ≡ bounds_of quantity }
 {
-    let k = quantity as usize;
-    if k < QUANTITIES {
-        return BOUNDS[k];
-    }
-    FREE
+    BOUNDS.get(quantity as usize).copied().unwrap_or(FREE)
 }
 
 // The name of a quantity, each the line of its number.
-pub fn put_name(out: &mut [u8], at: usize, quantity: u8) -> usize
-    ensures { Written out.old at (quantity_name quantity) out.new result }
+pub fn put_name(page: &mut Page<'_>, quantity: u8)
+    ensures { Puts page.old (quantity_name quantity) page.new }
 {
     let names = b"\n\
         POOL\n\
@@ -154,7 +152,7 @@ pub fn put_name(out: &mut [u8], at: usize, quantity: u8) -> usize
         ARRIVAL\n\
         RATE\n\
         TICKS\n";
-    put_line(out, at, names, quantity)
+    put_line(page, names, quantity);
 }
 
 // No command has more quantities before they repeat.
@@ -190,7 +188,7 @@ const PLAN: Row = Row {
 const COMMANDS: usize = 35;
 
 // A row for each command, by its number.
-const ROWS: [Row; COMMANDS] = [
+static ROWS: [Row; COMMANDS] = [
     // none, fresh, open
     NOTHING,
     Row {
@@ -259,11 +257,7 @@ const ROWS: [Row; COMMANDS] = [
 fn row_of(command: u8) -> Row
     ensures { result ≡ row_of command }
 {
-    let k = command as usize;
-    if k < COMMANDS {
-        return ROWS[k];
-    }
-    NOTHING
+    ROWS.get(command as usize).copied().unwrap_or(NOTHING)
 }
 
 // The column of a place from which on so many quantities repeat, from a first column on.
@@ -278,34 +272,29 @@ fn repeated(first: usize, many: usize, place: usize) -> usize
 }
 
 // The column of a place: the ids of a status repeat, the titles of a share, the rates of a planner, the pairs of a balance.
+#[tactic(auto, unfolding(crate::specs::Quantities::column_of))]
 fn column_of(command: u8, place: usize) -> usize
     ensures { result ≡ column_of command place }
 {
-    if command == commands::STATUS {
-        return repeated(1, 1, place);
+    match command {
+        commands::STATUS => repeated(1, 1, place),
+        commands::SHARE => repeated(1, commands::TITLE_NUMBERS, place),
+        commands::PLANNER => repeated(2, 1, place),
+        commands::BALANCE => repeated(1, commands::RATED_NUMBERS, place),
+        _ => place,
     }
-    if command == commands::SHARE {
-        return repeated(1, commands::TITLE_NUMBERS, place);
-    }
-    if command == commands::PLANNER {
-        return repeated(2, 1, place);
-    }
-    if command == commands::BALANCE {
-        return repeated(1, commands::RATED_NUMBERS, place);
-    }
-    place
 }
 
 // The quantity at a place of a line, from 0.
+#[tactic(auto, unfolding(crate::specs::Quantities::quantity_at))]
 pub fn quantity_at(command: u8, place: usize) -> u8
     ensures { result ≡ quantity_at command place }
 {
-    let column = column_of(command, place);
-    if column < WIDTH {
-        let row = row_of(command);
-        return row.quantities[column];
-    }
-    ANY
+    row_of(command)
+        .quantities
+        .get(column_of(command, place))
+        .copied()
+        .unwrap_or(ANY)
 }
 
 // Whether a number is out of a quantity's limits.

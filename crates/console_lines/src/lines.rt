@@ -121,11 +121,8 @@ fn take_number(s: &[u8], line: Line, a: usize, e: usize) -> Line
     requires { (line.count < numbers_most) × WordIn s.now a e }
     ensures { result ≡ with_number s.now line a e }
 {
-    if commands::is_timed(line.command, line.count) {
-        if reading::has_colon(&s[a..e]) {
-            return take_clock(&s[a..e], line, a, e);
-        }
-        return take_digits(s, line, a, e);
+    if commands::is_timed(line.command, line.count) && reading::has_colon(&s[a..e]) {
+        return take_clock(&s[a..e], line, a, e);
     }
     take_digits(s, line, a, e)
 }
@@ -136,10 +133,7 @@ fn take_act(s: &[u8], line: Line, a: usize, e: usize) -> Line
     ensures { result ≡ with_act s.now line a e }
 {
     let v = commands::verb(&s[a..e]);
-    if v < commands::CLOSE {
-        return take_number(s, line, a, e);
-    }
-    if commands::LIFT < v {
+    if v < commands::CLOSE || commands::LIFT < v {
         return take_number(s, line, a, e);
     }
     let mut l = line;
@@ -153,10 +147,7 @@ fn take_kind(word: &[u8], line: Line, a: usize, e: usize) -> Line
     ensures { result ≡ with_kind word.now line a e }
 {
     let v = commands::verb(word);
-    if v < commands::OPEN {
-        return faulted(line, commands::UNKNOWN_WORD, a);
-    }
-    if commands::SKIP < v {
+    if v < commands::OPEN || commands::SKIP < v {
         return faulted(line, commands::UNKNOWN_WORD, a);
     }
     let mut l = line;
@@ -209,13 +200,11 @@ fn take_word(s: &[u8], line: Line, a: usize) -> Line
 }
 
 // Whether a word that begins with # stands at a place, or nothing.
+#[tactic(auto, unfolding(crate::specs::Lines::line_ends_at))]
 fn ends_at(s: &[u8], a: usize) -> bool
     ensures { result ≡ line_ends_at s.now a }
 {
-    if a < s.len() {
-        return s[a] == b'#';
-    }
-    true
+    s.get(a).is_none_or(|b| *b == b'#')
 }
 
 // The next word, or the line's end.
@@ -265,15 +254,11 @@ pub fn parse(s: &[u8]) -> Line
     ensures { result ≡ meaning s.now }
 {
     let mut line = begin(s);
-    let mut left: usize = NUMBERS_MOST;
-    while 0 < left {
-        let fault = line.fault;
-        if fault == commands::UNREAD {
-            line = step(s, line);
-            left -= 1;
-        } else {
+    for _ in 0..NUMBERS_MOST {
+        if line.fault != commands::UNREAD {
             return line;
         }
+        line = step(s, line);
     }
     line
 }

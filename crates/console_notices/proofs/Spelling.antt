@@ -4,6 +4,9 @@ use mathlib.Core.Path.{◌≡◌, refl, ◌∙◌, ap}
 use mathlib.Core.List.{List, [], ◌∷◌, ◌++◌}
 use native.Mathlib.Omega.{arith}
 use borrow.Author.Tests.{lt-ltb, le-ltb}
+use mathlib.Core.Bool.{Bool, true, false}
+use lib.Dec.{ltb}
+use Rattle.rules.specs.Refusals.{pick}
 use lib.ListN.{length, take, drop, length-take, length-drop, length-append}
 use lib.Seq.{take_at}
 use Rattle.text.specs.Output.{Page, page, puts}
@@ -19,14 +22,18 @@ hex_half [] = omega arith
 hex_half (h ∷ []) = omega arith
 hex_half (h ∷ (l ∷ s)) = let more : 2 * length (hex_bytes s) ≤ length s = hex_half s in omega arith
 
+none_either : (b : Bool) → ◌≡◌ {A = List ℕ} [] (pick b [] [])
+none_either true = refl
+none_either false = refl
+
 module _ (s : List ℕ) (from to : ℕ) where
   pub none_past : length s < to → [] ≡ hex_between s from to
   unfolding hex_between
   none_past h = rw (lt-ltb _ _ h)
 
-  pub none_before : to ≤ length s → to < from → [] ≡ hex_between s from to
+  pub none_before : to < from → [] ≡ hex_between s from to
   unfolding hex_between hex_bytes
-  none_before h g = let e : to - from ≡ 0 = omega arith in rw (le-ltb _ _ h, e)
+  none_before g = let e : to - from ≡ 0 = omega arith in rw e (none_either (ltb (length s) to))
 
   pub spelt : (room room' : List ℕ) (n : ℕ) → to ≤ length s → length s ≤ longest → hex_room ≤ length room
       → page room' n ≡ puts (page room 0) (hex_bytes (take (to - from) (drop from s)))

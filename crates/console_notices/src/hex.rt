@@ -23,16 +23,10 @@ pub fn spell(s: &[u8], from: u64, to: u64, room: &mut [u8]) -> usize
     ensures { (take result room.new ≡ hex_between s.now from to) × (result ≤ length
         room.new) }
 {
-    let size = s.len() as u64;
-    if size < to {
+    let Some(digits) = s.get(from as usize..to as usize) else {
         return 0;
-    }
-    if to < from {
-        return 0;
-    }
-    let a = from as usize;
-    let e = to as usize;
-    digits::decode(room, &s[a..e])
+    };
+    digits::decode(room, digits)
 }
 
 // What the digits read as.

@@ -10,7 +10,9 @@ use Rattle.rules.specs.Refusals.{done}
 use Rattle.story.specs.declared.State.{State}
 use Rattle.planner.specs.Moves.{Move}
 use Rattle.planner.specs.Outcome.{Answered, given, room_of, row_from}
-use Rattle.text.specs.Output.{Page, puts}
+use Rattle.text.specs.declared.page.Page.{Page}
+use Rattle.text.specs.Pages.{Puts}
+use Rattle.text.proofs.Pages.{told_as}
 use Rattle.console_pools.specs.Beside.{entry_at, beside_at, beside}
 use Rattle.console_answers.specs.Outcomes.{done_text}
 use Rattle.console_pools.specs.Moves.{list_text, planner_text}
@@ -45,12 +47,11 @@ module _ (s : State) (τ : ℕ) (rates is ts ks : List ℕ) (a n : ℕ) (is' ts'
       ∙ each_same _ _ (length ms)
       (λ j h. rw (stands _ ms is is' e.ids j h, stands _ ms ts ts' e.times j h, stands _ ms ks ks' e.counts j h))
 
-  module _ (ns : List ℕ) (p q r : Page) (g : q ≡ puts p (done_text a 0)) where
-    pub planner_refused : (a ≡ done → ⊥) → r ≡ puts q (asked_reason a do_planner ns s.last) → r ≡ puts p (planner_text ns s τ rates (room_of is ts ks))
+  module _ (ns : List ℕ) {p q r : Page} (g : Puts p (done_text a 0) q) where
+    pub planner_refused : (a ≡ done → ⊥) → Puts q (asked_reason a do_planner ns s.last) r → Puts p (planner_text ns s τ rates (room_of is ts ks)) r
     unfolding planner_text
-    planner_refused z f = rw (sym e.answer) (refused_for p q r a 0 _ _ g z f)
+    planner_refused z f = rw (sym e.answer) (refused_for 0 _ _ g z f)
 
-    pub planner_told : a ≡ done → r ≡ puts q (beside is' ts' ks' [] n)
-        → r ≡ puts p (planner_text ns s τ rates (room_of is ts ks))
+    pub planner_told : a ≡ done → Puts q (beside is' ts' ks' [] n) r → Puts p (planner_text ns s τ rates (room_of is ts ks)) r
     unfolding planner_text
-    planner_told z f = rw (sym e.answer) (told_plain p q r a 0 _ _ g z (f ∙ ap (puts q) listed) (done_asked a do_planner ns s.last z))
+    planner_told z f = rw (sym e.answer) (told_plain 0 _ _ g z (told_as listed f) (done_asked a do_planner ns s.last z))

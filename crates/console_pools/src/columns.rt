@@ -14,10 +14,8 @@ pub fn column(row: &[u64; NUMBERS_MOST], first: usize, apart: usize) -> [u32; TI
     ensures { (result ≡ column_of row.now first apart titles_most) × (length result ≡ titles_most) }
 {
     let mut c = [0u32; TITLES_MOST];
-    let mut i = 0;
-    while i < TITLES_MOST {
-        c[i] = numbers::as_four_bytes(row[first + apart * i]);
-        i += 1;
+    for (i, n) in c.iter_mut().enumerate() {
+        *n = numbers::as_four_bytes(row[first + apart * i]);
     }
     c
 }

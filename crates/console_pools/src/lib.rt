@@ -1,6 +1,5 @@
 // The console's questions over a whole pool: the status of its titles, the sharing of its lanes, and the changes that the
-// planner lists. Each call takes a lent row and a place in it and gives back the place behind what it wrote; nothing is
-// written past the row's end.
+// planner lists. Each call writes on a page; nothing is written past the end of its row.
 #![tactic(auto)]
 
 mod beside;

@@ -3,7 +3,7 @@
 ghost use Rattle.std.specs.Prelude.{◌≡◌, ◌≤◌, length};
 ghost use Rattle.console_answers.specs.Entries.{numbers_text};
 ghost use Rattle.console_commands.specs.Commands.{titles_most};
-ghost use Rattle.text.specs.Output.{Written};
+ghost use Rattle.text.specs.Pages.{Puts};
 ghost use Rattle.console_pools.specs.Shares.{share_text, titles_in, share_in};
 
 use crate::columns::column;
@@ -14,25 +14,21 @@ use console_commands::commands::{TITLE_NUMBERS, TITLES_MOST};
 use console_limits::asked::put_limits;
 use console_lines::lines::NUMBERS_MOST;
 use rules::DONE;
+use text::page::Page;
 
 // The counts of a sharing.
-pub fn put_shares(out: &mut [u8], at: usize, row: &[u32]) -> usize
-    ensures { Written out.old at (numbers_text row.now (length row.now))
-        out.new result }
+pub fn put_shares(page: &mut Page<'_>, row: &[u32])
+    ensures { Puts page.old (numbers_text row.now (length row.now))
+        page.new }
 {
-    let mut place = at;
-    let mut i = 0;
-    while i < row.len() {
-        place = put_entry(out, place, row[i] as u64);
-        i += 1;
+    for n in row {
+        put_entry(page, u64::from(*n));
     }
-    place
 }
 
 // Over rows that are lent, with the line's numbers besides.
 fn put_rows(
-    out: &mut [u8],
-    at: usize,
+    page: &mut Page<'_>,
     asked: &[u64],
     pool: u64,
     rates: &[u32],
@@ -40,36 +36,31 @@ fn put_rows(
     floors: &[u32],
     caps: &[u32],
     counts: &mut [u32],
-) -> usize
-    ensures { Written out.old at
+)
+    ensures { Puts page.old
         (share_text asked.now pool rates.now lengths.now floors.now caps.now
-        counts.old) out.new result }
+        counts.old) page.new }
 {
     let answer = sharing::share(pool, rates, lengths, floors, caps, counts);
-    let a = outcomes::put_done(out, at, answer, 0);
+    outcomes::put_done(page, answer, 0);
     if answer == DONE {
-        return put_shares(out, a, counts);
+        put_shares(page, counts);
+    } else {
+        put_limits(page, answer, commands::SHARE, asked);
     }
-    put_limits(out, a, answer, commands::SHARE, asked)
 }
 
 // How many titles follow the pool, up to the most.
+#[tactic(auto, unfolding(crate::specs::Shares::titles_in))]
 fn titles_of(count: usize) -> usize
     ensures { (result ≡ titles_in count) × (result ≤ titles_most) }
 {
-    if count < 1 {
-        return 0;
-    }
-    let n = (count - 1) / TITLE_NUMBERS;
-    if n < TITLES_MOST {
-        return n;
-    }
-    TITLES_MOST
+    (count.saturating_sub(1) / TITLE_NUMBERS).min(TITLES_MOST)
 }
 
 // The numbers of the line: a pool, and four for each title up to its count.
-pub fn put_share(out: &mut [u8], at: usize, row: [u64; NUMBERS_MOST], count: usize) -> usize
-    ensures { Written out.old at (share_in row count) out.new result }
+pub fn put_share(page: &mut Page<'_>, row: [u64; NUMBERS_MOST], count: usize)
+    ensures { Puts page.old (share_in row count) page.new }
 {
     let n = titles_of(count);
     let rates = column(&row, 1, TITLE_NUMBERS);
@@ -80,8 +71,7 @@ pub fn put_share(out: &mut [u8], at: usize, row: [u64; NUMBERS_MOST], count: usi
     let pool = row[0];
     let end = 1 + TITLE_NUMBERS * n;
     put_rows(
-        out,
-        at,
+        page,
         &row[..end],
         pool,
         &rates[..n],
@@ -89,5 +79,5 @@ pub fn put_share(out: &mut [u8], at: usize, row: [u64; NUMBERS_MOST], count: usi
         &floors[..n],
         &caps[..n],
         &mut counts[..n],
-    )
+    );
 }

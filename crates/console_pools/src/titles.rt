@@ -2,7 +2,7 @@
 
 ghost use Rattle.std.specs.Prelude.{◌≡◌, ◌-◌, ◌<◌, ◌≤◌, min, length, get_or, drop};
 ghost use Rattle.console_commands.specs.Commands.{ids_most};
-ghost use Rattle.text.specs.Output.{Written};
+ghost use Rattle.text.specs.Pages.{Puts};
 ghost use Rattle.console_pools.specs.Titles.{status_text, ids_in};
 
 use crate::beside::put_beside;
@@ -13,55 +13,44 @@ use console_limits::asked::put_asked;
 use console_lines::lines::NUMBERS_MOST;
 use rules::DONE;
 use story::State;
+use text::page::Page;
 
 // Over the line's time and ids, and a row for each number that is told of an id.
 fn put_rows(
-    out: &mut [u8],
-    at: usize,
+    page: &mut Page<'_>,
     s: State,
     asked: &[u64],
     counts: &mut [u64],
     held: &mut [u64],
     marks: &mut [u64],
-) -> usize
+)
     requires { (0 < length asked.now) × ((length counts.old ≡ length (drop 1 asked.now))
         × ((length held.old ≡ length (drop 1 asked.now)) × (length marks.old ≡ length (drop 1 asked.now)))) }
-    ensures { Written out.old at
-        (status_text s (get_or asked.now 0 0) (drop 1 asked.now)) out.new result }
+    ensures { Puts page.old
+        (status_text s (get_or asked.now 0 0) (drop 1 asked.now)) page.new }
 {
     let time = asked[0];
     let answer = status::status(s, time, &asked[1..], counts, held, marks);
-    let a = outcomes::put_done(out, at, answer, 0);
+    outcomes::put_done(page, answer, 0);
     if answer == DONE {
         let n = asked.len() - 1;
-        return put_beside(out, a, &asked[1..], counts, held, marks, n);
+        put_beside(page, &asked[1..], counts, held, marks, n);
+    } else {
+        put_asked(page, answer, commands::STATUS, asked, s.last);
     }
-    put_asked(out, a, answer, commands::STATUS, asked, s.last)
 }
 
 // How many ids follow the time, up to the most.
 fn ids_of(count: usize) -> usize
     ensures { (result ≡ min (count - 1) ids_most) × (result ≤ ids_most) }
 {
-    if count < 1 {
-        return 0;
-    }
-    if 1 + IDS_MOST < count {
-        return IDS_MOST;
-    }
-    count - 1
+    count.saturating_sub(1).min(IDS_MOST)
 }
 
 // The numbers of the line: a time, and ids up to its count.
-pub fn put_status(
-    out: &mut [u8],
-    at: usize,
-    s: State,
-    numbers: [u64; NUMBERS_MOST],
-    count: usize,
-) -> usize
-    ensures { Written out.old at (status_text s (get_or numbers 0 0) (ids_in numbers count))
-        out.new result }
+pub fn put_status(page: &mut Page<'_>, s: State, numbers: [u64; NUMBERS_MOST], count: usize)
+    ensures { Puts page.old (status_text s (get_or numbers 0 0) (ids_in numbers count))
+        page.new }
 {
     let n = ids_of(count);
     let mut counts = [0u64; IDS_MOST];
@@ -69,12 +58,11 @@ pub fn put_status(
     let mut marks = [0u64; IDS_MOST];
     let end = n + 1;
     put_rows(
-        out,
-        at,
+        page,
         s,
         &numbers[..end],
         &mut counts[..n],
         &mut held[..n],
         &mut marks[..n],
-    )
+    );
 }

@@ -4,7 +4,7 @@
 ghost use Rattle.std.specs.Prelude.{◌≤◌, ◌≡◌};
 ghost use Rattle.rules.specs.Limits.{asked_max};
 ghost use Rattle.measures.specs.Readable.{Filmed};
-ghost use Rattle.text.specs.Output.{Written};
+ghost use Rattle.text.specs.Pages.{Puts};
 ghost use Rattle.console_views.specs.Titles.{slot_from, doors_text, settled_text, coming_text};
 
 use clocks::put_clock;
@@ -12,15 +12,16 @@ use measures::ticks::settled_at;
 use moments::starts::next_start;
 use scheme::STEADY;
 use story::{HELD, OPEN, Title};
-use text::output;
+use text::page::Page;
 
-fn put_doors(out: &mut [u8], at: usize, t: Title) -> usize
-    ensures { Written out.old at (doors_text t) out.new result }
+fn put_doors(page: &mut Page<'_>, t: Title)
+    ensures { Puts page.old (doors_text t) page.new }
 {
     if t.mark == HELD {
-        return output::put(out, at, b", doors held");
+        page.put(b", doors held");
+    } else {
+        page.put(b", doors open");
     }
-    output::put(out, at, b", doors open")
 }
 
 // The first slot start of its count from a time on.
@@ -32,28 +33,28 @@ fn slot_from(t: Title, time: u64) -> u64
     next_start(t, t.count, time)
 }
 
-fn put_settled(out: &mut [u8], at: usize, t: Title) -> usize
+fn put_settled(page: &mut Page<'_>, t: Title)
     requires filmed { Filmed t.film }
     requires tuned_le_asked_max { t.tuned ≤ asked_max }
-    ensures { Written out.old at (settled_text t) out.new result }
+    ensures { Puts page.old (settled_text t) page.new }
 {
     if t.film.kind == STEADY {
-        return output::put(out, at, b", no change");
+        page.put(b", no change");
+    } else {
+        page.put(b", change from ");
+        put_clock(page, settled_at(t));
     }
-    let a = output::put(out, at, b", change from ");
-    put_clock(out, a, settled_at(t))
 }
 
-pub fn put_coming(out: &mut [u8], at: usize, t: Title, time: u64) -> usize
+pub fn put_coming(page: &mut Page<'_>, t: Title, time: u64)
     requires filmed { Filmed t.film }
     requires count_le_cap { (t.count ≤ t.film.cap) × ((t.tuned ≤ asked_max) × (time ≤ asked_max)) }
-    ensures { Written out.old at (coming_text t time) out.new result }
+    ensures { Puts page.old (coming_text t time) page.new }
 {
     if t.mode == OPEN {
-        let a = put_doors(out, at, t);
-        let b = output::put(out, a, b", next slot start ");
-        let c = put_clock(out, b, slot_from(t, time));
-        return put_settled(out, c, t);
+        put_doors(page, t);
+        page.put(b", next slot start ");
+        put_clock(page, slot_from(t, time));
+        put_settled(page, t);
     }
-    at
 }

@@ -5,31 +5,31 @@ ghost use Rattle.rules.specs.Refusals.{pick};
 ghost use Rattle.scheme.specs.Scheme.{steady_kind};
 ghost use Rattle.measures.specs.Readable.{Filmed};
 ghost use Rattle.text.specs.Texts.{text};
-ghost use Rattle.text.specs.Output.{Written};
+ghost use Rattle.text.specs.Pages.{Puts};
 ghost use Rattle.console_views.specs.Titles.{film_text};
 
 use clocks::put_clock;
 use scheme::STEADY;
 use story::Title;
-use text::output;
+use text::page::Page;
 
-fn put_kind(out: &mut [u8], at: usize, kind: u64) -> usize
-    ensures { Written out.old at
-        (pick (eqb kind steady_kind) (text ": skip-forward film of ") (text ": film of ")) out.new result }
+fn put_kind(page: &mut Page<'_>, kind: u64)
+    ensures { Puts page.old (pick (eqb kind steady_kind) (text ": skip-forward film of ") (text ": film of ")) page.new }
 {
     if kind == STEADY {
-        return output::put(out, at, b": skip-forward film of ");
+        page.put(b": skip-forward film of ");
+    } else {
+        page.put(b": film of ");
     }
-    output::put(out, at, b": film of ")
 }
 
-pub fn put_film(out: &mut [u8], at: usize, t: Title) -> usize
+pub fn put_film(page: &mut Page<'_>, t: Title)
     requires { Filmed t.film }
-    ensures { Written out.old at (film_text t) out.new result }
+    ensures { Puts page.old (film_text t) page.new }
 {
     let tick = scheme::tick(t.film.kind, t.film.length, t.film.floor, t.film.cap);
-    let a = put_kind(out, at, t.film.kind);
-    let b = put_clock(out, a, t.film.length);
-    let c = output::put(out, b, b", tick ");
-    put_clock(out, c, tick)
+    put_kind(page, t.film.kind);
+    put_clock(page, t.film.length);
+    page.put(b", tick ");
+    put_clock(page, tick);
 }

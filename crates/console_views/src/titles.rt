@@ -4,7 +4,7 @@ ghost use Rattle.std.specs.Prelude.{◌≤◌, ◌<◌, ◌≡◌, true};
 ghost use Rattle.rules.specs.Limits.{asked_max, titles_max};
 ghost use Rattle.rules.specs.Search.{how_many};
 ghost use Rattle.story.specs.Kept.{state_ok, title_at, is_there};
-ghost use Rattle.text.specs.Output.{Written};
+ghost use Rattle.text.specs.Pages.{Puts};
 ghost use Rattle.console_answers.specs.Entries.{each};
 ghost use Rattle.console_views.specs.Titles.{title_line, pool_text, title_lines, titles_told, titles_reason, titles_text};
 
@@ -16,10 +16,10 @@ use console_limits::asked::put_asked;
 use measures::lanes::{is_there, lanes_held};
 use measures::slots::title_of;
 use questions::asked_verdict;
-use rules::truth::one_if;
-use rules::{DONE, TITLES_MAX};
+use rules::TITLES_MAX;
+use rules::answers::told;
 use story::State;
-use text::{digits, output};
+use text::page::Page;
 
 // How many titles are there at a time.
 fn titles_there(s: State, time: u64) -> u64
@@ -27,95 +27,86 @@ fn titles_there(s: State, time: u64) -> u64
     ensures { result ≡ how_many (λ i. is_there (title_at s i) time) titles_max }
 {
     let mut n = 0;
-    let mut i = 0;
-    while i < TITLES_MAX {
-        let t = s.titles[i];
-        n += one_if(is_there(t, time));
-        i += 1;
+    for t in &s.titles {
+        n += u64::from(is_there(*t, time));
     }
     n
 }
 
 // How many they are, and how many lanes of the pool are held.
-fn put_pool(out: &mut [u8], at: usize, s: State, time: u64) -> usize
+fn put_pool(page: &mut Page<'_>, s: State, time: u64)
     requires { state_ok s ≡ true }
-    ensures { Written out.old at (pool_text s time) out.new result }
+    ensures { Puts page.old (pool_text s time) page.new }
 {
-    let a = output::put(out, at, b"0 ");
-    let b = digits::put_number(out, a, titles_there(s, time));
-    let c = output::put(out, b, b" of 16 titles, ");
-    let d = digits::put_number(out, c, lanes_held(s, time));
-    let e = output::put(out, d, b" of ");
-    let f = digits::put_number(out, e, s.pool);
-    output::put(out, f, b" lanes held")
+    page.put(b"0 ");
+    page.put_number(titles_there(s, time));
+    page.put(b" of 16 titles, ");
+    page.put_number(lanes_held(s, time));
+    page.put(b" of ");
+    page.put_number(s.pool);
+    page.put(b" lanes held");
 }
 
 // The line of the title of an id, where it is there.
-fn put_title(out: &mut [u8], at: usize, s: State, time: u64, id: u64) -> usize
+fn put_title(page: &mut Page<'_>, s: State, time: u64, id: u64)
     requires s_value { state_ok s ≡ true }
     requires id_lt_titles_max { (id < titles_max) × (time ≤ asked_max) }
-    ensures { Written out.old at (title_line s time id) out.new result }
+    ensures { Puts page.old (title_line s time id) page.new }
 {
     let t = title_of(s, id);
     if is_there(t, time) {
-        let a = output::put(out, at, b"\n");
-        let b = digits::put_number(out, a, id);
-        let c = put_film(out, b, t);
-        let d = put_count(out, c, t);
-        let e = put_holds(out, d, t, time);
-        return put_coming(out, e, t, time);
+        page.put(b"\n");
+        page.put_number(id);
+        put_film(page, t);
+        put_count(page, t);
+        put_holds(page, t, time);
+        put_coming(page, t, time);
     }
-    at
 }
 
 // The lines of all titles, ids rising.
-fn put_each(out: &mut [u8], at: usize, s: State, time: u64) -> usize
+fn put_each(page: &mut Page<'_>, s: State, time: u64)
     requires s_value { state_ok s ≡ true }
     requires time_le_asked_max { time ≤ asked_max }
-    ensures { Written out.old at (each (title_line s time) titles_max) out.new result }
+    ensures { Puts page.old (each (title_line s time) titles_max) page.new }
 {
-    let mut place = at;
-    let mut id = 0;
-    while id < TITLES_MAX as u64 {
-        place = put_title(out, place, s, time, id);
-        id += 1;
+    for id in 0..TITLES_MAX as u64 {
+        put_title(page, s, time, id);
     }
-    place
 }
 
 // The pool's line, and behind it those of its titles.
-fn put_lines(out: &mut [u8], at: usize, s: State, time: u64) -> usize
+fn put_lines(page: &mut Page<'_>, s: State, time: u64)
     requires s_value { state_ok s ≡ true }
     requires time_le_asked_max { time ≤ asked_max }
-    ensures { Written out.old at (title_lines s time) out.new result }
+    ensures { Puts page.old (title_lines s time) page.new }
 {
-    let a = put_pool(out, at, s, time);
-    put_each(out, a, s, time)
+    put_pool(page, s, time);
+    put_each(page, s, time);
 }
 
 // What the question is answered.
-fn put_told(out: &mut [u8], at: usize, s: State, time: u64) -> usize
-    ensures { Written out.old at (titles_told s time) out.new result }
+fn put_told(page: &mut Page<'_>, s: State, time: u64)
+    ensures { Puts page.old (titles_told s time) page.new }
 {
-    let answer = asked_verdict(s, time, true);
-    if answer == DONE {
-        return put_lines(out, at, s, time);
+    match asked_verdict(s, time, true) {
+        Ok(()) => put_lines(page, s, time),
+        Err(refusal) => words::put_refusal(page, refusal.number(), 0),
     }
-    words::put_refusal(out, at, answer, 0)
 }
 
 // What stands behind a refusal.
-fn put_reason(out: &mut [u8], at: usize, answer: u8, s: State, time: u64) -> usize
-    ensures { Written out.old at (titles_reason answer s time) out.new result }
+fn put_reason(page: &mut Page<'_>, answer: u8, s: State, time: u64)
+    ensures { Puts page.old (titles_reason answer s time) page.new }
 {
     let numbers = [time];
-    put_asked(out, at, answer, commands::TITLES, &numbers, s.last)
+    put_asked(page, answer, commands::TITLES, &numbers, s.last);
 }
 
 // The answer, and what stands behind it.
-pub fn put_titles(out: &mut [u8], at: usize, s: State, time: u64) -> usize
-    ensures { Written out.old at (titles_text s time) out.new result }
+pub fn put_titles(page: &mut Page<'_>, s: State, time: u64)
+    ensures { Puts page.old (titles_text s time) page.new }
 {
-    let a = put_told(out, at, s, time);
-    put_reason(out, a, asked_verdict(s, time, true), s, time)
+    put_told(page, s, time);
+    put_reason(page, told(asked_verdict(s, time, true)), s, time);
 }

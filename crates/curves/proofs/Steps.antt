@@ -9,8 +9,9 @@ use lib.ListN.{length}
 use Rattle.story.specs.declared.State.{State}
 use Rattle.story.specs.Kept.{lanes_held}
 use Rattle.drawing.specs.Axis.{part_across}
-use Rattle.text.specs.Output.{Page, puts}
-use Rattle.text.proofs.Pages.{puts_then}
+use Rattle.text.specs.declared.page.Page.{Page}
+use Rattle.text.specs.Pages.{Puts}
+use Rattle.text.proofs.Pages.{then, nothing, told_as}
 use Rattle.strips.specs.Kept.{kept_length}
 use Rattle.curves.specs.declared.Curve.{Curve}
 use Rattle.curves.specs.Curves.{height_of, level_text, level_kept, next_step, Walk, walked_on, walked, curve_text, curve_kept}
@@ -29,19 +30,19 @@ module _ (c : Curve) (s : State) (kept : List ℕ) (from to : ℕ) where
     pub low : from ≤ time
     pub few : steps ≤ time - from
     pub high : time ≤ from + (to - from)
-    pub written : q ≡ puts p (at steps).text
+    pub written : Puts p (at steps).text q
     pub kept_is : k ≡ (at steps).kept
     pub time_is : time ≡ (at steps).time
     pub long : length k ≡ kept_length
 
-  pub begins : (p q : Page) → length kept ≡ kept_length → q ≡ p → Walking p q kept from
-  unfolding walked puts
-  begins p q long e =
-      record { steps = 0; low = omega arith; few = omega arith; high = omega arith; written = e; kept_is = refl; time_is = refl; long = long }
+  pub begins : (p : Page) → length kept ≡ kept_length → Walking p p kept from
+  unfolding walked
+  begins p long =
+      record { steps = 0; low = omega arith; few = omega arith; high = omega arith; written = nothing; kept_is = refl; time_is = refl; long = long }
 
   module _ (p q : Page) (k : List ℕ) (time : ℕ) (w : Walking p q k time) where
     pub steps_on : (next held : ℕ) (r : Page) (k' : List ℕ) → time < to → (next ≡ next_step s time to) × ((time < next) × (next ≤ to)) →
-        held ≡ lanes_held s time → r ≡ puts q (level_text c k time next held) → k' ≡ level_kept c k time next held → length k' ≡ kept_length →
+        held ≡ lanes_held s time → Puts q (level_text c k time next held) r → k' ≡ level_kept c k time next held → length k' ≡ kept_length →
         Walking p r k' next
     unfolding walked
     steps_on next held r k' before n h a b long =
@@ -51,7 +52,7 @@ module _ (c : Curve) (s : State) (kept : List ℕ) (from to : ℕ) where
           low = omega (arith, w.low, n.1.0);
           few = omega (arith, w.low, w.few, n.1.0);
           high = omega (arith, w.low, before, n.1.1);
-          written = rw go (puts_then p (at w.steps).text _ w.written (rw (h, n.0, w.kept_is, w.time_is) at a));
+          written = rw go (then w.written (rw (h, n.0, w.kept_is, w.time_is) at a));
           kept_is = rw go (rw (h, n.0, w.kept_is, w.time_is) at b);
           time_is = rw go (n.0 ∙ ap (λ x. next_step s x to) w.time_is);
           long = long;
@@ -66,9 +67,9 @@ module _ (c : Curve) (s : State) (kept : List ℕ) (from to : ℕ) where
         let same = rests end m in
         ap at next ∙ rw (same, le-ltb (at w.steps).time to (subst (λ x. to ≤ x) w.time_is end)) refl
 
-    pub arrives : to ≤ time → (q ≡ puts p (curve_text c s kept from to)) × (k ≡ curve_kept c s kept from to)
+    pub arrives : to ≤ time → (Puts p (curve_text c s kept from to) q) × (k ≡ curve_kept c s kept from to)
     unfolding curve_text curve_kept
     arrives end =
         let many : (to - from) ≡ ((to - from) - w.steps) + w.steps = omega (arith, w.few, w.high) in
         let all : at (to - from) ≡ at w.steps = ap at many ∙ rests end ((to - from) - w.steps) in
-        (w.written ∙ ap (λ (x : Walk). puts p x.text) (sym all), w.kept_is ∙ ap (λ (x : Walk). x.kept) (sym all))
+        (told_as (ap (λ (x : Walk). x.text) (sym all)) w.written, w.kept_is ∙ ap (λ (x : Walk). x.kept) (sym all))

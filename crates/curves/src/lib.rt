@@ -5,7 +5,7 @@
 ghost use Rattle.std.specs.Prelude.{◌≤◌, ◌<◌, ◌≡◌, length};
 ghost use Rattle.rules.specs.Limits.{titles_max};
 ghost use Rattle.moments.specs.inner.Steps.{release_in};
-ghost use Rattle.text.specs.Output.{Written};
+ghost use Rattle.text.specs.Pages.{Puts};
 ghost use Rattle.agent_rows.specs.Packed.{unpacked};
 ghost use Rattle.row_calls.specs.inner.Steps.{Tested};
 ghost use Rattle.strips.specs.Kept.{kept_length};
@@ -19,9 +19,9 @@ use measures::ticks::since;
 use moments::PAST;
 use moments::releases::title_release;
 use rules::TITLES_MAX;
-use rules::truth::smaller;
 use strips::kept::LEVEL;
 use strips::scale::{Scale, place};
+use text::page::Page;
 
 // Where a curve is drawn: its scale, the lanes of the pool, and the place of no lanes.
 #[derive(Clone, Copy)]
@@ -42,17 +42,9 @@ pub fn height(c: Curve, lanes: u64) -> u64
 }
 
 // A step: so many lanes are held from one moment to another. One within a column is left out.
-fn put_level(
-    out: &mut [u8],
-    at: usize,
-    kept: &mut [u64],
-    c: Curve,
-    from: u64,
-    to: u64,
-    lanes: u64,
-) -> usize
+fn put_level(page: &mut Page<'_>, kept: &mut [u64], c: Curve, from: u64, to: u64, lanes: u64)
     requires { length kept.old ≡ kept_length }
-    ensures written { Written out.old at (level_text c kept.old from to lanes) out.new result }
+    ensures written { Puts page.old (level_text c kept.old from to lanes) page.new }
     ensures kept_after { kept.new ≡ level_kept c kept.old from to lanes }
 {
     let scale = c.scale;
@@ -60,14 +52,13 @@ fn put_level(
     let end = place(scale, to);
     if x < end {
         let old = height(c, kept[LEVEL]);
-        let a = put_path(out, at, b"curve");
-        let b = put_point(out, a, b'M', x, old);
-        let d = put_step(out, b, b'V', height(c, lanes));
-        let e = put_step(out, d, b'H', end);
+        put_path(page, b"curve");
+        put_point(page, b'M', x, old);
+        put_step(page, b'V', height(c, lanes));
+        put_step(page, b'H', end);
+        put_path_end(page);
         kept[LEVEL] = lanes;
-        return put_path_end(out, e);
     }
-    at
 }
 
 // The next release of a row's lanes after a time.
@@ -76,10 +67,8 @@ fn next_release(row: &[u64], time: u64) -> u64
     ensures { result ≡ release_in (unpacked row.now).state time titles_max }
 {
     let mut r = PAST;
-    let mut id = 0;
-    while id < TITLES_MAX as u64 {
+    for id in 0..TITLES_MAX as u64 {
         r = title_release(title_at(row, id), time, r);
-        id += 1;
     }
     r
 }
@@ -92,33 +81,22 @@ fn next_step(row: &[u64], time: u64, to: u64) -> u64
 {
     let next = next_release(row, time);
     if time < next {
-        return smaller(next, to);
+        return next.min(to);
     }
     to
 }
 
 // The curve from one moment to another, while a row stays as it is.
-pub fn put_curve(
-    out: &mut [u8],
-    at: usize,
-    kept: &mut [u64],
-    c: Curve,
-    row: &[u64],
-    from: u64,
-    to: u64,
-) -> usize
+pub fn put_curve(page: &mut Page<'_>, kept: &mut [u64], c: Curve, row: &[u64], from: u64, to: u64)
     requires kept_len { length kept.old ≡ kept_length }
     requires tested { Tested row.now }
-    ensures written { Written out.old at (curve_text c (unpacked row.now).state kept.old from to)
-        out.new result }
+    ensures written { Puts page.old (curve_text c (unpacked row.now).state kept.old from to) page.new }
     ensures kept_after { kept.new ≡ curve_kept c (unpacked row.now).state kept.old from to }
 {
-    let mut place = at;
     let mut time = from;
     while time < to {
         let next = next_step(row, time, to);
-        place = put_level(out, place, kept, c, time, next, lanes_held(row, time));
+        put_level(page, kept, c, time, next, lanes_held(row, time));
         time = next;
     }
-    place
 }

@@ -1,16 +1,15 @@
 -- Laws of the hatchings, one behind the other.
 use Prim.Native.Nat.{ℕ, ◌+◌}
-use mathlib.Core.Path.{◌≡◌, refl}
 use native.Mathlib.Numerals.{add-one}
-use Rattle.text.specs.Output.{Page, puts}
-use Rattle.text.proofs.Pages.{puts_then}
+use Rattle.text.specs.declared.page.Page.{Page}
+use Rattle.text.specs.Pages.{Puts}
+use Rattle.text.proofs.Pages.{then, nothing}
 use Rattle.drawing.specs.Document.{hatch_text, hatches_text}
 
-pub hatches_none : (p : Page) → p ≡ puts p (hatches_text 0)
-unfolding hatches_text puts
-hatches_none p = refl
-
-pub hatches_next : (p q r : Page) (id : ℕ) → q ≡ puts p (hatches_text id) → r ≡ puts q (hatch_text id)
-    → r ≡ puts p (hatches_text (id + 1))
+pub hatches_none : {p : Page} → Puts p (hatches_text 0) p
 unfolding hatches_text
-hatches_next p q r id e f = rw add-one (puts_then p _ _ e f)
+hatches_none = nothing
+
+pub hatches_next : {p q r : Page} (id : ℕ) → Puts p (hatches_text id) q → Puts q (hatch_text id) r → Puts p (hatches_text (id + 1)) r
+unfolding hatches_text
+hatches_next id e f = rw add-one (then e f)

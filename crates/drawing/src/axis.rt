@@ -1,12 +1,12 @@
 // Where things lie across the plot, and times marked on its axis.
 
 ghost use Rattle.std.specs.Prelude.{◌+◌, ◌≤◌, ◌<◌, ◌≡◌};
-ghost use Rattle.text.specs.Output.{Written};
+ghost use Rattle.text.specs.Pages.{Puts};
 ghost use Rattle.drawing.specs.Axis.{span_most, span_held, part_across, plot_left, plot_width, x_of, time_mark_text};
 
 use crate::pieces::{put_label, put_label_end, put_path, put_path_end, put_point, put_step};
 use clocks::put_clock;
-use rules::truth::smaller;
+use text::page::Page;
 
 // The plot's left edge and width, the same in every picture.
 pub const PLOT_LEFT: u64 = 900;
@@ -20,10 +20,7 @@ const SPAN_MOST: u64 = 4_398_046_511_104;
 fn held_span(span: u64) -> u64
     ensures { (result ≡ span_held span) × (0 < result) × (result ≤ span_most) }
 {
-    if span == 0 {
-        return 1;
-    }
-    smaller(span, SPAN_MOST)
+    span.clamp(1, SPAN_MOST)
 }
 
 // The part of a whole that n of a span make, rounded down.
@@ -31,7 +28,7 @@ pub fn part(whole: u16, span: u64, n: u64) -> u64
     ensures { (result ≡ part_across whole span n) × (result ≤ whole) }
 {
     let most = held_span(span);
-    smaller(n, most) * whole as u64 / most
+    n.min(most) * whole as u64 / most
 }
 
 // Where n of a span lie across the plot.
@@ -42,15 +39,15 @@ pub fn x_of(span: u64, n: u64) -> u64
 }
 
 // A mark down from a place, and below it a time.
-pub fn put_time_mark(out: &mut [u8], at: usize, x: u64, y: u32, ms: u64) -> usize
-    ensures { Written out.old at (time_mark_text x y ms) out.new result }
+pub fn put_time_mark(page: &mut Page<'_>, x: u64, y: u32, ms: u64)
+    ensures { Puts page.old (time_mark_text x y ms) page.new }
 {
     let top = y as u64;
-    let a = put_path(out, at, b"axis");
-    let b = put_point(out, a, b'M', x, top);
-    let c = put_step(out, b, b'V', top + 60);
-    let d = put_path_end(out, c);
-    let e = put_label(out, d, b"time", x, top + 190);
-    let f = put_clock(out, e, ms);
-    put_label_end(out, f)
+    put_path(page, b"axis");
+    put_point(page, b'M', x, top);
+    put_step(page, b'V', top + 60);
+    put_path_end(page);
+    put_label(page, b"time", x, top + 190);
+    put_clock(page, ms);
+    put_label_end(page);
 }

@@ -1,6 +1,6 @@
 // A picture's head, with its sheet of classes and a hatching for each title, and its foot.
 
-ghost use Rattle.text.specs.Output.{Written};
+ghost use Rattle.text.specs.Pages.{Puts};
 ghost use Rattle.drawing.specs.Document.{
   sheet_of_lines,
   sheet_of_marks,
@@ -17,16 +17,13 @@ ghost use Rattle.rules.specs.Limits.{id_max};
 
 use crate::pieces::put_field;
 use rules::ID_MAX;
-use text::digits::put_number;
-use text::output::put;
+use text::page::Page;
 
 // Text and lines.
-fn put_sheet_of_lines(out: &mut [u8], at: usize) -> usize
-    ensures { Written out.old at sheet_of_lines out.new result }
+fn put_sheet_of_lines(page: &mut Page<'_>)
+    ensures { Puts page.old sheet_of_lines page.new }
 {
-    put(
-        out,
-        at,
+    page.put(
         b"svg{max-width:100%;height:auto;background:#fff}\n\
         text{font:12px sans-serif;fill:#222}\n\
         .head{font-size:16px;font-weight:bold}\n\
@@ -40,31 +37,27 @@ fn put_sheet_of_lines(out: &mut [u8], at: usize) -> usize
         .limit{stroke:#b00020;stroke-dasharray:6 3}\n\
         .plays{stroke:#222;stroke-width:1.5}\n\
         .curve{stroke:#0b3d91;stroke-width:1.5}\n",
-    )
+    );
 }
 
 // Bands, events and refusals.
-fn put_sheet_of_marks(out: &mut [u8], at: usize) -> usize
-    ensures { Written out.old at sheet_of_marks out.new result }
+fn put_sheet_of_marks(page: &mut Page<'_>)
+    ensures { Puts page.old sheet_of_marks page.new }
 {
-    put(
-        out,
-        at,
+    page.put(
         b"rect{fill:#222}\n\
         .b0{fill:#f7f7f7}\n\
         .b1{fill:#efefef}\n\
         .d0{fill:#555;fill-opacity:.45}\n\
         rect[class^='r']{fill:#d00020}\n",
-    )
+    );
 }
 
 // Active lanes and sending lanes of each title.
-fn put_sheet_of_titles(out: &mut [u8], at: usize) -> usize
-    ensures { Written out.old at sheet_of_titles out.new result }
+fn put_sheet_of_titles(page: &mut Page<'_>)
+    ensures { Puts page.old sheet_of_titles page.new }
 {
-    put(
-        out,
-        at,
+    page.put(
         b".t0{fill:#0e6a91}.s0{fill:url(#h0);stroke:#0e6a91}\n\
         .t1{fill:#fe8a84}.s1{fill:url(#h1);stroke:#fe8a84}\n\
         .t2{fill:#0d9971}.s2{fill:url(#h2);stroke:#0d9971}\n\
@@ -81,79 +74,70 @@ fn put_sheet_of_titles(out: &mut [u8], at: usize) -> usize
         .t13{fill:#01485d}.s13{fill:url(#h13);stroke:#01485d}\n\
         .t14{fill:#fe97a3}.s14{fill:url(#h14);stroke:#fe97a3}\n\
         .t15{fill:#059050}.s15{fill:url(#h15);stroke:#059050}\n",
-    )
+    );
 }
 
 // The shades of lanes.
-fn put_sheet_of_lanes(out: &mut [u8], at: usize) -> usize
-    ensures { Written out.old at sheet_of_lanes out.new result }
+fn put_sheet_of_lanes(page: &mut Page<'_>)
+    ensures { Puts page.old sheet_of_lanes page.new }
 {
-    put(
-        out,
-        at,
+    page.put(
         b".l0{fill:#043875}.l1{fill:#eb734a}.l2{fill:#047339}.l3{fill:#e3b543}.l4{fill:#870368}.l5{fill:#15b0c9}\n\
         .l6{fill:#cc3e49}.l7{fill:#bdd75d}.l8{fill:#095b7d}.l9{fill:#fe86a5}.l10{fill:#be6d17}.l11{fill:#14f0e6}\n",
-    )
+    );
 }
 
-fn put_sheet(out: &mut [u8], at: usize) -> usize
-    ensures { Written out.old at sheet out.new result }
+fn put_sheet(page: &mut Page<'_>)
+    ensures { Puts page.old sheet page.new }
 {
-    let a = put(out, at, b"<style>\n");
-    let b = put_sheet_of_lines(out, a);
-    let c = put_sheet_of_marks(out, b);
-    let d = put_sheet_of_titles(out, c);
-    let e = put_sheet_of_lanes(out, d);
-    put(out, e, b"</style>\n")
+    page.put(b"<style>\n");
+    put_sheet_of_lines(page);
+    put_sheet_of_marks(page);
+    put_sheet_of_titles(page);
+    put_sheet_of_lanes(page);
+    page.put(b"</style>\n");
 }
 
 // The hatching of a title's id.
-fn put_hatch(out: &mut [u8], at: usize, id: u64) -> usize
-    ensures { Written out.old at (hatch_text id) out.new result }
+fn put_hatch(page: &mut Page<'_>, id: u64)
+    ensures { Puts page.old (hatch_text id) page.new }
 {
-    let a = put(out, at, b"<pattern id='h");
-    let b = put_number(out, a, id);
-    let c = put(
-        out,
-        b,
+    page.put(b"<pattern id='h");
+    page.put_number(id);
+    page.put(
         b"' width='6' height='6' patternUnits='userSpaceOnUse' patternTransform='rotate(45)'><rect class='t",
     );
-    let d = put_number(out, c, id);
-    put(out, d, b"' width='3' height='6'/></pattern>\n")
+    page.put_number(id);
+    page.put(b"' width='3' height='6'/></pattern>\n");
 }
 
-fn put_hatches(out: &mut [u8], at: usize) -> usize
-    ensures { Written out.old at (hatches_text (id_max + 1)) out.new result }
+fn put_hatches(page: &mut Page<'_>)
+    ensures { Puts page.old (hatches_text (id_max + 1)) page.new }
 {
-    let mut place = at;
-    let mut id = 0;
-    while id < ID_MAX + 1 {
-        place = put_hatch(out, place, id);
-        id += 1;
+    for id in 0..ID_MAX + 1 {
+        put_hatch(page, id);
     }
-    place
 }
 
 // The head of a picture of a width and a height.
-pub fn put_head(out: &mut [u8], at: usize, width: u64, height: u64) -> usize
-    ensures { Written out.old at (svg_head width height) out.new result }
+pub fn put_head(page: &mut Page<'_>, width: u64, height: u64)
+    ensures { Puts page.old (svg_head width height) page.new }
 {
-    let a = put_field(
-        out,
-        at,
+    put_field(
+        page,
         b"<svg xmlns='http://www.w3.org/2000/svg' viewBox='0 0 ",
         width,
     );
-    let b = put_field(out, a, b" ", height);
-    let c = put_field(out, b, b"' width='", width);
-    let d = put_field(out, c, b"' height='", height);
-    let e = put(out, d, b"'>\n");
-    let f = put_sheet(out, e);
-    put_hatches(out, f)
+    put_field(page, b" ", height);
+    put_field(page, b"' width='", width);
+    put_field(page, b"' height='", height);
+    page.put(b"'>\n");
+    put_sheet(page);
+    put_hatches(page);
 }
 
-pub fn put_foot(out: &mut [u8], at: usize) -> usize
-    ensures { Written out.old at foot_text out.new result }
+pub fn put_foot(page: &mut Page<'_>)
+    ensures { Puts page.old foot_text page.new }
 {
-    put(out, at, b"</svg>\n")
+    page.put(b"</svg>\n");
 }

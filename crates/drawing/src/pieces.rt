@@ -1,6 +1,6 @@
 // Pieces of a picture: numbers in tenths of a pixel, rectangles, labels and paths.
 
-ghost use Rattle.text.specs.Output.{Written};
+ghost use Rattle.text.specs.Pages.{Puts};
 ghost use Rattle.drawing.specs.Pieces.{
   tenths_text,
   field_text,
@@ -14,8 +14,7 @@ ghost use Rattle.drawing.specs.Pieces.{
   path_end,
 };
 
-use text::digits::put_number;
-use text::output::{put, put_byte};
+use text::page::Page;
 
 // A rectangle's left upper corner and its sizes.
 #[derive(Clone, Copy)]
@@ -27,86 +26,86 @@ pub struct Area {
 }
 
 // Tenths of a pixel, as pixels.
-pub fn put_tenths(out: &mut [u8], at: usize, n: u64) -> usize
-    ensures { Written out.old at (tenths_text n) out.new result }
+pub fn put_tenths(page: &mut Page<'_>, n: u64)
+    ensures { Puts page.old (tenths_text n) page.new }
 {
-    let a = put_number(out, at, n / 10);
-    let b = put(out, a, b".");
-    put_number(out, b, n % 10)
+    page.put_number(n / 10);
+    page.put(b".");
+    page.put_number(n % 10);
 }
 
 // A number of tenths behind what leads to it.
-pub fn put_field(out: &mut [u8], at: usize, lead: &[u8], n: u64) -> usize
-    ensures { Written out.old at (field_text lead.now n) out.new result }
+pub fn put_field(page: &mut Page<'_>, lead: &[u8], n: u64)
+    ensures { Puts page.old (field_text lead.now n) page.new }
 {
-    let a = put(out, at, lead);
-    put_tenths(out, a, n)
+    page.put(lead);
+    put_tenths(page, n);
 }
 
 // A rectangle up to where its hover text begins.
-pub fn put_rect(out: &mut [u8], at: usize, class: &[u8], number: u64, area: Area) -> usize
-    ensures { Written out.old at (rect_text class.now number area) out.new result }
+pub fn put_rect(page: &mut Page<'_>, class: &[u8], number: u64, area: Area)
+    ensures { Puts page.old (rect_text class.now number area) page.new }
 {
-    let a = put(out, at, b"<rect class='");
-    let b = put(out, a, class);
-    let c = put_number(out, b, number);
-    let d = put_field(out, c, b"' x='", area.x);
-    let e = put_field(out, d, b"' y='", area.y);
-    let f = put_field(out, e, b"' width='", area.width);
-    let g = put_field(out, f, b"' height='", area.height);
-    put(out, g, b"'><title>")
+    page.put(b"<rect class='");
+    page.put(class);
+    page.put_number(number);
+    put_field(page, b"' x='", area.x);
+    put_field(page, b"' y='", area.y);
+    put_field(page, b"' width='", area.width);
+    put_field(page, b"' height='", area.height);
+    page.put(b"'><title>");
 }
 
-pub fn put_rect_end(out: &mut [u8], at: usize) -> usize
-    ensures { Written out.old at rect_end out.new result }
+pub fn put_rect_end(page: &mut Page<'_>)
+    ensures { Puts page.old rect_end page.new }
 {
-    put(out, at, b"</title></rect>\n")
+    page.put(b"</title></rect>\n");
 }
 
 // A label up to where its text begins.
-pub fn put_label(out: &mut [u8], at: usize, class: &[u8], x: u64, y: u64) -> usize
-    ensures { Written out.old at (label_text class.now x y) out.new result }
+pub fn put_label(page: &mut Page<'_>, class: &[u8], x: u64, y: u64)
+    ensures { Puts page.old (label_text class.now x y) page.new }
 {
-    let a = put(out, at, b"<text class='");
-    let b = put(out, a, class);
-    let c = put_field(out, b, b"' x='", x);
-    let d = put_field(out, c, b"' y='", y);
-    put(out, d, b"'>")
+    page.put(b"<text class='");
+    page.put(class);
+    put_field(page, b"' x='", x);
+    put_field(page, b"' y='", y);
+    page.put(b"'>");
 }
 
-pub fn put_label_end(out: &mut [u8], at: usize) -> usize
-    ensures { Written out.old at label_end out.new result }
+pub fn put_label_end(page: &mut Page<'_>)
+    ensures { Puts page.old label_end page.new }
 {
-    put(out, at, b"</text>\n")
+    page.put(b"</text>\n");
 }
 
 // A path up to its first step.
-pub fn put_path(out: &mut [u8], at: usize, class: &[u8]) -> usize
-    ensures { Written out.old at (path_text class.now) out.new result }
+pub fn put_path(page: &mut Page<'_>, class: &[u8])
+    ensures { Puts page.old (path_text class.now) page.new }
 {
-    let a = put(out, at, b"<path class='");
-    let b = put(out, a, class);
-    put(out, b, b"' d='")
+    page.put(b"<path class='");
+    page.put(class);
+    page.put(b"' d='");
 }
 
 // A step across or down: its letter is H or V.
-pub fn put_step(out: &mut [u8], at: usize, letter: u8, n: u64) -> usize
-    ensures { Written out.old at (step_text letter n) out.new result }
+pub fn put_step(page: &mut Page<'_>, letter: u8, n: u64)
+    ensures { Puts page.old (step_text letter n) page.new }
 {
     let row = [letter];
-    put_field(out, at, &row, n)
+    put_field(page, &row, n);
 }
 
 // A step to a point: its letter is M or L.
-pub fn put_point(out: &mut [u8], at: usize, letter: u8, x: u64, y: u64) -> usize
-    ensures { Written out.old at (point_text letter x y) out.new result }
+pub fn put_point(page: &mut Page<'_>, letter: u8, x: u64, y: u64)
+    ensures { Puts page.old (point_text letter x y) page.new }
 {
-    let a = put_step(out, at, letter, x);
-    put_field(out, a, b" ", y)
+    put_step(page, letter, x);
+    put_field(page, b" ", y);
 }
 
-pub fn put_path_end(out: &mut [u8], at: usize) -> usize
-    ensures { Written out.old at path_end out.new result }
+pub fn put_path_end(page: &mut Page<'_>)
+    ensures { Puts page.old path_end page.new }
 {
-    put(out, at, b"'/>\n")
+    page.put(b"'/>\n");
 }

@@ -2,3 +2,4 @@
 pub mod Found
 pub mod Sent
 pub mod Filling
+pub mod Told

@@ -1,7 +1,7 @@
 // How long a lane that is given back is still held, by the scheduler's own answers: a film of 120 minutes that has as many
 // lanes as its cap gives the last one back.
 
-ghost use Rattle.std.specs.Prelude.{◌-◌, ◌*◌, ◌^◌, ◌≤◌, ◌<◌, ◌≡◌, eqb, ltb};
+ghost use Rattle.std.specs.Prelude.{◌-◌, ◌*◌, ◌^◌, ◌≤◌, ◌<◌, ◌≡◌, eqb};
 ghost use Rattle.rules.specs.Limits.{count_max};
 ghost use Rattle.rules.specs.Refusals.{pick};
 ghost use Rattle.story.specs.Calls.{lane_answer};
@@ -31,12 +31,7 @@ fn returned(floor: u64, count: u64, drop: u64) -> State
 fn held_at(s: State, lane: u64, time: u64) -> u64
     ensures { Exactly (pick (eqb (lane_answer s 0 lane time) 0) 1 0) 0 1 result }
 {
-    let shown = scheduler::lane(s, 0, lane, time);
-    let answer = shown.answer;
-    if answer == DONE {
-        return 1;
-    }
-    0
+    u64::from(scheduler::lane(s, 0, lane, time).answer == DONE)
 }
 
 // How many ticks a lane that was given back at a tick is held.
@@ -49,19 +44,10 @@ fn held_ticks(floor: u64, count: u64, drop: u64) -> u64
     let tick = slot_ms(floor, count);
     let reach = pow2(count - 1);
     let mut held = 0;
-    let mut i = 0;
-    while i < reach {
+    for i in 0..reach {
         held += held_at(state, count - 1, (drop + i) * tick);
-        i += 1;
     }
     held
-}
-
-// The larger of two numbers.
-fn larger(a: u64, b: u64) -> u64
-    ensures { result ≡ pick (ltb a b) b a }
-{
-    if a < b { b } else { a }
 }
 
 // The longest over the drop moments of a period, the second from the opening on.
@@ -71,10 +57,8 @@ fn longest_held(floor: u64, count: u64) -> u64
 {
     let period = pow2(count - 1);
     let mut most = 0;
-    let mut i = 0;
-    while i < period / 2 {
-        most = larger(most, held_ticks(floor, count, period + 2 * i));
-        i += 1;
+    for i in 0..period / 2 {
+        most = most.max(held_ticks(floor, count, period + 2 * i));
     }
     most
 }

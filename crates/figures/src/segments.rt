@@ -8,8 +8,6 @@ ghost use Rattle.rules.specs.Refusals.{pick};
 ghost use Rattle.plans.specs.Padded.{plan_at};
 ghost use Rattle.figures.specs.Segments.{segment_of, found_in, needs_no_buffer};
 
-use rules::truth::also;
-
 // The segment of count `count` that holds a cell.
 pub fn segment_of(cap: u64, count: u64, cell: u64) -> u64
     requires count_cap { CountCap count cap }
@@ -48,13 +46,12 @@ pub fn needs_no_buffer(start: u64) -> bool
     requires { start ≤ 8 }
     ensures { result ≡ needs_no_buffer start 15 }
 {
-    let mut all = true;
-    let mut cell: u64 = 0;
-    while cell < 15 {
-        all = also(all, grid::in_g(4, 4, 4, start + cell, cell));
-        cell += 1;
+    for cell in 0..15 {
+        if !grid::in_g(4, 4, 4, start + cell, cell) {
+            return false;
+        }
     }
-    all
+    true
 }
 
 // The same as a number, 1 where it does.
@@ -62,13 +59,7 @@ pub fn unbuffered(start: u64) -> u64
     requires { start ≤ 8 }
     ensures { result ≡ pick (needs_no_buffer start 15) 1 0 }
 {
-    if needs_no_buffer(start) { 1 } else { 0 }
-}
-
-pub fn wide(x: u16) -> u64
-    ensures { result ≡ x }
-{
-    x as u64
+    u64::from(needs_no_buffer(start))
 }
 
 // The slot, from 0, in which the box of figure 1 that starts at slot 0 takes a segment.
@@ -78,5 +69,5 @@ pub fn taken_in(segment: usize) -> u64
 {
     let mut row = [0u16; 16];
     plans::plan(4, 4, 4, 0, &mut row);
-    wide(row[segment - 1])
+    u64::from(row[segment - 1])
 }

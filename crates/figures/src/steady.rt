@@ -7,8 +7,6 @@ ghost use Rattle.plans.specs.Forward.{skip_at};
 ghost use Rattle.figures.specs.Rows.{RowOf};
 ghost use Rattle.figures.specs.Steady.{block_on};
 
-use crate::segments::wide;
-
 // The slots of figures 3.5b and 3.14b.
 pub const SLOTS: usize = 16;
 
@@ -19,10 +17,8 @@ pub fn on_lane(count: u64, lane: u64) -> [u64; SLOTS]
     ensures { RowOf (block_on lane) 16 result }
 {
     let mut row = [0u64; SLOTS];
-    let mut i: usize = 0;
-    while i < SLOTS {
-        row[i] = scheme::lane_cell(scheme::STEADY, count, count, lane, i as u64) + 1;
-        i += 1;
+    for (i, block) in row.iter_mut().enumerate() {
+        *block = scheme::lane_cell(scheme::STEADY, count, count, lane, i as u64) + 1;
     }
     row
 }
@@ -35,10 +31,8 @@ pub fn taken_from(start: u64) -> [u64; 8]
     let mut plan = [0u16; 8];
     plans::skip_plan(4, start, &mut plan);
     let mut row = [0u64; 8];
-    let mut i: usize = 0;
-    while i < 8 {
-        row[i] = wide(plan[i]);
-        i += 1;
+    for (i, slot) in plan.iter().enumerate() {
+        row[i] = u64::from(*slot);
     }
     row
 }

@@ -59,8 +59,5 @@ pub fn increase(floor: u64, count: u64) -> u64
 {
     let padded = slot_ms(floor, count);
     let plain = slot_ms(count, count);
-    if padded < plain {
-        return 0;
-    }
-    (padded - plain + 600) / 1200
+    (padded.saturating_sub(plain) + 600) / 1200
 }

@@ -26,12 +26,8 @@ pub fn sent(count: u64, lane: u64, time: u64) -> u64
     let opened = scheduler::open(started.state, 0, 0, 12, 2, 4, 4);
     let changed = scheduler::change(opened.state, 0, 4, count);
     let shown = scheduler::lane(changed.state, 0, lane, time);
-    let answer = shown.answer;
-    let cell = shown.cell;
-    if answer == DONE {
-        if cell < 16 {
-            return cell + 1;
-        }
+    if shown.answer == DONE && shown.cell < 16 {
+        return shown.cell + 1;
     }
     NOTHING
 }

@@ -12,68 +12,31 @@ use text::numbers::spelt;
 // Room for the longest argument that the system hands over.
 const ARGUMENT_ROOM: usize = 131_072;
 
-// What an argument is.
-#[derive(Clone, Copy)]
-pub enum Given {
-    Number(u64),
-    NoNumber,
-}
-
-// The pool and the title that were given, or that standard error says what is wrong.
-#[derive(Clone, Copy)]
-pub enum Asked {
-    About(u64, u64),
-    Nothing,
-}
-
-// The pool that was given, or that standard error says what is wrong.
-#[derive(Clone, Copy)]
-pub enum Pool {
-    Lanes(u64),
-    Nothing,
-}
-
 // The number that an argument spells, the largest where it is larger.
-fn number_given(rt: &HostRuntime, i: usize) -> Given {
+fn number_given(rt: &HostRuntime, i: usize) -> Option<u64> {
     let mut room = [0u8; ARGUMENT_ROOM];
-    let Ok(n) = rt.arg(i, &mut room) else {
-        return Given::NoNumber;
-    };
-    if n == 0 {
-        return Given::NoNumber;
-    }
+    let n = rt.arg(i, &mut room).ok()?;
     let word = &room[..n];
-    if run_end(word, 0, Sort::Digit) < n {
-        return Given::NoNumber;
+    if n == 0 || run_end(word, 0, Sort::Digit) < n {
+        return None;
     }
-    let number = spelt(word, 0);
-    Given::Number(number.value)
+    Some(spelt(word, 0).value)
 }
 
 // The same of an argument with a name, by which standard error says that it spells none.
-pub fn number_named(rt: &HostRuntime, i: usize, name: &[u8]) -> Given {
-    let Given::Number(n) = number_given(rt, i) else {
+pub fn number_named(rt: &HostRuntime, i: usize, name: &[u8]) -> Option<u64> {
+    let number = number_given(rt, i);
+    if number.is_none() {
         complain(rt, name, b" is no number");
-        return Given::NoNumber;
-    };
-    Given::Number(n)
+    }
+    number
 }
 
 // Whether two texts are the same.
 pub fn same(a: &[u8], b: &[u8]) -> bool
     ensures { Tells result a.now b.now }
 {
-    if a.len() != b.len() {
-        return false;
-    }
-    let mut i = 0;
-    while i < a.len() {
-        if a[i] != b[i] {
-            return false;
-        }
-        i += 1;
-    }
-    true
+    a == b
 }
 
 // Whether an argument is a word.
@@ -85,48 +48,42 @@ pub fn is_word(rt: &HostRuntime, i: usize, word: &[u8]) -> bool {
     same(&room[..n], word)
 }
 
-// How many arguments there are is tested first, then the numbers in their order.
-pub fn pool_and_title(rt: &HostRuntime, usage: &[u8]) -> Asked {
-    if count_is(rt, 5, usage) {
-        return numbers_given(rt);
+// The pool and the title that were given, or that standard error says what is wrong. How many arguments there are is tested first, then the
+// numbers in their order.
+pub fn pool_and_title(rt: &HostRuntime, usage: &[u8]) -> Option<(u64, u64)> {
+    if !count_is(rt, 5, usage) {
+        return None;
     }
-    Asked::Nothing
-}
-
-fn numbers_given(rt: &HostRuntime) -> Asked {
-    let Given::Number(pool) = number_named(rt, 1, b"POOL") else {
-        return Asked::Nothing;
-    };
-    let Given::Number(title) = number_named(rt, 2, b"TITLE") else {
-        return Asked::Nothing;
-    };
-    Asked::About(pool, title)
+    let pool = number_named(rt, 1, b"POOL")?;
+    let title = number_named(rt, 2, b"TITLE")?;
+    Some((pool, title))
 }
 
 fn complain_of_pool(rt: &HostRuntime, wrong: &[u8]) {
     complain(rt, wrong, b": give the lanes of the pool, 1 to 64");
 }
 
-// The pool that an argument names.
-pub fn pool_given(rt: &HostRuntime, i: usize) -> Pool {
-    let Given::Number(pool) = number_given(rt, i) else {
+// The pool that an argument names, or that standard error says what is wrong.
+pub fn pool_given(rt: &HostRuntime, i: usize) -> Option<u64> {
+    let Some(pool) = number_given(rt, i) else {
         complain_of_pool(rt, b"POOL is no number");
-        return Pool::Nothing;
+        return None;
     };
-    if within(POOL_MIN, POOL_MAX, pool) {
-        return Pool::Lanes(pool);
+    if !within(POOL_MIN, POOL_MAX, pool) {
+        complain_of_pool(rt, b"POOL is out of range");
+        return None;
     }
-    complain_of_pool(rt, b"POOL is out of range");
-    Pool::Nothing
+    Some(pool)
 }
 
 // The pool that the only argument names, the usual one without.
-pub fn pool_or(rt: &HostRuntime, usual: u64, usage: &[u8]) -> Pool {
-    if are_right(rt, 1, 1, 2, usage) {
-        if arg_count(rt) < 2 {
-            return Pool::Lanes(usual);
-        }
-        return pool_given(rt, 1);
+pub fn pool_or(rt: &HostRuntime, usual: u64, usage: &[u8]) -> Option<u64> {
+    if !are_right(rt, 1, 1, 2, usage) {
+        return None;
     }
-    Pool::Nothing
+    if arg_count(rt) < 2 {
+        Some(usual)
+    } else {
+        pool_given(rt, 1)
+    }
 }

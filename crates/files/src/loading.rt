@@ -1,11 +1,11 @@
 // Files that arguments name, each whole in a lent room.
 
-ghost use Rattle.std.specs.Prelude.{◌≡◌, ◌≤◌, length};
+ghost use Rattle.std.specs.Prelude.{◌≤◌, length, IfOk, IfSome};
 
 use crate::paths::path;
-use std::fs;
-use std::io::{Error, Read, Result};
+use std::io::{Error, ErrorKind, Read};
 use std::rt::Env;
+use std::{fs, io};
 use streams::ports::fail;
 use streams::usage::complain;
 
@@ -17,184 +17,101 @@ const LOG_ARGUMENT: usize = 3;
 
 const OWN_ARGUMENT: usize = 4;
 
-// What became of a file: so many bytes of it, at the room's start, or why it has none.
+// Why a file was not loaded.
 #[derive(Clone, Copy)]
-struct File {
-    size: usize,
-    ok: bool,
-    long: bool,
-    // why the system did not read on, where that is all that is wrong
-    wrong: Option<Error>,
+enum Wrong {
+    Long,
+    // why the system did not open it or read on
+    Unread(Error),
 }
 
-// What became of a program's two files: so many bytes of each, at its room's start, once both are loaded.
+impl From<Error> for Wrong {
+    fn from(error: Error) -> Wrong {
+        Wrong::Unread(error)
+    }
+}
+
+// How many bytes a program's two files have, each at its room's start.
 #[derive(Clone, Copy)]
 pub struct Files {
     pub log: usize,
     pub own: usize,
-    pub ok: bool,
-}
-
-// What became of the log where a program has no other file: so many bytes of it, at its room's start, once it is loaded.
-#[derive(Clone, Copy)]
-pub struct Log {
-    pub size: usize,
-    pub ok: bool,
-}
-
-// What one read gave.
-#[derive(Clone, Copy)]
-struct Part {
-    size: usize,
-    wrong: Option<Error>,
-}
-
-// Reads once into the start of a room.
-fn read_part<R: Read>(file: &mut R, room: &mut [u8]) -> Part
-    ensures { result.size ≤ length room.old }
-{
-    match file.read(room) {
-        Ok(n) => Part {
-            size: n,
-            wrong: None,
-        },
-        Err(error) => Part {
-            size: 0,
-            wrong: Some(error),
-        },
-    }
-}
-
-fn loaded(size: usize) -> File
-    ensures { result.size ≡ size }
-{
-    File {
-        size: size,
-        ok: true,
-        long: false,
-        wrong: None,
-    }
-}
-
-fn not_loaded(long: bool, wrong: Option<Error>) -> File
-    ensures { result.size ≡ 0 }
-{
-    File {
-        size: 0,
-        ok: false,
-        long: long,
-        wrong: wrong,
-    }
 }
 
 // All bytes of an open file. One that fills the room has more than it may.
-fn read_all<R: Read>(file: &mut R, room: &mut [u8]) -> File
-    ensures { result.size ≤ length room.old }
+fn read_all<R: Read>(file: &mut R, room: &mut [u8]) -> Result<usize, Wrong>
+    ensures { IfOk result (λ n. n ≤ length room.old) }
 {
     let mut filled = 0;
     while filled < room.len() {
-        let part = read_part(file, &mut room[filled..]);
-        if part.wrong.is_some() {
-            return not_loaded(false, part.wrong);
+        let n = file.read(&mut room[filled..])?;
+        if n == 0 {
+            return Ok(filled);
         }
-        if part.size == 0 {
-            return loaded(filled);
-        }
-        filled += part.size;
+        filled += n;
     }
-    not_loaded(true, None)
+    Err(Wrong::Long)
 }
 
-// The file of a name, opened to be read.
-fn opened(rt: &HostRuntime, name: &[u8]) -> Result<fs::File> {
-    fs::open(rt, path(name)?)
-}
-
-// The file that an argument names.
-fn load(rt: &HostRuntime, i: usize, room: &mut [u8]) -> File
-    ensures { result.size ≤ length room.old }
-{
+// The file that an argument names, opened to be read.
+fn opened(rt: &HostRuntime, i: usize) -> io::Result<fs::File> {
     let mut name = [0u8; 4_096];
     let Ok(n) = rt.arg(i, &mut name) else {
-        return not_loaded(false, None);
+        return Err(Error::from(ErrorKind::InvalidFilename));
     };
-    let Ok(mut file) = opened(rt, &name[..n]) else {
-        return not_loaded(false, None);
-    };
+    fs::open(rt, path(&name[..n])?)
+}
+
+// All bytes of the file that an argument names.
+fn read_named(rt: &HostRuntime, i: usize, room: &mut [u8]) -> Result<usize, Wrong>
+    ensures { IfOk result (λ n. n ≤ length room.old) }
+{
+    let mut file = opened(rt, i)?;
     read_all(&mut file, room)
 }
 
-// What is wrong with a file that was not loaded.
-fn complain_of(rt: &HostRuntime, what: &[u8], file: File) {
-    if file.long {
-        complain(rt, what, b" is too long");
-    } else {
-        complain(rt, what, b" cannot be read");
-    }
-}
-
-// The log; what is wrong with it is said on standard error.
-pub fn load_log(rt: &HostRuntime, log: &mut [u8]) -> Log
-    ensures { result.size ≤ length log.old }
+// The same, and what is wrong with a file that was not loaded is said on standard error.
+fn load(rt: &HostRuntime, i: usize, what: &[u8], room: &mut [u8]) -> Option<usize>
+    ensures { IfSome result (λ n. n ≤ length room.old) }
 {
-    let first = load(rt, LOG_ARGUMENT, log);
-    if first.ok {
-        return Log {
-            size: first.size,
-            ok: true,
-        };
+    match read_named(rt, i, room) {
+        Ok(n) => return Some(n),
+        Err(Wrong::Long) => complain(rt, what, b" is too long"),
+        Err(Wrong::Unread(_)) => complain(rt, what, b" cannot be read"),
     }
-    complain_of(rt, b"LOG", first);
-    Log { size: 0, ok: false }
+    None
 }
 
-// The log on standard input; what is wrong with it is said on standard error.
-pub fn load_input(rt: &HostRuntime, log: &mut [u8]) -> Log
-    ensures { result.size ≤ length log.old }
+// How many bytes the log has; what is wrong with it is said on standard error.
+pub fn load_log(rt: &HostRuntime, log: &mut [u8]) -> Option<usize>
+    ensures { IfSome result (λ n. n ≤ length log.old) }
+{
+    load(rt, LOG_ARGUMENT, b"LOG", log)
+}
+
+// The same of the log on standard input.
+pub fn load_input(rt: &HostRuntime, log: &mut [u8]) -> Option<usize>
+    ensures { IfSome result (λ n. n ≤ length log.old) }
 {
     let mut input = rt.stdin();
-    let all = read_all(&mut input, log);
-    let size = all.size;
-    if all.ok {
-        return Log {
-            size: size,
-            ok: true,
-        };
-    }
-    if all.long {
-        complain(
+    match read_all(&mut input, log) {
+        Ok(n) => return Some(n),
+        Err(Wrong::Long) => complain(
             rt,
             b"LOG",
             b" is too long: give its first 1 MiB, as head -c 1048576 does",
-        );
-    } else if let Some(error) = all.wrong {
-        fail(rt, b"standard input", error);
+        ),
+        Err(Wrong::Unread(error)) => fail(rt, b"standard input", error),
     }
-    Log { size: 0, ok: false }
+    None
 }
 
 // The log and the program's own file, under the name that a complaint gives it. The first that was not loaded is said on
 // standard error, and then neither counts.
-pub fn load_both(rt: &HostRuntime, log: &mut [u8], name: &[u8], own: &mut [u8]) -> Files
-    ensures { (result.log ≤ length log.old) × (result.own ≤ length own.old) }
+pub fn load_both(rt: &HostRuntime, log: &mut [u8], name: &[u8], own: &mut [u8]) -> Option<Files>
+    ensures { IfSome result (λ f. (f.log ≤ length log.old) × (f.own ≤ length own.old)) }
 {
-    let first = load(rt, LOG_ARGUMENT, log);
-    if first.ok {
-        let second = load(rt, OWN_ARGUMENT, own);
-        if second.ok {
-            return Files {
-                log: first.size,
-                own: second.size,
-                ok: true,
-            };
-        }
-        complain_of(rt, name, second);
-    } else {
-        complain_of(rt, b"LOG", first);
-    }
-    Files {
-        log: 0,
-        own: 0,
-        ok: false,
-    }
+    let log = load(rt, LOG_ARGUMENT, b"LOG", log)?;
+    let own = load(rt, OWN_ARGUMENT, name, own)?;
+    Some(Files { log, own })
 }

@@ -8,10 +8,7 @@ pub fn within_row(place: usize, row: &[u8]) -> usize
     ensures prefix_len { IsPrefixLen result row.now }
     ensures value { result ≡ min place (length row.now) }
 {
-    if place < row.len() {
-        return place;
-    }
-    row.len()
+    place.min(row.len())
 }
 
 pub fn write_page(rt: &HostRuntime, row: &[u8], place: usize) {

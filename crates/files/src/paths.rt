@@ -5,8 +5,5 @@ use std::str;
 
 // A name as the library takes it.
 pub fn path(name: &[u8]) -> Result<&str> {
-    match str::from_utf8(name) {
-        Ok(text) => Ok(text),
-        Err(_) => Err(Error::from(ErrorKind::InvalidFilename)),
-    }
+    str::from_utf8(name).map_err(|_| Error::from(ErrorKind::InvalidFilename))
 }

@@ -5,8 +5,9 @@ use native.Mathlib.Numerals.{add-one}
 use native.Mathlib.Omega.{arith}
 use lib.ListN.{get_or}
 use Rattle.rules.specs.Search.{total}
-use Rattle.text.specs.Output.{Page, puts}
-use Rattle.text.proofs.Pages.{puts_then}
+use Rattle.text.specs.declared.page.Page.{Page}
+use Rattle.text.specs.Pages.{Puts}
+use Rattle.text.proofs.Pages.{then}
 use Rattle.frames.specs.declared.bands.View.{View}
 use Rattle.frames.specs.Bands.{band_height, bands_top, top_of, band_of, band_text, bands_text}
 
@@ -22,6 +23,6 @@ module _ (v : View) where
   pub band_is : (i top : ℕ) → top ≡ top_of v i → record { scale = v.curve.scale; id = i; top = top } ≡ band_of v i
   band_is i top e = rw e refl
 
-  pub bands_next : (i : ℕ) (p q r : Page) → q ≡ puts p (bands_text v i) → r ≡ puts q (band_text v i) → r ≡ puts p (bands_text v (i + 1))
+  pub bands_next : {p q r : Page} (i : ℕ) → Puts p (bands_text v i) q → Puts q (band_text v i) r → Puts p (bands_text v (i + 1)) r
   unfolding bands_text
-  bands_next i p q r e w = rw (add-one i) (puts_then p (bands_text v i) (band_text v i) e w)
+  bands_next i e w = rw (add-one i) (then e w)

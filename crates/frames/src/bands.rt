@@ -3,7 +3,7 @@
 ghost use Rattle.std.specs.Prelude.{◌+◌, ◌*◌, ◌≤◌, ◌<◌, ◌≡◌};
 ghost use Rattle.rules.specs.Limits.{id_max, titles_max};
 ghost use Rattle.grid.specs.Bounds.{Exactly};
-ghost use Rattle.text.specs.Output.{Written};
+ghost use Rattle.text.specs.Pages.{Puts};
 ghost use Rattle.frames.specs.Bands.{lanes_height, band_height, height_most, bands_top, top_of, band_of, band_text, bands_text};
 
 use curves::Curve;
@@ -12,8 +12,7 @@ use drawing::pieces::{Area, put_label, put_label_end, put_rect, put_rect_end};
 use rules::TITLES_MAX;
 use strips::lanes::{LANE_STEP, LANES_DOWN};
 use strips::scale::Band;
-use text::digits::put_number;
-use text::output::put;
+use text::page::Page;
 
 // How a log is drawn: its curve, with the scale, and of each id the lanes that have a row.
 #[derive(Clone, Copy)]
@@ -50,11 +49,8 @@ pub fn top_of(v: View, n: u64) -> u32
     ensures { (result ≡ top_of v n) × (result ≤ bands_top + titles_max * height_most) }
 {
     let mut top = BANDS_TOP as u64;
-    let mut id = 0;
-    while id < n {
-        let cap = v.caps[id as usize];
-        top += band_height(cap);
-        id += 1;
+    for id in 0..n {
+        top += band_height(v.caps[id as usize]);
     }
     top as u32
 }
@@ -63,55 +59,42 @@ pub fn band_of(v: View, id: u64) -> Band
     requires { id ≤ id_max }
     ensures { result ≡ band_of v id }
 {
-    let curve = v.curve;
-    let scale = curve.scale;
     Band {
-        scale: scale,
-        id: id,
+        scale: v.curve.scale,
+        id,
         top: top_of(v, id),
     }
 }
 
 // The background of an id's band, with its number.
-fn put_band(out: &mut [u8], at: usize, v: View, id: u64) -> usize
+fn put_band(page: &mut Page<'_>, v: View, id: u64)
     requires { id ≤ id_max }
-    ensures { Written out.old at (band_text v id) out.new result }
+    ensures { Puts page.old (band_text v id) page.new }
 {
     let cap = v.caps[id as usize];
     let top = top_of(v, id) as u64;
-    if cap == 0 {
-        return at;
+    if cap != 0 {
+        let area = Area {
+            x: PLOT_LEFT,
+            y: top,
+            width: PLOT_WIDTH as u64,
+            height: lanes_height(cap),
+        };
+        put_rect(page, b"b", 0, area);
+        page.put(b"title ");
+        page.put_number(id);
+        put_rect_end(page);
+        put_label(page, b"small right", PLOT_LEFT - 50, top + LANES_DOWN + 80);
+        page.put(b"title ");
+        page.put_number(id);
+        put_label_end(page);
     }
-    let area = Area {
-        x: PLOT_LEFT,
-        y: top,
-        width: PLOT_WIDTH as u64,
-        height: lanes_height(cap),
-    };
-    let a = put_rect(out, at, b"b", 0, area);
-    let b = put(out, a, b"title ");
-    let c = put_number(out, b, id);
-    let d = put_rect_end(out, c);
-    let e = put_label(
-        out,
-        d,
-        b"small right",
-        PLOT_LEFT - 50,
-        top + LANES_DOWN + 80,
-    );
-    let f = put(out, e, b"title ");
-    let g = put_number(out, f, id);
-    put_label_end(out, g)
 }
 
-pub fn put_bands(out: &mut [u8], at: usize, v: View) -> usize
-    ensures { Written out.old at (bands_text v titles_max) out.new result }
+pub fn put_bands(page: &mut Page<'_>, v: View)
+    ensures { Puts page.old (bands_text v titles_max) page.new }
 {
-    let mut place = at;
-    let mut id = 0;
-    while id < TITLES_MAX as u64 {
-        place = put_band(out, place, v, id);
-        id += 1;
+    for id in 0..TITLES_MAX as u64 {
+        put_band(page, v, id);
     }
-    place
 }

@@ -1,14 +1,14 @@
 // Times across the plot: a dozen at most, each a round one.
 
 ghost use Rattle.std.specs.Prelude.{◌≤◌, ◌<◌, ◌≡◌};
-ghost use Rattle.text.specs.Output.{Written};
+ghost use Rattle.text.specs.Pages.{Puts};
 ghost use Rattle.frames.specs.Times.{round_step, step_most, times_most, time_text, times_text, time_across};
 
 use drawing::axis::put_time_mark;
 use drawing::pieces::{put_path, put_path_end, put_point, put_step};
 use measures::ticks::since;
-use rules::truth::smaller;
 use strips::scale::{Scale, place};
+use text::page::Page;
 
 // As many times at most.
 const TIMES_MOST: u64 = 14;
@@ -54,40 +54,32 @@ fn round_step(span: u64) -> u64
 }
 
 // A line through the picture at a time, and the time below it.
-fn put_across(out: &mut [u8], at: usize, s: Scale, base: u32, time: u64) -> usize
-    ensures { Written out.old at (time_across s base time) out.new result }
+fn put_across(page: &mut Page<'_>, s: Scale, base: u32, time: u64)
+    ensures { Puts page.old (time_across s base time) page.new }
 {
     let x = place(s, time);
-    let a = put_path(out, at, b"grid");
-    let b = put_point(out, a, b'M', x, 780);
-    let c = put_step(out, b, b'V', base as u64);
-    let d = put_path_end(out, c);
-    put_time_mark(out, d, x, base, time)
+    put_path(page, b"grid");
+    put_point(page, b'M', x, 780);
+    put_step(page, b'V', base as u64);
+    put_path_end(page);
+    put_time_mark(page, x, base, time);
 }
 
 // A time, where it lies in what is drawn.
-fn put_time(out: &mut [u8], at: usize, s: Scale, base: u32, time: u64) -> usize
-    ensures { Written out.old at (time_text s base time) out.new result }
+fn put_time(page: &mut Page<'_>, s: Scale, base: u32, time: u64)
+    ensures { Puts page.old (time_text s base time) page.new }
 {
-    let first = s.first;
-    if first <= time {
-        if since(first, time) <= s.span {
-            return put_across(out, at, s, base, time);
-        }
+    if s.first <= time && since(s.first, time) <= s.span {
+        put_across(page, s, base, time);
     }
-    at
 }
 
-pub fn put_times(out: &mut [u8], at: usize, s: Scale, base: u32) -> usize
-    ensures { Written out.old at (times_text s base times_most) out.new result }
+pub fn put_times(page: &mut Page<'_>, s: Scale, base: u32)
+    ensures { Puts page.old (times_text s base times_most) page.new }
 {
     let step = round_step(s.span);
-    let from = smaller(s.first, STEP_MOST) / step;
-    let mut place = at;
-    let mut n = 0;
-    while n < TIMES_MOST {
-        place = put_time(out, place, s, base, (from + n) * step);
-        n += 1;
+    let from = s.first.min(STEP_MOST) / step;
+    for n in 0..TIMES_MOST {
+        put_time(page, s, base, (from + n) * step);
     }
-    place
 }

@@ -3,7 +3,9 @@
 use mathlib.Core.Path.{◌≡◌, refl, sym, ap, ◌∙◌}
 use Prim.Native.Nat.{ℕ, zero, suc, ◌+◌, ◌-◌, ◌*◌, ◌/◌, ◌%◌, ◌^◌, ◌≤◌, ◌<◌}
 use native.Mathlib.Omega.{arith}
-use native.Mathlib.Nat.{mod-lt, div-add-mod', le-div_iff_mul-le, div-le_of_le-mul, mul-le-mul}
+use native.Mathlib.Nat.{mod-lt, div-add-mod', le-div_iff_mul-le, div-le_of_le-mul, mul-le-mul, div-eq_of_lt-le}
+use Rattle.std.specs.Int.{div_ceil}
+use Rattle.std.proofs.lemmas.Grind.{div_ceil_times}
 use lib.Pow.{pow_pos, pow-add, pow-lt, pow_mono}
 use Rattle.rules.specs.Limits.{count_max, length_max}
 use Rattle.grid.specs.Ticks.{slot, rounded_up, tick_of}
@@ -52,6 +54,13 @@ rounded_high (suc n) (suc m) p q = div-le_of_le-mul (suc m) (omega arith)
 -- a floor above 0 leaves cells for film
 pub held_pos : (A K : ℕ) → 0 < A → A ≤ K → 2 ^ (K - A) < 2 ^ K
 held_pos A K p l = pow-lt (omega arith)
+
+-- what the language rounds up is what the definition does
+between : (n m k : ℕ) → 0 < m → n ≤ k * m → k * m < n + m → k ≡ (n + (m - 1)) / m
+between n m k p low high = sym (div-eq_of_lt-le m {m = n + (m - 1)} (omega arith) (omega arith))
+
+pub ceil_rounded : (n m : ℕ) → 0 < m → div_ceil n m ≡ (n + (m - 1)) / m
+ceil_rounded n m p = let t = div_ceil_times n m p in between n m (div_ceil n m) p t.0 t.1
 
 pub tick_exactly : (D A K p q : ℕ) → 0 < D → 0 < A → A ≤ K → p ≡ 2 ^ K → q ≡ 2 ^ (K - A) →
     Exactly (tick_of D A K) 1 D ((D + (p - q - 1)) / (p - q))

@@ -3,7 +3,7 @@
 use mathlib.Core.Path.{◌≡◌, refl, sym, ap, ◌∙◌}
 use mathlib.Core.Bool.{Bool, true, false, not}
 use mathlib.Core.Logic.{⊎_elim}
-use Prim.Native.Nat.{ℕ, zero, suc, ◌+◌, ◌-◌, ◌*◌, ◌/◌, ◌%◌, ◌^◌, ◌≤◌, ◌<◌}
+use Prim.Native.Nat.{ℕ, zero, suc, ◌+◌, ◌-◌, ◌*◌, ◌/◌, ◌%◌, ◌^◌, ◌≤◌, ◌<◌, min}
 use native.Mathlib.Omega.{arith}
 use native.Mathlib.Nat.{div-add-mod, le_antisymm, pow-succ'}
 use lib.Count.{count_trailing_zeros, under, trailing_le}
@@ -114,6 +114,12 @@ zeros_fewer m k n l h =
     zeros_only k n (count_trailing_zeros m n) (count_trailing_zeros k n)
     (record { most = omega arith; zeros = a.zeros; one = λ b. a.one (omega arith) })
     (zeros_are k n)
+
+-- and so the fewer of the two
+pub zeros_few : (m k n : ℕ) → k ≤ m → min (count_trailing_zeros m n) k ≡ count_trailing_zeros k n
+zeros_few m k n l =
+    ⊎_elim (λ b. omega (arith, ltb-true _ _ b, zeros_fewer m k n l (ltb-true _ _ b)))
+    (λ b. omega (arith, ltb-false _ _ b, zeros_capped m k n l (ltb-false _ _ b))) (decide (ltb (count_trailing_zeros m n) k))
 
 -- ---- zeros by the powers that divide
 

@@ -44,7 +44,7 @@ pub fn tick(length: u64, floor: u64, cap: u64) -> u64
     ensures { Exactly (tick_of length floor cap) 1 length result }
 {
     let held = pow2(cap) - pow2(cap - floor);
-    (length + (held - 1)) / held
+    length.div_ceil(held)
 }
 
 // By how many slots slot j lies after slot s: below zero where it lies before.
@@ -68,6 +68,7 @@ pub fn floor_rem(x: i64, m: u64) -> u64
     requires { 0 < m }
     ensures { IsRest (floor_rem x m) m result }
 {
+    // kept: `i64::rem_euclid` takes a signed divisor, so each call would narrow m and prove that it fits
     if x < 0 {
         // x is -1 - n: unlike -x, this n fits for every x below zero
         let n = (-1 - x) as u64;
@@ -113,7 +114,7 @@ pub fn carrier(cap: u64, count: u64, cell: u64) -> u64
     requires cell_bound { cell < 2 ^ cap }
     ensures { Carrier cap count cell result }
 {
-    63 - u64::leading_zeros(cell / slot(cap, count) + 1) as u64
+    u64::from((cell / slot(cap, count) + 1).ilog2())
 }
 
 // Whether cell `cell` is in G(count, tick): the one channel that may carry it has it.
@@ -126,17 +127,7 @@ pub fn in_g(floor: u64, cap: u64, count: u64, tick: u64, cell: u64) -> bool
         return false;
     }
     let channel = carrier(cap, count, cell);
-    if count <= channel {
-        return false;
-    }
-    channel_cell(floor, cap, count, channel, tick) == cell
-}
-
-// By how much two numbers differ.
-fn apart(a: u64, b: u64) -> u64
-    ensures { result ≡ (a - b) + (b - a) }
-{
-    if a < b { b - a } else { a - b }
+    channel < count && channel_cell(floor, cap, count, channel, tick) == cell
 }
 
 // The low zeros of x, at most `most`: zero has as many as are asked for.
@@ -144,11 +135,7 @@ fn low_zeros(x: u64, most: u64) -> u64
     requires { most ≤ count_max }
     ensures { result ≡ count_trailing_zeros most x }
 {
-    if x == 0 {
-        return most;
-    }
-    let zeros = u64::trailing_zeros(x) as u64;
-    if zeros < most { zeros } else { most }
+    u64::from(x.trailing_zeros()).min(most)
 }
 
 // The channel of count `lane` + 1 whose cell at tick `tick` is the one not in G(lane, tick): the low zeros of the
@@ -160,7 +147,7 @@ pub fn added_channel(floor: u64, cap: u64, lane: u64, tick: u64) -> u64
 {
     let count = lane + 1;
     let j = tick / slot(cap, count);
-    low_zeros(apart(j + 1, shift(floor, count)), lane)
+    low_zeros((j + 1).abs_diff(shift(floor, count)), lane)
 }
 
 // The cell that lane `lane` carries at tick `tick`.

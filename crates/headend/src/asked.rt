@@ -1,9 +1,9 @@
 // What the arguments ask for: what to do, with which pool, and the journal's name.
 
-ghost use Rattle.std.specs.Prelude.{◌≡◌, ◌≤◌};
+ghost use Rattle.std.specs.Prelude.{◌≤◌, IfSome};
 ghost use Rattle.std.specs.Counts.{IsPrefixLen};
 
-use files::arguments::{Pool, is_word, pool_given};
+use files::arguments::{is_word, pool_given};
 use files::pages::within_row;
 use journal_files::opening::NAME_MOST;
 use std::rt::Env;
@@ -16,23 +16,12 @@ pub enum Task {
     Sums,
 }
 
-// The journal's name is so many bytes at the start of a room: none where standard error says what is wrong with the arguments.
+// The journal's name is so many bytes at the start of a room.
 #[derive(Clone, Copy)]
 pub struct Asked {
     pub task: Task,
     pub pool: u64,
     pub size: usize,
-}
-
-fn nothing() -> Asked
-    ensures { result.size ≡ 0 }
-{
-    let task = Task::Serve;
-    Asked {
-        task: task,
-        pool: 0,
-        size: 0,
-    }
 }
 
 fn task_asked(rt: &HostRuntime) -> Task {
@@ -56,52 +45,35 @@ fn pool_place(task: Task) -> usize
     }
 }
 
-// The pool that an argument gives, 0 where it gives none.
-fn pool_asked(rt: &HostRuntime, place: usize) -> u64 {
-    let Pool::Lanes(pool) = pool_given(rt, place) else {
-        return 0;
-    };
-    pool
-}
-
-// The journal's name, at the start of a room: so many bytes, 0 where there is none that can be used.
-fn name_asked(rt: &HostRuntime, place: usize, room: &mut [u8]) -> usize
-    ensures { IsPrefixLen result room.new }
+// The journal's name, at the start of a room, or that standard error says why there is none that can be used.
+fn name_asked(rt: &HostRuntime, place: usize, room: &mut [u8]) -> Option<usize>
+    ensures { IfSome result (λ n. IsPrefixLen n room.new) }
 {
-    if let Ok(n) = rt.arg(place, room) {
-        if n <= NAME_MOST {
-            if n == 0 {
-                complain(rt, b"JOURNAL", b" is no name");
-            }
-            return within_row(n, room);
-        }
+    match rt.arg(place, room) {
+        Ok(0) => complain(rt, b"JOURNAL", b" is no name"),
+        Ok(n) if n <= NAME_MOST => return Some(within_row(n, room)),
+        _ => complain(rt, b"JOURNAL", b" is too long a name"),
     }
-    complain(rt, b"JOURNAL", b" is too long a name");
-    within_row(0, room)
+    None
 }
 
-pub fn take_arguments(rt: &HostRuntime, room: &mut [u8]) -> Asked
-    ensures { IsPrefixLen result.size room.new }
+// What the arguments ask for, or that standard error says what is wrong with them.
+pub fn take_arguments(rt: &HostRuntime, room: &mut [u8]) -> Option<Asked>
+    ensures { IfSome result (λ asked. IsPrefixLen asked.size room.new) }
 {
     let task = task_asked(rt);
     let place = pool_place(task);
     let many = place + 2;
-    if are_right(
+    if !are_right(
         rt,
         place,
         many,
         many,
         b"headend [--check | --sums] POOL JOURNAL",
     ) {
-        let pool = pool_asked(rt, place);
-        if pool != 0 {
-            let n = name_asked(rt, place + 1, room);
-            return Asked {
-                task: task,
-                pool: pool,
-                size: n,
-            };
-        }
+        return None;
     }
-    nothing()
+    let pool = pool_given(rt, place)?;
+    let size = name_asked(rt, place + 1, room)?;
+    Some(Asked { task, pool, size })
 }

@@ -12,6 +12,7 @@ use journal_files::pairs::Pair;
 use journals::{BLOCK, BLOCK_EVENTS, SUM};
 use notice::LONGEST_NOTICE;
 use sessions::{Session, sought, turned, writes};
+use text::page::Page;
 
 // Room for the notices and the sums of a whole block of input.
 const NOTICES_ROOM: usize = BLOCK_EVENTS * LONGEST_NOTICE;
@@ -21,8 +22,8 @@ const SUMS_ROOM: usize = BLOCK_EVENTS * SUM;
 // A desk with nothing written in its rows.
 fn clear(agent: Agent, at: usize) -> Desk {
     Desk {
-        agent: agent,
-        at: at,
+        agent,
+        at,
         noticed: 0,
         summed: 0,
     }
@@ -31,10 +32,11 @@ fn clear(agent: Agent, at: usize) -> Desk {
 // The place behind what is drawn of a line: an event that was accepted, which moved the sequence.
 fn drawn(before: Desk, after: Desk, s: &[u8], out: &mut [u8]) -> usize {
     let agent = before.agent;
+    let mut page = Page::from(out, after.at);
     if agent.sequence < after.agent.sequence {
-        return put_drawn(out, after.at, agent, s);
+        put_drawn(&mut page, agent, s);
     }
-    after.at
+    page.end()
 }
 
 // Answers the line at hand: where there is none, an empty line asks nothing. Its event is drawn behind the answer, where events are.
@@ -63,10 +65,8 @@ fn answered(
 
 // Whether the journal has to be written now: answers are about to be, or the next notice might not fit.
 fn is_due(desk: Desk, session: Session, out: &[u8], notices: &[u8], sums: &[u8]) -> bool {
-    if has_room(desk.noticed, notices.len(), desk.summed, sums.len()) {
-        return writes(session, out, ANSWER_MAX);
-    }
-    true
+    !has_room(desk.noticed, notices.len(), desk.summed, sums.len())
+        || writes(session, out, ANSWER_MAX)
 }
 
 // Writes what was accepted to the journal and its sums, and forces it.
@@ -88,7 +88,7 @@ fn ended(desk: Desk, session: Session) -> Turn {
     let mut over = session;
     over.more = false;
     Turn {
-        desk: desk,
+        desk,
         session: over,
     }
 }
@@ -177,10 +177,7 @@ fn answered_in(
 
 // Whether events are drawn after the line at hand: never but on a terminal.
 fn draws_on(drawing: bool, session: Session, input: &[u8; BLOCK]) -> bool {
-    if session.prompts {
-        return switched(drawing, sessions::line(session, input));
-    }
-    false
+    session.prompts && switched(drawing, sessions::line(session, input))
 }
 
 fn passed_on_in(
@@ -197,7 +194,7 @@ fn passed_on_in(
 }
 
 // Answers the lines until one of them or the input ends, or a read, a write or a force fails. A proved loop has to end, and nothing says
-// that the input does: so the turns are counted down from a number that no run uses up.
+// that the input does: so the turns are counted, up to a number that no run uses up.
 pub fn answer_lines(rt: &HostRuntime, pair: &Pair, first: Agent) {
     let mut input = [0u8; BLOCK];
     let mut out = [0u8; BLOCK];
@@ -206,8 +203,10 @@ pub fn answer_lines(rt: &HostRuntime, pair: &Pair, first: Agent) {
     let mut desk = clear(first, 0);
     let mut drawing = false;
     let mut session = sessions::begun(rt);
-    let mut turns = u64::MAX;
-    while turns > 0 && session.more {
+    for _ in 0..u64::MAX {
+        if !session.more {
+            break;
+        }
         let line = answered_in(
             desk,
             drawing,
@@ -221,6 +220,5 @@ pub fn answer_lines(rt: &HostRuntime, pair: &Pair, first: Agent) {
         let turn = passed_on_in(rt, pair, line, session, &mut input, &out, &notices, &sums);
         desk = turn.desk;
         session = turn.session;
-        turns -= 1;
     }
 }

@@ -11,16 +11,13 @@ use journal_starts::{looking, renewing};
 
 fn main(rt: HostRuntime) {
     let mut room = [0u8; 4_096];
-    let a = take_arguments(&rt, &mut room);
-    let n = a.size;
-    let pool = a.pool;
-    let task = a.task;
-    if n == 0 {
+    let Some(asked) = take_arguments(&rt, &mut room) else {
         return;
-    }
-    match task {
-        Task::Serve => serving::serve(&rt, pool, &room[..n]),
-        Task::Check => looking::look(&rt, pool, &room[..n]),
-        Task::Sums => renewing::renew(&rt, pool, &room[..n]),
+    };
+    let name = &room[..asked.size];
+    match asked.task {
+        Task::Serve => serving::serve(&rt, asked.pool, name),
+        Task::Check => looking::look(&rt, asked.pool, name),
+        Task::Sums => renewing::renew(&rt, asked.pool, name),
     }
 }

@@ -26,16 +26,12 @@ fn cut_sums(rt: &HostRuntime, pair: &Pair, kept: usize) -> bool {
 
 // Cuts off the ends that do not count, and says so.
 fn cut_ends(rt: &HostRuntime, pair: &Pair, start: Start) -> bool {
-    if start.cut < pair.size {
-        if !cut(rt, &pair.journal, start.cut, b"? JOURNAL cannot be cut") {
-            return false;
-        }
+    if start.cut < pair.size && !cut(rt, &pair.journal, start.cut, b"? JOURNAL cannot be cut") {
+        return false;
     }
     let kept = sums_length(start);
-    if kept < pair.summed {
-        if !cut_sums(rt, pair, kept) {
-            return false;
-        }
+    if kept < pair.summed && !cut_sums(rt, pair, kept) {
+        return false;
     }
     say_ends(rt, Port::Errors, pair, start, true);
     true
@@ -44,10 +40,7 @@ fn cut_ends(rt: &HostRuntime, pair: &Pair, start: Start) -> bool {
 // Forces what stands in both files, and the folder's entries of them, before anything is answered from it: what a process that is
 // gone wrote last may not have been forced.
 fn force_all(rt: &HostRuntime, name: &[u8], pair: &Pair) -> bool {
-    if force_both(rt, &pair.journal, &pair.sums) {
-        return force_folder(rt, name);
-    }
-    false
+    force_both(rt, &pair.journal, &pair.sums) && force_folder(rt, name)
 }
 
 // The next write to each file goes to its end.
@@ -63,12 +56,7 @@ fn at_ends(rt: &HostRuntime, pair: &Pair) -> bool {
 }
 
 fn settle(rt: &HostRuntime, name: &[u8], pair: &Pair, start: Start) -> bool {
-    if cut_ends(rt, pair, start) {
-        if force_all(rt, name, pair) {
-            return at_ends(rt, pair);
-        }
-    }
-    false
+    cut_ends(rt, pair, start) && force_all(rt, name, pair) && at_ends(rt, pair)
 }
 
 // Says how the journal ends, and goes on from there.
@@ -86,17 +74,13 @@ fn go_on(rt: &HostRuntime, pair: &Pair, start: Start, row: &[u64; ROW_LENGTH]) {
 fn begin(rt: &HostRuntime, pool: u64, name: &[u8], pair: &Pair) {
     let mut row = [0u64; ROW_LENGTH];
     fresh(&mut row, pool);
-    let played = play(rt, pair, &mut row);
-    let start = played.start;
-    if played.ok {
-        let verdict = start.verdict;
-        if is_good(verdict) {
-            if settle(rt, name, pair, start) {
-                go_on(rt, pair, start, &row);
-            }
-        } else {
-            say_wrong(rt, Port::Errors, start);
-        }
+    let Some(start) = play(rt, pair, &mut row) else {
+        return;
+    };
+    if !is_good(start.verdict) {
+        say_wrong(rt, Port::Errors, start);
+    } else if settle(rt, name, pair, start) {
+        go_on(rt, pair, start, &row);
     }
 }
 

@@ -8,7 +8,6 @@ use lib.Seq.{sets, sets-eq}
 use Rattle.sums.specs.Crc.{sum_of, sum_size}
 use Rattle.notice_fields.specs.Numbers.{big_endian}
 use Rattle.notice_fields.proofs.Digits.{length_big}
-use Rattle.text.specs.Output.{Page, puts}
 use Rattle.headend_desk.specs.Desk.{sum_text}
 
 laid : (four : List ℕ) (v : ℕ) → length four ≡ sum_size → sets four 0 (big_endian sum_size v) ≡ big_endian sum_size v
@@ -20,7 +19,6 @@ laid four v size =
     ∙ ap (λ (l : List ℕ). big_endian sum_size v ++ l) none
     ∙ append-nil (big_endian sum_size v)
 
-pub sums_put : (p q : Page) (four row bs : List ℕ) (v : ℕ) → length four ≡ sum_size → row ≡ sets four 0 (big_endian sum_size v) →
-    v ≡ sum_of bs → q ≡ puts p row → q ≡ puts p (sum_text bs)
-sums_put p q four row bs v size is sum e =
-    e ∙ ap (puts p) (is ∙ laid four v size ∙ ap (big_endian sum_size) sum)
+pub laid_sum : (four row bs : List ℕ) (v : ℕ) → length four ≡ sum_size → row ≡ sets four 0 (big_endian sum_size v) → v ≡ sum_of bs →
+    row ≡ sum_text bs
+laid_sum four row bs v size is sum = is ∙ laid four v size ∙ ap (big_endian sum_size) sum

@@ -1,10 +1,9 @@
--- An event put to the head-end, as the code meets its cases: accepted, refused by the scheduler, or refused for want of a sequence; what it
--- is answered; and that the notice of an accepted one is not cut. Rests on accepted events fitting the fields of their notices.
+-- An event put to the head-end, as the code meets its cases: accepted, refused by the scheduler, or refused for want of a sequence;
+-- and that the notice of an accepted one is not cut. Rests on accepted events fitting the fields of their notices.
 use Prim.Native.Nat.{ℕ, suc, ◌+◌, ◌<◌, ◌≤◌}
 use mathlib.Core.Path.{◌≡◌, refl, sym, ap, ◌∙◌}
 use mathlib.Core.Bool.{Bool, true, false}
 use mathlib.Core.Logic.{⊎_elim}
-use mathlib.Core.List.{append-nil}
 use native.Mathlib.Numerals.{add-one}
 use native.Mathlib.Omega.{arith}
 use borrow.Author.Tests.{eq-eqb, ne_eqb, eqb-true, eqb-false, lt-ltb, le-ltb, ltb-true}
@@ -18,13 +17,9 @@ use Rattle.agent.specs.declared.Agent.{Agent}
 use Rattle.agent.specs.Series.{notice_for}
 use Rattle.agent.proofs.HeadEnd.{typed_called}
 use Rattle.text.specs.Numbers.{four_bytes_most}
-use Rattle.text.specs.Output.{Page, puts}
-use Rattle.text.proofs.Pages.{puts_then}
-use Rattle.console_answers.specs.Entries.{entry}
 use Rattle.console_acts.specs.Writing.{cut_event}
 use Rattle.console_acts.proofs.Written.{uncut}
-use Rattle.console_desk.specs.Desk.{followed_text}
-use Rattle.headend_desk.specs.Desk.{head_answer, head_next, head_told}
+use Rattle.headend_desk.specs.Desk.{head_answer, head_next}
 
 -- what an event is answered, and the agent after it
 abbrev pub Taken : Agent → Event → ℕ → Agent → Type 0
@@ -100,14 +95,3 @@ module _ (g : Agent) (e : Event) where
       let low : g.sequence < four_bytes_most = ok.1 in
       let fits = typed_called g.state e (suc g.sequence) (omega arith) ok.0 in
       ap (λ (q : ℕ). notice_for q (cut_event e)) sequence ∙ uncut (suc g.sequence) e fits
-
--- ---- what it is answered
-
-module _ (p q : Page) (a : ℕ) (g : Agent) (named : ℕ) (told : q ≡ puts p (followed_text a g named)) where
-  pub tells_taken : a ≡ done → (r : Page) → r ≡ puts q (entry g.sequence) → r ≡ puts p (head_told a g named)
-  unfolding head_told
-  tells_taken h r e = rw (eq-eqb a done h) (puts_then p (followed_text a g named) (entry g.sequence) told e)
-
-  pub tells_refused : (a ≡ done → ⊥) → q ≡ puts p (head_told a g named)
-  unfolding head_told
-  tells_refused h = rw (ne_eqb a done h, append-nil) told

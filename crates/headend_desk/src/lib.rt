@@ -4,7 +4,7 @@
 #![tactic(auto)]
 
 ghost use Rattle.std.specs.Prelude.{◌≡◌, ◌≤◌, length};
-ghost use Rattle.text.specs.Output.{Written};
+ghost use Rattle.text.specs.Pages.{Puts};
 ghost use Rattle.notice.specs.Encode.{bytes_of};
 ghost use Rattle.console_lines.specs.Lines.{longest, meaning};
 ghost use Rattle.console_acts.specs.Events.{event_in};
@@ -21,7 +21,10 @@ ghost use Rattle.headend_desk.specs.Desk.{
   event_notice,
   event_sum,
   other_text,
-  Leaves,
+  head_after,
+  head_text,
+  head_notice,
+  head_sum,
   Replies,
   room_left,
 };
@@ -41,8 +44,9 @@ use rules::{DONE, OUT_OF_TURN};
 use scheduler::call;
 use story::Event;
 use sums::sum;
+use text::bytes;
 use text::bytes::Sort;
-use text::{bytes, output};
+use text::page::Page;
 
 // The bytes of a sum.
 pub const SUM_BYTES: usize = sums::SIZE;
@@ -66,33 +70,23 @@ pub struct Answered {
     pub over: bool,
 }
 
-// The places behind a notice and its sum.
-#[derive(Clone, Copy)]
-struct Kept {
-    noticed: usize,
-    summed: usize,
-}
-
 // Whether the head-end does not know a command's word.
 fn is_apart(command: u8) -> bool
     ensures { result ≡ is_apart command }
 {
-    if command == commands::FRESH {
-        return true;
-    }
-    command == commands::NOTICE
+    matches!(command, commands::FRESH | commands::NOTICE)
 }
 
 // Whether a line says an event.
 fn is_event(line: Line) -> bool
     ensures { result ≡ is_event_of line }
 {
-    let fault = line.fault;
-    let command = line.command;
-    if fault == commands::NO_FAULT {
-        return rules::within(commands::OPEN as u64, commands::SKIP as u64, command as u64);
-    }
-    false
+    line.fault == commands::NO_FAULT
+        && rules::within(
+            commands::OPEN as u64,
+            commands::SKIP as u64,
+            line.command as u64,
+        )
 }
 
 // An event, put to the agent's scheduler: accepted it takes the next sequence.
@@ -117,147 +111,113 @@ fn take(agent: Agent, e: Event) -> Followed
         }
         return Followed {
             answer: OUT_OF_TURN,
-            agent: agent,
+            agent,
         };
     }
-    Followed {
-        answer: answer,
-        agent: agent,
-    }
+    Followed { answer, agent }
 }
 
 // What an event is answered: lanes held and sequence, or its refusal.
-fn put_taken(out: &mut [u8], at: usize, answer: u8, after: Agent, named: u64) -> usize
-    ensures { Written out.old at (head_told answer after named) out.new result }
+fn put_taken(page: &mut Page<'_>, answer: u8, after: Agent, named: u64)
+    ensures { Puts page.old (head_told answer after named) page.new }
 {
-    let p = put_followed(out, at, answer, after, named);
+    put_followed(page, answer, after, named);
     if answer == DONE {
-        return entries::put_entry(out, p, after.sequence as u64);
+        entries::put_entry(page, after.sequence as u64);
     }
-    p
 }
 
 // The line that answers an event of an agent: by its number and the agent after it.
-fn put_event(
-    out: &mut [u8],
-    at: usize,
-    answer: u8,
-    after: Agent,
-    agent: Agent,
-    line: Line,
-    s: &[u8],
-) -> usize
+fn put_event(page: &mut Page<'_>, answer: u8, after: Agent, agent: Agent, line: Line, s: &[u8])
     requires { length s.now ≤ longest }
-    ensures { Written out.old at (answer_line answer after agent line s.now) out.new result }
+    ensures { Puts page.old (answer_line answer after agent line s.now) page.new }
 {
-    let named = named::by_line(answer, agent, line, s);
-    let p = put_taken(out, at, answer, after, named);
-    let q = behind::put_behind(out, p, answer, agent, line, s);
-    output::put(out, q, b"\n")
+    put_taken(page, answer, after, named::by_line(answer, agent, line, s));
+    behind::put_behind(page, answer, agent, line, s);
+    page.put(b"\n");
 }
 
 // The sum of a notice's bytes.
-fn put_sum(sums: &mut [u8], at: usize, bytes: &[u8]) -> usize
-    ensures { Written sums.old at (sum_text bytes.now) sums.new result }
+fn put_sum(sums: &mut Page<'_>, bytes: &[u8])
+    ensures { Puts sums.old (sum_text bytes.now) sums.new }
 {
     let total = sum(bytes);
     let mut four = [0u8; SUM_BYTES];
     numbers::put(&mut four, 0, SUM_BYTES, total as u64);
-    output::put(sums, at, &four)
+    sums.put(&four);
 }
 
 // A notice's bytes, and their sum.
-fn keep(n: Notice, notices: &mut [u8], sums: &mut [u8], noticed: usize, summed: usize) -> Kept
-    ensures { (Written notices.old noticed (bytes_of n) notices.new result.noticed)
-        × (Written sums.old summed (sum_text (bytes_of n)) sums.new result.summed) }
+fn keep(n: Notice, notices: &mut Page<'_>, sums: &mut Page<'_>)
+    ensures noticed { Puts notices.old (bytes_of n) notices.new }
+    ensures summed { Puts sums.old (sum_text (bytes_of n)) sums.new }
 {
     let mut room = [0u8; LONGEST_NOTICE];
     notice::write(n, &mut room);
     let size = notice::size(n);
-    let p = output::put(notices, noticed, &room[..size]);
-    let q = put_sum(sums, summed, &room[..size]);
-    Kept {
-        noticed: p,
-        summed: q,
-    }
+    notices.put(&room[..size]);
+    put_sum(sums, &room[..size]);
 }
 
 // Any other line: a word that is unknown here, or what the console answers.
-fn put_other(agent: Agent, line: Line, s: &[u8], out: &mut [u8], at: usize) -> usize
+fn put_other(page: &mut Page<'_>, agent: Agent, line: Line, s: &[u8])
     requires { line ≡ meaning s.now }
-    ensures { Written out.old at (other_text agent s.now) out.new result }
+    ensures { Puts page.old (other_text agent s.now) page.new }
 {
     if is_apart(line.command) {
         let place = bytes::run_end(s, 0, Sort::Separator);
-        return put_fault_line(out, at, commands::UNKNOWN_WORD, place, commands::NONE);
+        put_fault_line(page, commands::UNKNOWN_WORD, place, commands::NONE);
+    } else {
+        reply(page, agent, line, s);
     }
-    let turned = reply(agent, line, s, out, at);
-    turned.at
 }
 
-// A line that says an event.
+// A line that says an event: the agent after it.
 fn act(
-    desk: Desk,
+    page: &mut Page<'_>,
+    agent: Agent,
     line: Line,
     s: &[u8],
-    out: &mut [u8],
-    notices: &mut [u8],
-    sums: &mut [u8],
-) -> Desk
+    notices: &mut Page<'_>,
+    sums: &mut Page<'_>,
+) -> Agent
     requires { length s.now ≤ longest }
-    ensures { Leaves (head_next desk.agent (event_in line)) (event_text desk.agent line s.now)
-        (event_notice desk.agent (event_in line)) (event_sum desk.agent (event_in line)) desk
-        out.old notices.old sums.old result
-        out.new notices.new sums.new }
+    ensures agent { result ≡ head_next agent (event_in line) }
+    ensures answered { Puts page.old (event_text agent line s.now) page.new }
+    ensures noticed { Puts notices.old (event_notice agent (event_in line)) notices.new }
+    ensures summed { Puts sums.old (event_sum agent (event_in line)) sums.new }
 {
-    let agent = desk.agent;
     let e = event_in(line);
     let taken = take(agent, e);
     let after = taken.agent;
     let told = taken.answer;
-    let at = put_event(out, desk.at, told, after, agent, line, s);
+    put_event(page, told, after, agent, line, s);
     if told == DONE {
-        let n = notice_with(after.sequence, e);
-        let kept = keep(n, notices, sums, desk.noticed, desk.summed);
-        return Desk {
-            agent: after,
-            at: at,
-            noticed: kept.noticed,
-            summed: kept.summed,
-        };
+        keep(notice_with(after.sequence, e), notices, sums);
     }
-    Desk {
-        agent: after,
-        at: at,
-        noticed: desk.noticed,
-        summed: desk.summed,
-    }
+    after
 }
 
-// Replies to one line that has been read.
+// Replies to one line that has been read: the agent after it.
 fn turn(
-    desk: Desk,
+    page: &mut Page<'_>,
+    agent: Agent,
     line: Line,
     s: &[u8],
-    out: &mut [u8],
-    notices: &mut [u8],
-    sums: &mut [u8],
-) -> Desk
+    notices: &mut Page<'_>,
+    sums: &mut Page<'_>,
+) -> Agent
     requires { line ≡ meaning s.now }
-    ensures { Replies desk s.now out.old notices.old sums.old result
-        out.new notices.new sums.new }
+    ensures agent { result ≡ head_after agent s.now }
+    ensures answered { Puts page.old (head_text agent s.now) page.new }
+    ensures noticed { Puts notices.old (head_notice agent s.now) notices.new }
+    ensures summed { Puts sums.old (head_sum agent s.now) sums.new }
 {
     if is_event(line) {
-        return act(desk, line, s, out, notices, sums);
+        return act(page, agent, line, s, notices, sums);
     }
-    let agent = desk.agent;
-    let at = put_other(agent, line, s, out, desk.at);
-    Desk {
-        agent: agent,
-        at: at,
-        noticed: desk.noticed,
-        summed: desk.summed,
-    }
+    put_other(page, agent, line, s);
+    agent
 }
 
 // Answers one line, given without its newline.
@@ -268,11 +228,17 @@ pub fn answer(desk: Desk, s: &[u8], out: &mut [u8], notices: &mut [u8], sums: &m
 {
     let line = lines::parse(s);
     let over = ends(line);
-    let after = turn(desk, line, s, out, notices, sums);
-    Answered {
-        desk: after,
-        over: over,
-    }
+    let mut page = Page::from(out, desk.at);
+    let mut noticed = Page::from(notices, desk.noticed);
+    let mut summed = Page::from(sums, desk.summed);
+    let agent = turn(&mut page, desk.agent, line, s, &mut noticed, &mut summed);
+    let after = Desk {
+        agent,
+        at: page.end(),
+        noticed: noticed.end(),
+        summed: summed.end(),
+    };
+    Answered { desk: after, over }
 }
 
 // Whether the notice and the sum of any line fit behind the places of two rows of so many bytes.

@@ -45,10 +45,7 @@ fn force_sums(rt: &HostRuntime, sums: &Option<File>) -> bool {
 
 // Forces the journal and its sums.
 pub fn force_both(rt: &HostRuntime, journal: &File, sums: &Option<File>) -> bool {
-    if force(rt, journal, b"? JOURNAL cannot be forced to disk") {
-        return force_sums(rt, sums);
-    }
-    false
+    force(rt, journal, b"? JOURNAL cannot be forced to disk") && force_sums(rt, sums)
 }
 
 fn write_sums(rt: &HostRuntime, sums: &Option<File>, of_notices: &[u8]) -> bool {
@@ -69,14 +66,11 @@ pub fn append(
     sums: &Option<File>,
     of_notices: &[u8],
 ) -> bool {
-    if notices.len() == 0 {
+    if notices.is_empty() {
         return true;
     }
     let mut end = journal;
-    if write_to(rt, &mut end, b"? JOURNAL cannot be written", notices) {
-        if write_sums(rt, sums, of_notices) {
-            return force_both(rt, journal, sums);
-        }
-    }
-    false
+    write_to(rt, &mut end, b"? JOURNAL cannot be written", notices)
+        && write_sums(rt, sums, of_notices)
+        && force_both(rt, journal, sums)
 }

@@ -7,40 +7,26 @@ use streams::ports::fail;
 // The largest size that the system counts.
 const SIZE_MOST: usize = 9_223_372_036_854_775_807;
 
-// How many bytes a file has.
-#[derive(Clone, Copy)]
-pub enum Size {
-    Bytes(usize),
-    // standard error says why
-    Unknown,
-}
-
 // A place that the system gives; 0 where it gives none.
 pub fn size_from(at: Result<u64>) -> usize {
-    match at {
-        Ok(place) => place as usize,
-        Err(_) => 0,
-    }
+    at.unwrap_or(0) as usize
 }
 
-// A file that has no end to go to, as a pipe, has no size.
-pub fn size_of(rt: &HostRuntime, file: &File, what: &[u8]) -> Size {
+// How many bytes a file has. One that has no end to go to, as a pipe, has no size, and standard error says why.
+pub fn size_of(rt: &HostRuntime, file: &File, what: &[u8]) -> Option<usize> {
     let mut place = file;
     match place.seek(SeekFrom::End(0)) {
-        Ok(at) => Size::Bytes(size_from(Ok(at))),
+        Ok(at) => Some(at as usize),
         Err(error) => {
             fail(rt, what, error);
-            Size::Unknown
+            None
         }
     }
 }
 
 // A place as the system counts it, and its last one for places beyond.
 pub fn offset(place: usize) -> u64 {
-    if place < SIZE_MOST {
-        return place as u64;
-    }
-    SIZE_MOST as u64
+    place.min(SIZE_MOST) as u64
 }
 
 // Cuts a file to its first bytes and forces that; standard error says why it was not done.

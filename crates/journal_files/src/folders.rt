@@ -12,11 +12,8 @@ use streams::ports::fail;
 fn folder_size(name: &[u8]) -> usize
     ensures { IsPrefixLen result name.now }
 {
-    let mut n = name.len();
-    while 0 < n && name[n - 1] != b'/' {
-        n -= 1;
-    }
-    within_row(n, name)
+    let last = name.iter().rposition(|b| *b == b'/');
+    within_row(last.map_or(0, |i| i + 1), name)
 }
 
 fn open_folder(rt: &HostRuntime, name: &[u8]) -> Result<File> {

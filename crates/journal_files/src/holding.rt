@@ -9,12 +9,13 @@ use crate::cutting::size_from;
 use crate::opening::{Way, open_named, open_or_make};
 use crate::processes;
 use crate::processes::{BOOT_ROOM, holds, name_of};
-use crate::records::{Line, Record, put_record, record_in};
-use crate::windows::{least, read_from};
+use crate::records::{Record, put_record, record_in};
+use crate::windows::read_from;
 use files::complaints::complain_at;
 use files::pages::within_row;
 use std::fs::File;
-use std::io::{Error, ErrorKind, Result, Seek, SeekFrom, Write};
+use std::io;
+use std::io::{Error, ErrorKind, Seek, SeekFrom, Write};
 use std::os::fd::AsRawFd;
 use streams::ports::fail;
 use streams::usage::complain;
@@ -23,36 +24,20 @@ use text::bytes::{Sort, run_end};
 // No record is longer: two numbers, a boot's name, two blanks and two newlines.
 const RECORD_ROOM: usize = 128;
 
-// Where our own record begins in JOURNAL.lock.
-#[derive(Clone, Copy)]
-struct Entered {
-    at: usize,
-    ok: bool,
-}
-
-fn not_entered() -> Entered {
-    Entered { at: 0, ok: false }
-}
-
-// Who holds the journal: nobody before us is 0. `next` is the place behind what was looked at.
+// Who of those that were looked at holds the journal. `next` is the place behind what was looked at.
 #[derive(Clone, Copy)]
 struct Seen {
-    process: u64,
+    process: Option<u64>,
     next: usize,
 }
 
-// The process of a line that has the journal open, or 0.
-fn process_of(rt: &HostRuntime, line: &[u8], boot: &[u8], name: &[u8]) -> u64 {
-    let l = record_in(line, boot);
-    match l {
-        Line::Held(record) => {
-            if holds(rt, record, name) {
-                return record.process;
-            }
-            0
-        }
-        Line::Passed => 0,
+// The process of a line that has the journal open. No process has the number 0.
+fn process_of(rt: &HostRuntime, line: &[u8], boot: &[u8], name: &[u8]) -> Option<u64> {
+    let record = record_in(line, boot)?;
+    if record.process != 0 && holds(rt, record, name) {
+        return Some(record.process);
     }
+    None
 }
 
 // The place of the newline that ends the line which begins at a place, or the window's end.
@@ -69,35 +54,24 @@ fn look(rt: &HostRuntime, window: &[u8], boot: &[u8], name: &[u8]) -> Seen {
     let mut end = line_end(window, 0);
     while end < window.len() {
         let process = process_of(rt, &window[from..end], boot, name);
-        if process != 0 {
+        if process.is_some() {
             return Seen {
-                process: process,
+                process,
                 next: end + 1,
             };
         }
         from = end + 1;
         end = line_end(window, from);
     }
-    if from == 0 {
-        return Seen {
-            process: 0,
-            next: window.len(),
-        };
-    }
     Seen {
-        process: 0,
-        next: from,
+        process: None,
+        next: if from == 0 { window.len() } else { from },
     }
 }
 
-// Who holds a journal.
+// JOURNAL.lock cannot be read.
 #[derive(Clone, Copy)]
-enum Holder {
-    Nobody,
-    Process(u64),
-    // JOURNAL.lock cannot be read
-    Unknown,
-}
+struct Unreadable;
 
 // What one window shows of the records from a place on, up to our own; nothing next where the file cannot be read.
 fn look_at(
@@ -111,26 +85,32 @@ fn look_at(
     requires { place ≤ own }
 {
     let mut room = [0u8; 4_096];
-    let window = read_from(rt, file, b"? JOURNAL.lock", place, &mut room);
-    let n = within_row(least(window.size, own - place), &room);
+    let read = read_from(rt, file, b"? JOURNAL.lock", place, &mut room);
+    let n = within_row(read.unwrap_or(0).min(own - place), &room);
     look(rt, &room[..n], boot, name)
 }
 
 // The first process with a record before a place of the file that has the journal open.
-fn first_holder(rt: &HostRuntime, file: &File, own: usize, boot: &[u8], name: &[u8]) -> Holder {
+fn first_holder(
+    rt: &HostRuntime,
+    file: &File,
+    own: usize,
+    boot: &[u8],
+    name: &[u8],
+) -> Result<Option<u64>, Unreadable> {
     let mut place = 0;
     while place < own {
         let seen = look_at(rt, file, place, own, boot, name);
-        if seen.process != 0 {
-            return Holder::Process(seen.process);
+        if seen.process.is_some() {
+            return Ok(seen.process);
         }
-        let n = least(seen.next, own - place);
+        let n = seen.next.min(own - place);
         if n == 0 {
-            return Holder::Unknown;
+            return Err(Unreadable);
         }
         place += n;
     }
-    Holder::Nobody
+    Ok(None)
 }
 
 // Whether no record before a place of JOURNAL.lock is of a process that has the journal open; standard error says which is.
@@ -138,10 +118,9 @@ fn is_free(rt: &HostRuntime, own: usize, boot: &[u8], name: &[u8]) -> bool {
     let Some(file) = open_named(rt, name, b".lock", Way::Look, b"? JOURNAL.lock") else {
         return false;
     };
-    let holder = first_holder(rt, &file, own, boot, name);
-    match holder {
-        Holder::Nobody => true,
-        Holder::Process(process) => {
+    match first_holder(rt, &file, own, boot, name) {
+        Ok(None) => true,
+        Ok(Some(process)) => {
             complain_at(
                 rt,
                 b"JOURNAL",
@@ -150,7 +129,7 @@ fn is_free(rt: &HostRuntime, own: usize, boot: &[u8], name: &[u8]) -> bool {
             );
             false
         }
-        Holder::Unknown => {
+        Err(Unreadable) => {
             complain(rt, b"JOURNAL.lock", b" cannot be read");
             false
         }
@@ -158,7 +137,7 @@ fn is_free(rt: &HostRuntime, own: usize, boot: &[u8], name: &[u8]) -> bool {
 }
 
 // Why our record was not written, or not where the file ends.
-fn why(done: Result<usize>, at: Result<u64>) -> Error {
+fn why(done: io::Result<usize>, at: io::Result<u64>) -> Error {
     match (done, at) {
         (Err(error), _) => error,
         (Ok(_), Err(error)) => error,
@@ -166,28 +145,21 @@ fn why(done: Result<usize>, at: Result<u64>) -> Error {
     }
 }
 
-// Writes our record to the end of JOURNAL.lock and answers the place behind it, 0 where that failed.
-fn enter(rt: &HostRuntime, record: Record, boot: &[u8], name: &[u8]) -> Entered {
-    let Some(mut file) = open_or_make(rt, name, b".lock", Way::Append, b"? JOURNAL.lock") else {
-        return not_entered();
-    };
+// Writes our record to the end of JOURNAL.lock and answers the place at which it begins, or that standard error says why there is none.
+fn enter(rt: &HostRuntime, record: Record, boot: &[u8], name: &[u8]) -> Option<usize> {
+    let mut file = open_or_make(rt, name, b".lock", Way::Append, b"? JOURNAL.lock")?;
     let mut out = [0u8; RECORD_ROOM];
     let n = within_row(put_record(&mut out, record, boot), &out);
     let done = file.write(&out[..n]);
     let at = file.seek(SeekFrom::Current(0));
     let behind = size_from(at);
-    if let Ok(m) = done {
-        if m == n {
-            if n <= behind {
-                return Entered {
-                    at: behind - n,
-                    ok: true,
-                };
-            }
+    match done {
+        Ok(m) if m == n && n <= behind => Some(behind - n),
+        _ => {
+            fail(rt, b"? JOURNAL.lock", why(done, at));
+            None
         }
     }
-    fail(rt, b"? JOURNAL.lock", why(done, at));
-    not_entered()
 }
 
 // Takes the hold on an open journal, for as long as this process has it open. Answers whether it is ours; standard error says why
@@ -198,18 +170,18 @@ pub fn hold(rt: &HostRuntime, journal: &File) -> bool {
         descriptor: processes::number(journal.as_raw_fd()),
     };
     let mut name = [0u8; 4_096];
-    let told = name_of(rt, record, &mut name);
-    let n = told.size;
-    if let Some(error) = told.wrong {
-        let what = b"? JOURNAL cannot be held, as /proc does not show it";
-        fail(rt, what, error);
-        return false;
-    }
+    let n = match name_of(rt, record, &mut name) {
+        Ok(n) => n,
+        Err(error) => {
+            let what = b"? JOURNAL cannot be held, as /proc does not show it";
+            fail(rt, what, error);
+            return false;
+        }
+    };
     let mut text = [0u8; BOOT_ROOM];
     let b = processes::boot(rt, &mut text);
-    let entered = enter(rt, record, &text[..b], &name[..n]);
-    if entered.ok {
-        return is_free(rt, entered.at, &text[..b], &name[..n]);
+    match enter(rt, record, &text[..b], &name[..n]) {
+        Some(at) => is_free(rt, at, &text[..b], &name[..n]),
+        None => false,
     }
-    false
 }

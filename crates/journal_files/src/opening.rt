@@ -109,14 +109,15 @@ pub fn open_or_make(
     match open(rt, name, ending, way) {
         Ok(file) => Some(file),
         Err(error) => {
-            if error.kind() == ErrorKind::NotFound {
-                if make(rt, name, ending, what) {
-                    return open_named(rt, name, ending, way, what);
-                }
+            if error.kind() != ErrorKind::NotFound {
+                fail(rt, what, error);
                 return None;
             }
-            fail(rt, what, error);
-            None
+            if make(rt, name, ending, what) {
+                open_named(rt, name, ending, way, what)
+            } else {
+                None
+            }
         }
     }
 }

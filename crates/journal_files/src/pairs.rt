@@ -1,6 +1,6 @@
 // A journal and the sums beside it, both open, with the sizes that they had then.
 
-use crate::cutting::{Size, size_of};
+use crate::cutting::size_of;
 use crate::opening::{Way, open, open_or_make};
 use std::fs::File;
 use std::io::ErrorKind;
@@ -17,24 +17,21 @@ pub struct Pair {
 
 fn without_sums(journal: File, size: usize) -> Pair {
     Pair {
-        journal: journal,
+        journal,
         sums: None,
-        size: size,
+        size,
         summed: 0,
     }
 }
 
 fn with_sums(rt: &HostRuntime, journal: File, size: usize, sums: File) -> Option<Pair> {
-    let beside = size_of(rt, &sums, b"? JOURNAL.sums");
-    match beside {
-        Size::Bytes(summed) => Some(Pair {
-            journal: journal,
-            sums: Some(sums),
-            size: size,
-            summed: summed,
-        }),
-        Size::Unknown => None,
-    }
+    let summed = size_of(rt, &sums, b"? JOURNAL.sums")?;
+    Some(Pair {
+        journal,
+        sums: Some(sums),
+        size,
+        summed,
+    })
 }
 
 // The sums that stand there, or that there are none.
@@ -53,31 +50,21 @@ fn standing(rt: &HostRuntime, name: &[u8], journal: File, size: usize, way: Way)
 
 // The sums of an empty journal, made where they are missing.
 fn made(rt: &HostRuntime, name: &[u8], journal: File) -> Option<Pair> {
-    let Some(sums) = open_or_make(rt, name, b".sums", Way::Update, b"? JOURNAL.sums") else {
-        return None;
-    };
+    let sums = open_or_make(rt, name, b".sums", Way::Update, b"? JOURNAL.sums")?;
     with_sums(rt, journal, 0, sums)
 }
 
 // An open journal with its sums, to be looked at, or that standard error says what is wrong.
 pub fn looked_at(rt: &HostRuntime, name: &[u8], journal: File) -> Option<Pair> {
-    let size = size_of(rt, &journal, b"? JOURNAL");
-    match size {
-        Size::Bytes(n) => standing(rt, name, journal, n, Way::Look),
-        Size::Unknown => None,
-    }
+    let size = size_of(rt, &journal, b"? JOURNAL")?;
+    standing(rt, name, journal, size, Way::Look)
 }
 
 // An open journal with its sums, to be gone on with: those of an empty journal are made.
 pub fn gone_on_with(rt: &HostRuntime, name: &[u8], journal: File) -> Option<Pair> {
-    let size = size_of(rt, &journal, b"? JOURNAL");
-    match size {
-        Size::Bytes(n) => {
-            if n == 0 {
-                return made(rt, name, journal);
-            }
-            standing(rt, name, journal, n, Way::Update)
-        }
-        Size::Unknown => None,
+    let size = size_of(rt, &journal, b"? JOURNAL")?;
+    if size == 0 {
+        return made(rt, name, journal);
     }
+    standing(rt, name, journal, size, Way::Update)
 }

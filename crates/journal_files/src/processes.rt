@@ -1,14 +1,14 @@
 // Processes, and the files that they have open, as the folder /proc tells.
 
+ghost use Rattle.std.specs.Prelude.{IfOk};
 ghost use Rattle.std.specs.Counts.{IsPrefixLen};
 ghost use Rattle.journal_files.specs.Paths.{Ended};
 
 use crate::records::Record;
-use crate::windows::least;
 use files::arguments::same;
 use files::pages::within_row;
 use files::paths::path;
-use std::io::{Error, ErrorKind, Read, Result};
+use std::io::{ErrorKind, Read, Result};
 use std::path::PathBuf;
 use std::{fs, process};
 use text::bytes::{Sort, run_end};
@@ -27,19 +27,9 @@ const NO_ACCESS: i32 = 13;
 // The largest process number.
 const PROCESS_MOST: u64 = 2_147_483_647;
 
-// So many bytes at a room's start, or why there are none to be had.
-#[derive(Clone, Copy)]
-pub struct Told {
-    pub size: usize,
-    pub wrong: Option<Error>,
-}
-
 // A number that the system gives, where none is below 0.
 pub fn number(n: i32) -> u64 {
-    if n < 0 {
-        return 0;
-    }
-    n as u64
+    u64::try_from(n).unwrap_or(0)
 }
 
 // The process itself.
@@ -57,14 +47,7 @@ fn is_there(rt: &HostRuntime, ended: &[u8]) -> bool {
 
 // Whether there is such a process.
 fn lives(rt: &HostRuntime, process: u64) -> bool {
-    if process == 0 {
-        return false;
-    }
-    if PROCESS_MOST < process {
-        return false;
-    }
-    let folder = path_of_number(b"/proc/", process);
-    is_there(rt, &folder)
+    process != 0 && process <= PROCESS_MOST && is_there(rt, &path_of_number(b"/proc/", process))
 }
 
 // The path under which /proc shows a descriptor, with zeros behind it.
@@ -120,22 +103,12 @@ fn shown(rt: &HostRuntime, record: Record) -> Result<PathBuf> {
 }
 
 // The file that a process has open under a descriptor, by its name.
-pub fn name_of(rt: &HostRuntime, record: Record, room: &mut [u8]) -> Told
-    ensures { IsPrefixLen result.size room.new }
+pub fn name_of(rt: &HostRuntime, record: Record, room: &mut [u8]) -> Result<usize>
+    ensures { IfOk result (λ n. IsPrefixLen n room.new) }
 {
-    match shown(rt, record) {
-        Ok(file) => {
-            let n = put(room, 0, file.as_path().as_str().as_bytes());
-            Told {
-                size: within_row(n, room),
-                wrong: None,
-            }
-        }
-        Err(error) => Told {
-            size: within_row(0, room),
-            wrong: Some(error),
-        },
-    }
+    let file = shown(rt, record)?;
+    let n = put(room, 0, file.as_path().as_str().as_bytes());
+    Ok(within_row(n, room))
 }
 
 // Whether another process has the file of this name open, as a record says. One that may not be looked at, as it is another
@@ -145,15 +118,13 @@ pub fn holds(rt: &HostRuntime, record: Record, name: &[u8]) -> bool {
         return false;
     }
     let mut room = [0u8; 4_096];
-    let told = name_of(rt, record, &mut room);
-    let n = told.size;
-    let Some(error) = told.wrong else {
-        return same(&room[..n], name);
-    };
-    match error.raw_os_error() {
-        Some(NO_ACCESS) => lives(rt, record.process),
-        Some(_) => false,
-        None => error.kind() == ErrorKind::OutOfMemory,
+    match name_of(rt, record, &mut room) {
+        Ok(n) => same(&room[..n], name),
+        Err(error) => match error.raw_os_error() {
+            Some(NO_ACCESS) => lives(rt, record.process),
+            Some(_) => false,
+            None => error.kind() == ErrorKind::OutOfMemory,
+        },
     }
 }
 
@@ -165,5 +136,5 @@ pub fn boot(rt: &HostRuntime, room: &mut [u8]) -> usize
         return 0;
     };
     let n = file.read(room).unwrap_or(0);
-    within_row(least(n, run_end(room, 0, Sort::Line)), room)
+    within_row(n.min(run_end(room, 0, Sort::Line)), room)
 }

@@ -14,7 +14,7 @@ use Rattle.notice_fields.specs.Numbers.{Bytes, big_endian, number_at}
 use Rattle.notice_fields.proofs.Digits.{length_big}
 use Rattle.notice_fields.proofs.Has.{Has, has_left, has_right, has_part, number_back, bytes_append, bytes_big}
 use Rattle.journal_records.specs.declared.headers.Origin.{Origin}
-use Rattle.journal_records.specs.declared.headers.Header.TheVariants.{Good}
+use Rattle.std.specs.Prelude.{Ok}
 use Rattle.journal_records.specs.Header.{header_summed, header_size, identity_size, header_word, origin_bytes, summed_bytes, header_of, identity_in, header_found}
 use Rattle.journal_records.proofs.HeaderLaid.{length_summed}
 
@@ -85,7 +85,7 @@ module _ (identity : List ℕ) (small : Bytes identity) (sized : length identity
       let all = length_summed identity o sized in
       ap (λ (m : ℕ). take m bs) (sym all) ∙ has_part bs 0 summed (omega (arith, all)) summed_has
 
-  pub header_reads : header_found bs ≡ Good o
+  pub header_reads : header_found bs ≡ Ok o
   unfolding header_found origin_bytes summed_bytes
   header_reads =
       let b = big_endian 8 o.pool in

@@ -1,12 +1,11 @@
 -- The records of a journal: number from 1 on (8 bytes), kind (1), the payload's length (2), payload, and the CRC-32C of the journal's identity
 -- and of all that (4). Numbers are big-endian.
-use Rattle.std.specs.Prelude.{ℕ, suc, ◌+◌, ◌-◌, ◌^◌, Bool, List, [], ◌∷◌, ◌++◌, eqb, leb, length, take, drop}
+use Rattle.std.specs.Prelude.{ℕ, suc, ◌+◌, ◌-◌, ◌^◌, Bool, List, [], ◌∷◌, ◌++◌, Option, Some, None, eqb, leb, length, take, drop}
 use Rattle.rules.specs.Limits.{both, within}
 use Rattle.rules.specs.Refusals.{pick}
 use Rattle.sums.specs.Crc.{sum_of, sum_size}
 use Rattle.notice_fields.specs.Numbers.{big_endian, number_at}
-use Rattle.journal_records.specs.declared.records.Standing.{Standing}
-use Rattle.journal_records.specs.declared.records.Standing.TheVariants.{Record, Nothing}
+use Rattle.journal_records.specs.declared.records.Record.{Record}
 
 -- the bytes before the payload, those of the shortest record, the longest payload and the longest record
 abbrev pub record_head : ℕ
@@ -76,6 +75,6 @@ verifies_at identity bs p =
     (both (leb (record_end bs p) (length bs))
     (is_summed identity bs p (record_head + payload_size bs p))))
 
-unfoldable pub found_at : List ℕ → List ℕ → ℕ → Standing
+unfoldable pub found_at : List ℕ → List ℕ → ℕ → Option Record
 found_at identity bs p =
-    pick (verifies_at identity bs p) (Record (record_number bs p) (record_kind bs p) (payload_size bs p)) Nothing
+    pick (verifies_at identity bs p) (Some (record { number = record_number bs p; kind = record_kind bs p; size = payload_size bs p })) None

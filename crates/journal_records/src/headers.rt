@@ -8,7 +8,6 @@ ghost use Rattle.journal_records.specs.Laying.{LaysHeader};
 
 use super::records::lay;
 use notice_fields::numbers::{get, put};
-use rules::truth::also;
 use rules::{DONE, POOL_MAX, POOL_MIN, WRONG_ROWS, within};
 use sums::sum;
 
@@ -51,10 +50,9 @@ pub struct Origin {
     pub least: u64,
 }
 
-// What a header reads as.
+// Why bytes are no header.
 #[derive(Clone, Copy)]
-pub enum Header {
-    Good(Origin),
+pub enum HeaderFault {
     // fewer bytes than a header has
     TooShort,
     // other letters
@@ -98,38 +96,42 @@ pub fn put_header(identity: &[u8], origin: Origin, room: &mut [u8]) -> u8
 }
 
 // What other letters say: a later version, or no journal.
-fn other_word(word: u64) -> Header
+fn other_word(word: u64) -> HeaderFault
     ensures { result ≡ other_word word }
 {
-    if also(word / VERSIONS == LETTERS / VERSIONS, LETTERS < word) {
-        return Header::LaterVersion;
+    if word / VERSIONS == LETTERS / VERSIONS && LETTERS < word {
+        HeaderFault::LaterVersion
+    } else {
+        HeaderFault::NotJournal
     }
-    Header::NotJournal
 }
 
 // What the bytes at a journal's start read as.
-pub fn read_header(bytes: &[u8]) -> Header
+pub fn read_header(bytes: &[u8]) -> Result<Origin, HeaderFault>
     ensures { result ≡ header_found bytes.now }
 {
     if bytes.len() < SIZE {
-        return Header::TooShort;
+        return Err(HeaderFault::TooShort);
     }
     let word = get(bytes, 0, WIDE);
-    if word == LETTERS {
-        let total = sum(&bytes[..SUMMED]);
-        if get(bytes, SUMMED, SUM) == total as u64 {
-            let pool = get(bytes, POOL_AT, WIDE);
-            if within(POOL_MIN, POOL_MAX, pool) {
-                return Header::Good(Origin {
-                    zero: get(bytes, ZERO_AT, WIDE),
-                    pool: pool,
-                    lead: get(bytes, LEAD_AT, WIDE),
-                    least: get(bytes, LEAST_AT, WIDE),
-                });
-            }
-            return Header::OutsideLimits;
-        }
-        return Header::SumDiffers;
+    if word != LETTERS {
+        return Err(other_word(word));
     }
-    other_word(word)
+    let total = sum(&bytes[..SUMMED]);
+    if get(bytes, SUMMED, SUM) != total as u64 {
+        return Err(HeaderFault::SumDiffers);
+    }
+    let pool = get(bytes, POOL_AT, WIDE);
+    if !within(POOL_MIN, POOL_MAX, pool) {
+        return Err(HeaderFault::OutsideLimits);
+    }
+    let zero = get(bytes, ZERO_AT, WIDE);
+    let lead = get(bytes, LEAD_AT, WIDE);
+    let least = get(bytes, LEAST_AT, WIDE);
+    Ok(Origin {
+        zero,
+        pool,
+        lead,
+        least,
+    })
 }

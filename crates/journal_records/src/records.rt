@@ -8,7 +8,6 @@ ghost use Rattle.journal_records.specs.Records.{payload_size, payload_max, is_he
 ghost use Rattle.journal_records.specs.Laying.{LaysRecord};
 
 use notice_fields::numbers::{get, put};
-use rules::truth::also;
 use rules::within;
 use sums::sum_joined;
 
@@ -36,12 +35,12 @@ pub const RECORDS_MAX: u64 = 281_474_976_710_655;
 // The kind of a notice.
 pub const NOTICE: u8 = 1;
 
-// What stands at a place.
+// A record that stands at a place: its number, its kind, and the bytes of its payload.
 #[derive(Clone, Copy)]
-pub enum Standing {
-    // a record: its number, its kind, and the bytes of its payload
-    Record(u64, u8, usize),
-    Nothing,
+pub struct Record {
+    pub number: u64,
+    pub kind: u8,
+    pub size: usize,
 }
 
 // Whether so many bytes from a place on are there.
@@ -55,13 +54,14 @@ fn has_room(length: usize, at: usize, size: usize) -> bool
 }
 
 // Whether number and kind are those of a record.
+#[tactic(auto, unfolding(crate::specs::Records::is_headed))]
 fn is_headed(bytes: &[u8], at: usize) -> bool
     requires { at + 11 ≤ length bytes.now }
     ensures { result ≡ is_headed bytes.now at }
 {
     let number = get(bytes, at, NUMBER);
     let kind = get(bytes, at + NUMBER, KIND);
-    also(within(1, RECORDS_MAX, number), 1 <= kind)
+    within(1, RECORDS_MAX, number) && 1 <= kind
 }
 
 // The length of the payload.
@@ -97,16 +97,17 @@ pub fn verifies(identity: &[u8], bytes: &[u8], at: usize) -> bool
     false
 }
 
-// What stands at a place: a record with its number, its kind and the bytes of its payload, which begin behind its head.
-pub fn record_at(identity: &[u8], bytes: &[u8], at: usize) -> Standing
+// The record that stands at a place, if one does; its payload begins behind its head.
+pub fn record_at(identity: &[u8], bytes: &[u8], at: usize) -> Option<Record>
     ensures { result ≡ found_at identity.now bytes.now at }
 {
-    if verifies(identity, bytes, at) {
-        let number = get(bytes, at, NUMBER);
-        let kind = get(bytes, at + NUMBER, KIND);
-        return Standing::Record(number, kind as u8, size_at(bytes, at));
+    if !verifies(identity, bytes, at) {
+        return None;
     }
-    Standing::Nothing
+    let number = get(bytes, at, NUMBER);
+    let kind = get(bytes, at + NUMBER, KIND) as u8;
+    let size = size_at(bytes, at);
+    Some(Record { number, kind, size })
 }
 
 // Bytes laid from a place on.
@@ -114,11 +115,7 @@ pub(crate) fn lay(bytes: &[u8], room: &mut [u8], at: usize)
     requires { at + length bytes.now ≤ length room.old }
     ensures { room.new ≡ sets room.old at bytes.now }
 {
-    let mut i = 0;
-    while i < bytes.len() {
-        room[at + i] = bytes[i];
-        i += 1;
-    }
+    room[at..at + bytes.len()].copy_from_slice(bytes);
 }
 
 // All of a record but its sum.
@@ -134,6 +131,7 @@ fn put_body(number: u64, kind: u8, payload: &[u8], room: &mut [u8], at: usize)
 
 // Lays a record from a place of the room on, and answers the place behind it; where the payload is too long or the room too short, nothing is
 // written and the place comes back.
+// kept: the place that comes back where nothing is written is what `LaysRecord` promises
 pub fn put_record(
     identity: &[u8],
     number: u64,

@@ -6,15 +6,14 @@ ghost use Rattle.journal_records.specs.Search.{NextRecord};
 use super::records::verifies;
 
 // The first place from one on at which a record stands, or the end of the bytes where none does; a place behind the end comes back.
+// kept: the end of the bytes where none stands is what `NextRecord` promises
 pub fn next_record(identity: &[u8], bytes: &[u8], from: usize) -> usize
     ensures { NextRecord identity.now bytes.now from result }
 {
-    let mut at = from;
-    while at < bytes.len() {
+    for at in from..bytes.len() {
         if verifies(identity, bytes, at) {
             return at;
         }
-        at += 1;
     }
-    at
+    from.max(bytes.len())
 }

@@ -13,12 +13,11 @@ const MANY: usize = 4_611_686_018_427_387_904;
 
 // The number of the notice that comes after so many, and so many more.
 fn after(n: usize, m: usize) -> usize {
-    if n < MANY {
-        if m < MANY {
-            return n + m + 1;
-        }
+    if n < MANY && m < MANY {
+        n + m + 1
+    } else {
+        MANY
     }
-    MANY
 }
 
 fn say_short(rt: &HostRuntime, port: Port, sums: usize) {

@@ -28,9 +28,7 @@ pub fn look(rt: &HostRuntime, pool: u64, name: &[u8]) {
     if let Some(pair) = looked_at(rt, name, journal) {
         let mut row = [0u64; ROW_LENGTH];
         fresh(&mut row, pool);
-        let played = play(rt, &pair, &mut row);
-        if played.ok {
-            let start = played.start;
+        if let Some(start) = play(rt, &pair, &mut row) {
             tell(rt, Port::Output, &pair, start, &row);
         }
     }

@@ -6,9 +6,8 @@ ghost use Rattle.std.specs.Prelude.{◌≡◌, ◌-◌};
 use crate::saying::say_one;
 use files::pages::within_row;
 use journal_files::pairs::Pair;
-use journal_files::windows::{Window, read_from};
+use journal_files::windows::read_from;
 use journals::{BLOCK, SUM, Start, going, hear, sums_length};
-use rules::truth::either;
 use std::fs::File;
 use std::io::IsTerminal;
 use streams::ports::{Port, tell};
@@ -20,25 +19,7 @@ pub const SUMS_ROOM: usize = BLOCK / 26 * SUM;
 pub fn less(a: usize, b: usize) -> usize
     ensures { result ≡ a - b }
 {
-    if a < b {
-        return 0;
-    }
-    a - b
-}
-
-// How far the journal was played, and whether its files could be read.
-#[derive(Clone, Copy)]
-pub struct Played {
-    pub start: Start,
-    pub ok: bool,
-}
-
-// Files that could not be read.
-pub fn failed(start: Start) -> Played {
-    Played {
-        start: start,
-        ok: false,
-    }
+    a.saturating_sub(b)
 }
 
 // What a file of so many bytes has from a place on, as much as a room holds.
@@ -49,7 +30,7 @@ pub fn read_part(
     place: usize,
     size: usize,
     room: &mut [u8],
-) -> Window {
+) -> Option<usize> {
     let most = within_row(less(size, place), room);
     read_from(rt, file, what, place, &mut room[..most])
 }
@@ -60,35 +41,25 @@ fn hear_read(
     row: &mut [u64],
     size: usize,
     room: &[u8],
-    window: Window,
+    read: usize,
     sums: &[u8],
-    beside: Window,
-) -> Played {
-    if either(window.failed, beside.failed) {
-        return failed(start);
-    }
-    let n = within_row(window.size, room);
-    let m = within_row(beside.size, sums);
+    beside: usize,
+) -> Start {
+    let n = within_row(read, room);
+    let m = within_row(beside, sums);
     let over = less(size, start.place) <= n;
-    let next = hear(start, row, &room[..n], &sums[..m], over);
-    Played {
-        start: next,
-        ok: true,
-    }
+    hear(start, row, &room[..n], &sums[..m], over)
 }
 
 // The same of the sums of a pair: nothing where there are none.
-fn read_sums(rt: &HostRuntime, pair: &Pair, place: usize, room: &mut [u8]) -> Window {
+fn read_sums(rt: &HostRuntime, pair: &Pair, place: usize, room: &mut [u8]) -> Option<usize> {
     match &pair.sums {
         Some(file) => read_part(rt, file, b"? JOURNAL.sums", place, pair.summed, room),
-        None => Window {
-            size: 0,
-            failed: false,
-        },
+        None => Some(0),
     }
 }
 
-// One window of the journal, and the sums beside it.
+// One window of the journal, and the sums beside it, or that standard error says which could not be read.
 fn play_window(
     rt: &HostRuntime,
     pair: &Pair,
@@ -96,7 +67,7 @@ fn play_window(
     row: &mut [u64],
     room: &mut [u8],
     sums: &mut [u8],
-) -> Played {
+) -> Option<Start> {
     let window = read_part(
         rt,
         &pair.journal,
@@ -106,7 +77,7 @@ fn play_window(
         room,
     );
     let beside = read_sums(rt, pair, sums_length(start), sums);
-    hear_read(start, row, pair.size, room, window, sums, beside)
+    Some(hear_read(start, row, pair.size, room, window?, sums, beside?))
 }
 
 // On a terminal, how far it has come, on a line that the next one overwrites.
@@ -122,38 +93,25 @@ pub fn show(rt: &HostRuntime, start: Start) {
 
 // Whether a window that left the start where it was shows that there is no more to be had.
 pub fn is_stuck(before: Start, after: Start) -> bool {
-    if going(after) {
-        return before.place == after.place;
-    }
-    false
+    going(after) && before.place == after.place
 }
 
-// The journal to its end, or to what is wrong with it. A proved loop has to end, and nothing says that a file does: so the windows
-// are counted down from a number that no run uses up.
-pub fn play(rt: &HostRuntime, pair: &Pair, row: &mut [u64]) -> Played {
+// The journal to its end, or to what is wrong with it, unless its files could not be read. A proved loop has to end, and nothing says that a
+// file does: so the windows are counted, up to a number that no run uses up.
+pub fn play(rt: &HostRuntime, pair: &Pair, row: &mut [u64]) -> Option<Start> {
     let mut room = [0u8; 65_536];
     let mut sums = [0u8; SUMS_ROOM];
     let mut start = journals::begun(pair.size, pair.sums.is_some(), pair.summed);
-    let mut windows = u64::MAX;
-    while windows > 0 && going(start) {
-        let played = play_window(rt, pair, start, row, &mut room, &mut sums);
-        let next = played.start;
-        if played.ok {
-            if is_stuck(start, next) {
-                return Played {
-                    start: next,
-                    ok: true,
-                };
-            }
-        } else {
-            return failed(next);
+    for _ in 0..u64::MAX {
+        if !going(start) {
+            break;
+        }
+        let next = play_window(rt, pair, start, row, &mut room, &mut sums)?;
+        if is_stuck(start, next) {
+            return Some(next);
         }
         start = next;
         show(rt, start);
-        windows -= 1;
     }
-    Played {
-        start: start,
-        ok: true,
-    }
+    Some(start)
 }

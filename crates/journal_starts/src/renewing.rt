@@ -1,13 +1,13 @@
 // The sums of a journal made anew: into a file beside it, which takes the name of the sums once it is whole and forced.
 
 use crate::findings::say_wrong;
-use crate::playing::{Played, SUMS_ROOM, failed, is_stuck, less, read_part, show};
+use crate::playing::{SUMS_ROOM, is_stuck, less, read_part, show};
 use crate::saying::say_one;
 use agent_rows::ROW_LENGTH;
 use files::complaints::complain_at;
 use files::pages::within_row;
 use journal_files::appending::force;
-use journal_files::cutting::{Size, size_of};
+use journal_files::cutting::size_of;
 use journal_files::folders::force_folder;
 use journal_files::holding::hold;
 use journal_files::opening::{Way, open_named, remove, rename};
@@ -26,7 +26,7 @@ struct Renewal<'a> {
     sums: &'a File,
 }
 
-// One window of the journal, with the sums of its notices written first.
+// One window of the journal, with the sums of its notices written first, or that standard error says why not.
 fn renew_window(
     rt: &HostRuntime,
     r: Renewal<'_>,
@@ -34,72 +34,45 @@ fn renew_window(
     row: &mut [u64],
     room: &mut [u8],
     sums: &mut [u8],
-) -> Played {
+) -> Option<Start> {
     let place = start.place;
-    let window = read_part(rt, r.journal, b"? JOURNAL", place, r.size, room);
-    if window.failed {
-        return failed(start);
-    }
-    let n = within_row(window.size, room);
+    let read = read_part(rt, r.journal, b"? JOURNAL", place, r.size, room)?;
+    let n = within_row(read, room);
     let over = less(r.size, place) <= n;
     let m = within_row(sums_in(&room[..n], over, sums), sums);
     let mut end = r.sums;
-    if write_to(
-        rt,
-        &mut end,
-        b"? JOURNAL.sums.new cannot be written",
-        &sums[..m],
-    ) {
-        let next = hear(start, row, &room[..n], &sums[..m], over);
-        return Played {
-            start: next,
-            ok: true,
-        };
+    let what = b"? JOURNAL.sums.new cannot be written";
+    if !write_to(rt, &mut end, what, &sums[..m]) {
+        return None;
     }
-    failed(start)
+    Some(hear(start, row, &room[..n], &sums[..m], over))
 }
 
-// The journal to its end, or to what is wrong with it. The windows are counted down as in `playing`.
-fn renew_all(rt: &HostRuntime, r: Renewal<'_>, row: &mut [u64]) -> Played {
+// The journal to its end, or to what is wrong with it, unless its files failed. The windows are counted as in `playing`.
+fn renew_all(rt: &HostRuntime, r: Renewal<'_>, row: &mut [u64]) -> Option<Start> {
     let mut room = [0u8; 65_536];
     let mut sums = [0u8; SUMS_ROOM];
     let mut start = journals::begun(r.size, true, usize::MAX);
-    let mut windows = u64::MAX;
-    while windows > 0 && going(start) {
-        let played = renew_window(rt, r, start, row, &mut room, &mut sums);
-        let next = played.start;
-        if played.ok {
-            if is_stuck(start, next) {
-                return Played {
-                    start: next,
-                    ok: true,
-                };
-            }
-        } else {
-            return failed(next);
+    for _ in 0..u64::MAX {
+        if !going(start) {
+            break;
+        }
+        let next = renew_window(rt, r, start, row, &mut room, &mut sums)?;
+        if is_stuck(start, next) {
+            return Some(next);
         }
         start = next;
         show(rt, start);
-        windows -= 1;
     }
-    Played {
-        start: start,
-        ok: true,
-    }
+    Some(start)
 }
 
 // Whether a journal of so many bytes plays whole: to its end, where no sum is left to be asked for.
 fn is_whole(start: Start, size: usize) -> bool {
-    let verdict = start.verdict;
-    match verdict {
+    match start.verdict {
         Verdict::Heard => true,
         Verdict::Hearing => start.place == size,
-        Verdict::Torn => false,
-        Verdict::NoNotice => false,
-        Verdict::SumDiffers => false,
-        Verdict::Refused(_) => false,
-        Verdict::SumsShort => false,
-        Verdict::SumsMissing => false,
+        _ => false,
     }
 }
 
@@ -120,34 +93,30 @@ fn say_broken(rt: &HostRuntime, start: Start) {
 
 // The new sums take the place of the old.
 fn put_in_place(rt: &HostRuntime, name: &[u8], sums: &File, start: Start) -> bool {
-    if force(rt, sums, b"? JOURNAL.sums.new cannot be forced to disk") {
-        if rename(rt, name, b".sums.new", b".sums", b"? JOURNAL.sums") {
-            if force_folder(rt, name) {
-                say_one(
-                    rt,
-                    Port::Output,
-                    b"JOURNAL.sums: made anew, ",
-                    start.heard,
-                    b" sums\n",
-                );
-            }
-            return true;
-        }
+    let placed = force(rt, sums, b"? JOURNAL.sums.new cannot be forced to disk")
+        && rename(rt, name, b".sums.new", b".sums", b"? JOURNAL.sums");
+    if placed && force_folder(rt, name) {
+        say_one(
+            rt,
+            Port::Output,
+            b"JOURNAL.sums: made anew, ",
+            start.heard,
+            b" sums\n",
+        );
     }
-    false
+    placed
 }
 
 fn renew_into(rt: &HostRuntime, pool: u64, name: &[u8], r: Renewal<'_>) -> bool {
     let mut row = [0u64; ROW_LENGTH];
     fresh(&mut row, pool);
-    let played = renew_all(rt, r, &mut row);
-    let start = played.start;
-    if played.ok {
-        if is_whole(start, r.size) {
-            return put_in_place(rt, name, r.sums, start);
-        }
-        say_broken(rt, start);
+    let Some(start) = renew_all(rt, r, &mut row) else {
+        return false;
+    };
+    if is_whole(start, r.size) {
+        return put_in_place(rt, name, r.sums, start);
     }
+    say_broken(rt, start);
     false
 }
 
@@ -157,8 +126,8 @@ fn renew_held(rt: &HostRuntime, pool: u64, name: &[u8], journal: &File, size: us
         return;
     };
     let r = Renewal {
-        journal: journal,
-        size: size,
+        journal,
+        size,
         sums: &sums,
     };
     if !renew_into(rt, pool, name, r) {
@@ -171,10 +140,8 @@ pub fn renew(rt: &HostRuntime, pool: u64, name: &[u8]) {
         return;
     };
     if hold(rt, &journal) {
-        let size = size_of(rt, &journal, b"? JOURNAL");
-        match size {
-            Size::Bytes(n) => renew_held(rt, pool, name, &journal, n),
-            Size::Unknown => {}
+        if let Some(size) = size_of(rt, &journal, b"? JOURNAL") {
+            renew_held(rt, pool, name, &journal, size);
         }
     }
 }

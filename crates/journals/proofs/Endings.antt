@@ -4,12 +4,11 @@
 use mathlib.Core.Path.{◌≡◌, refl, sym, ap, ◌∙◌}
 use mathlib.Core.Bool.{Bool, false}
 use mathlib.Core.List.{List, ◌++◌, append_assoc}
-use Prim.Native.Nat.{ℕ, suc, ◌+◌, ◌≤◌, ◌<◌}
-use native.Mathlib.Numerals.{add-one}
+use Prim.Native.Nat.{ℕ, ◌≤◌, ◌<◌}
 use native.Mathlib.Omega.{arith}
 use lib.Dec.{eqb}
-use lib.ListN.{length, get_or, take, drop, set, length-append, length-drop}
-use lib.Seq.{sets, take-suc, drop-cons, set_at, append_snoc, length-take-le, take-length, take_at, drop-append-le, take-set-lt, take-set-le, set_out}
+use lib.ListN.{length, take, drop, set, length-append, length-drop}
+use lib.Seq.{sets, take-length, take_at, drop-append-le, take-set-lt, take-set-le, set_out}
 use borrow.Author.Tests.{lt-ltb, le-ltb, eq-eqb, ne_eqb}
 use Rattle.sums.specs.Crc.{sum_of}
 use Rattle.notice_fields.specs.Fields.{table, span_of, start_of, head_size, length_of, rows}
@@ -22,18 +21,6 @@ use Rattle.journals.specs.Torn.{kind_begun, blank_bytes, is_torn, is_kind}
 pub longest : (k : ℕ) → length_of k ≤ 45
 unfolding table start_of span_of
 longest k = longest_kind k
-
--- bytes laid over a room, one by one
-module _ (xs l : List ℕ) (fits : length xs ≤ length l) where
-  pub length_over : (i : ℕ) → i ≤ length xs → length (take i xs ++ drop i l) ≡ length l
-  length_over i h =
-      omega (arith, length-append (take i xs) (drop i l), length-take-le i xs h, length-drop i l)
-
-  pub one_over : (i : ℕ) → i < length xs → set (take i xs ++ drop i l) i (get_or xs i 0) ≡ take (i + 1) xs ++ drop (i + 1) l
-  one_over i h =
-      rw (add-one, take-suc xs i 0 h, drop-cons l i 0 (omega arith))
-      (set_at (take i xs) (get_or l i 0) (drop (suc i) l) (get_or xs i 0) i (length-take-le i xs (omega arith))
-      ∙ sym (append_snoc (take i xs) (get_or xs i 0) (drop (suc i) l)))
 
 -- ---- torn
 

@@ -9,11 +9,5 @@ use notice::LONGEST_NOTICE;
 pub fn far(size: usize, place: usize, over: bool) -> bool
     ensures { result ≡ is_far size place over }
 {
-    if over {
-        return true;
-    }
-    if size < place {
-        return false;
-    }
-    LONGEST_NOTICE <= size - place
+    over || LONGEST_NOTICE <= size.saturating_sub(place)
 }

@@ -8,7 +8,6 @@ ghost use Rattle.journals.specs.Rows.{is_counted, row_hears, row_heard};
 
 use far::far;
 use notice_fields::numbers::get;
-use rules::truth::{also, either};
 use steps::step;
 
 mod far;
@@ -66,38 +65,18 @@ pub struct Start {
 pub fn begun(journal: usize, there: bool, sums: usize) -> Start
     ensures { result ≡ begun_with journal there sums }
 {
-    if also(0 < journal, !there) {
-        return Start {
-            place: 0,
-            heard: 0,
-            behind: 0,
-            cut: 0,
-            sums: sums / SUM,
-            verdict: Verdict::SumsMissing,
-        };
-    }
+    let verdict = if 0 < journal && !there {
+        Verdict::SumsMissing
+    } else {
+        Verdict::Hearing
+    };
     Start {
         place: 0,
         heard: 0,
         behind: 0,
         cut: 0,
         sums: sums / SUM,
-        verdict: Verdict::Hearing,
-    }
-}
-
-fn is_hearing(verdict: Verdict) -> bool
-    ensures { result ≡ is_going verdict }
-{
-    match verdict {
-        Verdict::Hearing => true,
-        Verdict::Heard => false,
-        Verdict::Torn => false,
-        Verdict::NoNotice => false,
-        Verdict::SumDiffers => false,
-        Verdict::Refused(_) => false,
-        Verdict::SumsShort => false,
-        Verdict::SumsMissing => false,
+        verdict,
     }
 }
 
@@ -105,35 +84,21 @@ fn is_hearing(verdict: Verdict) -> bool
 pub fn going(start: Start) -> bool
     ensures { result ≡ is_going start.verdict }
 {
-    let verdict = start.verdict;
-    is_hearing(verdict)
+    matches!(start.verdict, Verdict::Hearing)
 }
 
 // Whether a journal may be gone on with: all of it was heard, or its end is torn.
 pub fn is_good(verdict: Verdict) -> bool
     ensures { result ≡ is_good verdict }
 {
-    match verdict {
-        Verdict::Heard => true,
-        Verdict::Torn => true,
-        Verdict::Hearing => false,
-        Verdict::NoNotice => false,
-        Verdict::SumDiffers => false,
-        Verdict::Refused(_) => false,
-        Verdict::SumsShort => false,
-        Verdict::SumsMissing => false,
-    }
+    matches!(verdict, Verdict::Heard | Verdict::Torn)
 }
 
 // How many bytes the sums of the played notices have, to which the sums are cut.
 pub fn sums_length(start: Start) -> usize
     ensures { result ≡ sums_length start }
 {
-    let heard = start.heard;
-    if heard <= usize::MAX / SUM {
-        return heard * SUM;
-    }
-    usize::MAX
+    start.heard.saturating_mul(SUM)
 }
 
 // The sum of a number, 0 where it is not there.
@@ -150,16 +115,14 @@ fn sum_at(sums: &[u8], k: usize) -> u64
 fn ready(start: Start, size: usize, at: usize, over: bool, there: usize, k: usize) -> bool
     ensures { result ≡ is_ready_at size at over there k start }
 {
-    let bytes = also(going(start), far(size, at, over));
-    also(bytes, either(start.sums <= start.heard, k < there))
+    going(start) && far(size, at, over) && (start.sums <= start.heard || k < there)
 }
 
 // Whether the numbers are those of some journal, also when it goes on by so many bytes.
 fn counted(start: Start, size: usize) -> bool
     ensures { result ≡ is_counted start size }
 {
-    let counts = also(start.heard <= start.place, start.behind <= start.place);
-    also(counts, start.place <= usize::MAX - size)
+    start.heard <= start.place && start.behind <= start.place && start.place <= usize::MAX - size
 }
 
 // All that a window and the sums beside it decide.

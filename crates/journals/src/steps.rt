@@ -14,20 +14,12 @@ use notice::{Found, next_in};
 use notice_fields::numbers::get;
 use row_calls::notices::take;
 use rules::DONE;
-use rules::truth::also;
 
 // It has ended.
 fn ended(start: Start, verdict: Verdict) -> Start
     ensures { result ≡ ended_with start verdict }
 {
-    Start {
-        place: start.place,
-        heard: start.heard,
-        behind: start.behind,
-        cut: start.cut,
-        sums: start.sums,
-        verdict: verdict,
-    }
+    Start { verdict, ..start }
 }
 
 // A notice of so many bytes is played.
@@ -35,15 +27,12 @@ fn heard_one(start: Start, size: usize) -> Start
     requires { (start.heard ≤ start.place) × ((0 < size) × (start.place + size < 2 ^ 64)) }
     ensures { result ≡ heard_one start size }
 {
-    let verdict = start.verdict;
     let to = start.place + size;
     Start {
         place: to,
         heard: start.heard + 1,
-        behind: start.behind,
         cut: to,
-        sums: start.sums,
-        verdict: verdict,
+        ..start
     }
 }
 
@@ -53,14 +42,10 @@ fn unsummed(start: Start, size: usize) -> Start
     ensures { result ≡ after_unsummed start size }
 {
     if start.behind < BLOCK_EVENTS {
-        let verdict = start.verdict;
         return Start {
             place: start.place + size,
-            heard: start.heard,
             behind: start.behind + 1,
-            cut: start.cut,
-            sums: start.sums,
-            verdict: verdict,
+            ..start
         };
     }
     ended(start, Verdict::SumsShort)
@@ -99,7 +84,7 @@ fn stopped(start: Start, rest: &[u8], sum: u64) -> Start
     ensures { result ≡ ended_with start (at_stop start rest.now sum) }
 {
     if is_torn(rest) {
-        if also(start.heard < start.sums, had_kind(rest, sum)) {
+        if start.heard < start.sums && had_kind(rest, sum) {
             return ended(start, Verdict::SumDiffers);
         }
         return ended(start, Verdict::Torn);
@@ -112,8 +97,7 @@ pub fn step(start: Start, row: &mut [u64], window: &[u8], at: usize, sum: u64) -
     requires { (start.heard ≤ start.place) × ((at ≤ length window.now) × (start.place + (length window.now - at) < 2 ^ 64)) }
     ensures { stage result row.new ≡ step_at row_hears window.now sum (stage start row.old) at }
 {
-    let found = next_in(window, at);
-    match found {
+    match next_in(window, at) {
         Found::At(_, end) => notice_at(start, row, window, at, end, sum),
         Found::End => ended(start, Verdict::Heard),
         Found::Malformed => stopped(start, &window[at..], sum),

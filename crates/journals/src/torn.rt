@@ -6,8 +6,10 @@ ghost use Rattle.journals.specs.Torn.{kind_begun, is_torn, is_kind, had_kind};
 use notice_bytes::laying::put_rows;
 use notice_bytes::standing::alone;
 use notice_fields::fields::{HEAD, LONGEST, ROWS, start};
-use rules::truth::either;
 use sums::sum;
+
+// The kinds of notices: 0 up to the last.
+const KINDS: u8 = notice::SKIP + 1;
 
 // The kind of the notice that bytes begin. Up to the kind's own byte notices of every kind begin alike.
 fn kind_begun(rest: &[u8]) -> u8
@@ -24,11 +26,7 @@ fn lay_over(rest: &[u8], room: &mut [u8])
     requires { length rest.now ≤ length room.old }
     ensures { room.new ≡ take (length rest.now) rest.now ++ drop (length rest.now) room.old }
 {
-    let mut i = 0;
-    while i < rest.len() {
-        room[i] = rest[i];
-        i += 1;
-    }
+    room[..rest.len()].copy_from_slice(rest);
 }
 
 // Whether bytes are fewer than their notice has: they are laid over a blank one of their kind.
@@ -39,7 +37,7 @@ pub fn is_torn(rest: &[u8]) -> bool
     let whole = start(kind, ROWS);
     if rest.len() < whole {
         let mut room = [0u8; LONGEST];
-        put_rows(&mut room, kind, [kind as u64, 0, 0, 0, 0, 0, 0, 0]);
+        put_rows(&mut room, kind, [u64::from(kind), 0, 0, 0, 0, 0, 0, 0]);
         lay_over(rest, &mut room);
         return alone(&room[..whole]);
     }
@@ -55,7 +53,7 @@ fn is_kind(rest: &[u8], kind: u8, total: u64) -> bool
         let mut room = [0u8; LONGEST];
         lay_over(rest, &mut room);
         room[HEAD] = kind;
-        return sum(&room[..size]) as u64 == total;
+        return u64::from(sum(&room[..size])) == total;
     }
     false
 }
@@ -64,11 +62,10 @@ fn is_kind(rest: &[u8], kind: u8, total: u64) -> bool
 pub fn had_kind(rest: &[u8], total: u64) -> bool
     ensures { result ≡ had_kind rest.now total }
 {
-    let mut had = false;
-    let mut kind: u8 = 0;
-    while kind <= notice::SKIP {
-        had = either(is_kind(rest, kind, total), had);
-        kind += 1;
+    for kind in 0..KINDS {
+        if is_kind(rest, kind, total) {
+            return true;
+        }
     }
-    had
+    false
 }

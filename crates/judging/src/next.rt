@@ -20,12 +20,10 @@ pub fn note(air: &[u16], tick: usize, next: &mut [u16])
     requires { (tick < ticks_in air.now) × (tick < ticks_max) }
     ensures { next.new ≡ noted air.now tick next.old lane_places }
 {
-    let mut lane: usize = 0;
-    while lane < LANE_PLACES {
+    for lane in 0..LANE_PLACES {
         let cell = air[tick * LANE_PLACES + lane] as usize;
         if cell < next.len() {
             next[cell] = tick as u16;
         }
-        lane += 1;
     }
 }

@@ -14,10 +14,7 @@ fn is_late(next: &[u16], length: u64, tick: u64, start: usize, cell: usize) -> b
     requires tick_in_bounds { (tick ≤ length_max) × (start < ticks_max) }
     ensures { result ≡ is_late length tick next.now start cell }
 {
-    if cell as u64 * tick < length {
-        return start + cell < next[cell] as usize;
-    }
-    false
+    cell as u64 * tick < length && start + cell < next[cell] as usize
 }
 
 // The lowest such cell.
@@ -26,12 +23,10 @@ fn lowest_late(next: &[u16], cells: usize, length: u64, tick: u64, start: usize)
     requires tick_in_bounds { (tick ≤ length_max) × (start < ticks_max) }
     ensures { result ≡ lowest (is_late length tick next.now start) cells }
 {
-    let mut cell: usize = 0;
-    while cell < cells {
+    for cell in 0..cells {
         if is_late(next, length, tick, start, cell) {
             return cell as u16;
         }
-        cell += 1;
     }
     NOTHING_SEEN
 }
@@ -60,9 +55,7 @@ pub fn results(air: &[u16], cells: usize, length: u64, tick: u64) -> [u16; TICKS
     let ticks = air.len() / LANE_PLACES;
     let mut next = next::never(air);
     let mut results = blank();
-    let mut start = ticks;
-    while 0 < start {
-        start -= 1;
+    for start in (0..ticks).rev() {
         next::note(air, start, &mut next);
         if is_whole(cells, ticks, start) {
             results[start] = lowest_late(&next, cells, length, tick, start);

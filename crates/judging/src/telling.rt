@@ -7,28 +7,25 @@ ghost use Rattle.judging.specs.inner.Walk.{OneMore, FewCounts, TellsResults};
 
 use crate::results::is_whole;
 use crate::{Counts, NOTHING_SEEN};
-use rules::truth::{also, one_if};
 
 // One tick more: an admission that is judged has its result put in the next place.
 fn put(res: u16, admission: bool, whole: bool, counts: Counts, row: &mut [u16]) -> Counts
     requires { FewCounts counts (length row.old) }
     ensures { OneMore res admission whole counts row.old row.new result }
 {
-    let judged = counts.judged;
-    let played = counts.played;
-    let outlast = counts.outlast;
-    if also(admission, whole) {
-        row[judged as usize] = res;
-        return Counts {
-            judged: judged + 1,
-            played: played + one_if(res == NOTHING_SEEN),
-            outlast: outlast,
-        };
-    }
-    Counts {
-        judged: judged,
-        played: played,
-        outlast: outlast + one_if(admission),
+    if admission && whole {
+        row[counts.judged as usize] = res;
+        Counts {
+            judged: counts.judged + 1,
+            played: counts.played + u64::from(res == NOTHING_SEEN),
+            outlast: counts.outlast,
+        }
+    } else {
+        Counts {
+            judged: counts.judged,
+            played: counts.played,
+            outlast: counts.outlast + u64::from(admission),
+        }
     }
 }
 
@@ -43,11 +40,9 @@ pub fn tell(results: &[u16], marks: &[u8], cells: usize, ticks: usize, row: &mut
         played: 0,
         outlast: 0,
     };
-    let mut start: usize = 0;
-    while start < ticks {
+    for start in 0..ticks {
         let whole = is_whole(cells, ticks, start);
         counts = put(results[start], marks[start] == 1, whole, counts, row);
-        start += 1;
     }
     counts
 }

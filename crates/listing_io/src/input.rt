@@ -45,10 +45,7 @@ fn list_line(agent: Agent, bytes: &[u8], place: usize) -> Shown
 {
     let mut row = [0u8; LINE_ROOM];
     let listed = list_at(agent, bytes, place, &mut row);
-    Shown {
-        listed: listed,
-        row: row,
-    }
+    Shown { listed, row }
 }
 
 // Lists what stands at a place, and writes its line.
@@ -60,10 +57,7 @@ fn show(rt: &HostRuntime, agent: Agent, bytes: &[u8], place: usize) -> Printed
     let row = shown.row;
     let size = listed.size;
     let written = streams::write_all(rt, &row[..size]);
-    Printed {
-        listed: listed,
-        written: written,
-    }
+    Printed { listed, written }
 }
 
 // Lists from the start on as long as places are decided and lines can be written.
@@ -71,7 +65,7 @@ fn drain(rt: &HostRuntime, agent: Agent, bytes: &[u8], over: bool) -> Printed
     ensures { Drained agent bytes.now over result }
 {
     let mut listed = ListedStep {
-        agent: agent,
+        agent,
         place: 0,
         size: 0,
         more: true,
@@ -82,10 +76,7 @@ fn drain(rt: &HostRuntime, agent: Agent, bytes: &[u8], over: bool) -> Printed
         listed = printed.listed;
         written = printed.written;
     }
-    Printed {
-        listed: listed,
-        written: written,
-    }
+    Printed { listed, written }
 }
 
 // Nothing more is read.
@@ -93,7 +84,7 @@ fn ended(agent: Agent) -> Fed
     ensures { result.more ≡ false }
 {
     Fed {
-        agent: agent,
+        agent,
         kept: 0,
         more: false,
     }
@@ -123,28 +114,28 @@ fn feed(rt: &HostRuntime, fed: Fed, buffer: &mut [u8]) -> Fed
     ensures { result.more ≡ true → result.kept < longest_notice }
 {
     let agent = fed.agent;
-    let filled = refill(rt, buffer, fed.kept);
-    match filled {
-        Filled::More(n) => list_filled(rt, agent, buffer, n, false),
-        Filled::Last(n) => list_filled(rt, agent, buffer, n, true),
-        Filled::Failed => ended(agent),
+    match refill(rt, buffer, fed.kept) {
+        Some(Filled::More(n)) => list_filled(rt, agent, buffer, n, false),
+        Some(Filled::Last(n)) => list_filled(rt, agent, buffer, n, true),
+        None => ended(agent),
     }
 }
 
 // Lists standard input as a fresh agent of a pool hears it. A proved loop has to end, and nothing says that input does: the
-// loop counts its turns down, from a number that no run uses up.
+// loop counts its turns up to a number that no run reaches.
 pub fn list_input(rt: &HostRuntime, pool: u64) {
     let mut buffer = [0u8; 4_096];
     let started = fresh_agent(pool);
     let agent = started.agent;
     let mut fed = Fed {
-        agent: agent,
+        agent,
         kept: 0,
         more: true,
     };
-    let mut turns = u64::MAX;
-    while turns > 0 && fed.more {
+    for _ in 0..u64::MAX {
+        if !fed.more {
+            break;
+        }
         fed = feed(rt, fed, &mut buffer);
-        turns -= 1;
     }
 }

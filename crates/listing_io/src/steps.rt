@@ -47,7 +47,7 @@ fn list_notice(agent: Agent, n: Notice, end: usize, out: &mut [u8]) -> ListedSte
     ListedStep {
         agent: next,
         place: end,
-        size: size,
+        size,
         more: true,
     }
 }
@@ -60,17 +60,17 @@ pub fn list_at(agent: Agent, log: &[u8], place: usize, out: &mut [u8]) -> Listed
     match found {
         Found::At(n, end) => list_notice(agent, n, end, out),
         Found::End => ListedStep {
-            agent: agent,
-            place: place,
+            agent,
+            place,
             size: 0,
             more: false,
         },
         Found::Malformed => {
             let size = put_last(out, held_after(agent, MALFORMED, 0));
             ListedStep {
-                agent: agent,
-                place: place,
-                size: size,
+                agent,
+                place,
+                size,
                 more: false,
             }
         }

@@ -1,13 +1,12 @@
 -- What is written of a box, by what is told of its beginning: the three ways of `box_text`. Rests on `now_exactly`.
 use mathlib.Core.Path.{◌≡◌, refl, sym, ◌∙◌}
 use mathlib.Core.Bool.{true, false}
-use mathlib.Core.List.{List}
+use mathlib.Core.List.{List, []}
 use Prim.Native.Nat.{ℕ}
 use borrow.Author.Tests.{eq-eqb, ne_eqb}
 use Rattle.rules.specs.Refusals.{done}
 use Rattle.notice.specs.Log.{Bytes}
 use Rattle.agent.specs.Played.{life_in}
-use Rattle.text.specs.Output.{Page, puts}
 use Rattle.playouts.specs.Lines.{refused_line}
 use Rattle.log_boxes.specs.declared.Beginning.{Beginning}
 use Rattle.log_boxes.specs.Box.{box_answer, is_box_start, box_picture, box_text, is_now, BeginsAt}
@@ -27,9 +26,9 @@ module _ (pool : ℕ) (log : List ℕ) (title x : ℕ) where
     unfolding box_text
     begins_text h = rw (eq-eqb _ _ granted_too, sym exactly ∙ h) refl
 
-    pub waits_text : is_now r x ≡ false → (p : Page) → p ≡ puts p (box_text pool log title x)
-    unfolding box_text puts
-    waits_text h p = rw (eq-eqb _ _ granted_too, sym exactly ∙ h) refl
+    pub waits_text : is_now r x ≡ false → [] ≡ box_text pool log title x
+    unfolding box_text
+    waits_text h = rw (eq-eqb _ _ granted_too, sym exactly ∙ h) refl
 
   pub refused_text : (r : Beginning) → BeginsAt pool log title x r → (r.answer ≡ done → ⊥) → refused_line r.answer ≡ box_text pool log title x
   unfolding box_text

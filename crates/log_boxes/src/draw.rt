@@ -3,7 +3,7 @@
 
 ghost use Rattle.std.specs.Prelude.{◌*◌, ◌≡◌, length};
 ghost use Rattle.rules.specs.Limits.{plan_places, lane_places};
-ghost use Rattle.text.specs.Output.{Written};
+ghost use Rattle.text.specs.Pages.{Puts};
 ghost use Rattle.plans.specs.Row.{written};
 ghost use Rattle.log_boxes.specs.Box.{box_answer, box_place, box_picture};
 ghost use Rattle.log_boxes.specs.inner.Steps.{BoxStands, BoxRooms};
@@ -16,6 +16,7 @@ use playouts::window::fill;
 use rules::{LANE_PLACES, PLAN_PLACES};
 use story::Title;
 use takings::take_all;
+use text::page::Page;
 
 // The numbers of as many ticks as a box may have.
 const NUMBERS_MAX: usize = PLAN_PLACES * LANE_PLACES;
@@ -55,7 +56,7 @@ fn take_places(
 
 // The picture, over lent rows.
 fn draw_into(
-    out: &mut [u8],
+    page: &mut Page<'_>,
     pool: u64,
     log: &[u8],
     title: u64,
@@ -63,25 +64,25 @@ fn draw_into(
     t: Title,
     numbers: &mut [u16],
     places: &mut [u16],
-) -> usize
+)
     requires box_stands { BoxStands pool log.now title time t }
     requires box_rooms { BoxRooms t numbers.old places.old }
-    ensures { Written out.old 0 (box_picture pool log.now title time) out.new result }
+    ensures { Puts page.old (box_picture pool log.now title time) page.new }
 {
     let film = t.film;
     take_places(pool, log, title, time, t, numbers, places);
     let begun = Begun {
-        title: title,
+        title,
         moment: time,
         tick: scheme::tick(film.kind, film.length, film.floor, film.cap),
         lanes: film.cap,
     };
-    put_picture(out, 0, begun, places)
+    put_picture(page, begun, places);
 }
 
-pub fn draw(out: &mut [u8], pool: u64, log: &[u8], title: u64, time: u64) -> usize
+pub fn draw(page: &mut Page<'_>, pool: u64, log: &[u8], title: u64, time: u64)
     requires { box_answer pool log.now title time ≡ 0 }
-    ensures { Written out.old 0 (box_picture pool log.now title time) out.new result }
+    ensures { Puts page.old (box_picture pool log.now title time) page.new }
 {
     let end = end_of(pool, log, title);
     let t = end.title;
@@ -90,7 +91,7 @@ pub fn draw(out: &mut [u8], pool: u64, log: &[u8], title: u64, time: u64) -> usi
     let mut numbers = blank_numbers();
     let mut places = blank_places();
     draw_into(
-        out,
+        page,
         pool,
         log,
         title,
@@ -98,5 +99,5 @@ pub fn draw(out: &mut [u8], pool: u64, log: &[u8], title: u64, time: u64) -> usi
         t,
         &mut numbers[..n],
         &mut places[..cells],
-    )
+    );
 }

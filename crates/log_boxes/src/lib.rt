@@ -6,6 +6,7 @@ mod begin;
 mod draw;
 
 ghost use Rattle.text.specs.Output.{Written};
+ghost use Rattle.text.specs.Pages.{Puts};
 ghost use Rattle.std.specs.Prelude.{◌≡◌};
 ghost use Rattle.log_boxes.specs.Box.{box_text, BeginsAt, is_now};
 
@@ -13,7 +14,7 @@ use begin::{answer_of, wait_of};
 use draw::draw;
 use playouts::lines::put_refused;
 use rules::DONE;
-use rules::truth::also;
+use text::page::Page;
 
 // What is told of a moment: the answer, whether an admission follows, from when on it is waited for, which is the opening at the earliest,
 // and how long, in ms. Beside a refusal the others tell nothing.
@@ -35,7 +36,7 @@ pub fn beginning_of(pool: u64, log: &[u8], title: u64, time: u64) -> Beginning
         return wait_of(pool, log, title, time);
     }
     Beginning {
-        answer: answer,
+        answer,
         follows: false,
         from: 0,
         wait: 0,
@@ -46,20 +47,27 @@ pub fn beginning_of(pool: u64, log: &[u8], title: u64, time: u64) -> Beginning
 pub fn is_now(found: Beginning, time: u64) -> bool
     ensures { result ≡ is_now found time }
 {
-    also(found.follows, also(found.from == time, found.wait == 0))
+    found.follows && found.from == time && found.wait == 0
 }
 
 // The picture of the box, nothing at a moment that is no admission, or the refusal's line.
-pub fn put_box(out: &mut [u8], pool: u64, log: &[u8], title: u64, time: u64) -> usize
-    ensures { Written out.old 0 (box_text pool log.now title time) out.new result }
+fn put_found(page: &mut Page<'_>, pool: u64, log: &[u8], title: u64, time: u64)
+    ensures { Puts page.old (box_text pool log.now title time) page.new }
 {
     let found = beginning_of(pool, log, title, time);
     let answer = found.answer;
-    if answer == DONE {
-        if is_now(found, time) {
-            return draw(out, pool, log, title, time);
-        }
-        return 0;
+    if answer != DONE {
+        put_refused(page, answer);
+    } else if is_now(found, time) {
+        draw(page, pool, log, title, time);
     }
-    put_refused(out, answer)
+}
+
+// So it is written at the start of a lent row. What has no room is left out.
+pub fn put_box(out: &mut [u8], pool: u64, log: &[u8], title: u64, time: u64) -> usize
+    ensures { Written out.old 0 (box_text pool log.now title time) out.new result }
+{
+    let mut page = Page::new(out);
+    put_found(&mut page, pool, log, title, time);
+    page.end()
 }

@@ -1,5 +1,4 @@
 -- Laws of what is drawn, notice by notice.
 pub mod Threaded
-pub mod Copied
 pub mod Heard
 pub mod Going

@@ -1,5 +1,5 @@
 -- The marks of a log, notice by notice, as a fresh agent of a pool takes them.
-use Rattle.std.specs.Prelude.{ℕ, ◌≡◌, List, [], ◌++◌, length, replicate}
+use Rattle.std.specs.Prelude.{ℕ, ◌≡◌, List, [], ◌++◌}
 use Rattle.notice.specs.declared.Notice.{Notice}
 use Rattle.notice.specs.declared.Found.{Found}
 use Rattle.notice.specs.declared.Found.TheVariants as found
@@ -10,10 +10,10 @@ use Rattle.agent.specs.Played.{agent_played}
 use Rattle.agent_rows.specs.Packed.{unpacked}
 use Rattle.row_calls.specs.inner.Steps.{Tested}
 use Rattle.logs.specs.Reading.{kept_told, stepped, RowRead}
-use Rattle.text.specs.Output.{Written}
-use Rattle.strips.specs.Kept.{kept_length}
+use Rattle.logs.specs.declared.PlayedLog.{PlayedLog}
+use Rattle.text.specs.declared.page.Page.{Page}
+use Rattle.text.specs.Pages.{Puts}
 use Rattle.frames.specs.declared.bands.View.{View}
-use Rattle.log_marks.specs.declared.playing.Drawing.{Drawing}
 use Rattle.log_marks.specs.Hearing.{notice_marks, notice_kept}
 
 -- what is drawn so far, and the row of numbers that is kept
@@ -45,16 +45,16 @@ found_kept v g (found.At n e) kept = notice_kept v g n kept
 found_kept v g found.End kept = kept
 found_kept v g found.Malformed kept = kept
 
-pub record DrawsStep (v : View) (r : List ℕ) (place : ℕ) (f : Found) (out : List ℕ) (at : ℕ) (kept s : List ℕ) (d : Drawing) (out' kept' : List ℕ)
+pub record DrawsStep (v : View) (r : List ℕ) (place : ℕ) (f : Found) (p : Page) (kept s : List ℕ) (d : PlayedLog) (q : Page) (kept' : List ℕ)
     : Type 0 where
   pub row_read : RowRead r f s
-  pub played_is : d.played ≡ stepped place f
-  pub written : Written out at (found_marks v (unpacked r) f kept) out' d.at
+  pub played_is : d ≡ stepped place f
+  pub written : Puts p (found_marks v (unpacked r) f kept) q
   pub kept_is : kept' ≡ found_kept v (unpacked r) f kept
 
-pub record DrawsAll (v : View) (pool : ℕ) (log out : List ℕ) (at : ℕ) (kept s : List ℕ) (d : Drawing) (out' kept' : List ℕ) : Type 0 where
+pub record DrawsAll (v : View) (pool : ℕ) (log : List ℕ) (p : Page) (kept s : List ℕ) (d : PlayedLog) (q : Page) (kept' : List ℕ) : Type 0 where
   pub tested : Tested s
   pub agent_is : unpacked s ≡ agent_played pool log
-  pub place_is : d.played.place ≡ stop_of log
-  pub written : Written out at (drawn_of v pool log kept).text out' d.at
+  pub place_is : d.place ≡ stop_of log
+  pub written : Puts p (drawn_of v pool log kept).text q
   pub kept_is : kept' ≡ (drawn_of v pool log kept).kept

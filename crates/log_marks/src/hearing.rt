@@ -6,7 +6,7 @@ ghost use Rattle.notice.specs.declared.Reading.TheVariants as reading;
 ghost use Rattle.story.specs.Kept.{absent_mode, title_at};
 ghost use Rattle.agent.specs.Turns.{noticed};
 ghost use Rattle.moments.specs.Searched.{Timed};
-ghost use Rattle.text.specs.Output.{Written};
+ghost use Rattle.text.specs.Pages.{Puts};
 ghost use Rattle.agent_rows.specs.Layout.{row_length};
 ghost use Rattle.agent_rows.specs.Packed.{unpacked};
 ghost use Rattle.row_calls.specs.inner.Steps.{Tested, TakesNotice};
@@ -43,137 +43,93 @@ use story::{CLOSING, HELD, OPEN, Title};
 use strips::doors::put_doors;
 use strips::lanes::put_lanes;
 use strips::scale::Band;
-
-// The numbers of one row into another.
-fn copy(to: &mut [u64], from: &[u64])
-    requires { length to.old ≡ length from.now }
-    ensures { to.new ≡ from.now }
-{
-    let mut i = 0;
-    while i < from.len() {
-        to[i] = from[i];
-        i += 1;
-    }
-}
+use text::page::Page;
 
 // A life that ended at a time: its frame and its label.
-pub fn put_ended(
-    out: &mut [u8],
-    at: usize,
-    kept: &mut [u64],
-    band: Band,
-    t: Title,
-    time: u64,
-) -> usize
+pub fn put_ended(page: &mut Page<'_>, kept: &mut [u64], band: Band, t: Title, time: u64)
     requires { (length kept.old ≡ kept_length) × ((band.id ≤ id_max) × Timed t) }
-    ensures written { Written out.old at (life_marks band kept.old t time) out.new result }
+    ensures written { Puts page.old (life_marks band kept.old t time) page.new }
     ensures kept_after { kept.new ≡ life_marks_kept band kept.old t time }
 {
-    let a = put_life(out, at, kept, band, t, time);
-    put_life_label(out, a, kept, band, t)
+    put_life(page, kept, band, t, time);
+    put_life_label(page, kept, band, t);
 }
 
 // At an event, the life of a title that had closed before it.
-fn put_past(out: &mut [u8], at: usize, kept: &mut [u64], band: Band, t: Title) -> usize
+fn put_past(page: &mut Page<'_>, kept: &mut [u64], band: Band, t: Title)
     requires { (length kept.old ≡ kept_length) × ((band.id ≤ id_max) × ((t.mode ≡ absent_mode → ⊥) → Timed t)) }
-    ensures written { Written out.old at (past_marks band kept.old t) out.new result }
+    ensures written { Puts page.old (past_marks band kept.old t) page.new }
     ensures kept_after { kept.new ≡ past_kept band kept.old t }
 {
     if t.mode == CLOSING {
-        return put_ended(out, at, kept, band, t, title_until(t));
+        put_ended(page, kept, band, t, title_until(t));
     }
-    at
 }
 
 // What an event ends of its title, which stands as `after` behind it.
-fn put_turn(
-    out: &mut [u8],
-    at: usize,
-    kept: &mut [u64],
-    band: Band,
-    t: Title,
-    after: Title,
-    time: u64,
-) -> usize
+fn put_turn(page: &mut Page<'_>, kept: &mut [u64], band: Band, t: Title, after: Title, time: u64)
     requires { (length kept.old ≡ kept_length) × ((band.id ≤ id_max) × ((t.mode ≡ absent_mode → ⊥) → Timed t)) }
-    ensures written { Written out.old at (turn_marks band kept.old t after time) out.new result }
+    ensures written { Puts page.old (turn_marks band kept.old t after time) page.new }
     ensures kept_after { kept.new ≡ turn_kept band kept.old t after time }
 {
-    let a = put_past(out, at, kept, band, t);
-    let b = put_lanes(out, a, kept, band, t, ruling(after), t.mode != OPEN, time);
-    put_doors(out, b, kept, band, t, after.mark == HELD, time)
+    put_past(page, kept, band, t);
+    put_lanes(page, kept, band, t, ruling(after), t.mode != OPEN, time);
+    put_doors(page, kept, band, t, after.mark == HELD, time);
 }
 
 // An accepted notice: the rows of the agent before it and after it.
-fn put_accepted(
-    out: &mut [u8],
-    at: usize,
-    kept: &mut [u64],
-    v: View,
-    was: &[u64],
-    row: &[u64],
-    n: Notice,
-) -> usize
+fn put_accepted(page: &mut Page<'_>, kept: &mut [u64], v: View, was: &[u64], row: &[u64], n: Notice)
     requires kept_len { (length kept.old ≡ kept_length) × (n.title ≤ id_max) }
     requires tested { Tested was.now × (length row.now ≡ row_length) }
-    ensures written { Written out.old at
-        (accepted_marks v kept.old (unpacked was.now).state (unpacked row.now).state n) out.new result }
-    ensures kept_after { kept.new
-        ≡ accepted_kept v kept.old (unpacked was.now).state (unpacked row.now).state n }
+    ensures written { Puts page.old (accepted_marks v kept.old (unpacked was.now).state (unpacked row.now).state n) page.new }
+    ensures kept_after { kept.new ≡ accepted_kept v kept.old (unpacked was.now).state (unpacked row.now).state n }
 {
     let id = n.title as u64;
     let band = band_of(v, id);
-    let curve = v.curve;
-    let a = put_curve(out, at, kept, curve, was, was[LAST_AT], n.time);
-    let b = put_turn(
-        out,
-        a,
+    put_curve(page, kept, v.curve, was, was[LAST_AT], n.time);
+    put_turn(
+        page,
         kept,
         band,
         title_at(was, id),
         title_at(row, id),
         n.time,
     );
-    let c = put_tick(out, b, kept, band, n);
-    put_tick_label(out, c, kept, band, n)
+    put_tick(page, kept, band, n);
+    put_tick_label(page, kept, band, n);
 }
 
 // A refused one.
-fn put_unheard(out: &mut [u8], at: usize, kept: &mut [u64], v: View, n: Notice, answer: u8) -> usize
+fn put_unheard(page: &mut Page<'_>, kept: &mut [u64], v: View, n: Notice, answer: u8)
     requires { length kept.old ≡ kept_length }
-    ensures written { Written out.old at (unheard_marks v kept.old n answer) out.new result }
+    ensures written { Puts page.old (unheard_marks v kept.old n answer) page.new }
     ensures kept_after { kept.new ≡ unheard_kept v kept.old n }
 {
-    let curve = v.curve;
-    let scale = curve.scale;
-    let x = place_of(scale, n.time);
-    let a = put_refused(out, at, kept, x, n, answer);
-    put_number_at(out, a, kept, x, answer)
+    let x = place_of(v.curve.scale, n.time);
+    put_refused(page, kept, x, n, answer);
+    put_number_at(page, kept, x, answer);
 }
 
 // A notice, told to the agent of a row; another row is lent for the agent as it was.
 pub fn hear(
-    out: &mut [u8],
-    at: usize,
+    page: &mut Page<'_>,
     kept: &mut [u64],
     v: View,
     was: &mut [u64],
     row: &mut [u64],
     n: Notice,
-) -> usize
+)
     requires kept_len { (length kept.old ≡ kept_length) × (length was.old ≡ row_length) }
     requires tested { Tested row.old }
-    ensures written { Written out.old at (notice_marks v (unpacked row.old) n kept.old) out.new result }
+    ensures written { Puts page.old (notice_marks v (unpacked row.old) n kept.old) page.new }
     ensures kept_after { kept.new ≡ notice_kept v (unpacked row.old) n kept.old }
     ensures takes { Takes row.old n row.new }
 {
-    copy(was, row);
+    was.copy_from_slice(row);
     let answer = heed_tested(row, n);
-    if answer == DONE {
-        if n.title as u64 <= ID_MAX {
-            return put_accepted(out, at, kept, v, was, row, n);
-        }
-        return put_unheard(out, at, kept, v, n, answer);
+    if answer == DONE && n.title as u64 <= ID_MAX {
+        put_accepted(page, kept, v, was, row, n);
+    } else {
+        put_unheard(page, kept, v, n, answer);
     }
-    put_unheard(out, at, kept, v, n, answer)
 }

@@ -13,11 +13,11 @@ use agent_rows::reading::title_at;
 use notice::{Found, next_in};
 use row_calls::notices::heed_tested;
 use row_calls::starting::fresh;
-use rules::truth::also;
 use rules::{DONE, MALFORMED};
 use story::Title;
 
 // A log as far as it was played into the agent of a row: the place of the next notice, and whether one may follow.
+// kept: an Option would be no plainer, as the place is asked for at the end too, where `report_of` tells a cut log by it.
 #[derive(Clone, Copy)]
 pub struct PlayedLog {
     pub place: usize,
@@ -59,12 +59,8 @@ pub fn not_begun(row: &mut [u64], pool: u64) -> PlayedLog
 fn nothing_read(place: usize) -> ReadOn
     ensures { result ≡ none_read_yet place }
 {
-    let still = PlayedLog {
-        place: place,
-        more: false,
-    };
     ReadOn {
-        played: still,
+        played: PlayedLog { place, more: false },
         answer: MALFORMED,
         title: 0,
         time: 0,
@@ -80,19 +76,17 @@ pub fn read_on(row: &mut [u64], place: usize, log: &[u8]) -> ReadOn
     match found {
         Found::At(n, end) => {
             let answer = heed_tested(row, n);
-            let on = PlayedLog {
-                place: end,
-                more: true,
-            };
             ReadOn {
-                played: on,
-                answer: answer,
+                played: PlayedLog {
+                    place: end,
+                    more: true,
+                },
+                answer,
                 title: n.title as u64,
                 time: n.time,
             }
         }
-        Found::End => nothing_read(place),
-        Found::Malformed => nothing_read(place),
+        Found::End | Found::Malformed => nothing_read(place),
     }
 }
 
@@ -104,11 +98,10 @@ pub fn read_for(row: &mut [u64], place: usize, log: &[u8], title: u64) -> OwnRea
 {
     let before = title_at(row, title);
     let read = read_on(row, place, log);
-    let next = read.played;
     OwnRead {
-        played: next,
-        own: also(read.answer == DONE, read.title == title),
-        before: before,
+        played: read.played,
+        own: read.answer == DONE && read.title == title,
+        before,
         time: read.time,
     }
 }

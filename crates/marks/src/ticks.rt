@@ -2,7 +2,7 @@
 
 ghost use Rattle.std.specs.Prelude.{◌≤◌, ◌≡◌, length};
 ghost use Rattle.rules.specs.Limits.{id_max};
-ghost use Rattle.text.specs.Output.{Written};
+ghost use Rattle.text.specs.Pages.{Puts};
 ghost use Rattle.strips.specs.Kept.{kept_length};
 ghost use Rattle.marks.specs.Marks.{tick_text, tick_kept, tick_label_text, tick_label_kept};
 
@@ -12,6 +12,7 @@ use notice::{Notice, kind_number};
 use rules::DONE;
 use strips::kept::{EVENT_LABELS, EVENTS, claim, kept_in};
 use strips::scale::{Band, end, place};
+use text::page::Page;
 
 // A mark's top, from the band's, its width and its height; how far right and down its label stands, and the room that this takes.
 const TICK_DOWN: u64 = 170;
@@ -27,9 +28,9 @@ const LABEL_DOWN: u64 = 270;
 const LABEL_ROOM: u64 = 700;
 
 // The mark, where it is new.
-pub fn put_tick(out: &mut [u8], at: usize, kept: &mut [u64], band: Band, n: Notice) -> usize
+pub fn put_tick(page: &mut Page<'_>, kept: &mut [u64], band: Band, n: Notice)
     requires { (length kept.old ≡ kept_length) × (band.id ≤ id_max) }
-    ensures written { Written out.old at (tick_text band kept.old n) out.new result }
+    ensures written { Puts page.old (tick_text band kept.old n) page.new }
     ensures kept_after { kept.new ≡ tick_kept band kept.old n }
 {
     let j = kept_in(band.id, EVENTS);
@@ -39,22 +40,21 @@ pub fn put_tick(out: &mut [u8], at: usize, kept: &mut [u64], band: Band, n: Noti
     let right = end(scale, n.time, n.time);
     if claim(kept, j, right, right) {
         let area = Area {
-            x: x,
+            x,
             y: band.top as u64 + TICK_DOWN,
             width: TICK_WIDTH,
             height: TICK_HEIGHT,
         };
-        let a = put_rect(out, at, b"e", kind_number(kind) as u64, area);
-        let b = put_notice(out, a, n, DONE);
-        return put_rect_end(out, b);
+        put_rect(page, b"e", kind_number(kind) as u64, area);
+        put_notice(page, n, DONE);
+        put_rect_end(page);
     }
-    at
 }
 
 // What the notice does, where that has room.
-pub fn put_tick_label(out: &mut [u8], at: usize, kept: &mut [u64], band: Band, n: Notice) -> usize
+pub fn put_tick_label(page: &mut Page<'_>, kept: &mut [u64], band: Band, n: Notice)
     requires { (length kept.old ≡ kept_length) × (band.id ≤ id_max) }
-    ensures written { Written out.old at (tick_label_text band kept.old n) out.new result }
+    ensures written { Puts page.old (tick_label_text band kept.old n) page.new }
     ensures kept_after { kept.new ≡ tick_label_kept band kept.old n }
 {
     let j = kept_in(band.id, EVENT_LABELS);
@@ -62,15 +62,13 @@ pub fn put_tick_label(out: &mut [u8], at: usize, kept: &mut [u64], band: Band, n
     let kind = n.kind;
     let x = place(scale, n.time);
     if claim(kept, j, x, x + LABEL_ROOM) {
-        let a = put_label(
-            out,
-            at,
+        put_label(
+            page,
             b"small",
             x + LABEL_RIGHT,
             band.top as u64 + LABEL_DOWN,
         );
-        let b = put_kind(out, a, kind);
-        return put_label_end(out, b);
+        put_kind(page, kind);
+        put_label_end(page);
     }
-    at
 }

@@ -9,8 +9,6 @@ ghost use Rattle.story.specs.Kept.{ruling as rulingOf, kept_held, title_held, la
 ghost use Rattle.measures.specs.Readable.{Readable, AllReadable};
 
 use crate::ticks::tick_at;
-use rules::TITLES_MAX;
-use rules::truth::{one_if, smaller};
 use story::{ABSENT, OPEN, State, Title};
 
 // The ruling count, 0 where the title isn't open.
@@ -27,10 +25,7 @@ fn is_sending(t: Title, lane: u64, tick: u64) -> bool
 {
     let from = t.dropped[lane as usize];
     let owed = t.owed[lane as usize];
-    if tick < from {
-        return true;
-    }
-    tick - from < owed
+    tick < from || tick - from < owed
 }
 
 // A lane is active, or still sends.
@@ -38,10 +33,7 @@ pub fn is_held(t: Title, lane: u64, tick: u64) -> bool
     requires { lane < count_max }
     ensures { result ≡ kept_held t lane tick }
 {
-    if lane < ruling(t) {
-        return true;
-    }
-    is_sending(t, lane, tick)
+    lane < ruling(t) || is_sending(t, lane, tick)
 }
 
 // How many lanes a title holds at a tick: the active ones, and of those above them the ones that still send. So a lane that
@@ -51,12 +43,10 @@ fn held_at(t: Title, tick: u64) -> u64
     ensures { Exactly (how_many (λ l. kept_held t l tick) t.film.cap) 0 count_max result }
 {
     let cap = t.film.cap;
-    let active = smaller(ruling(t), cap);
+    let active = ruling(t).min(cap);
     let mut n = active;
-    let mut lane = active;
-    while lane < cap {
-        n += one_if(is_sending(t, lane, tick));
-        lane += 1;
+    for lane in active..cap {
+        n += u64::from(is_sending(t, lane, tick));
     }
     n
 }
@@ -77,10 +67,7 @@ pub fn is_there(t: Title, time: u64) -> bool
     requires { Readable t }
     ensures { result ≡ is_there t time }
 {
-    if t.mode == OPEN {
-        return true;
-    }
-    0 < title_held(t, time)
+    t.mode == OPEN || 0 < title_held(t, time)
 }
 
 // How many lanes are held over all titles at a time.
@@ -89,11 +76,8 @@ pub fn lanes_held(s: State, time: u64) -> u64
     ensures { result ≡ lanes_held s time }
 {
     let mut n = 0;
-    let mut i = 0;
-    while i < TITLES_MAX {
-        let t = s.titles[i];
+    for t in s.titles {
         n += title_held(t, time);
-        i += 1;
     }
     n
 }

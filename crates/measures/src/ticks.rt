@@ -12,10 +12,7 @@ use story::Title;
 pub fn since(from: u64, moment: u64) -> u64
     ensures { result ≡ moment - from }
 {
-    if moment < from {
-        return 0;
-    }
-    moment - from
+    moment.saturating_sub(from)
 }
 
 // The tick of a title that holds a time.
@@ -23,7 +20,8 @@ pub fn tick_at(t: Title, time: u64) -> u64
     requires { Filmed t.film }
     ensures { Exactly (tick_at t time) 0 time result }
 {
-    since(t.opened, time) / scheme::tick(t.film.kind, t.film.length, t.film.floor, t.film.cap)
+    time.saturating_sub(t.opened)
+        / scheme::tick(t.film.kind, t.film.length, t.film.floor, t.film.cap)
 }
 
 // Whether a time is the start of a tick.
@@ -31,7 +29,9 @@ pub fn at_tick_start(t: Title, time: u64) -> bool
     requires { Filmed t.film }
     ensures { result ≡ at_tick_start t time }
 {
-    since(t.opened, time) % scheme::tick(t.film.kind, t.film.length, t.film.floor, t.film.cap) == 0
+    time.saturating_sub(t.opened)
+        % scheme::tick(t.film.kind, t.film.length, t.film.floor, t.film.cap)
+        == 0
 }
 
 // The moment from which on a title may change again: one slot of its floor after its latest opening or change.

@@ -17,7 +17,6 @@ use crate::starts::permitted_from;
 use measures::slots::{title_of, with_title};
 use owed::dropping::changed_title;
 use rules::EVENT_TIME_MAX;
-use rules::truth::smaller;
 use story::State;
 
 // Stands for every time past the clock.
@@ -47,5 +46,5 @@ pub fn due_at(s: State, id: u64, count: u64, from: u64) -> u64
 {
     let t = title_of(s, id);
     let free = lanes_from(s, id, count, from);
-    smaller(permitted_from(t, smaller(t.count, count), free), PAST)
+    permitted_from(t, t.count.min(count), free).min(PAST)
 }

@@ -10,18 +10,14 @@ ghost use Rattle.moments.specs.inner.Steps.{sooner_of, lanes_release, title_rele
 
 use crate::PAST;
 use measures::lanes::{lanes_held, title_held};
-use rules::truth::smaller;
-use rules::{EVENT_TIME_MAX, TITLES_MAX};
+use rules::EVENT_TIME_MAX;
 use story::{ABSENT, State, Title};
 
 // The sooner of two moments, where the second lies after a time.
 fn sooner(time: u64, a: u64, b: u64) -> u64
     ensures { result ≡ sooner_of time a b }
 {
-    if b <= time {
-        return a;
-    }
-    smaller(a, b)
+    if b <= time { a } else { a.min(b) }
 }
 
 // The moment from which on a lane's list has gone, for a title with a tick of so many ms.
@@ -33,7 +29,7 @@ pub fn release_of(t: Title, tick: u64, lane: u64) -> u64
     let from = t.dropped[lane as usize];
     let owed = t.owed[lane as usize];
     // a longer list goes past the clock too, and the product fits
-    let ticks = smaller(from + owed, PAST);
+    let ticks = (from + owed).min(PAST);
     t.opened + ticks * tick
 }
 
@@ -42,13 +38,10 @@ fn lanes_release(t: Title, time: u64, soonest: u64) -> u64
     requires { Timed t }
     ensures { result ≡ lanes_release t time soonest t.film.cap }
 {
-    let cap = t.film.cap;
     let tick = scheme::tick(t.film.kind, t.film.length, t.film.floor, t.film.cap);
     let mut r = soonest;
-    let mut lane = 0;
-    while lane < cap {
+    for lane in 0..t.film.cap {
         r = sooner(time, r, release_of(t, tick, lane));
-        lane += 1;
     }
     r
 }
@@ -70,11 +63,8 @@ fn next_release(s: State, time: u64) -> u64
     ensures { result ≡ release_in s time titles_max }
 {
     let mut r = PAST;
-    let mut i = 0;
-    while i < TITLES_MAX {
-        let t = s.titles[i];
-        r = title_release(t, time, r);
-        i += 1;
+    for t in &s.titles {
+        r = title_release(*t, time, r);
     }
     r
 }
@@ -84,10 +74,7 @@ fn is_full(s: State, time: u64) -> bool
     requires { AllTimed s }
     ensures { result ≡ both (leb time event_time_max) (too_many s time) }
 {
-    if time <= EVENT_TIME_MAX {
-        return s.pool < lanes_held(s, time);
-    }
-    false
+    time <= EVENT_TIME_MAX && s.pool < lanes_held(s, time)
 }
 
 // The first time from another on at which no more than the pool is held, PAST where the clock has none.
@@ -108,10 +95,7 @@ fn is_holding(t: Title, time: u64) -> bool
     requires { Timed t }
     ensures { result ≡ both (leb time event_time_max) (ltb 0 (title_held t time)) }
 {
-    if time <= EVENT_TIME_MAX {
-        return 0 < title_held(t, time);
-    }
-    false
+    time <= EVENT_TIME_MAX && 0 < title_held(t, time)
 }
 
 // The first time from another on at which a title holds no lane, PAST where the clock has none.

@@ -1,6 +1,6 @@
 // The times at which a title's rules permit an event (01, "Cells, ticks, slots" and "Events"; 02, 9).
 
-ghost use Rattle.std.specs.Prelude.{suc, ◌+◌, ◌^◌, ◌≤◌, max, ◌≡◌};
+ghost use Rattle.std.specs.Prelude.{suc, ◌+◌, ◌^◌, ◌≤◌, ◌≡◌};
 ghost use Rattle.rules.specs.Limits.{asked_max, event_time_max};
 ghost use Rattle.grid.specs.Bounds.{Exactly};
 ghost use Rattle.story.specs.Calls.{at_slot_start};
@@ -9,13 +9,6 @@ ghost use Rattle.moments.specs.Searched.{Found, slot_ms, slot_most, turns, permi
 
 use measures::ticks::{settled_at, since};
 use story::Title;
-
-// The larger of two numbers.
-pub fn larger(a: u64, b: u64) -> u64
-    ensures { result ≡ max a b }
-{
-    if a <= b { b } else { a }
-}
 
 // A slot of a count of a title, in ms.
 fn slot_ms(t: Title, count: u64) -> u64
@@ -62,5 +55,5 @@ pub fn permitted_from(t: Title, count: u64, from: u64) -> u64
     requires from_bound { from ≤ suc event_time_max }
     ensures { Found (permits t count) from (2 ^ 43) result }
 {
-    turn_from(t, count, larger(from, settled_at(t)))
+    turn_from(t, count, from.max(settled_at(t)))
 }

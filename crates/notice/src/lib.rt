@@ -87,6 +87,7 @@ pub fn kind_number(kind: Kind) -> u8
 }
 
 // What one notice's bytes read as.
+// kept: `Reads`, a public contract, and definitions of crates above say its variants
 #[derive(Clone, Copy)]
 pub enum Reading {
     Whole(Notice),
@@ -94,6 +95,7 @@ pub enum Reading {
 }
 
 // What a log has at a place: a notice and the place after it, no byte more, or no notice.
+// kept: `Finds` and `Steps`, public contracts, and definitions of crates above say its variants
 #[derive(Clone, Copy)]
 pub enum Found {
     At(Notice, usize),

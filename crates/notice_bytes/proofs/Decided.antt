@@ -2,7 +2,7 @@
 -- or is not. Where no byte to come can make a notice, none stands in any bytes that go on from those that are there (`never_whole`).
 -- Rests on the field table's bounds and on what is there where a whole notice stands.
 use mathlib.Core.Path.{◌≡◌, refl, sym, ap₂, ◌∙◌}
-use mathlib.Core.Bool.{Bool, true, false}
+use mathlib.Core.Bool.{Bool, false, true, ◌&&◌}
 use mathlib.Core.List.{List}
 use mathlib.Core.Logic.{⊎_elim}
 use Prim.Native.Nat.{ℕ, zero, suc, ◌+◌, ◌*◌, ◌≤◌, ◌<◌}
@@ -37,6 +37,11 @@ can_stand bs at b h =
     (λ le. rw (le-leb (length bs) at le))
 
 -- the three bytes of a head, which the table's row gives
+pub and_three : (a b c : Bool) → ((a && b) && c) ≡ both a (both b c)
+and_three true true c = refl
+and_three true false c = refl
+and_three false b c = refl
+
 pub three_bytes : (bs : List ℕ) (p s i : ℕ) (f : Field) (t z w u r : Bool) → f ≡ field_of i
     → t ≡ can_be bs (p + s) f.tag → z ≡ can_be bs (p + (s + 1)) 0 → w ≡ can_be bs (p + (s + 2)) f.size
     → u ≡ both z w → r ≡ both t u → r ≡ head_begins bs (p + s) i

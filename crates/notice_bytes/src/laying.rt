@@ -36,10 +36,8 @@ pub fn put_rows(room: &mut [u8], kind: u8, values: [u64; ROWS])
     ensures { room.new ≡ sets room.old 0 (bytes_to kind values rows) }
 {
     let mut at: usize = 0;
-    let mut i: usize = 0;
-    while i < ROWS {
+    for i in 0..ROWS {
         put_row(room, at, kind, i, values[i]);
         at += span(kind, i);
-        i += 1;
     }
 }

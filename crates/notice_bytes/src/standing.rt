@@ -6,7 +6,6 @@ ghost use Rattle.notice_bytes.specs.Standing.{head_stands, row_stands, stands_to
 
 use notice_fields::fields::{HEAD, KIND, ROWS, carried, entry, span, start};
 use notice_fields::numbers::get;
-use rules::truth::also;
 
 // Whether the row's tag and length stand at a place.
 fn head_stands(bytes: &[u8], at: usize, row: usize) -> bool
@@ -16,7 +15,7 @@ fn head_stands(bytes: &[u8], at: usize, row: usize) -> bool
     let f = entry(row);
     let tag = bytes[at] == f.tag;
     let size = get(bytes, at + 1, 2) == f.size as u64;
-    also(tag, size)
+    tag && size
 }
 
 // The same for a row that the kind may not carry.
@@ -37,14 +36,11 @@ fn rows_stand(bytes: &[u8], place: usize, kind: u8) -> bool
     ensures { result ≡ stands_to bytes.now place kind rows }
 {
     let mut at = place;
-    let mut i: usize = 0;
-    while i < ROWS {
-        if row_stands(bytes, at, kind, i) {
-            at += span(kind, i);
-            i += 1;
-        } else {
+    for i in 0..ROWS {
+        if !row_stands(bytes, at, kind, i) {
             return false;
         }
+        at += span(kind, i);
     }
     true
 }
@@ -61,24 +57,14 @@ pub fn whole_at(bytes: &[u8], place: usize) -> bool
         return false;
     }
     let kind = bytes[place + HEAD];
-    if carried(kind, KIND) {
-        if start(kind, ROWS) <= left {
-            return rows_stand(bytes, place, kind);
-        }
-    }
-    false
+    carried(kind, KIND) && start(kind, ROWS) <= left && rows_stand(bytes, place, kind)
 }
 
 // Whether the bytes are one whole notice and nothing after it.
 pub fn alone(bytes: &[u8]) -> bool
     ensures { result ≡ is_alone bytes.now }
 {
-    if whole_at(bytes, 0) {
-        let kind = bytes[HEAD];
-        start(kind, ROWS) == bytes.len()
-    } else {
-        false
-    }
+    whole_at(bytes, 0) && start(bytes[HEAD], ROWS) == bytes.len()
 }
 
 // The value of a row that the kind carries, in a notice that starts at a place.

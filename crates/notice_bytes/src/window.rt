@@ -7,7 +7,6 @@ ghost use Rattle.notice_fields.specs.Fields.{rows, longest_notice};
 ghost use Rattle.notice_bytes.specs.Window.{can_be, head_begins, row_begins, is_beginning, is_decided};
 
 use notice_fields::fields::{HEAD, KIND, ROWS, carried, entry, start};
-use rules::truth::also;
 
 // Whether a byte can stand so far behind a place: it does, or is not there yet.
 fn can_be(bytes: &[u8], place: usize, far: usize, byte: u8) -> bool
@@ -15,10 +14,7 @@ fn can_be(bytes: &[u8], place: usize, far: usize, byte: u8) -> bool
     ensures { result ≡ can_be bytes.now (place + far) byte }
 {
     let left = bytes.len() - place;
-    if left <= far {
-        return true;
-    }
-    bytes[place + far] == byte
+    left <= far || bytes[place + far] == byte
 }
 
 // Whether the row's tag and length stand so far behind a place, as far as they are there. The first byte of a length is 0: no
@@ -32,7 +28,7 @@ fn head_begins(bytes: &[u8], place: usize, far: usize, row: usize) -> bool
     let tag_can = can_be(bytes, place, far, f.tag);
     let zero_can = can_be(bytes, place, far + 1, 0);
     let size_can = can_be(bytes, place, far + 2, size);
-    also(tag_can, also(zero_can, size_can))
+    tag_can & zero_can & size_can
 }
 
 // The same for a row that the kind may not carry, where it stands in a notice.
@@ -52,13 +48,12 @@ fn rows_begin(bytes: &[u8], place: usize, kind: u8) -> bool
     requires { place ≤ length bytes.now }
     ensures { result ≡ every (row_begins bytes.now place kind) rows }
 {
-    let mut ok = true;
-    let mut i: usize = 0;
-    while i < ROWS {
-        ok = also(row_begins(bytes, place, kind, i), ok);
-        i += 1;
+    for i in 0..ROWS {
+        if !row_begins(bytes, place, kind, i) {
+            return false;
+        }
     }
-    ok
+    true
 }
 
 // Whether the bytes from a place on are the beginning of a notice that is not all there.
@@ -85,8 +80,5 @@ fn beginning(bytes: &[u8], place: usize) -> bool
 pub fn decided(bytes: &[u8], place: usize, over: bool) -> bool
     ensures { result ≡ is_decided bytes.now place over }
 {
-    if over {
-        return true;
-    }
-    if beginning(bytes, place) { false } else { true }
+    over || !beginning(bytes, place)
 }

@@ -3,22 +3,14 @@
 // its neighbours, rooms that are too short, a log read to its end, and notices with one thing wrong.
 #![tactic(auto)]
 
-ghost use Rattle.std.specs.Prelude.{◌≡◌, ◌<◌, length};
+ghost use Rattle.std.specs.Prelude.{◌≡◌, ◌<◌, ◌^◌, length};
 
 use notice::{Found, Kind, Notice, Reading};
+use std::fmt::Display;
 
-// What can't be written is left out.
-fn write(rt: &HostRuntime, bytes: &[u8]) {
-    let _ = rt.write_all(bytes);
-}
-
-fn write_number(rt: &HostRuntime, n: u64) {
-    let _ = rt.print(n);
-}
-
-// Two digits.
-fn write_hex(rt: &HostRuntime, n: u64) {
-    let _ = print!(rt; "{n:02x}");
+// What can't be written is left out. A call's answer starts a line, and each number after it has a space before it.
+fn write<D: Display + Drop>(rt: &HostRuntime, shown: D) {
+    let _ = rt.print(shown);
 }
 
 // Case 12 as the paper has it, and one byte more.
@@ -52,41 +44,29 @@ fn skip_bytes() -> [u8; 38] {
     ]
 }
 
-// A call's answer starts a line, and each number after it has a space before it.
-fn print_answer(rt: &HostRuntime, n: u8) {
-    write_number(rt, n as u64);
-}
-
-fn print_number(rt: &HostRuntime, n: u64) {
-    write(rt, b" ");
-    write_number(rt, n);
+fn print_number<D: Display + Drop>(rt: &HostRuntime, n: D) {
+    write(rt, format_args!(" {n}"));
 }
 
 fn end_line(rt: &HostRuntime) {
-    write(rt, b"\n");
+    write(rt, "\n");
 }
 
 // The bytes in hexadecimal, and the end of the line.
 fn print_bytes(rt: &HostRuntime, bytes: &[u8]) {
-    write(rt, b" ");
-    let mut i: usize = 0;
-    while i < bytes.len() {
-        write_hex(rt, wide(bytes[i]));
-        i += 1;
+    write(rt, " ");
+    for byte in bytes {
+        write(rt, format_args!("{byte:02x}"));
     }
     end_line(rt);
-}
-
-fn wide(b: u8) -> u64 {
-    b as u64
 }
 
 // Sequence, kind, title and time, then what the kind carries.
 fn print_notice(rt: &HostRuntime, n: Notice) {
     let kind = n.kind;
-    print_number(rt, n.sequence as u64);
-    print_number(rt, notice::kind_number(kind) as u64);
-    print_number(rt, n.title as u64);
+    print_number(rt, n.sequence);
+    print_number(rt, notice::kind_number(kind));
+    print_number(rt, n.title);
     print_number(rt, n.time);
     match kind {
         Kind::Open {
@@ -95,18 +75,16 @@ fn print_notice(rt: &HostRuntime, n: Notice) {
             cap,
             count,
         } => {
-            print_number(rt, length as u64);
-            print_number(rt, floor as u64);
-            print_number(rt, cap as u64);
-            print_number(rt, count as u64);
+            print_number(rt, length);
+            print_number(rt, floor);
+            print_number(rt, cap);
+            print_number(rt, count);
         }
-        Kind::Change { count } => print_number(rt, count as u64),
-        Kind::Close => {}
-        Kind::Hold => {}
-        Kind::Lift => {}
+        Kind::Change { count } => print_number(rt, count),
+        Kind::Close | Kind::Hold | Kind::Lift => {}
         Kind::Skip { length, count } => {
-            print_number(rt, length as u64);
-            print_number(rt, count as u64);
+            print_number(rt, length);
+            print_number(rt, count);
         }
     }
 }
@@ -115,10 +93,10 @@ fn print_notice(rt: &HostRuntime, n: Notice) {
 fn print_reading(rt: &HostRuntime, r: Reading) {
     match r {
         Reading::Whole(n) => {
-            print_answer(rt, rules::DONE);
+            write(rt, rules::DONE);
             print_notice(rt, n);
         }
-        Reading::Malformed => print_answer(rt, rules::MALFORMED),
+        Reading::Malformed => write(rt, rules::MALFORMED),
     }
     end_line(rt);
 }
@@ -126,14 +104,12 @@ fn print_reading(rt: &HostRuntime, r: Reading) {
 fn print_found(rt: &HostRuntime, f: Found) {
     match f {
         Found::At(n, place) => {
-            print_answer(rt, rules::DONE);
+            write(rt, rules::DONE);
             print_notice(rt, n);
-            print_number(rt, place as u64);
+            print_number(rt, place);
         }
-        Found::End => {
-            write(rt, b"end");
-        }
-        Found::Malformed => print_answer(rt, rules::MALFORMED),
+        Found::End => write(rt, "end"),
+        Found::Malformed => write(rt, rules::MALFORMED),
     }
     end_line(rt);
 }
@@ -153,6 +129,15 @@ fn neighbours(rt: &HostRuntime) {
     print_first(rt, &bytes, 0);
 }
 
+// A notice written into a room of so many bytes: the answer, and what the room holds.
+fn print_written<const N: usize>(rt: &HostRuntime, n: Notice)
+    requires { N < 2 ^ 63 }
+{
+    let mut room = [255u8; N];
+    write(rt, notice::write(n, &mut room));
+    print_bytes(rt, &room);
+}
+
 // Case 12 written, into room enough and into a byte too little.
 fn written(rt: &HostRuntime) {
     let n = Notice {
@@ -161,12 +146,8 @@ fn written(rt: &HostRuntime) {
         time: 4,
         kind: Kind::Change { count: 3 },
     };
-    let mut room = [255u8; 32];
-    print_answer(rt, notice::write(n, &mut room));
-    print_bytes(rt, &room);
-    let mut short = [255u8; 29];
-    print_answer(rt, notice::write(n, &mut short));
-    print_bytes(rt, &short);
+    print_written::<32>(rt, n);
+    print_written::<29>(rt, n);
 }
 
 // A hold and a lift read from their bytes, whole and cut, and written again: the room's last byte stays.
@@ -175,20 +156,18 @@ fn doors(rt: &HostRuntime) {
     print_first(rt, &hold, 26);
     print_first(rt, &hold, 25);
     print_first(rt, &lift_bytes(), 26);
-    print_written(rt, 5, 8, Kind::Hold);
-    print_written(rt, 6, 12, Kind::Lift);
+    print_door(rt, 5, 8, Kind::Hold);
+    print_door(rt, 6, 12, Kind::Lift);
 }
 
-fn print_written(rt: &HostRuntime, sequence: u32, time: u64, kind: Kind) {
+fn print_door(rt: &HostRuntime, sequence: u32, time: u64, kind: Kind) {
     let n = Notice {
         sequence,
         title: 3,
         time,
         kind,
     };
-    let mut room = [255u8; 27];
-    print_answer(rt, notice::write(n, &mut room));
-    print_bytes(rt, &room);
+    print_written::<27>(rt, n);
 }
 
 // The opening of a skip-forward title read from its bytes, cut, whole and with a byte more, and with an open's kind; then
@@ -209,14 +188,10 @@ fn skipping(rt: &HostRuntime) {
             count: 4,
         },
     };
-    print_number(rt, notice::size(n) as u64);
+    print_number(rt, notice::size(n));
     end_line(rt);
-    let mut room = [255u8; 38];
-    print_answer(rt, notice::write(n, &mut room));
-    print_bytes(rt, &room);
-    let mut short = [255u8; 36];
-    print_answer(rt, notice::write(n, &mut short));
-    print_bytes(rt, &short);
+    print_written::<38>(rt, n);
+    print_written::<36>(rt, n);
     print_reading(rt, survives(n));
 }
 
@@ -262,10 +237,10 @@ fn fill(rt: &HostRuntime, bytes: &mut [u8]) {
         time: 8,
         kind: Kind::Close,
     };
-    print_answer(rt, notice::write(outside(), bytes));
+    write(rt, notice::write(outside(), bytes));
     end_line(rt);
     if 71 <= bytes.len() {
-        print_answer(rt, notice::write(close, &mut bytes[45..71]));
+        write(rt, notice::write(close, &mut bytes[45..71]));
         end_line(rt);
     }
 }

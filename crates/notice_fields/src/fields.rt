@@ -120,13 +120,7 @@ pub fn carried(kind: u8, row: usize) -> bool
     ensures { result ≡ is_carried kind row }
 {
     let f = entry(row);
-    let kinds = f.kinds;
-    if kind < 8 {
-        let bit = (kinds >> kind) % 2;
-        bit == 1
-    } else {
-        false
-    }
+    kind < 8 && (f.kinds >> kind) % 2 == 1
 }
 
 // How many bytes the row takes in a notice of the kind.

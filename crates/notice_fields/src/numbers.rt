@@ -11,23 +11,15 @@ const HALF: usize = 4;
 
 const PAST_HALF: u64 = 1 << 32;
 
-fn wide(b: u8) -> u64
-    ensures { (result ≡ b) × (result < 256) }
-{
-    b as u64
-}
-
 // The number that the width bytes from at on spell, byte by byte.
 fn gathered(bytes: &[u8], at: usize, width: usize) -> u64
     requires { (at + width ≤ length bytes.now) × (width ≤ 8) }
     ensures { (result ≡ number_at bytes.now at width) × (result < 256 ^ width) }
 {
     let mut v: u64 = 0;
-    let mut i: usize = 0;
-    while i < width {
-        let byte = wide(bytes[at + i]);
+    for i in 0..width {
+        let byte = u64::from(bytes[at + i]);
         v = v * 256 + byte;
-        i += 1;
     }
     v
 }
@@ -51,10 +43,8 @@ pub fn put(room: &mut [u8], at: usize, width: usize, v: u64)
     ensures { room.new ≡ sets room.old at (big_endian width v) }
 {
     let mut left = v;
-    let mut i = width;
-    while 0 < i {
-        i -= 1;
+    for i in (0..width).rev() {
         room[at + i] = (left % 256) as u8;
-        left = left / 256;
+        left /= 256;
     }
 }

@@ -7,7 +7,6 @@ ghost use Rattle.notice_rows.specs.inner.ByKind.{open_fits, data_fits};
 
 use notice::{CHANGE, CLOSE, LIFT, OPEN, SKIP};
 use notice_fields::fields::{CAP, COUNT, FLOOR, KIND, LENGTH, SEQUENCE, TITLE};
-use rules::truth::also;
 use rules::within;
 
 // The first number that one byte does not hold, and that four do not.
@@ -19,11 +18,11 @@ const PAST_FOUR: u64 = 1 << 32;
 fn open_fits(length: u64, floor: u64, cap: u64, count: u64, rest: bool) -> bool
     ensures { result ≡ open_fits length floor cap count rest }
 {
-    let first = also(floor < PAST_BYTE, also(length < PAST_FOUR, rest));
-    also(count < PAST_BYTE, also(cap < PAST_BYTE, first))
+    count < PAST_BYTE && cap < PAST_BYTE && floor < PAST_BYTE && length < PAST_FOUR && rest
 }
 
 // A kind's own numbers fit, beside the rest. What the kind has not may be any number.
+#[tactic(auto, unfolding(crate::specs::inner::ByKind::data_fits))]
 fn data_fits(kind: u64, length: u64, floor: u64, cap: u64, count: u64, rest: bool) -> bool
     ensures { result ≡ data_fits kind length floor cap count rest }
 {
@@ -31,12 +30,12 @@ fn data_fits(kind: u64, length: u64, floor: u64, cap: u64, count: u64, rest: boo
         return open_fits(length, floor, cap, count, rest);
     }
     if kind == CHANGE as u64 {
-        return also(count < PAST_BYTE, rest);
+        return count < PAST_BYTE && rest;
     }
     if kind == SKIP as u64 {
-        return also(count < PAST_BYTE, also(length < PAST_FOUR, rest));
+        return count < PAST_BYTE && length < PAST_FOUR && rest;
     }
-    also(within(CLOSE as u64, LIFT as u64, kind), rest)
+    within(CLOSE as u64, LIFT as u64, kind) && rest
 }
 
 // Whether a row of eight numbers is a notice's.
@@ -44,7 +43,7 @@ pub fn is_notice(fields: &[u64]) -> bool
     requires { length fields.now ≡ rows }
     ensures { result ≡ is_notice_row fields.now }
 {
-    let common = also(fields[TITLE] < PAST_BYTE, fields[SEQUENCE] < PAST_FOUR);
+    let common = (fields[TITLE] < PAST_BYTE) & (fields[SEQUENCE] < PAST_FOUR);
     data_fits(
         fields[KIND],
         fields[LENGTH],

@@ -23,6 +23,7 @@ pub const PLACES: usize = ROWS;
 pub const END: u8 = 255;
 
 // What `write` gives back: its answer, and how many bytes were written, 0 beside a refusal.
+// kept: the answer is 01's number, and `WritesRow` promises both fields
 #[derive(Clone, Copy)]
 pub struct Written {
     pub answer: u8,
@@ -30,6 +31,7 @@ pub struct Written {
 }
 
 // What `next` gives back: its answer, and the place to go on from. The place stays unless the answer is 0.
+// kept: the answer is 01's number, and `StepsRow` promises both fields
 #[derive(Clone, Copy)]
 pub struct Step {
     pub answer: u8,
@@ -60,9 +62,9 @@ fn eight(fields: &[u64]) -> [u64; ROWS]
     requires { length fields.now ≡ rows }
     ensures { result ≡ fields.now }
 {
-    [
-        fields[0], fields[1], fields[2], fields[3], fields[4], fields[5], fields[6], fields[7],
-    ]
+    let mut row = [0; ROWS];
+    row.copy_from_slice(fields);
+    row
 }
 
 // Writes the notice of a row at the start of the room: 0, and later bytes stay. 10 where the row has not eight numbers or the room
@@ -93,12 +95,7 @@ fn fill(fields: &mut [u64], n: Notice)
     requires { rows ≤ length fields.old }
     ensures { fields.new ≡ fields_of n ++ drop rows fields.old }
 {
-    let row = values(n);
-    let mut i = 0;
-    while i < ROWS {
-        fields[i] = row[i];
-        i += 1;
-    }
+    fields[..ROWS].copy_from_slice(&values(n));
 }
 
 // Reads one notice and nothing after it into the first eight places of a row: 0. 10 where the row is shorter, before all else; 11.

@@ -18,9 +18,7 @@ use measures::slots::{title_of, with_title};
 use measures::ticks::since;
 use moments::PAST;
 use moments::releases::{free_from, gone_from};
-use moments::starts::larger;
 use owed::turning::next_title;
-use rules::truth::{also, smaller};
 use rules::{DONE, EVENT_TIME_MAX, ID_MAX, PAST_CLOCK};
 use scheduler::{call, event_at};
 use story::{ABSENT, Event, OPEN, State};
@@ -44,7 +42,7 @@ pub struct Moment {
 pub fn presence(s: State, id: u64, time: u64) -> u8
     ensures { result ≡ presence_of s id time }
 {
-    if also(state_ok(s), id <= ID_MAX) {
+    if state_ok(s) && id <= ID_MAX {
         let t = title_of(s, id);
         if t.mode == ABSENT {
             return NEVER_OPENED;
@@ -80,7 +78,7 @@ pub fn start_from(s: State, e: Event) -> u64
         if t.mode == ABSENT {
             return 0;
         }
-        return smaller(allowed_from(t, act, time), PAST);
+        return allowed_from(t, act, time).min(PAST);
     }
     0
 }
@@ -90,18 +88,18 @@ pub fn start_from(s: State, e: Event) -> u64
 pub fn room_from(s: State, e: Event) -> u64
     ensures { result ≡ room_from s e }
 {
-    if verdict(s, e) == DONE {
-        let id = e.title;
-        let time = e.time;
-        let act = e.act;
-        let t = title_of(s, id);
-        if takes_lanes(act, t.count) {
-            // it would hold the same lanes whenever it comes
-            return free_from(with_title(s, id, next_title(t, time, act), time), time);
-        }
-        return time;
+    let Ok(()) = verdict(s, e) else {
+        return 0;
+    };
+    let id = e.title;
+    let time = e.time;
+    let act = e.act;
+    let t = title_of(s, id);
+    if takes_lanes(act, t.count) {
+        // it would hold the same lanes whenever it comes
+        return free_from(with_title(s, id, next_title(t, time, act), time), time);
     }
-    0
+    time
 }
 
 // The earliest time from another on at which an id may open; PAST where the clock has none, as while its title is open, 0 where the
@@ -129,14 +127,11 @@ pub fn when(s: State, e: Event) -> Moment
 {
     let time = accepted_from(s, e);
     if time <= EVENT_TIME_MAX {
-        return Moment {
-            answer: DONE,
-            time: time,
-        };
+        return Moment { answer: DONE, time };
     }
     let id = e.title;
     let act = e.act;
-    let late = event_at(id, larger(e.time, s.last), act);
+    let late = event_at(id, e.time.max(s.last), act);
     let answer = call(s, late).answer;
     if is_mended(answer) {
         return Moment {
@@ -144,8 +139,5 @@ pub fn when(s: State, e: Event) -> Moment
             time: 0,
         };
     }
-    Moment {
-        answer: answer,
-        time: 0,
-    }
+    Moment { answer, time: 0 }
 }

@@ -10,8 +10,7 @@ ghost use Rattle.outlook.specs.inner.Tries.{allows, Skips};
 
 use crate::{id_free_from, room_from, start_from};
 use moments::PAST;
-use moments::starts::{larger, permitted_from, turn_from};
-use rules::truth::{either, smaller};
+use moments::starts::{permitted_from, turn_from};
 use rules::{
     DONE, EVENT_TIME_MAX, ID_TAKEN, NO_LANES, NOT_AT_SLOT, SECOND_EVENT, TOO_EARLY, TOO_SOON,
 };
@@ -38,33 +37,28 @@ pub fn allowed_from(t: Title, act: Act, from: u64) -> u64
 {
     match act {
         Act::Opens { film: _, count: _ } => from,
-        Act::Changes { count } => permitted_from(t, smaller(t.count, count), from),
+        Act::Changes { count } => permitted_from(t, t.count.min(count), from),
         Act::Closes => turn_from(t, t.film.floor, from),
         Act::Doors { held: _ } => turn_from(t, t.count, from),
     }
 }
 
 // Whether an answer is one that a later time may mend.
+#[tactic(auto, using(std::proofs::lemmas::Bool::Decides::nat_tests))]
 pub fn is_mended(answer: u8) -> bool
     ensures { result ≡ is_mended answer }
 {
-    let moment = either(
-        answer == TOO_SOON,
-        either(answer == NOT_AT_SLOT, answer == NO_LANES),
-    );
-    either(answer == DONE, either(answer == SECOND_EVENT, moment))
+    matches!(
+        answer,
+        DONE | SECOND_EVENT | TOO_SOON | NOT_AT_SLOT | NO_LANES
+    )
 }
 
 // An event is refused at a time that the clock has.
 fn is_refused(s: State, e: Event, time: u64) -> bool
     ensures { result ≡ both (leb time event_time_max) (not (is_accepted_at s e time)) }
 {
-    let id = e.title;
-    let act = e.act;
-    if time <= EVENT_TIME_MAX {
-        return call(s, event_at(id, time, act)).answer != DONE;
-    }
-    false
+    time <= EVENT_TIME_MAX && call(s, event_at(e.title, time, e.act)).answer != DONE
 }
 
 // The next time at which an event that is refused at a time may be accepted.
@@ -77,10 +71,10 @@ fn next_try(s: State, e: Event, time: u64) -> u64
     let now = event_at(id, time, act);
     let answer = call(s, now).answer;
     if is_mended(answer) {
-        return larger(start_from(s, now), room_from(s, now));
+        return start_from(s, now).max(room_from(s, now));
     }
     if answer == TOO_EARLY {
-        return smaller(s.last, PAST);
+        return s.last.min(PAST);
     }
     if answer == ID_TAKEN {
         return id_free_from(s, id, time);
@@ -94,7 +88,7 @@ pub fn accepted_from(s: State, e: Event) -> u64
 {
     let mut time = e.time;
     while is_refused(s, e, time) {
-        time = larger(next_try(s, e, time), time + 1);
+        time = next_try(s, e, time).max(time + 1);
     }
     time
 }

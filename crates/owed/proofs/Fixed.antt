@@ -1,14 +1,17 @@
 -- What dropping lanes and ending a count leave as it was, and what a title within its limits has.
 -- Rests on the laws of lists and searches.
-use mathlib.Core.Path.{◌≡◌, refl}
+use mathlib.Core.Path.{◌≡◌, refl, ap}
+use mathlib.Core.Logic.{⊎_elim}
+use native.Mathlib.Omega.{arith}
 use mathlib.Core.Bool.{Bool, true, false}
 use mathlib.Core.List.{List, [], ◌∷◌}
 use Prim.Native.Nat.{ℕ, zero, suc, ◌≤◌, ◌<◌}
 use lib.Dec.{leb, ltb}
 use lib.ListN.{get_or, set}
-use borrow.Author.Tests.{le-leb, lt-ltb}
+use borrow.Author.Tests.{le-leb, lt-leb, lt-ltb, le-ltb, leb-true, leb-false}
 use Rattle.rules.specs.Limits.{both, asked_max, count_places}
 use Rattle.rules.specs.Refusals.{pick}
+use Rattle.rules.proofs.Tests.{decide}
 use Rattle.rules.proofs.Search.{every_in}
 use Rattle.story.specs.declared.Film.{Film}
 use Rattle.story.specs.declared.Title.{Title}
@@ -67,15 +70,29 @@ ended_owing t n l o =
       ];
     }
 
--- below the old count a lane is dropped or not by the new count alone
-pub drop_more : (t q : Title) (n k i : ℕ) → q ≡ drop_lanes t n k i → i < t.count →
-    pick (leb k i) (drop_lane q n i) q ≡ drop_lanes t n k (suc i)
+-- of the lanes below the new count none is dropped,
+pub drop_below : (t : Title) (n k i : ℕ) → i ≤ k → drop_lanes t n k i ≡ t
 unfolding drop_lanes
-drop_more t q n k i e l = rw (lt-ltb i t.count l, ← e) (go (leb k i))
+drop_below t n k zero l = refl
+drop_below t n k (suc i) l = rw (lt-leb k i (omega arith)) (drop_below t n k i (omega arith))
+
+-- from there up to the old one each is,
+pub drop_more : (t q : Title) (n k i : ℕ) → q ≡ drop_lanes t n k i → k ≤ i → i < t.count →
+    drop_lane q n i ≡ drop_lanes t n k (suc i)
+unfolding drop_lanes
+drop_more t q n k i e h l = rw (le-leb k i h, lt-ltb i t.count l, ← e) refl
+
+-- and from the old one up none
+pub drop_past : (t : Title) (n k i : ℕ) → t.count ≤ i → drop_lanes t n k i ≡ drop_lanes t n k t.count
+unfolding drop_lanes
+drop_past t n k zero l = ap (drop_lanes t n k) {x = zero} {y = t.count} (omega arith)
+drop_past t n k (suc i) l =
+    ⊎_elim (λ h. rw (le-ltb i t.count (leb-true t.count i h), no_pick (leb k i)) (drop_past t n k i (leb-true t.count i h)))
+    (λ h. ap (drop_lanes t n k) {x = suc i} {y = t.count} (omega (arith, leb-false t.count i h))) (decide (leb t.count i))
   where
-    go : (b : Bool) → pick b (drop_lane q n i) q ≡ pick (both b true) (drop_lane q n i) q
-    go true = refl
-    go false = refl
+    no_pick : (b : Bool) → both b false ≡ false
+    no_pick true = refl
+    no_pick false = refl
 
 -- the film of a title after an event is within its limits: an opening's own, or as it was
 turned_film : (t : Title) (τ q m c d u : ℕ) → (turned_title t τ q m c d u).film ≡ t.film

@@ -1,7 +1,7 @@
 // What a change, a close, a hold and a lift make of a title: the ruling count ends, and the lanes above the new count are
 // dropped (01, "Events"; 02, 7).
 
-ghost use Rattle.std.specs.Prelude.{◌≤◌, ◌<◌, ◌≡◌, leb};
+ghost use Rattle.std.specs.Prelude.{◌≤◌, ◌<◌, ◌≡◌};
 ghost use Rattle.rules.specs.Limits.{asked_max, count_max};
 ghost use Rattle.rules.specs.Refusals.{pick};
 ghost use Rattle.story.specs.Kept.{clear_mark, held_mark};
@@ -26,30 +26,15 @@ fn drop_lane(t: Title, tick: u64, lane: u64) -> Title
     q
 }
 
-// A lane from the new count up is dropped, one below it stays as it is.
-fn drop_above(t: Title, tick: u64, count: u64, lane: u64) -> Title
-    requires owing { Owing t }
-    requires lane_lt_cap { (lane < t.film.cap) × (tick ≤ asked_max) }
-    ensures { result ≡ pick (leb count lane) (drop_lane t tick lane) t }
-{
-    if count <= lane {
-        return drop_lane(t, tick, lane);
-    }
-    t
-}
-
 // The lanes from the new count up to the old are dropped at a tick.
 fn drop_lanes(t: Title, tick: u64, count: u64) -> Title
     requires owing { Owing t }
     requires count_le_cap { (t.count ≤ t.film.cap) × (tick ≤ asked_max) }
     ensures { result ≡ drop_lanes t tick count t.count }
 {
-    let old = t.count;
     let mut q = t;
-    let mut lane = 0;
-    while lane < old {
-        q = drop_above(q, tick, count, lane);
-        lane += 1;
+    for lane in count..t.count {
+        q = drop_lane(q, tick, lane);
     }
     q
 }
@@ -59,8 +44,7 @@ fn end_count(t: Title, tick: u64) -> Title
     requires { (t.count ≤ count_max) × (tick ≤ asked_max) }
     ensures { result ≡ ended t tick }
 {
-    let mark = t.mark;
-    if mark == HELD {
+    if t.mark == HELD {
         return t;
     }
     let mut q = t;
@@ -73,13 +57,14 @@ fn end_count(t: Title, tick: u64) -> Title
 fn turn(t: Title, mode: u64, count: u64, mark: u64, time: u64, tuned: u64) -> Title
     ensures { result ≡ turned t mode count mark time tuned }
 {
-    let mut q = t;
-    q.mode = mode;
-    q.count = count;
-    q.mark = mark;
-    q.last = time;
-    q.tuned = tuned;
-    q
+    Title {
+        mode,
+        count,
+        mark,
+        last: time,
+        tuned,
+        ..t
+    }
 }
 
 // A turn at a time to so many lanes, with the mode, the count, the mark and the time of the latest opening or change that

@@ -11,7 +11,6 @@ ghost use Rattle.measures.specs.Readable.{Owing};
 
 use crate::sending::reach;
 use grid::{carrier, pow2, slot};
-use rules::truth::{either, one_if};
 use scheme::{STEADY, holds_film, lane_cell, period};
 use story::Title;
 use stretches::latest::latest_above;
@@ -48,15 +47,14 @@ fn awaited_by_some(t: Title, lane: u64, cell: u64, tick: u64) -> bool
 {
     let cap = t.film.cap;
     let floor = t.film.floor;
-    let mut found = false;
-    let mut count = lane + 1;
-    while count <= cap {
+    for count in lane + 1..cap + 1 {
         // the numbers alone are handed on: a title handed on is copied
         let end = t.ends[count as usize];
-        found = either(owed_to(floor, cap, count, end, cell, tick), found);
-        count += 1;
+        if owed_to(floor, cap, count, end, cell, tick) {
+            return true;
+        }
     }
-    found
+    false
 }
 
 // Of a skip-forward title, whose latest boxes began a tick before `end`: they take each lane for one period.
@@ -64,10 +62,7 @@ fn awaited_on(lane: u64, end: u64, tick: u64) -> bool
     requires { (lane ≤ count_max) × ((end ≤ asked_max) × (tick ≤ tick_max)) }
     ensures { result ≡ both (ltb 0 end) (ltb (tick + 1) (end + periodOf lane)) }
 {
-    if end == 0 {
-        return false;
-    }
-    tick + 1 < end + period(lane)
+    0 < end && tick + 1 < end + period(lane)
 }
 
 // The lane's cell is still awaited at a tick. The boxes of a skip-forward title all began under its one count.
@@ -92,10 +87,8 @@ pub fn is_owed(t: Title, lane: u64, tick: u64) -> bool
     ensures { result ≡ kept_owed t lane tick }
 {
     let cell = lane_cell(t.film.kind, t.film.floor, t.film.cap, lane, tick);
-    if holds_film(t.film.kind, t.film.length, t.film.floor, t.film.cap, cell) {
-        return is_awaited(t, lane, cell, tick);
-    }
-    false
+    holds_film(t.film.kind, t.film.length, t.film.floor, t.film.cap, cell)
+        && is_awaited(t, lane, cell, tick)
 }
 
 // How many of the n ticks from a tick on a lane owes, tick by tick.
@@ -105,10 +98,8 @@ pub fn owed_within(t: Title, lane: u64, from: u64, n: u64) -> u64
     ensures { Exactly (kept_within t lane from n) 0 n result }
 {
     let mut owed = 0;
-    let mut i = 0;
-    while i < n {
-        owed += one_if(is_owed(t, lane, from + i));
-        i += 1;
+    for i in 0..n {
+        owed += u64::from(is_owed(t, lane, from + i));
     }
     owed
 }

@@ -13,7 +13,6 @@ ghost use Rattle.owed.specs.Shown.{shown_tick};
 use crate::owing::is_owed;
 use grid::pow2;
 use measures::lanes::ruling;
-use measures::ticks::since;
 use scheme::{STEADY, lane_cell};
 use story::Title;
 use stretches::latest::latest_above;
@@ -38,17 +37,15 @@ fn nth_by_ticks(t: Title, lane: u64, from: u64, nth: u64) -> u64
 {
     let end = reach(t);
     let mut owed = 0;
-    let mut i = 0;
-    while i < end {
+    for i in 0..end {
         if is_owed(t, lane, from + i) {
             if owed == nth {
                 return i;
             }
             owed += 1;
         }
-        i += 1;
     }
-    i
+    end
 }
 
 // The same of a lane from the floor up: by its channels, and tick by tick where no events lead.
@@ -113,7 +110,7 @@ pub fn sending_tick(t: Title, lane: u64, tick: u64) -> u64
     ensures { Exactly (sending_tick t lane tick) 0 tick_max result }
 {
     let from = t.dropped[lane as usize];
-    from + nth_owed(t, lane, from, since(from, tick))
+    from + nth_owed(t, lane, from, tick.saturating_sub(from))
 }
 
 // The tick whose cell a held lane shows at a tick: on an active lane that tick.

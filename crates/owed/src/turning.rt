@@ -15,9 +15,9 @@ fn opened_title(film: Film, time: u64, count: u64) -> Title
 {
     Title {
         mode: OPEN,
-        film: film,
+        film,
         opened: time,
-        count: count,
+        count,
         mark: CLEAR,
         last: time,
         tuned: time,

@@ -1,35 +1,31 @@
 // Prints the plan of 01's fourth worked case, as the call gives it: floor 2, cap 4, count 4, arrival 0, cells 0 to 15.
 #![tactic(auto)]
 
-// What can't be written is left out.
-fn write(rt: &HostRuntime, bytes: &[u8]) {
-    let _ = rt.write_all(bytes);
-}
+use std::fmt::Display;
 
-fn write_number(rt: &HostRuntime, n: u64) {
-    let _ = rt.print(n);
+// What can't be written is left out.
+fn write<D: Display + Drop>(rt: &HostRuntime, shown: D) {
+    let _ = rt.print(shown);
 }
 
 // One number of the plan: the tick minus the arrival, or "none" for a cell that is never taken.
 fn print_place(rt: &HostRuntime, place: u16) {
     if place == plans::NEVER {
-        write(rt, b"none");
+        write(rt, "none");
     } else {
-        write_number(rt, place as u64);
+        write(rt, place);
     }
 }
 
 // The whole row on a line.
 fn print_row(rt: &HostRuntime, row: &[u16]) {
-    let mut i = 0;
-    while i < row.len() {
+    for (i, place) in row.iter().enumerate() {
         if i > 0 {
-            write(rt, b" ");
+            write(rt, " ");
         }
-        print_place(rt, row[i]);
-        i += 1;
+        print_place(rt, *place);
     }
-    write(rt, b"\n");
+    write(rt, "\n");
 }
 
 fn main(rt: HostRuntime) {
@@ -38,6 +34,6 @@ fn main(rt: HostRuntime) {
     if answer == rules::DONE {
         print_row(&rt, &row);
     } else {
-        write(&rt, b"refused\n");
+        write(&rt, "refused\n");
     }
 }

@@ -8,8 +8,9 @@ use Prim.Native.Nat.{ℕ, zero, suc, ◌≤◌, ◌<◌}
 use native.Mathlib.Omega.{arith}
 use native.Mathlib.Nat.{le_trans}
 use lib.Dec.{ltb}
-use lib.ListN.{length, get_or, set, drop, length-append}
-use lib.Seq.{drop-cons, set_at, append_snoc, get_or-set_same, get_or-set_other}
+use Rattle.std.proofs.Math.Seq.{take-suc}
+use lib.ListN.{take, length, get_or, set, length-append}
+use lib.Seq.{get_or-set_same, get_or-set_other}
 use borrow.Author.Tests.{ltb-true, ltb-false, lt-ltb, le-ltb}
 use Rattle.rules.specs.Limits.{event_time_max}
 use Rattle.rules.proofs.Tests.{decide}
@@ -88,11 +89,6 @@ listed_counts s τ (w ∷ ws) = ap (λ (ks : List ℕ). w.count ∷ ks) (listed_
 
 -- ---- the first places of a row
 
-pub first_length : (row : List ℕ) (n : ℕ) → length (first_of row n) ≡ n
-unfolding first_of
-first_length row zero = refl
-first_length row (suc n) = length-append (first_of row n) (get_or row n 0 ∷ []) ∙ omega (arith, first_length row n)
-
 -- a place from n on that is written
 pub first_set : (row : List ℕ) (j v n : ℕ) → n ≤ j → first_of (set row j v) n ≡ first_of row n
 unfolding first_of
@@ -103,14 +99,11 @@ pub first_write : (row : List ℕ) (j v : ℕ) → j < length row → first_of (
 unfolding first_of
 first_write row j v l = rw (first_set row j v j (omega arith), get_or-set_same row j v 0 l) refl
 
--- one place more of a row written over the first places of another
-pub write_more : (from to : List ℕ) (i : ℕ) → i < length to →
-    set (first_of from i ++ drop i to) i (get_or from i 0) ≡ first_of from (suc i) ++ drop (suc i) to
+-- the first places of a row
+pub first_take : (row : List ℕ) (n : ℕ) → n ≤ length row → take n row ≡ first_of row n
 unfolding first_of
-write_more from to i l =
-    rw (drop-cons to i 0 l)
-    (set_at (first_of from i) (get_or to i 0) (drop (suc i) to) (get_or from i 0) i (first_length from i)
-    ∙ sym (append_snoc (first_of from i) (get_or from i 0) (drop (suc i) to)))
+first_take row zero l = refl
+first_take row (suc n) l = take-suc row n 0 (omega arith) ∙ ap (λ (xs : List ℕ). xs ++ (get_or row n 0 ∷ [])) (first_take row n (omega arith))
 
 -- ---- wishes in rows
 

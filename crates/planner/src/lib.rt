@@ -7,11 +7,12 @@
 
 ghost use Rattle.std.specs.Prelude.{◌≡◌, length};
 ghost use Rattle.rules.specs.Limits.{titles_max};
+ghost use Rattle.rules.specs.Told.{refusal_number};
 ghost use Rattle.planner.specs.Outcome.{Answered};
 ghost use Rattle.planner.specs.inner.Steps.{standing_answer};
 
-use rules::truth::smaller;
-use rules::{DONE, EVENT_TIME_MAX, PAST_CLOCK, TITLES_MAX, WRONG_ROWS};
+use rules::answers::Refusal;
+use rules::{DONE, EVENT_TIME_MAX, TITLES_MAX};
 use story::State;
 use wishes::wishes_of;
 
@@ -19,6 +20,7 @@ mod rows;
 mod standing;
 mod times;
 
+// kept: a customer's call gives back 01's number (docs/PROMISES.md, "Public calls"; `rongalishu_c`).
 // What the planner gives back: the answer, and how many events it listed, none beside a refusal.
 #[derive(Clone, Copy)]
 pub struct Listed {
@@ -26,11 +28,11 @@ pub struct Listed {
     pub many: u64,
 }
 
-fn refused(answer: u8) -> Listed
-    ensures { (result.answer ≡ answer) × (result.many ≡ 0) }
+fn refused(refusal: Refusal) -> Listed
+    ensures { (result.answer ≡ refusal_number refusal) × (result.many ≡ 0) }
 {
     Listed {
-        answer: answer,
+        answer: refusal.number(),
         many: 0,
     }
 }
@@ -50,16 +52,13 @@ fn list(
 {
     let w = wishes_of(s, rates);
     let many = w.many;
-    let room = smaller(
-        ids.len() as u64,
-        smaller(times.len() as u64, counts.len() as u64),
-    );
-    if room < many as u64 {
-        return refused(WRONG_ROWS);
+    let room = ids.len().min(times.len().min(counts.len()));
+    if room < many {
+        return refused(Refusal::WrongRows);
     }
     let t = times::times_of(s, time, w);
     if EVENT_TIME_MAX < t.last {
-        return refused(PAST_CLOCK);
+        return refused(Refusal::PastClock);
     }
     let titles = w.titles;
     let moments = t.row;
@@ -89,12 +88,11 @@ pub fn planner(
     ensures { Answered s time rates.now ids.old times.old counts.old
         result.answer result.many ids.new times.new counts.new }
 {
-    let answer = standing::standing(s, time, rates);
-    if answer == DONE {
-        if rates.len() == TITLES_MAX {
-            return list(s, time, rates, ids, times, counts);
-        }
-        return refused(WRONG_ROWS);
+    if let Err(refusal) = standing::standing(s, time, rates) {
+        return refused(refusal);
     }
-    refused(answer)
+    if rates.len() != TITLES_MAX {
+        return refused(Refusal::WrongRows);
+    }
+    list(s, time, rates, ids, times, counts)
 }

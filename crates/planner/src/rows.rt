@@ -11,9 +11,5 @@ pub fn write(from: &[u64; TITLES_MAX], many: usize, to: &mut [u64])
     requires { (many ≤ titles_max) × (many ≤ length to.old) }
     ensures { to.new ≡ first_of from.now many ++ drop many to.old }
 {
-    let mut i = 0;
-    while i < many {
-        to[i] = from[i];
-        i += 1;
-    }
+    to[..many].copy_from_slice(&from[..many]);
 }

@@ -44,17 +44,12 @@ pub fn times_of(s: State, time: u64, w: Wishes) -> Times
     let mut row = [0; TITLES_MAX];
     let mut q = s;
     let mut last = time;
-    let mut j = 0;
-    while j < many {
+    for j in 0..many {
         let id = ids[j];
         let count = counts[j];
         last = due_at(q, id, count, last);
         row[j] = last;
         q = moved(q, id, last, count);
-        j += 1;
     }
-    Times {
-        last: last,
-        row: row,
-    }
+    Times { last, row }
 }

@@ -13,16 +13,17 @@ mod rows;
 // The place of a cell that is never taken.
 pub const NEVER: u16 = 65_535;
 
+// kept: a customer's call gives back 01's number (docs/PROMISES.md, "Public calls"; `rongalishu_c`).
 // Writes the plan of a box that starts at tick `arrival` under `count` into the first 2^cap places of the row, each cell's
 // tick minus the arrival, 65535 for the last slot's cells; later places stay. A refusal writes nothing.
 pub fn plan(floor: u64, cap: u64, count: u64, arrival: u64, row: &mut [u16]) -> u8
     ensures { Planned floor cap count arrival row.old result row.new }
 {
-    let number = padded::answer(floor, cap, count, arrival, row.len());
-    if number == DONE {
-        padded::fill(floor, cap, count, arrival, row);
+    if let Err(refusal) = padded::answer(floor, cap, count, arrival, row.len()) {
+        return refusal.number();
     }
-    number
+    padded::fill(floor, cap, count, arrival, row);
+    DONE
 }
 
 // Writes the plan of a box that starts at tick `arrival` of a title with `count` lanes into the first 2^(count - 1) places of
@@ -30,9 +31,9 @@ pub fn plan(floor: u64, cap: u64, count: u64, arrival: u64, row: &mut [u16]) -> 
 pub fn skip_plan(count: u64, arrival: u64, row: &mut [u16]) -> u8
     ensures { SkipPlanned count arrival row.old result row.new }
 {
-    let number = forward::answer(count, arrival, row.len());
-    if number == DONE {
-        forward::fill(count, arrival, row);
+    if let Err(refusal) = forward::answer(count, arrival, row.len()) {
+        return refusal.number();
     }
-    number
+    forward::fill(count, arrival, row);
+    DONE
 }

@@ -2,6 +2,7 @@
 
 ghost use Rattle.std.specs.Prelude.{◌^◌, ◌≤◌, ◌≡◌, true, length};
 ghost use Rattle.rules.specs.Limits.{asked_max};
+ghost use Rattle.rules.specs.Told.{told};
 ghost use Rattle.grid.specs.Bounds.{Counted};
 ghost use Rattle.scheme.specs.Scheme.{padded, starts as startsAt};
 ghost use Rattle.plans.specs.Padded.{plan_at, plan_limits, plan_answer};
@@ -10,49 +11,43 @@ ghost use Rattle.plans.specs.Row.{written};
 use super::NEVER;
 use super::rows::{level, runs};
 use grid::{pow2, slot};
-use rules::{
-    ABOVE_CAP, ASKED_MAX, BELOW_FLOOR, COUNT_MAX, COUNT_MIN, DONE, FLOOR_ABOVE_CAP, FLOOR_MAX,
-    FLOOR_MIN, NOT_AT_SLOT, OUTSIDE_LIMITS, WRONG_ROWS, within,
-};
+use rules::answers::Refusal;
+use rules::{ASKED_MAX, COUNT_MAX, COUNT_MIN, FLOOR_MAX, FLOOR_MIN, within};
 use scheme::{PADDED, starts};
 
 // Whether the four numbers are within their limits.
 fn in_limits(floor: u64, cap: u64, count: u64, arrival: u64) -> bool
     ensures { result ≡ plan_limits floor cap count arrival }
 {
-    if within(FLOOR_MIN, FLOOR_MAX, floor) {
-        if within(COUNT_MIN, COUNT_MAX, cap) {
-            if within(COUNT_MIN, COUNT_MAX, count) {
-                return arrival <= ASKED_MAX;
-            }
-        }
-    }
-    false
+    within(FLOOR_MIN, FLOOR_MAX, floor)
+        && within(COUNT_MIN, COUNT_MAX, cap)
+        && within(COUNT_MIN, COUNT_MAX, count)
+        && arrival <= ASKED_MAX
 }
 
 // The call's answer for a lent row of `places` places, by the order of refusals.
-pub fn answer(floor: u64, cap: u64, count: u64, arrival: u64, places: usize) -> u8
-    ensures { result ≡ plan_answer floor cap count arrival places }
+pub fn answer(floor: u64, cap: u64, count: u64, arrival: u64, places: usize) -> Result<(), Refusal>
+    ensures { told result ≡ plan_answer floor cap count arrival places }
 {
-    if in_limits(floor, cap, count, arrival) {
-        if cap < floor {
-            return FLOOR_ABOVE_CAP;
-        }
-        if count < floor {
-            return BELOW_FLOOR;
-        }
-        if cap < count {
-            return ABOVE_CAP;
-        }
-        if starts(PADDED, floor, cap, count, arrival) {
-            if (places as u64) < pow2(cap) {
-                return WRONG_ROWS;
-            }
-            return DONE;
-        }
-        return NOT_AT_SLOT;
+    if !in_limits(floor, cap, count, arrival) {
+        return Err(Refusal::OutsideLimits);
     }
-    OUTSIDE_LIMITS
+    if cap < floor {
+        return Err(Refusal::FloorAboveCap);
+    }
+    if count < floor {
+        return Err(Refusal::BelowFloor);
+    }
+    if cap < count {
+        return Err(Refusal::AboveCap);
+    }
+    if !starts(PADDED, floor, cap, count, arrival) {
+        return Err(Refusal::NotAtSlot);
+    }
+    if (places as u64) < pow2(cap) {
+        return Err(Refusal::WrongRows);
+    }
+    Ok(())
 }
 
 // Writes the plan into the first places of the row, one for each cell: the channels' runs, and the last slot's cells, which no

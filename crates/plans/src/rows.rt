@@ -13,10 +13,8 @@ fn rise(from: u64, many: u64, first: u64, row: &mut [u16])
     requires many_bound { first + many ≤ 2 ^ count_max }
     ensures { row.new ≡ written_from (rising_at from first) row.old from many }
 {
-    let mut risen: u64 = 0;
-    while risen < many {
+    for risen in 0..many {
         row[(from + risen) as usize] = (first + risen) as u16;
-        risen += 1;
     }
 }
 
@@ -25,11 +23,7 @@ pub(crate) fn level(from: u64, many: u64, value: u16, row: &mut [u16])
     requires { from + many ≤ length row.old }
     ensures { row.new ≡ written_from (λ _. value) row.old from many }
 {
-    let mut i: u64 = 0;
-    while i < many {
-        row[(from + i) as usize] = value;
-        i += 1;
-    }
+    row[from as usize..(from + many) as usize].fill(value);
 }
 
 // Writes a run of `many` cells, of which the one behind `off` others is taken first.
@@ -49,10 +43,8 @@ pub(crate) fn runs(low: u64, high: u64, base: u64, phase: u64, row: &mut [u16])
     requires base_bound { (base ≤ 2 ^ low) × (2 ^ high - base ≤ length row.old) }
     ensures { row.new ≡ written_from (runs_at base phase) row.old (2 ^ low - base) (2 ^ high - 2 ^ low) }
 {
-    let mut power = low;
-    while power < high {
+    for power in low..high {
         let many = pow2(power);
         run(many - base, many, phase % many, row);
-        power += 1;
     }
 }

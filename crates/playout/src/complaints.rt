@@ -1,25 +1,35 @@
 // What the program says on standard error beside its lines: which notices of the log did not count, and of a refusal what its number
-// alone does not tell. Lines are written at the start of a lent row; what has no room is left out.
+// alone does not tell. Lines are written on a page; what has no room is left out.
 
 ghost use Rattle.text.specs.Output.{Written};
+ghost use Rattle.text.specs.Pages.{Puts};
 ghost use Rattle.playout.specs.Complaints.{unopened_line, playout_complaints};
 
 use files::lines::put_line;
 use playouts::answer_of;
 use rules::NOT_THERE;
+use text::page::Page;
 use unheard_io::put_unheard;
 
 // A title that is not there was never opened in the log.
-fn put_never(out: &mut [u8], at: usize, answer: u8, title: u64) -> usize
-    ensures { Written out.old at (unopened_line answer title) out.new result }
+fn put_never(page: &mut Page<'_>, answer: u8, title: u64)
+    ensures { Puts page.old (unopened_line answer title) page.new }
 {
     if answer == NOT_THERE {
-        return put_line(out, at, b"? title ", title, b" was never opened\n");
+        put_line(page, b"? title ", title, b" was never opened\n");
     }
-    at
 }
 
 // Nothing where all notices count and the title was opened.
+fn put_each(page: &mut Page<'_>, pool: u64, log: &[u8], title: u64, from: u64, ticks: u64)
+    ensures { Puts page.old (playout_complaints pool log.now title from ticks) page.new }
+{
+    put_unheard(page, pool, log);
+    let answer = answer_of(pool, log, title, from, ticks);
+    put_never(page, answer, title);
+}
+
+// They are written at the start of a lent row.
 pub fn put_complaints(
     out: &mut [u8],
     pool: u64,
@@ -30,7 +40,7 @@ pub fn put_complaints(
 ) -> usize
     ensures { Written out.old 0 (playout_complaints pool log.now title from ticks) out.new result }
 {
-    let answer = answer_of(pool, log, title, from, ticks);
-    let a = put_unheard(out, 0, pool, log);
-    put_never(out, a, answer, title)
+    let mut page = Page::new(out);
+    put_each(&mut page, pool, log, title, from, ticks);
+    page.end()
 }

@@ -2,7 +2,7 @@
 // `playouts` and in `complaints`; these functions are safe and end.
 
 use crate::complaints::put_complaints;
-use files::arguments::{Given, number_named};
+use files::arguments::number_named;
 use files::complaints::write_complaints;
 use files::loading::{LOG_ROOM, load_log};
 use files::pages::write_page;
@@ -19,13 +19,6 @@ struct Numbers {
     title: u64,
     from: u64,
     ticks: u64,
-}
-
-// Those that were given, or that standard error says what is wrong.
-#[derive(Clone, Copy)]
-enum Asked {
-    About(Numbers),
-    Nothing,
 }
 
 fn show(rt: &HostRuntime, given: Numbers, log: &[u8], out: &mut [u8]) {
@@ -47,9 +40,7 @@ fn complain_beside(rt: &HostRuntime, given: Numbers, log: &[u8]) {
 }
 
 fn with_rooms(rt: &HostRuntime, given: Numbers, log: &mut [u8], out: &mut [u8]) {
-    let read = load_log(rt, log);
-    let size = read.size;
-    if read.ok {
+    if let Some(size) = load_log(rt, log) {
         show(rt, given, &log[..size], out);
         complain_beside(rt, given, &log[..size]);
     }
@@ -60,32 +51,24 @@ fn lend(rt: &HostRuntime, given: Numbers, log: &mut [u8; LOG_ROOM], out: &mut [u
     with_rooms(rt, given, log, out);
 }
 
-// The numbers are tested in their order.
-fn numbers_given(rt: &HostRuntime) -> Asked {
-    let Given::Number(pool) = number_named(rt, 1, b"POOL") else {
-        return Asked::Nothing;
-    };
-    let Given::Number(title) = number_named(rt, 2, b"ID") else {
-        return Asked::Nothing;
-    };
-    let Given::Number(from) = number_named(rt, 4, b"FROM") else {
-        return Asked::Nothing;
-    };
-    let Given::Number(ticks) = number_named(rt, 5, b"TICKS") else {
-        return Asked::Nothing;
-    };
-    Asked::About(Numbers {
-        pool: pool,
-        title: title,
-        from: from,
-        ticks: ticks,
+// Those that were given, tested in their order, or that standard error says what is wrong.
+fn numbers_given(rt: &HostRuntime) -> Option<Numbers> {
+    let pool = number_named(rt, 1, b"POOL")?;
+    let title = number_named(rt, 2, b"ID")?;
+    let from = number_named(rt, 4, b"FROM")?;
+    let ticks = number_named(rt, 5, b"TICKS")?;
+    Some(Numbers {
+        pool,
+        title,
+        from,
+        ticks,
     })
 }
 
 // How many arguments there are is tested first, then the numbers, then the file.
 pub fn run(rt: &HostRuntime) {
     if count_is(rt, 6, b"playout POOL ID LOG FROM TICKS") {
-        let Asked::About(given) = numbers_given(rt) else {
+        let Some(given) = numbers_given(rt) else {
             return;
         };
         let mut log = [0u8; LOG_ROOM];

@@ -3,21 +3,21 @@ use mathlib.Core.Path.{◌≡◌, refl}
 use Prim.Native.Nat.{ℕ, zero, suc, ◌+◌, ◌<◌}
 use native.Mathlib.Omega.{arith}
 use native.Mathlib.Numerals.{add-one}
-use Rattle.text.specs.Output.{Page, puts}
-use Rattle.text.proofs.Pages.{puts_then}
+use Rattle.text.specs.declared.page.Page.{Page}
+use Rattle.text.specs.Pages.{Puts}
+use Rattle.text.proofs.Pages.{then, nothing}
 use Rattle.playouts.specs.Lines.{carried_text, behind_place, place_line, number_lines}
 
 module _ (f : ℕ → ℕ) (p : Page) where
-  pub lines_none : p ≡ puts p (number_lines f zero)
-  unfolding number_lines puts
-  lines_none = refl
+  pub lines_none : Puts p (number_lines f zero) p
+  unfolding number_lines
+  lines_none = nothing
 
   -- one number more, and what stands behind it
-  pub lines_next : (j : ℕ) (q r s : Page) → q ≡ puts p (number_lines f j) → r ≡ puts q (carried_text (f j)) → s ≡ puts r (behind_place j) →
-      s ≡ puts p (number_lines f (j + 1))
+  pub lines_next : (j : ℕ) (q r s : Page) → Puts p (number_lines f j) q → Puts q (carried_text (f j)) r → Puts r (behind_place j) s →
+      Puts p (number_lines f (j + 1)) s
   unfolding number_lines place_line
-  lines_next j q r s e a b =
-      rw (add-one j) (puts_then p (number_lines f j) (place_line f j) e (puts_then q (carried_text (f j)) (behind_place j) a b))
+  lines_next j q r s e a b = rw (add-one j) (then e (then a b))
 
 -- the text hangs on the numbers alone
 pub lines_ext : (f g : ℕ → ℕ) (n : ℕ) → ((j : ℕ) → j < n → f j ≡ g j) → number_lines f n ≡ number_lines g n

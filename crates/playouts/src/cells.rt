@@ -12,7 +12,6 @@ use measures::lanes::is_held;
 use measures::ticks::{since, tick_at};
 use owed::sending::shown_tick;
 use rules::LANE_PLACES;
-use rules::truth::smaller;
 use scheme::lane_cell;
 use story::Title;
 
@@ -23,11 +22,9 @@ fn number_in(t: Title, lane: u64, tick: u64) -> u16
     ensures { result ≡ standing_number t lane tick }
 {
     let film = t.film;
-    if lane < film.cap {
-        if is_held(t, lane, tick) {
-            let shown = shown_tick(t, lane, tick);
-            return lane_cell(film.kind, film.floor, film.cap, lane, shown) as u16;
-        }
+    if lane < film.cap && is_held(t, lane, tick) {
+        let shown = shown_tick(t, lane, tick);
+        return lane_cell(film.kind, film.floor, film.cap, lane, shown) as u16;
     }
     NOTHING_SEEN
 }
@@ -36,7 +33,7 @@ fn number_in(t: Title, lane: u64, tick: u64) -> u16
 fn place_from(from: u64, tick: u64) -> u64
     ensures { Exactly (place_from from tick) 0 (ticks_max * lane_places) result }
 {
-    smaller(since(from, tick), TICKS_MAX as u64) * LANE_PLACES as u64
+    since(from, tick).min(TICKS_MAX as u64) * LANE_PLACES as u64
 }
 
 // Fills in the ticks from a title's latest event up to `upto`, as far as the row goes, as the title stands.
@@ -46,10 +43,8 @@ pub fn fill_to(t: Title, from: u64, upto: u64, numbers: &mut [u16])
     ensures { numbers.new ≡ filled_to t from upto numbers.old }
 {
     let lanes = LANE_PLACES as u64;
-    let end = smaller(place_from(from, upto), numbers.len() as u64);
-    let mut j = place_from(from, tick_at(t, t.last));
-    while j < end {
+    let end = place_from(from, upto).min(numbers.len() as u64);
+    for j in place_from(from, tick_at(t, t.last))..end {
         numbers[j as usize] = number_in(t, j % lanes, from + j / lanes);
-        j += 1;
     }
 }

@@ -31,12 +31,8 @@ fn settle(t: Title, time: u64, opening: u64, from: u64, numbers: &mut [u16])
     requires row_to_fill { RowToFill from numbers.old }
     ensures { numbers.new ≡ event_numbers opening from t time numbers.old }
 {
-    let mode = t.mode;
-    let opened = t.opened;
-    if mode == OPEN {
-        if opened == opening {
-            fill_to(t, from, tick_at(t, time), numbers);
-        }
+    if t.mode == OPEN && t.opened == opening {
+        fill_to(t, from, tick_at(t, time), numbers);
     }
 }
 

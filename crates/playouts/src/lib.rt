@@ -12,6 +12,7 @@ pub mod window;
 ghost use Rattle.std.specs.Prelude.{◌*◌, ◌≡◌, length};
 ghost use Rattle.rules.specs.Limits.{lane_places};
 ghost use Rattle.text.specs.Output.{Written};
+ghost use Rattle.text.specs.Pages.{Puts};
 ghost use Rattle.judging.specs.Record.{ticks_max};
 ghost use Rattle.playouts.specs.Playout.{playout_answer};
 ghost use Rattle.playouts.specs.Lines.{playout_text};
@@ -20,6 +21,7 @@ use given::in_limits;
 use judging::TICKS_MAX;
 use lines::put_refused;
 use rules::{LANE_PLACES, OUTSIDE_LIMITS};
+use text::page::Page;
 use window::{tell, window_answer};
 
 // The numbers of as many ticks as may be asked for.
@@ -45,6 +47,19 @@ pub fn answer_of(pool: u64, log: &[u8], title: u64, from: u64, ticks: u64) -> u8
 }
 
 // A line for each tick with a number for each lane, or the refusal's one.
+fn put_window(page: &mut Page<'_>, pool: u64, log: &[u8], title: u64, from: u64, ticks: u64)
+    ensures { Puts page.old (playout_text pool log.now title from ticks) page.new }
+{
+    if in_limits(pool, title, from, ticks) {
+        let mut numbers = blank_numbers();
+        let n = ticks as usize * LANE_PLACES;
+        tell(page, pool, log, title, from, ticks, &mut numbers[..n]);
+    } else {
+        put_refused(page, OUTSIDE_LIMITS);
+    }
+}
+
+// So it is written at the start of a lent row. What has no room is left out.
 pub fn put_playout(
     out: &mut [u8],
     pool: u64,
@@ -55,10 +70,7 @@ pub fn put_playout(
 ) -> usize
     ensures { Written out.old 0 (playout_text pool log.now title from ticks) out.new result }
 {
-    if in_limits(pool, title, from, ticks) {
-        let mut numbers = blank_numbers();
-        let n = ticks as usize * LANE_PLACES;
-        return tell(out, pool, log, title, from, ticks, &mut numbers[..n]);
-    }
-    put_refused(out, OUTSIDE_LIMITS)
+    let mut page = Page::new(out);
+    put_window(&mut page, pool, log, title, from, ticks);
+    page.end()
 }

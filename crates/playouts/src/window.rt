@@ -1,7 +1,7 @@
 // A window of ticks of a title's latest opening in a log: what is answered of it, what its lanes carry, and the text.
 
 ghost use Rattle.std.specs.Prelude.{◌≡◌, true};
-ghost use Rattle.text.specs.Output.{Written};
+ghost use Rattle.text.specs.Pages.{Puts};
 ghost use Rattle.airing.specs.Air.{in_limits};
 ghost use Rattle.playouts.specs.Playout.{playout_limits};
 ghost use Rattle.playouts.specs.Lines.{playout_text};
@@ -13,6 +13,7 @@ use crate::lines::{put_numbers, put_refused};
 use measures::ticks::tick_at;
 use rules::{ASKED_MAX, DONE, MALFORMED, NOT_THERE, OUTSIDE_LIMITS};
 use story::Title;
+use text::page::Page;
 
 // What a log answers of a title as it stands at the log's end, and of a last tick.
 fn standing_answer(place: usize, size: usize, t: Title, tick: u64) -> u8
@@ -61,29 +62,30 @@ pub fn fill(pool: u64, log: &[u8], title: u64, from: u64, ticks: u64, numbers: &
 }
 
 // The text of an answer and of numbers.
-fn put_told(out: &mut [u8], answer: u8, numbers: &[u16]) -> usize
-    ensures { Written out.old 0 (printed_text answer numbers.now) out.new result }
+fn put_told(page: &mut Page<'_>, answer: u8, numbers: &[u16])
+    ensures { Puts page.old (printed_text answer numbers.now) page.new }
 {
     if answer == DONE {
-        return put_numbers(out, numbers);
+        put_numbers(page, numbers);
+    } else {
+        put_refused(page, answer);
     }
-    put_refused(out, answer)
 }
 
 // The text of a window, over lent numbers.
 pub fn tell(
-    out: &mut [u8],
+    page: &mut Page<'_>,
     pool: u64,
     log: &[u8],
     title: u64,
     from: u64,
     ticks: u64,
     numbers: &mut [u16],
-) -> usize
+)
     requires ticks_value { playout_limits pool title from ticks ≡ true }
     requires whole_ticks { WholeTicks ticks numbers.old }
-    ensures { Written out.old 0 (playout_text pool log.now title from ticks) out.new result }
+    ensures { Puts page.old (playout_text pool log.now title from ticks) page.new }
 {
     let answer = fill(pool, log, title, from, ticks, numbers);
-    put_told(out, answer, numbers)
+    put_told(page, answer, numbers);
 }

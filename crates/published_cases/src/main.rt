@@ -5,8 +5,6 @@
 // row names.
 #![tactic(auto)]
 
-ghost use Rattle.std.specs.Prelude.{◌≤◌};
-
 use figures::holding::holding_tenths;
 use figures::rows::agree;
 use figures::segments::{found_in, on_channel, segment_of, taken_in, unbuffered};
@@ -14,180 +12,105 @@ use figures::steady::{on_lane, taken_from};
 use figures::times::{average_wait, increase, longest_slot, slot_ms, slot_seconds, slot_tenths};
 use figures::transitions::{fourth_lane, sent};
 use rules::COUNT_MAX;
+use std::fmt::Display;
 
 // The numbers that a row has room for.
 const ROW_MOST: usize = 16;
 
-// The numbers that a row computes: the first `many`.
-#[derive(Clone, Copy)]
-struct Row {
-    numbers: [u64; ROW_MOST],
-    many: usize,
-}
-
-// What is computed of each number of a row.
-#[derive(Clone, Copy)]
-enum Figure {
-    // of a count, at a floor: the wait that padding adds
-    Increase(u64),
-    // how long a channel that is given back is held
-    Held(u64),
-    // the longest wait
-    Slot(u64),
-    // of a cell: the segment of so many channels, cap 4, that holds it
-    Segment(u64),
-    // of a channel among so many, cap 4: its segment at a tick
-    Channel(u64, u64),
-    // of a tick: in which segment of so many channels what a channel of 2 carries goes out so much later
-    Found(u64, u64, u64),
-    // of a segment: the slot in which the box of figure 1 takes it
-    Taken,
-    // of a start: whether it needs no buffer
-    Unbuffered,
-    // of a slot: what 4 channels have and 3 have not
-    Fourth,
-    // of a slot: what a lane sends then, after 4 channels went to so many
-    Sent(u64, u64),
-}
-
 // What can't be written is left out.
-fn write(rt: &HostRuntime, bytes: &[u8]) {
-    let _ = rt.write_all(bytes);
-}
-
-fn write_number(rt: &HostRuntime, n: u64) {
-    let _ = rt.print(n);
+fn write<D: Display + Drop>(rt: &HostRuntime, shown: D) {
+    let _ = rt.print(shown);
 }
 
 // A word and a row of numbers, on a line.
-fn print_row(rt: &HostRuntime, word: &[u8], row: &[u64]) {
+fn print_row(rt: &HostRuntime, word: &str, row: &[u64]) {
     write(rt, word);
-    let mut i = 0;
-    while i < row.len() {
-        print_number(rt, row[i]);
-        i += 1;
+    for n in row {
+        write(rt, format_args!(" {n}"));
     }
-    end_line(rt);
-}
-
-fn print_number(rt: &HostRuntime, n: u64) {
-    write(rt, b" ");
-    write_number(rt, n);
-}
-
-fn end_line(rt: &HostRuntime) {
-    write(rt, b"\n");
+    write(rt, "\n");
 }
 
 // What a row is about, what the product computes, what is expected, and whether they agree.
-fn show(rt: &HostRuntime, what: &[u8], computed: &[u64], expected: &[u64]) {
+fn show(rt: &HostRuntime, what: &str, computed: &[u64], expected: &[u64]) {
     write(rt, what);
-    end_line(rt);
-    print_row(rt, b"  computed", computed);
-    print_row(rt, b"  expected", expected);
+    write(rt, "\n");
+    print_row(rt, "  computed", computed);
+    print_row(rt, "  expected", expected);
     if agree(computed, expected) {
-        write(rt, b"  agree\n");
+        write(rt, "  agree\n");
     } else {
-        write(rt, b"  DIFFER\n");
+        write(rt, "  DIFFER\n");
     }
 }
 
-// A number, or the nearer of two bounds where it lies outside them.
-fn bounded(low: u64, high: u64, n: u64) -> u64
-    requires { low ≤ high }
-    ensures { (low ≤ result) × (result ≤ high) }
+// The same of a row that computes a figure of each of some places, as many as it has room for.
+fn show_each<P: Copy, F: Fn(P) -> u64>(
+    rt: &HostRuntime,
+    what: &str,
+    places: &[P],
+    figure: F,
+    expected: &[u64],
+)
+    requires { F.IsAlwaysCallable figure }
 {
-    if n < low {
-        return low;
+    let mut computed = [0u64; ROW_MOST];
+    for (number, place) in computed.iter_mut().zip(places) {
+        *number = figure(*place);
     }
-    if high < n {
-        return high;
-    }
-    n
+    show(rt, what, &computed[..places.len().min(ROW_MOST)], expected);
 }
 
 // A number that lies outside what its figure is defined for, as no row's does, is taken as the nearest inside.
-fn figured(figure: Figure, n: u64) -> u64 {
-    let at = bounded(0, 15, n);
-    match figure {
-        Figure::Increase(floor) => {
-            let f = bounded(1, COUNT_MAX, floor);
-            increase(f, bounded(f, COUNT_MAX, at))
-        }
-        Figure::Held(floor) => {
-            let f = bounded(1, COUNT_MAX, floor);
-            holding_tenths(f, bounded(f, COUNT_MAX, at))
-        }
-        Figure::Slot(floor) => {
-            let f = bounded(1, COUNT_MAX, floor);
-            slot_seconds(f, bounded(f, COUNT_MAX, at))
-        }
-        Figure::Segment(count) => segment_of(4, bounded(0, 4, count), at),
-        Figure::Channel(count, tick) => {
-            let k = bounded(1, 4, count);
-            on_channel(k, 4, k, bounded(0, k - 1, at), bounded(0, 15, tick))
-        }
-        Figure::Found(other, channel, later) => {
-            let then = at + bounded(0, 15, later);
-            found_in(bounded(2, 4, other), bounded(0, 1, channel), at, then)
-        }
-        Figure::Taken => taken_in(bounded(1, 15, at) as usize),
-        Figure::Unbuffered => unbuffered(bounded(0, 8, at)),
-        Figure::Fourth => fourth_lane(at),
-        Figure::Sent(count, lane) => sent(count, lane, at),
-    }
+
+// Of a count, at a floor: the wait that padding adds.
+fn padded(floor: u64, count: u64) -> u64 {
+    let f = floor.clamp(1, COUNT_MAX);
+    increase(f, count.clamp(f, COUNT_MAX))
 }
 
-fn no_row() -> Row {
-    Row {
-        numbers: [0; ROW_MOST],
-        many: 0,
-    }
+// How long a channel that is given back is held.
+fn held(floor: u64, count: u64) -> u64 {
+    let f = floor.clamp(1, COUNT_MAX);
+    holding_tenths(f, count.clamp(f, COUNT_MAX))
 }
 
-// One number more, where there is room.
-fn with(row: Row, n: u64) -> Row {
-    let many = row.many;
-    if many < ROW_MOST {
-        let mut next = row;
-        next.numbers[many] = n;
-        next.many = many + 1;
-        return next;
-    }
-    row
+// The longest wait.
+fn slot(floor: u64, count: u64) -> u64 {
+    let f = floor.clamp(1, COUNT_MAX);
+    slot_seconds(f, count.clamp(f, COUNT_MAX))
 }
 
-// A figure of each number.
-fn with_each(row: Row, figure: Figure, numbers: &[u64]) -> Row {
-    let mut next = row;
-    let mut i = 0;
-    while i < numbers.len() {
-        next = with(next, figured(figure, numbers[i]));
-        i += 1;
-    }
-    next
+// Of a cell: the segment of so many channels, cap 4, that holds it.
+fn segment(count: u64, cell: u64) -> u64 {
+    segment_of(4, count.min(4), cell.min(15))
 }
 
-// The first `many`.
-fn show_first(
-    rt: &HostRuntime,
-    what: &[u8],
-    numbers: [u64; ROW_MOST],
-    many: usize,
-    expected: &[u64],
-) {
-    if many <= ROW_MOST {
-        show(rt, what, &numbers[..many], expected);
-    }
+// Of a channel among so many, cap 4: its segment at a tick.
+fn carried(count: u64, tick: u64, channel: u64) -> u64 {
+    let k = count.clamp(1, 4);
+    on_channel(k, 4, k, channel.min(k - 1), tick.min(15))
 }
 
-fn show_row(rt: &HostRuntime, what: &[u8], row: Row, expected: &[u64]) {
-    let numbers = row.numbers;
-    show_first(rt, what, numbers, row.many, expected);
+// Of a tick: in which segment of so many channels what a channel of 2 carries goes out so much later.
+fn found(other: u64, channel: u64, later: u64, tick: u64) -> u64 {
+    let at = tick.min(15);
+    found_in(other.clamp(2, 4), channel.min(1), at, at + later.min(15))
 }
 
-fn show_each(rt: &HostRuntime, what: &[u8], figure: Figure, numbers: &[u64], expected: &[u64]) {
-    show_row(rt, what, with_each(no_row(), figure, numbers), expected);
+// Of a segment: the slot in which the box of figure 1 takes it.
+fn taken(segment: u64) -> u64 {
+    taken_in(segment.clamp(1, 15) as usize)
+}
+
+// Of a start: whether it needs no buffer.
+fn needless(start: u64) -> u64 {
+    unbuffered(start.min(8))
+}
+
+// Of a slot: what 4 channels have and 3 have not.
+fn fourth(tick: u64) -> u64 {
+    fourth_lane(tick.min(15))
 }
 
 // Section II-A: with 4 channels, what the box that starts at t0 takes in its first three slots, channel by channel; it is done
@@ -195,17 +118,16 @@ fn show_each(rt: &HostRuntime, what: &[u8], figure: Figure, numbers: &[u64], exp
 fn figure_1_channels(rt: &HostRuntime) {
     show_each(
         rt,
-        b"source 000, figure 1: segments in the first slot, C0 to C3",
-        Figure::Channel(4, 0),
+        "source 000, figure 1: segments in the first slot, C0 to C3",
         &[0, 1, 2, 3],
+        |channel| carried(4, 0, channel),
         &[1, 2, 4, 8],
     );
-    let a = with_each(no_row(), Figure::Channel(4, 1), &[1, 2, 3]);
-    let b = with_each(a, Figure::Channel(4, 2), &[2, 3]);
-    show_row(
+    show_each(
         rt,
-        b"source 000, figure 1: in the second slot, C1 to C3, and in the third, C2 and C3",
-        b,
+        "source 000, figure 1: in the second slot, C1 to C3, and in the third, C2 and C3",
+        &[(1, 1), (1, 2), (1, 3), (2, 2), (2, 3)],
+        |(tick, channel)| carried(4, tick, channel),
         &[3, 5, 9, 6, 10],
     );
 }
@@ -214,9 +136,9 @@ fn figure_1_channels(rt: &HostRuntime) {
 fn figure_1_plan(rt: &HostRuntime) {
     show_each(
         rt,
-        b"source 000, figure 1: slots in which the plan takes segments 1 2 4 8, 3 5 9, 6 10",
-        Figure::Taken,
+        "source 000, figure 1: slots in which the plan takes segments 1 2 4 8, 3 5 9, 6 10",
         &[1, 2, 4, 8, 3, 5, 9, 6, 10],
+        taken,
         &[0, 0, 0, 0, 1, 1, 1, 2, 2],
     );
 }
@@ -226,9 +148,9 @@ fn figure_1_plan(rt: &HostRuntime) {
 fn figure_1_buffer(rt: &HostRuntime) {
     show_each(
         rt,
-        b"source 000, figure 1: which of the starts at slots 0 to 7 needs no buffer",
-        Figure::Unbuffered,
+        "source 000, figure 1: which of the starts at slots 0 to 7 needs no buffer",
         &[0, 1, 2, 3, 4, 5, 6, 7],
+        needless,
         &[0, 1, 0, 0, 0, 0, 0, 0],
     );
 }
@@ -237,7 +159,7 @@ fn figure_1_buffer(rt: &HostRuntime) {
 fn padding(rt: &HostRuntime) {
     show(
         rt,
-        b"source 000, III-A: increase of the average wait by padding, floor 2, k 3 to 5, 1/100 minute",
+        "source 000, III-A: increase of the average wait by padding, floor 2, k 3 to 5, 1/100 minute",
         &[increase(2, 3), increase(2, 4), increase(2, 5)],
         &[143, 100, 56],
     );
@@ -247,30 +169,30 @@ fn padding(rt: &HostRuntime) {
 fn figure_2(rt: &HostRuntime) {
     show_each(
         rt,
-        b"source 000, figure 2, derived: floor 2, k 2 to 10, 1/100 minute",
-        Figure::Increase(2),
+        "source 000, figure 2, derived: floor 2, k 2 to 10, 1/100 minute",
         &[2, 3, 4, 5, 6, 7, 8, 9, 10],
+        |k| padded(2, k),
         &[0, 143, 100, 56, 30, 15, 8, 4, 2],
     );
     show_each(
         rt,
-        b"source 000, figure 2, derived: floor 3, k 3 to 10, 1/100 minute",
-        Figure::Increase(3),
+        "source 000, figure 2, derived: floor 3, k 3 to 10, 1/100 minute",
         &[3, 4, 5, 6, 7, 8, 9, 10],
+        |k| padded(3, k),
         &[0, 29, 21, 12, 6, 3, 2, 1],
     );
     show_each(
         rt,
-        b"source 000, figure 2, derived: floor 4, k 4 to 10, 1/100 minute",
-        Figure::Increase(4),
+        "source 000, figure 2, derived: floor 4, k 4 to 10, 1/100 minute",
         &[4, 5, 6, 7, 8, 9, 10],
+        |k| padded(4, k),
         &[0, 6, 5, 3, 1, 1, 0],
     );
     show_each(
         rt,
-        b"source 000, figure 2, derived: floor 5, k 5 to 10, 1/100 minute",
-        Figure::Increase(5),
+        "source 000, figure 2, derived: floor 5, k 5 to 10, 1/100 minute",
         &[5, 6, 7, 8, 9, 10],
+        |k| padded(5, k),
         &[0, 2, 1, 1, 0, 0],
     );
 }
@@ -279,30 +201,30 @@ fn figure_2(rt: &HostRuntime) {
 fn figure_3(rt: &HostRuntime) {
     show_each(
         rt,
-        b"source 000, figure 3: segments of 3 channels that make segments 1 to 4 of 2 channels",
-        Figure::Segment(3),
+        "source 000, figure 3: segments of 3 channels that make segments 1 to 4 of 2 channels",
         &[0, 3, 4, 7, 8, 11, 12, 15],
+        |cell| segment(3, cell),
         &[1, 2, 3, 4, 5, 6, 7, 8],
     );
     show_each(
         rt,
-        b"source 000, figure 3: first and last segments of 4 channels that make segments 1 to 4 of 2 channels",
-        Figure::Segment(4),
+        "source 000, figure 3: first and last segments of 4 channels that make segments 1 to 4 of 2 channels",
         &[0, 3, 4, 7, 8, 11, 12, 15],
+        |cell| segment(4, cell),
         &[1, 4, 5, 8, 9, 12, 13, 16],
     );
     show_each(
         rt,
-        b"source 000, figure 3: segments of 2 channels that hold those",
-        Figure::Segment(2),
+        "source 000, figure 3: segments of 2 channels that hold those",
         &[0, 3, 4, 7, 8, 11, 12, 15],
+        |cell| segment(2, cell),
         &[1, 1, 2, 2, 3, 3, 4, 4],
     );
     show_each(
         rt,
-        b"source 000, figure 3: segments of 3 channels that hold segments 1 to 4 and 13 to 16 of 4 channels",
-        Figure::Segment(3),
+        "source 000, figure 3: segments of 3 channels that hold segments 1 to 4 and 13 to 16 of 4 channels",
         &[0, 1, 2, 3, 12, 13, 14, 15],
+        |cell| segment(3, cell),
         &[1, 1, 2, 2, 7, 7, 8, 8],
     );
 }
@@ -312,48 +234,67 @@ fn figure_3(rt: &HostRuntime) {
 fn figure_4b_first(rt: &HostRuntime) {
     show(
         rt,
-        b"source 000, figure 4(b), t1 to t2: segments of 2 channels",
+        "source 000, figure 4(b), t1 to t2: segments of 2 channels",
         &[on_channel(2, 4, 2, 0, 4), on_channel(2, 4, 2, 1, 4)],
         &[1, 3],
     );
-    let a = with_each(no_row(), Figure::Found(3, 0, 0), &[4, 6]);
-    let b = with_each(a, Figure::Found(3, 1, 0), &[4, 6]);
-    show_row(
+    show_each(
         rt,
-        b"source 000, figure 4(b), t1 to t2: found in these of 3 channels, half slot by half slot",
-        b,
+        "source 000, figure 4(b), t1 to t2: found in these of 3 channels, half slot by half slot",
+        &[(0, 4), (0, 6), (1, 4), (1, 6)],
+        |(channel, tick)| found(3, channel, 0, tick),
         &[1, 2, 5, 6],
     );
 }
 
 fn figure_4b_second(rt: &HostRuntime) {
-    let a = with_each(no_row(), Figure::Found(4, 0, 0), &[4, 5, 6, 7]);
-    let b = with_each(a, Figure::Found(4, 1, 0), &[4, 5, 6, 7]);
-    show_row(
+    show_each(
         rt,
-        b"source 000, figure 4(b), t1 to t2: and in these of 4 channels, quarter by quarter",
-        b,
+        "source 000, figure 4(b), t1 to t2: and in these of 4 channels, quarter by quarter",
+        &[
+            (0, 4),
+            (0, 5),
+            (0, 6),
+            (0, 7),
+            (1, 4),
+            (1, 5),
+            (1, 6),
+            (1, 7),
+        ],
+        |(channel, tick)| found(4, channel, 0, tick),
         &[1, 2, 3, 4, 9, 10, 11, 12],
     );
 }
 
 // The same holds "similarly" from t3 to t4, which the text does not place: the next slot of 2 channels, by Lemma 1.
 fn figure_4b_third(rt: &HostRuntime) {
-    let a = with_each(no_row(), Figure::Channel(2, 8), &[0, 1]);
-    let b = with_each(a, Figure::Found(3, 0, 0), &[8, 10]);
-    let c = with_each(b, Figure::Found(3, 1, 0), &[8, 10]);
-    show_row(
+    show(
         rt,
-        b"source 000, figure 4(b), t3 to t4, derived: segments of 2 channels, then of 3 in which they are found",
-        c,
+        "source 000, figure 4(b), t3 to t4, derived: segments of 2 channels, then of 3 in which they are found",
+        &[
+            carried(2, 8, 0),
+            carried(2, 8, 1),
+            found(3, 0, 0, 8),
+            found(3, 0, 0, 10),
+            found(3, 1, 0, 8),
+            found(3, 1, 0, 10),
+        ],
         &[1, 2, 1, 2, 3, 4],
     );
-    let a = with_each(no_row(), Figure::Found(4, 0, 0), &[8, 9, 10, 11]);
-    let b = with_each(a, Figure::Found(4, 1, 0), &[8, 9, 10, 11]);
-    show_row(
+    show_each(
         rt,
-        b"source 000, figure 4(b), t3 to t4, derived: and of 4 channels",
-        b,
+        "source 000, figure 4(b), t3 to t4, derived: and of 4 channels",
+        &[
+            (0, 8),
+            (0, 9),
+            (0, 10),
+            (0, 11),
+            (1, 8),
+            (1, 9),
+            (1, 10),
+            (1, 11),
+        ],
+        |(channel, tick)| found(4, channel, 0, tick),
         &[1, 2, 3, 4, 5, 6, 7, 8],
     );
 }
@@ -361,18 +302,26 @@ fn figure_4b_third(rt: &HostRuntime) {
 // Figure 4(a): without the shift, S3 of 2 channels is found neither with 3 channels nor with 4. What k channels carry unshifted
 // is what they carry shifted 2^(k-2) - 1 slots later: 2 ticks for 3 channels, 3 ticks for 4. 0 is "not found".
 fn figure_4a(rt: &HostRuntime) {
-    let a = with_each(no_row(), Figure::Found(3, 1, 2), &[4, 5, 6, 7]);
-    let b = with_each(a, Figure::Found(4, 1, 3), &[4, 5, 6, 7]);
-    show_row(
+    show_each(
         rt,
-        b"source 000, figure 4(a): S3 of 2 channels, in 3 and in 4 channels that are not shifted",
-        b,
+        "source 000, figure 4(a): S3 of 2 channels, in 3 and in 4 channels that are not shifted",
+        &[
+            (3, 2, 4),
+            (3, 2, 5),
+            (3, 2, 6),
+            (3, 2, 7),
+            (4, 3, 4),
+            (4, 3, 5),
+            (4, 3, 6),
+            (4, 3, 7),
+        ],
+        |(other, later, tick)| found(other, 1, later, tick),
         &[0, 0, 0, 0, 0, 0, 0, 0],
     );
 }
 
 fn below(a: u64, b: u64) -> u64 {
-    if a < b { 1 } else { 0 }
+    u64::from(a < b)
 }
 
 // Section II-A: under 4 minutes with 5 channels and under 2 with 6, here with floor 5; section II-B: 8.57 and 4 minutes on
@@ -380,13 +329,13 @@ fn below(a: u64, b: u64) -> u64 {
 fn waiting(rt: &HostRuntime) {
     show(
         rt,
-        b"source 000, II-A: the longest wait with 5 and 6 channels is below 4 and 2 minutes, 1 is yes",
+        "source 000, II-A: the longest wait with 5 and 6 channels is below 4 and 2 minutes, 1 is yes",
         &[below(slot_ms(5, 5), 240_000), below(slot_ms(5, 6), 120_000)],
         &[1, 1],
     );
     show(
         rt,
-        b"source 000, II-B: average wait at floors 3 and 4, 1/100 minute",
+        "source 000, II-B: average wait at floors 3 and 4, 1/100 minute",
         &[average_wait(3, 3), average_wait(4, 4)],
         &[857, 400],
     );
@@ -396,9 +345,9 @@ fn waiting(rt: &HostRuntime) {
 fn figure_6a(rt: &HostRuntime) {
     show_each(
         rt,
-        b"source 000, figure 6(a), derived: segments that 4 channels have and 3 have not, from slot 4",
-        Figure::Fourth,
+        "source 000, figure 6(a), derived: segments that 4 channels have and 3 have not, from slot 4",
         &[4, 5, 6, 7, 8, 9, 10, 11],
+        fourth,
         &[3, 1, 7, 1, 3, 1, 15, 1],
     );
 }
@@ -408,9 +357,9 @@ fn figure_6a(rt: &HostRuntime) {
 fn figure_6c(rt: &HostRuntime) {
     show_each(
         rt,
-        b"source 000, figure 6(c), derived: what the fourth lane sends from slot 4 on, after 4 channels went to 3",
-        Figure::Sent(3, 3),
+        "source 000, figure 6(c), derived: what the fourth lane sends from slot 4 on, after 4 channels went to 3",
         &[4, 5, 6, 7],
+        |time| sent(3, 3, time),
         &[3, 7, 99, 99],
     );
 }
@@ -418,12 +367,21 @@ fn figure_6c(rt: &HostRuntime) {
 // Figure 7 is a drawing; by the same definitions from 4 channels to 2, the third lane has S3 and S7 of 3 channels left, which are
 // S5, S6 and S13, S14 of 4. S13 to S16 are padding.
 fn figure_7(rt: &HostRuntime) {
-    let a = with_each(no_row(), Figure::Sent(2, 3), &[4, 5, 6, 7]);
-    let b = with_each(a, Figure::Sent(2, 2), &[4, 5, 6, 7, 8]);
-    show_row(
+    show_each(
         rt,
-        b"source 000, figure 7, derived: what the fourth and the third lane send from slot 4 on, after 4 channels went to 2",
-        b,
+        "source 000, figure 7, derived: what the fourth and the third lane send from slot 4 on, after 4 channels went to 2",
+        &[
+            (3, 4),
+            (3, 5),
+            (3, 6),
+            (3, 7),
+            (2, 4),
+            (2, 5),
+            (2, 6),
+            (2, 7),
+            (2, 8),
+        ],
+        |(lane, time)| sent(2, lane, time),
         &[3, 7, 99, 99, 5, 6, 99, 99, 99],
     );
 }
@@ -432,30 +390,30 @@ fn figure_7(rt: &HostRuntime) {
 fn table_3_4(rt: &HostRuntime) {
     show_each(
         rt,
-        b"source 002, table 3.4, base 2: held after 3 went to 2, up to 7 to 6, 1/10 minute",
-        Figure::Held(2),
+        "source 002, table 3.4, base 2: held after 3 went to 2, up to 7 to 6, 1/10 minute",
         &[3, 4, 5, 6, 7],
+        |k| held(2, k),
         &[200, 200, 150, 100, 63],
     );
     show_each(
         rt,
-        b"source 002, table 3.4, base 3: held after 4 went to 3, up to 7 to 6, 1/10 minute",
-        Figure::Held(3),
+        "source 002, table 3.4, base 3: held after 4 went to 3, up to 7 to 6, 1/10 minute",
         &[4, 5, 6, 7],
+        |k| held(3, k),
         &[171, 129, 86, 54],
     );
     show_each(
         rt,
-        b"source 002, table 3.4, base 4: held after 5 went to 4, up to 7 to 6, 1/10 minute",
-        Figure::Held(4),
+        "source 002, table 3.4, base 4: held after 5 went to 4, up to 7 to 6, 1/10 minute",
         &[5, 6, 7],
+        |k| held(4, k),
         &[120, 80, 50],
     );
     show_each(
         rt,
-        b"source 002, table 3.4, base 5: held after 6 went to 5 and 7 to 6, 1/10 minute",
-        Figure::Held(5),
+        "source 002, table 3.4, base 5: held after 6 went to 5 and 7 to 6, 1/10 minute",
         &[6, 7],
+        |k| held(5, k),
         &[77, 48],
     );
 }
@@ -464,25 +422,25 @@ fn table_3_4(rt: &HostRuntime) {
 fn figure_3_5b(rt: &HostRuntime) {
     show(
         rt,
-        b"source 002, figure 3.5b: blocks on channel 0 of 4, t0 to t15",
+        "source 002, figure 3.5b: blocks on channel 0 of 4, t0 to t15",
         &on_lane(4, 0),
         &[1, 1, 1, 1, 1, 1, 1, 1, 1, 1, 1, 1, 1, 1, 1, 1],
     );
     show(
         rt,
-        b"source 002, figure 3.5b: on channel 1",
+        "source 002, figure 3.5b: on channel 1",
         &on_lane(4, 1),
         &[2, 2, 2, 2, 2, 2, 2, 2, 2, 2, 2, 2, 2, 2, 2, 2],
     );
     show(
         rt,
-        b"source 002, figure 3.5b: on channel 2",
+        "source 002, figure 3.5b: on channel 2",
         &on_lane(4, 2),
         &[3, 4, 3, 4, 3, 4, 3, 4, 3, 4, 3, 4, 3, 4, 3, 4],
     );
     show(
         rt,
-        b"source 002, figure 3.5b: on channel 3",
+        "source 002, figure 3.5b: on channel 3",
         &on_lane(4, 3),
         &[5, 6, 7, 8, 5, 6, 7, 8, 5, 6, 7, 8, 5, 6, 7, 8],
     );
@@ -492,31 +450,31 @@ fn figure_3_5b(rt: &HostRuntime) {
 fn figure_3_14b(rt: &HostRuntime) {
     show(
         rt,
-        b"source 002, figure 3.14b: blocks on channel 0 of 5, t0 to t15",
+        "source 002, figure 3.14b: blocks on channel 0 of 5, t0 to t15",
         &on_lane(5, 0),
         &[1, 1, 1, 1, 1, 1, 1, 1, 1, 1, 1, 1, 1, 1, 1, 1],
     );
     show(
         rt,
-        b"source 002, figure 3.14b: on channel 1",
+        "source 002, figure 3.14b: on channel 1",
         &on_lane(5, 1),
         &[2, 2, 2, 2, 2, 2, 2, 2, 2, 2, 2, 2, 2, 2, 2, 2],
     );
     show(
         rt,
-        b"source 002, figure 3.14b: on channel 2",
+        "source 002, figure 3.14b: on channel 2",
         &on_lane(5, 2),
         &[3, 4, 3, 4, 3, 4, 3, 4, 3, 4, 3, 4, 3, 4, 3, 4],
     );
     show(
         rt,
-        b"source 002, figure 3.14b: on channel 3",
+        "source 002, figure 3.14b: on channel 3",
         &on_lane(5, 3),
         &[5, 6, 7, 8, 5, 6, 7, 8, 5, 6, 7, 8, 5, 6, 7, 8],
     );
     show(
         rt,
-        b"source 002, figure 3.14b: on channel 4",
+        "source 002, figure 3.14b: on channel 4",
         &on_lane(5, 4),
         &[9, 10, 11, 12, 13, 14, 15, 16, 9, 10, 11, 12, 13, 14, 15, 16],
     );
@@ -527,25 +485,25 @@ fn figure_3_14b(rt: &HostRuntime) {
 fn figure_3_6a(rt: &HostRuntime) {
     show(
         rt,
-        b"source 002, figure 3.6a, derived: slots after a start at t0 in which blocks 1 to 8 of 4 channels are taken",
+        "source 002, figure 3.6a, derived: slots after a start at t0 in which blocks 1 to 8 of 4 channels are taken",
         &taken_from(0),
         &[0, 0, 0, 1, 0, 1, 2, 3],
     );
     show(
         rt,
-        b"source 002, figure 3.6a, derived: after a start at t1",
+        "source 002, figure 3.6a, derived: after a start at t1",
         &taken_from(1),
         &[0, 0, 1, 0, 3, 0, 1, 2],
     );
     show(
         rt,
-        b"source 002, figure 3.6a, derived: after a start at t2",
+        "source 002, figure 3.6a, derived: after a start at t2",
         &taken_from(2),
         &[0, 0, 0, 1, 2, 3, 0, 1],
     );
     show(
         rt,
-        b"source 002, figure 3.6a, derived: after a start at t3",
+        "source 002, figure 3.6a, derived: after a start at t3",
         &taken_from(3),
         &[0, 0, 1, 0, 1, 2, 3, 0],
     );
@@ -555,9 +513,9 @@ fn figure_3_6a(rt: &HostRuntime) {
 fn table_2_ssb(rt: &HostRuntime) {
     show_each(
         rt,
-        b"source 004, table II, SSB: floor 2, k 2 to 9, 1/100 second",
-        Figure::Slot(2),
+        "source 004, table II, SSB: floor 2, k 2 to 9, 1/100 second",
         &[2, 3, 4, 5, 6, 7, 8, 9],
+        |k| slot(2, k),
         &[
             240_000, 120_000, 60_000, 30_000, 15_000, 7_500, 3_750, 1_875,
         ],
@@ -568,15 +526,15 @@ fn table_2_ssb(rt: &HostRuntime) {
 fn table_2_sfb(rt: &HostRuntime) {
     show(
         rt,
-        b"source 004, table II, SFB: floor 3, k 3, 1/10 second",
+        "source 004, table II, SFB: floor 3, k 3, 1/10 second",
         &[slot_tenths(3, 3)],
         &[10_286],
     );
     show_each(
         rt,
-        b"source 004, table II, SFB: floor 3, k 4 to 9, 1/100 second",
-        Figure::Slot(3),
+        "source 004, table II, SFB: floor 3, k 4 to 9, 1/100 second",
         &[4, 5, 6, 7, 8, 9],
+        |k| slot(3, k),
         &[51_429, 25_714, 12_857, 6_429, 3_214, 1_607],
     );
 }
@@ -585,9 +543,9 @@ fn table_2_sfb(rt: &HostRuntime) {
 fn table_2_seb(rt: &HostRuntime) {
     show_each(
         rt,
-        b"source 004, table II, SEB: floor 4, k 4 to 9, 1/100 second",
-        Figure::Slot(4),
+        "source 004, table II, SEB: floor 4, k 4 to 9, 1/100 second",
         &[4, 5, 6, 7, 8, 9],
+        |k| slot(4, k),
         &[48_000, 24_000, 12_000, 6_000, 3_000, 1_500],
     );
 }
@@ -597,7 +555,7 @@ fn table_2_seb(rt: &HostRuntime) {
 fn longest_film(rt: &HostRuntime) {
     show(
         rt,
-        b"derived: a film of 240 minutes, floor 2 to 5, cap and k 10, ms",
+        "derived: a film of 240 minutes, floor 2 to 5, cap and k 10, ms",
         &[
             longest_slot(2, 10),
             longest_slot(3, 10),
@@ -608,7 +566,7 @@ fn longest_film(rt: &HostRuntime) {
     );
     show(
         rt,
-        b"derived: the same, cap and k 12, ms",
+        "derived: the same, cap and k 12, ms",
         &[
             longest_slot(2, 12),
             longest_slot(3, 12),

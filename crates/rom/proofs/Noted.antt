@@ -3,14 +3,14 @@
 -- Rests on the laws of stores into a list, and of the first of a search.
 use mathlib.Core.Path.{◌≡◌, refl, sym, ap, ap₂, ◌∙◌}
 use mathlib.Core.Bool.{Bool, true, false}
-use mathlib.Core.List.{List}
+use mathlib.Core.List.{List, [], ◌∷◌, ◌++◌}
 use mathlib.Core.Logic.{⊎_elim}
 use Prim.Native.Nat.{ℕ, zero, suc, ◌+◌, ◌-◌, ◌^◌, ◌≤◌, ◌<◌}
 use native.Mathlib.Omega.{arith}
 use native.Mathlib.Numerals.{add-one}
 use lib.Dec.{ltb, eqb}
-use lib.ListN.{length, set, length-set}
-use lib.Seq.{set-set, set_comm}
+use lib.ListN.{length, set, length-set, replicate, take, drop}
+use lib.Seq.{set-set, set_comm, length-take-le}
 use borrow.Author.Tests.{eq-eqb, ne_eqb, eqb-true, eqb-false, ltb-true, ltb-false}
 use Rattle.rules.specs.Refusals.{pick}
 use Rattle.rules.specs.Search.{some, first}
@@ -45,6 +45,23 @@ pub ticks_more : (T row r q : List ℕ) (k a n : ℕ) → r ≡ noted_ticks T ro
     → q ≡ noted_lanes T r (a + (rom_period - (n + 1))) (rom_period - (n + 1)) k → q ≡ noted_ticks T row k a (n + 1)
 unfolding noted_ticks
 ticks_more T row r q k a n e g = g ∙ rw (add-one n, e) refl
+
+-- ---- one value in the first places
+
+never_more : (row : List ℕ) (n : ℕ) → n < length row → set (replicate n never ++ drop n row) n never ≡ replicate (suc n) never ++ drop (suc n) row
+never_more [] n l = absurd (omega arith)
+never_more (x ∷ xs) zero l = refl
+never_more (x ∷ xs) (suc n) l = ap (λ (r : List ℕ). never ∷ r) (never_more xs n (omega arith))
+
+never_first : (row : List ℕ) (n : ℕ) → n ≤ length row → replicate n never ++ drop n row ≡ written (λ c. never) row n
+unfolding written
+never_first row zero l = refl
+never_first row (suc n) l =
+    sym (never_more row n (omega arith)) ∙ ap (λ (r : List ℕ). set r n never) (never_first row n (omega arith))
+
+pub never_filled : (row xs : List ℕ) (n : ℕ) → n ≤ length row → xs ≡ replicate (length (take n row)) never →
+    xs ++ drop n row ≡ written (λ c. never) row n
+never_filled row xs n l e = rw (e, length-take-le n row l) (never_first row n l)
 
 -- ---- stores
 

@@ -3,6 +3,7 @@
 
 ghost use Rattle.std.specs.Prelude.{◌+◌, ◌^◌, ◌≤◌, ◌<◌, ◌≡◌, length};
 ghost use Rattle.rules.specs.Limits.{asked_max};
+ghost use Rattle.rules.specs.Told.{told};
 ghost use Rattle.plans.specs.Padded.{never};
 ghost use Rattle.plans.specs.Row.{written};
 ghost use Rattle.rom_table.specs.Table.{rom_cap, rom_period, rom_entries, table_cell};
@@ -19,7 +20,8 @@ ghost use Rattle.rom.specs.Plan.{
 use plans::NEVER;
 use plans::padded::answer;
 use rom_table::{ENTRIES, PERIOD, cell_at, is_other};
-use rules::{DONE, OUTSIDE_LIMITS};
+use rules::DONE;
+use rules::answers::Refusal;
 
 // The cells of a film with the box's cap.
 const CELLS: usize = 1024;
@@ -29,11 +31,7 @@ fn clear(row: &mut [u16])
     requires { 2 ^ rom_cap ≤ length row.old }
     ensures { row.new ≡ written (λ c. never) row.old (2 ^ rom_cap) }
 {
-    let mut cell = 0;
-    while cell < CELLS {
-        row[cell] = NEVER;
-        cell += 1;
-    }
+    row[..CELLS].fill(NEVER);
 }
 
 // Notes a tick for a cell. A lent table may have numbers that are no cells: those have no place.
@@ -54,10 +52,8 @@ fn note_lanes(table: &[u16], row: &mut [u16], count: u64, tick: u64, after: u64)
     requires after_lt_rom_period { after < rom_period }
     ensures { row.new ≡ noted_lanes table.now row.old tick after count }
 {
-    let mut lane: u64 = 0;
-    while lane < count {
+    for lane in 0..count {
         note(row, cell_at(table, lane, tick), after);
-        lane += 1;
     }
 }
 
@@ -68,10 +64,7 @@ fn note_ticks(table: &[u16], row: &mut [u16], count: u64, arrival: u64)
     requires arrival_le_asked_max { arrival ≤ asked_max }
     ensures { row.new ≡ noted_ticks table.now row.old count arrival rom_period }
 {
-    let mut passed: u64 = 0;
-    while passed < PERIOD {
-        passed += 1;
-        let after = PERIOD - passed;
+    for after in (0..PERIOD).rev() {
         note_lanes(table, row, count, arrival + after, after);
     }
 }
@@ -89,11 +82,11 @@ fn fill(table: &[u16], row: &mut [u16], count: u64, arrival: u64)
 }
 
 // The small box's answer for a lent row of `places` places: 1 for another floor or cap, then as the computing call.
-fn rom_answer(floor: u64, cap: u64, count: u64, arrival: u64, places: usize) -> u8
-    ensures { result ≡ rom_plan_answer floor cap count arrival places }
+fn rom_answer(floor: u64, cap: u64, count: u64, arrival: u64, places: usize) -> Result<(), Refusal>
+    ensures { told result ≡ rom_plan_answer floor cap count arrival places }
 {
     if is_other(floor, cap) {
-        return OUTSIDE_LIMITS;
+        return Err(Refusal::OutsideLimits);
     }
     answer(floor, cap, count, arrival, places)
 }
@@ -108,15 +101,16 @@ fn places_beside(table: &[u16], places: usize) -> usize
     0
 }
 
+// kept: a customer's call gives back 01's number (docs/PROMISES.md, "Public calls"; `rongalishu_c`).
 // Writes the plan of a box that starts at tick `arrival` under `count` into the first 1,024 places of the row, by a lent table; by
 // one that was filled, as the computing call does. Later places stay. A refusal writes nothing.
 pub fn plan(table: &[u16], floor: u64, cap: u64, count: u64, arrival: u64, row: &mut [u16]) -> u8
     ensures { TablePlanned table.now floor cap count arrival row.old result row.new }
 {
     let places = places_beside(table, row.len());
-    let number = rom_answer(floor, cap, count, arrival, places);
-    if number == DONE {
-        fill(table, row, count, arrival);
+    if let Err(refusal) = rom_answer(floor, cap, count, arrival, places) {
+        return refusal.number();
     }
-    number
+    fill(table, row, count, arrival);
+    DONE
 }

@@ -3,7 +3,7 @@ use mathlib.Core.Path.{◌≡◌, refl}
 use mathlib.Core.Bool.{true, false}
 use Prim.Native.Nat.{ℕ}
 use lib.Dec.{eqb}
-use borrow.Author.Tests.{eq-eqb, ne_eqb, eqb-true, not-false}
+use borrow.Author.Tests.{eq-eqb, eqb-true, not-false}
 use Rattle.rules.specs.Limits.{both}
 use Rattle.rules.proofs.Tests.{both_l, both_r}
 use Rattle.rom_table.specs.Table.{rom_floor, rom_cap, is_other}
@@ -11,12 +11,6 @@ use Rattle.rom_table.specs.Table.{rom_floor, rom_cap, is_other}
 module _ (A K : ℕ) where
   pub own : A ≡ rom_floor → K ≡ rom_cap → is_other A K ≡ false
   own e f = rw (eq-eqb A rom_floor e, eq-eqb K rom_cap f) refl
-
-  pub other_floor : (A ≡ rom_floor → ⊥) → is_other A K ≡ true
-  other_floor n = rw (ne_eqb A rom_floor n) refl
-
-  pub other_cap : A ≡ rom_floor → (K ≡ rom_cap → ⊥) → is_other A K ≡ true
-  other_cap e n = rw (eq-eqb A rom_floor e, ne_eqb K rom_cap n) refl
 
   pub own_numbers_lem : is_other A K ≡ false → (A ≡ rom_floor) × (K ≡ rom_cap)
   own_numbers_lem h =

@@ -23,12 +23,7 @@ pub const ENTRIES: usize = 5120;
 pub fn is_other(floor: u64, cap: u64) -> bool
     ensures { result ≡ is_other floor cap }
 {
-    if floor == ROM_FLOOR {
-        if cap == ROM_CAP {
-            return false;
-        }
-    }
-    true
+    floor != ROM_FLOOR || cap != ROM_CAP
 }
 
 // The table by value: the language has no constant that is read in place.
@@ -43,12 +38,7 @@ fn write(row: &mut [u16])
     requires { length row.old ≡ rom_entries }
     ensures { row.new ≡ written rom_entry row.old rom_entries }
 {
-    let numbers = cells();
-    let mut i = 0;
-    while i < ENTRIES {
-        row[i] = numbers[i];
-        i += 1;
-    }
+    row.copy_from_slice(&cells());
 }
 
 // Fills a lent row with the table. One of another length, shorter or longer, gets 10 and stays as it is.

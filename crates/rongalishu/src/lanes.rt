@@ -4,8 +4,8 @@ ghost use Rattle.row_calls.specs.Answers.{row_lane, row_shows, row_held, row_lan
 ghost use Rattle.row_questions.specs.Questions.{row_rom_lane, row_rom_shows};
 ghost use Rattle.rongalishu.specs.Results.{OneGiven};
 
-use crate::results::put;
-use rules::{DONE, WRONG_ROWS};
+use crate::results::give;
+use rules::WRONG_ROWS;
 
 // The cell that goes out on a lane of a title in the tick that holds a time, into the first place of a row.
 pub fn rl_lane_row(agent: &[u64], id: u64, lane: u64, time: u64, cell: &mut [u64]) -> u8
@@ -16,12 +16,7 @@ pub fn rl_lane_row(agent: &[u64], id: u64, lane: u64, time: u64, cell: &mut [u64
         return WRONG_ROWS;
     }
     let told = row_calls::lanes::lane(agent, id, lane, time);
-    let answer = told.answer;
-    if answer == DONE {
-        let numbers = [told.cell];
-        put(&numbers, 1, cell);
-    }
-    answer
+    give(told.answer, &[told.cell], cell)
 }
 
 // The same looked up in a lent table of the small box.
@@ -40,12 +35,7 @@ pub fn rl_rom_lane_row(
         return WRONG_ROWS;
     }
     let told = row_questions::small::rom_lane(agent, table, id, lane, time);
-    let answer = told.answer;
-    if answer == DONE {
-        let numbers = [told.cell];
-        put(&numbers, 1, cell);
-    }
-    answer
+    give(told.answer, &[told.cell], cell)
 }
 
 // How many lanes are held over all titles at a time, into the first place of a row.
@@ -57,10 +47,5 @@ pub fn rl_held_row(agent: &[u64], time: u64, lanes: &mut [u64]) -> u8
         return WRONG_ROWS;
     }
     let told = row_calls::lanes::held(agent, time);
-    let answer = told.answer;
-    if answer == DONE {
-        let numbers = [told.lanes];
-        put(&numbers, 1, lanes);
-    }
-    answer
+    give(told.answer, &[told.lanes], lanes)
 }

@@ -3,8 +3,8 @@
 ghost use Rattle.notice_rows.specs.Calls.{ReadsRow};
 ghost use Rattle.rongalishu.specs.Notices.{WrittenGiven, NextGiven};
 
-use crate::results::put;
-use rules::{DONE, WRONG_ROWS};
+use crate::results::give;
+use rules::WRONG_ROWS;
 
 // Writes the notice of a row at the start of a room, and how many bytes it has into the first place of another row.
 pub fn rl_write_row(fields: &[u64], room: &mut [u8], written: &mut [u64]) -> u8
@@ -15,12 +15,7 @@ pub fn rl_write_row(fields: &[u64], room: &mut [u8], written: &mut [u64]) -> u8
         return WRONG_ROWS;
     }
     let told = notice_rows::write(fields, room);
-    let answer = told.answer;
-    if answer == DONE {
-        let numbers = [told.bytes];
-        put(&numbers, 1, written);
-    }
-    answer
+    give(told.answer, &[told.bytes], written)
 }
 
 // Reads one notice, and nothing after it, into the first eight places of a row.
@@ -39,10 +34,5 @@ pub fn rl_next_row(log: &[u8], place: &mut [u64], fields: &mut [u64]) -> u8
         return WRONG_ROWS;
     }
     let told = notice_rows::next(log, place[0], fields);
-    let answer = told.answer;
-    if answer == DONE {
-        let numbers = [told.place];
-        put(&numbers, 1, place);
-    }
-    answer
+    give(told.answer, &[told.place], place)
 }

@@ -8,8 +8,8 @@ ghost use Rattle.agent_rows.specs.Packed.{unpacked};
 ghost use Rattle.row_calls.specs.Answers.{row_status};
 ghost use Rattle.rongalishu.specs.Pools.{PlannerGiven};
 
-use crate::results::put;
-use rules::{DONE, WRONG_ROWS};
+use crate::results::give;
+use rules::WRONG_ROWS;
 
 // Counts, lanes held and held marks of the titles asked for, by id.
 pub fn rl_status_row(
@@ -51,12 +51,7 @@ pub fn rl_planner_row(
         return WRONG_ROWS;
     }
     let told = row_questions::planner(agent, time, rates, ids, times, counts);
-    let answer = told.answer;
-    if answer == DONE {
-        let numbers = [told.many];
-        put(&numbers, 1, moves);
-    }
-    answer
+    give(told.answer, &[told.many], moves)
 }
 
 // The counts that share a pool, into the first places of a row.

@@ -5,8 +5,8 @@ ghost use Rattle.std.specs.Prelude.{◌≡◌};
 ghost use Rattle.airing.specs.Air.{ticks_answer, ticks_leaves};
 ghost use Rattle.rongalishu.specs.Reports.{WaitsGiven, AirGiven, SalvageGiven};
 
-use crate::results::put;
-use rules::{DONE, WRONG_ROWS};
+use crate::results::give;
+use rules::WRONG_ROWS;
 
 // How many numbers a report has.
 const WAITS_PLACES: usize = 4;
@@ -23,13 +23,9 @@ pub fn rl_waits_row(pool: u64, title: u64, log: &[u8], arrivals: &[u64], report:
         return WRONG_ROWS;
     }
     let told = waiting::report_of(pool, log, title, arrivals);
-    let answer = told.answer;
-    if answer == DONE {
-        let waits = told.waits;
-        let numbers = [told.arrivals, waits.admitted, waits.longest, waits.sum];
-        put(&numbers, WAITS_PLACES, report);
-    }
-    answer
+    let waits = told.waits;
+    let numbers = [told.arrivals, waits.admitted, waits.longest, waits.sum];
+    give(told.answer, &numbers, report)
 }
 
 // What the air carried: admissions judged, played through, and those that outlast the record.
@@ -48,12 +44,11 @@ pub fn rl_air_row(
         return WRONG_ROWS;
     }
     let told = airing::air(pool, log, title, record, row);
-    let answer = told.answer;
-    if answer == DONE {
-        let numbers = [told.judged, told.played, told.outlast];
-        put(&numbers, AIR_PLACES, report);
-    }
-    answer
+    give(
+        told.answer,
+        &[told.judged, told.played, told.outlast],
+        report,
+    )
 }
 
 // Marks each tick of a title's latest opening with 1 where it is an admission.
@@ -73,14 +68,13 @@ pub fn rl_salvage_row(log: &[u8], area: &mut [u8], stretches: &mut [u64], report
         return WRONG_ROWS;
     }
     let told = salvaging::salvage(log, area, stretches);
-    let answer = told.answer;
-    if answer == DONE {
-        let numbers = [
+    give(
+        told.answer,
+        &[
             told.notices as u64,
             told.bytes as u64,
             told.stretches as u64,
-        ];
-        put(&numbers, SALVAGE_PLACES, report);
-    }
-    answer
+        ],
+        report,
+    )
 }

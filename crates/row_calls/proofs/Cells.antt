@@ -1,6 +1,6 @@
 -- What a lane question and the question of lanes held answer of a row that was tested, as their code meets it, and of any other row.
 -- Rests on the laws of tests.
-use mathlib.Core.Path.{◌≡◌, refl, sym, ap, ◌∙◌}
+use mathlib.Core.Path.{◌≡◌, refl, sym, ◌∙◌}
 use mathlib.Core.Bool.{Bool, true, false}
 use mathlib.Core.List.{List}
 use mathlib.Core.Logic.{⊎_elim}

@@ -10,7 +10,6 @@ use borrow.Author.Tests.{eq-eqb}
 use Rattle.rules.specs.Refusals.{pick}
 use Rattle.notice.specs.declared.Reading.{Reading}
 use Rattle.notice.specs.declared.Reading.TheVariants as reading
-use Rattle.story.specs.declared.State.{State}
 use Rattle.story.specs.declared.Event.{Event}
 use Rattle.story.specs.Next.{call_next}
 use Rattle.story.specs.Runs.{answered, called}

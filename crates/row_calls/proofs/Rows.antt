@@ -1,28 +1,29 @@
 -- The answers of an event on a row that was tested, as its code meets them: by its numbers, the clock, its title, or the lanes; and what a
 -- row that is out of its limits is answered. Rests on the scheduler's laws of the refusals' order.
-use mathlib.Core.Path.{◌≡◌, refl, sym, ◌∙◌}
+use mathlib.Core.Path.{◌≡◌, refl, sym, ap, ◌∙◌}
 use mathlib.Core.Bool.{Bool, true, false}
 use mathlib.Core.Logic.{⊎_elim}
 use mathlib.Core.List.{List}
 use Prim.Native.Nat.{ℕ, ◌+◌, ◌≤◌, ◌<◌}
 use native.Mathlib.Omega.{arith}
-use lib.Dec.{leb, eqb}
+use lib.Dec.{leb, ltb, eqb}
 use lib.ListN.{length}
 use borrow.Author.Tests.{lt-ltb, le-ltb, eq-eqb, ne_eqb}
 use Rattle.rules.specs.Limits.{both, id_max, event_time_max, titles_max}
 use Rattle.rules.specs.Refusals.{pick, first_hit, no_lanes, outside_limits, wrong_rows}
-use Rattle.rules.proofs.Tests.{decide}
+use Rattle.rules.proofs.Tests.{decide, both_l, both_r}
 use Rattle.story.specs.declared.Title.{Title}
 use Rattle.story.specs.declared.State.{State}
 use Rattle.story.specs.declared.Act.{Act}
 use Rattle.story.specs.declared.Event.{Event}
-use Rattle.story.specs.Kept.{state_ok, title_held, lanes_held}
+use Rattle.story.specs.Kept.{state_ok, title_at, title_held, lanes_held}
 use Rattle.story.specs.Story.{event, act_limits, sets_count}
 use Rattle.story.specs.Next.{with_title, call_next}
 use Rattle.story.specs.Calls.{event_ok, call_answer}
 use Rattle.story.specs.Runs.{answered}
+use Rattle.title_verdicts.specs.Titled.{title_rules}
 use Rattle.verdicts.specs.Before.{first_answer}
-use Rattle.verdicts.proofs.Event.{out_by_numbers}
+use Rattle.verdicts.proofs.Event.{out_by_numbers, out_by_title}
 use Rattle.scheduler.specs.Outcomes.{settled_answer}
 use Rattle.scheduler.proofs.Settled.{in_two}
 use Rattle.agent.specs.declared.Agent.{Agent}
@@ -66,6 +67,11 @@ module _ (s : State) (i τ : ℕ) (a : Act) (first : ℕ) (is_first : first ≡ 
   pub by_first : (first ≡ 0 → ⊥) → first ≡ call_answer s i τ a
   by_first some = sym (rw (← is_first, ne_eqb first 0 some) at (in_two s i τ a))
 
+-- what its title answers an event in its time is the first part
+pub by_title : (s : State) (i τ : ℕ) (a : Act) (t : Title) (n : ℕ) → n ≡ first_hit (title_rules t τ a) → t ≡ title_at s i →
+    both (event_ok s i τ) (act_limits a true) ≡ true → ltb τ s.last ≡ false → n ≡ first_answer s (event i τ a)
+by_title s i τ a t n e is numbers late = e ∙ ap (λ (t : Title). first_hit (title_rules t τ a)) is ∙ out_by_title s i τ a numbers late
+
 -- the numbers of an event on a row that was tested are those of the event itself
 pub numbers_of_lem : (s : State) (i τ : ℕ) (a : Act) → state_ok s ≡ true →
     both (both (leb i id_max) (leb τ event_time_max)) (act_limits a true) ≡ both (event_ok s i τ) (act_limits a true)
@@ -81,6 +87,15 @@ pub row_out : (r : List ℕ) (answer : ℕ) → both (row_sound r) (state_ok (un
     (state_ok (unpacked r).state ≡ false → answer ≡ outside_limits) → outside_limits ≡ pick (row_sound r) answer outside_limits
 row_out r answer out bad =
     ⊎_elim (λ sound. rw sound (sym (bad (rw sound at out)))) (λ unsound. rw unsound refl) (decide (row_sound r))
+
+-- a row of the right length, whose numbers were tested
+pub tested_row : (r : List ℕ) → length r ≡ row_length → both (row_sound r) (state_ok (unpacked r).state) ≡ true → Tested r
+tested_row r long ok =
+    record {
+      long = long;
+      sound = both_l (row_sound r) (state_ok (unpacked r).state) ok;
+      ok = both_r (row_sound r) (state_ok (unpacked r).state) ok;
+    }
 
 -- ---- an event on any row
 

@@ -12,7 +12,7 @@ use Rattle.notice.specs.declared.Notice.{Notice}
 use Rattle.notice.specs.declared.Reading.TheVariants as reading
 use Rattle.agent.specs.Turns.{notice_answer, noticed}
 use Rattle.agent_rows.specs.Layout.{row_version, sequence_end, version_at, sequence_at, row_length}
-use Rattle.agent_rows.specs.Packed.{packed, unpacked, row_sound}
+use Rattle.agent_rows.specs.Packed.{packed, unpacked}
 use Rattle.row_calls.specs.inner.Steps.{Tested, TakesNotice}
 use Rattle.row_calls.proofs.Heeded.{Heeds}
 use Rattle.row_calls.proofs.Follows.{noticed_as_agent}

@@ -19,7 +19,6 @@ use agent_rows::reading::{title_from, title_place};
 use agent_rows::testing::row_ok;
 use agent_rows::{CAP_AT, FLOOR_AT, KIND_AT, LAST_AT, MODE_AT, ROW_LENGTH, TITLE_LAST_AT};
 use owed::sending::sending_tick;
-use rules::truth::also;
 use rules::{ASKED_MAX, DONE, ID_MAX, LANE_MAX, NOT_THERE, OUTSIDE_LIMITS, TOO_EARLY, WRONG_ROWS};
 use scheduler::{HeldLanes, Shown};
 use scheme::lane_cell;
@@ -93,7 +92,7 @@ fn asked_tick(row: &[u64], id: u64, lane: u64, time: u64) -> ShownTick
     ensures { (result.answer ≡ lane_answer (unpacked row.now).state id lane time)
         × Early (asked_tick (unpacked row.now).state id lane time) result.tick }
 {
-    if also(id <= ID_MAX, also(lane <= LANE_MAX, time <= ASKED_MAX)) {
+    if id <= ID_MAX && lane <= LANE_MAX && time <= ASKED_MAX {
         return title_tick(row, title_place(id), lane, time);
     }
     refused(OUTSIDE_LIMITS)

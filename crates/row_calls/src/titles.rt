@@ -2,6 +2,7 @@
 
 ghost use Rattle.std.specs.Prelude.{◌+◌, ◌≤◌, ◌≡◌, true, map, eqb, length};
 ghost use Rattle.rules.specs.Refusals.{pick};
+ghost use Rattle.rules.specs.Told.{told};
 ghost use Rattle.story.specs.Kept.{clear_mark, ruling as rulingOf};
 ghost use Rattle.story.specs.Calls.{status_count, status_held, status_mark};
 ghost use Rattle.questions.specs.Asked.{asked_answer};
@@ -15,8 +16,9 @@ use agent_rows::holding::{ruling, title_held};
 use agent_rows::reading::title_place;
 use agent_rows::testing::row_ok;
 use agent_rows::{LAST_AT, MARK_AT, ROW_LENGTH};
+use rules::answers::{Refusal, told};
 use rules::truth::row_within;
-use rules::{ASKED_MAX, DONE, ID_MAX, OUTSIDE_LIMITS, TOO_EARLY, WRONG_ROWS};
+use rules::{ASKED_MAX, ID_MAX};
 use story::CLEAR;
 
 // The mark of the title at a place, unset where its count shows 0.
@@ -47,35 +49,31 @@ fn fill(
     ensures held_after { held.new ≡ map (λ i. status_held (unpacked row.now).state i time) ids.now }
     ensures marks_after { marks.new ≡ map (λ i. status_mark (unpacked row.now).state i) ids.now }
 {
-    let mut i = 0;
-    while i < ids.len() {
-        let at = title_place(ids[i]);
+    for (i, id) in ids.iter().enumerate() {
+        let at = title_place(*id);
         counts[i] = ruling(row, at);
         held[i] = title_held(row, at, time);
         marks[i] = shown_mark(row, at);
-        i += 1;
     }
 }
 
 // The answer of a row that was tested: the question's numbers, and the clock.
-fn asked(row: &[u64], time: u64, ids: &[u64]) -> u8
+#[tactic(auto, unfolding(rules::specs::Refusals::first_hit, questions::specs::Asked::asked_answer, status::specs::Rows::ids_ok))]
+fn asked(row: &[u64], time: u64, ids: &[u64]) -> Result<(), Refusal>
     requires { Tested row.now }
-    ensures { result ≡ asked_answer (unpacked row.now).state time (ids_ok ids.now) }
+    ensures { told result ≡ asked_answer (unpacked row.now).state time (ids_ok ids.now) }
 {
-    if time > ASKED_MAX {
-        return OUTSIDE_LIMITS;
+    if time > ASKED_MAX || !row_within(ids, ids.len(), ID_MAX) {
+        return Err(Refusal::OutsideLimits);
     }
-    if row_within(ids, ids.len(), ID_MAX) {
-        let last = row[LAST_AT];
-        if time < last {
-            return TOO_EARLY;
-        }
-        return DONE;
+    if time < row[LAST_AT] {
+        return Err(Refusal::TooEarly);
     }
-    OUTSIDE_LIMITS
+    Ok(())
 }
 
 // The answer, for rows of as many counts, numbers of lanes held and marks.
+#[tactic(auto, unfolding(rules::specs::Refusals::first_hit, crate::specs::Answers::row_status, story::specs::Calls::status_answer, questions::specs::Asked::asked_answer, status::specs::Rows::ids_ok))]
 fn status_verdict(
     row: &[u64],
     time: u64,
@@ -83,28 +81,20 @@ fn status_verdict(
     counts: usize,
     held: usize,
     marks: usize,
-) -> u8
-    ensures { result ≡ row_status row.now time ids.now counts held marks }
+) -> Result<(), Refusal>
+    ensures { told result ≡ row_status row.now time ids.now counts held marks }
 {
     let n = ids.len();
-    if row.len() != ROW_LENGTH {
-        return WRONG_ROWS;
+    if row.len() != ROW_LENGTH || counts != n || held != n || marks != n {
+        return Err(Refusal::WrongRows);
     }
-    if counts != n {
-        return WRONG_ROWS;
+    if !row_ok(row) {
+        return Err(Refusal::OutsideLimits);
     }
-    if held != n {
-        return WRONG_ROWS;
-    }
-    if marks != n {
-        return WRONG_ROWS;
-    }
-    if row_ok(row) {
-        return asked(row, time, ids);
-    }
-    OUTSIDE_LIMITS
+    asked(row, time, ids)
 }
 
+// kept: a customer's call gives back 01's number (docs/PROMISES.md, "Public calls"; `rongalishu_c`).
 // Fills in counts, lanes held and marks by id.
 pub fn status(
     row: &[u64],
@@ -124,8 +114,8 @@ pub fn status(
         ≡ pick (eqb result 0) (map (λ i. status_mark (unpacked row.now).state i) ids.now) marks.old }
 {
     let answer = status_verdict(row, time, ids, counts.len(), held.len(), marks.len());
-    if answer == DONE {
+    if answer.is_ok() {
         fill(row, time, ids, counts, held, marks);
     }
-    answer
+    told(answer)
 }

@@ -22,15 +22,8 @@ fn is_foreign(row: &[u64], at: usize) -> bool
     requires { at + title_places ≤ length row.now }
     ensures { result ≡ is_foreign (title_from row.now at) }
 {
-    let mode = row[at + MODE_AT];
-    if mode == ABSENT {
-        return false;
-    }
-    let kind = row[at + KIND_AT];
-    if kind == STEADY {
-        return true;
-    }
-    is_other(row[at + FLOOR_AT], row[at + CAP_AT])
+    row[at + MODE_AT] != ABSENT
+        && (row[at + KIND_AT] == STEADY || is_other(row[at + FLOOR_AT], row[at + CAP_AT]))
 }
 
 // The answer, and the tick whose cell goes out: 1 for another floor or cap and for a skip-forward title, then as the computing call.
@@ -39,13 +32,11 @@ fn rom_tick(row: &[u64], id: u64, lane: u64, time: u64) -> ShownTick
     ensures { (result.answer ≡ on_sound row.now (rom_lane_answer (unpacked row.now).state id lane time))
         × (result.answer ≡ 0 → result.tick ≡ tick_out row.now id lane time) }
 {
-    if id <= ID_MAX {
-        if is_foreign(row, title_place(id)) {
-            return ShownTick {
-                answer: OUTSIDE_LIMITS,
-                tick: 0,
-            };
-        }
+    if id <= ID_MAX && is_foreign(row, title_place(id)) {
+        return ShownTick {
+            answer: OUTSIDE_LIMITS,
+            tick: 0,
+        };
     }
     shown_tick(row, id, lane, time)
 }
@@ -54,10 +45,7 @@ fn rom_tick(row: &[u64], id: u64, lane: u64, time: u64) -> ShownTick
 fn refused(answer: u8) -> Shown
     ensures { (result.answer ≡ answer) × (result.cell ≡ 0) }
 {
-    Shown {
-        answer: answer,
-        cell: 0,
-    }
+    Shown { answer, cell: 0 }
 }
 
 // Which cell goes out on a lane of a title in the tick that holds a time: the number that a lent table has for it.
@@ -65,10 +53,7 @@ pub fn rom_lane(row: &[u64], table: &[u16], id: u64, lane: u64, time: u64) -> Sh
     ensures { (result.answer ≡ row_rom_lane row.now table.now id lane time)
         × (result.cell ≡ row_rom_shows row.now table.now id lane time) }
 {
-    if row.len() != ROW_LENGTH {
-        return refused(WRONG_ROWS);
-    }
-    if table.len() != ENTRIES {
+    if row.len() != ROW_LENGTH || table.len() != ENTRIES {
         return refused(WRONG_ROWS);
     }
     let shown = rom_tick(row, id, lane, time);
@@ -76,7 +61,7 @@ pub fn rom_lane(row: &[u64], table: &[u16], id: u64, lane: u64, time: u64) -> Sh
     if answer == DONE {
         return Shown {
             answer: DONE,
-            cell: cell_at(table, lane, shown.tick) as u64,
+            cell: u64::from(cell_at(table, lane, shown.tick)),
         };
     }
     refused(answer)

@@ -12,7 +12,6 @@ use agent_rows::reading::{title_at, title_from};
 use agent_rows::{
     LAST_AT, POOL_AT, ROW_LENGTH, ROW_VERSION, SEQUENCE_AT, SEQUENCE_END, TITLES_AT, VERSION_AT,
 };
-use rules::truth::also;
 use rules::{POOL_MAX, TITLES_MAX};
 use story::{State, Title};
 
@@ -21,10 +20,7 @@ fn is_sound(row: &[u64]) -> bool
     requires { length row.now ≡ row_length }
     ensures { result ≡ row_sound row.now }
 {
-    also(
-        row[VERSION_AT] == ROW_VERSION,
-        row[SEQUENCE_AT] < SEQUENCE_END,
-    )
+    row[VERSION_AT] == ROW_VERSION && row[SEQUENCE_AT] < SEQUENCE_END
 }
 
 // A row's pool; one out of limits where the row is not of this layout.
@@ -45,10 +41,8 @@ fn titles_in(row: &[u64]) -> [Title; TITLES_MAX]
 {
     let first = title_from(row, TITLES_AT);
     let mut titles = [first; TITLES_MAX];
-    let mut i = 0;
-    while i < TITLES_MAX {
-        titles[i] = title_at(row, i as u64);
-        i += 1;
+    for (i, title) in titles.iter_mut().enumerate() {
+        *title = title_at(row, i as u64);
     }
     titles
 }
@@ -58,11 +52,10 @@ pub fn state_in(row: &[u64]) -> State
     requires { length row.now ≡ row_length }
     ensures { result ≡ state_in row.now }
 {
-    let titles = titles_in(row);
     State {
         pool: pool_in(row),
         last: row[LAST_AT],
-        titles: titles,
+        titles: titles_in(row),
     }
 }
 
@@ -81,16 +74,13 @@ fn sound_agent(row: &[u64]) -> Agent
     requires row_value { row_sound row.now ≡ true }
     ensures { result ≡ unpacked row.now }
 {
-    let titles = titles_in(row);
-    let sequence = sequence_in(row);
-    let state = State {
-        pool: row[POOL_AT],
-        last: row[LAST_AT],
-        titles: titles,
-    };
     Agent {
-        sequence: sequence,
-        state: state,
+        sequence: sequence_in(row),
+        state: State {
+            pool: row[POOL_AT],
+            last: row[LAST_AT],
+            titles: titles_in(row),
+        },
     }
 }
 
@@ -102,8 +92,7 @@ fn long_agent(row: &[u64]) -> Agent
     if is_sound(row) {
         return sound_agent(row);
     }
-    let none = fresh_agent(0);
-    none.agent
+    fresh_agent(0).agent
 }
 
 // The agent that a row stands for; one of no lanes where the row has another length or is not sound.
@@ -113,6 +102,5 @@ pub fn agent_in(row: &[u64]) -> Agent
     if row.len() == ROW_LENGTH {
         return long_agent(row);
     }
-    let none = fresh_agent(0);
-    none.agent
+    fresh_agent(0).agent
 }

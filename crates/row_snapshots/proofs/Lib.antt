@@ -1,7 +1,6 @@
 -- Laws of rows that are saved and loaded.
 pub mod SameLayout
 pub mod Small
-pub mod Copied
 pub mod Answered
 pub mod SameAgent
 pub mod SameRow

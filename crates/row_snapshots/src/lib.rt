@@ -3,7 +3,6 @@
 // No public call has a `requires`, and a refusal writes nothing.
 #![tactic(auto)]
 
-ghost use Rattle.std.specs.Prelude.{◌≡◌, length};
 ghost use Rattle.row_snapshots.specs.Calls.{RowSaves, RowLoads};
 
 use agent_rows::ROW_LENGTH;
@@ -11,27 +10,12 @@ use agent_rows::testing::row_ok;
 use rules::{DONE, MALFORMED, OUTSIDE_LIMITS, WRONG_ROWS};
 use snapshots::BYTES;
 
-// Copies a row into another of its length.
-fn copy(from: &[u64], row: &mut [u64])
-    requires { length from.now ≡ length row.old }
-    ensures { row.new ≡ from.now }
-{
-    let mut i = 0;
-    while i < row.len() {
-        row[i] = from[i];
-        i += 1;
-    }
-}
-
 // Writes the snapshot of a row at the start of the room: 0, and later bytes stay. 10 where the row has another length than an agent's,
 // or the room is shorter than a snapshot, before all else; 1 where the row is not sound or its state is out of limits.
 pub fn save(row: &[u64], room: &mut [u8]) -> u8
     ensures { RowSaves row.now room.old result room.new }
 {
-    if row.len() != ROW_LENGTH {
-        return WRONG_ROWS;
-    }
-    if room.len() < BYTES {
+    if row.len() != ROW_LENGTH || room.len() < BYTES {
         return WRONG_ROWS;
     }
     if row_ok(row) {
@@ -48,13 +32,12 @@ pub fn load(row: &mut [u64], bytes: &[u8]) -> u8
     if row.len() != ROW_LENGTH {
         return WRONG_ROWS;
     }
-    let mut numbers = [0; ROW_LENGTH];
-    let loaded: &mut [u64] = &mut numbers;
-    if snapshots::load(bytes, loaded) != DONE {
+    let mut loaded = [0; ROW_LENGTH];
+    if snapshots::load(bytes, &mut loaded) != DONE {
         return MALFORMED;
     }
-    if row_ok(loaded) {
-        copy(loaded, row);
+    if row_ok(&loaded) {
+        row.copy_from_slice(&loaded);
         return DONE;
     }
     OUTSIDE_LIMITS

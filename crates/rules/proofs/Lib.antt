@@ -2,4 +2,5 @@
 pub mod Search
 pub mod Tests
 pub mod Refusals
+pub mod Told
 pub mod Former

@@ -1,13 +1,15 @@
 -- Laws of the bounded searches and counts: each crosses between a search and the fact it stands for.
 -- Order: some, every, first, how_many, after, total. Rest on the laws of tests.
 use mathlib.Core.Path.{◌≡◌, refl, sym, ◌∙◌}
+use Rattle.std.proofs.Common.{IsTrue, ◌↔◌, List, length, take, get_or, leb}
 use mathlib.Core.Bool.{Bool, true, false, false≢true}
 use mathlib.Core.Logic.{◌⊎◌, inl, inr, ⊎_elim}
 use Prim.Native.Nat.{ℕ, zero, suc, ◌+◌, ◌-◌, ◌≤◌, ◌<◌}
 use native.Mathlib.Omega.{arith}
 use native.Mathlib.Nat.{le_antisymm}
 use lib.Dec.{ltb}
-use borrow.Author.Tests.{ltb-true, ltb-false}
+use borrow.Author.Tests.{ltb-true, ltb-false, le-leb, leb-true}
+use Rattle.std.proofs.lemmas.List.{get_or-take, length-take-le}
 use Rattle.rules.specs.Refusals.{pick}
 use Rattle.rules.specs.Search.{some, every, first, keep_first, how_many, after, total}
 use Rattle.rules.proofs.Tests.{decide, both_l, both_r, both_in, either_l, either_r, either_out, fails, pick_true}
@@ -52,6 +54,11 @@ module _ (p : ℕ → Bool) where
   every_out (suc n) i h l =
       ⊎_elim (λ b. every_out n i (both_r (p n) (every p n) h) b) (λ e. rw e (both_l (p n) (every p n) h))
       (below_suc i n l)
+
+  -- a test that says of every number below n that its own holds
+  pub every_is : (n : ℕ) (b : Bool) → (IsTrue b ↔ ((k : ℕ) → k < n → IsTrue (p k))) → b ≡ every p n
+  every_is n true i = sym (every_in n (i.0 refl))
+  every_is n false i = sym (fails _ (λ t. false≢true (i.1 (λ k l. every_out n k t l))))
 
   -- ---- first
 
@@ -244,3 +251,16 @@ unfolding total
 total_at f zero i l = absurd (omega arith)
 total_at f (suc n) i l =
     ⊎_elim (λ b. omega (arith, total_at f n i b)) (λ e. rw e (omega arith)) (below_suc i n l)
+
+-- numbers that are all at most a limit, the first n of a row
+pub all_at_most : (row : List ℕ) (n most : ℕ) (b : Bool) → n ≤ length row →
+    (IsTrue b ↔ ((k : ℕ) → k < length (take n row) → get_or (take n row) k 0 ≤ most)) →
+    b ≡ every (λ j. leb (get_or row j 0) most) n
+all_at_most row n most b h i =
+    let l : length (take n row) ≡ n = length-take-le n row h in
+    every_is _ n b (
+      λ t k c. le-leb _ _ (rw (get_or-take n row k 0 c) at (i.0 t k (omega arith))),
+      λ f. i.1 (λ k c.
+          let d : k < n = omega arith in
+          rw (get_or-take n row k 0 d) (leb-true _ _ (f k d))),
+    )

@@ -1,7 +1,7 @@
 -- Laws of tests: what `both`, `either` and `pick` say, taken apart and put together.
 -- Rest on nothing but the definitions.
 use mathlib.Core.Path.{◌≡◌, refl}
-use mathlib.Core.Bool.{Bool, true, false, false≢true}
+use mathlib.Core.Bool.{Bool, true, false, false≢true, ◌&&◌}
 use mathlib.Core.Logic.{◌⊎◌, inl, inr}
 use Rattle.rules.specs.Limits.{both, either}
 use Rattle.rules.specs.Refusals.{pick}
@@ -30,6 +30,11 @@ both_true false = refl
 pub both_none : (b : Bool) → both b false ≡ false
 both_none true = refl
 both_none false = refl
+
+-- the language's own joining is the definition's
+pub and_both : (a b : Bool) → (a && b) ≡ both a b
+and_both true b = refl
+and_both false b = refl
 
 pub either_l : (a b : Bool) → a ≡ true → either a b ≡ true
 either_l a b p = rw p refl

@@ -2,6 +2,7 @@
 -- and what it means that a contract admits one outcome.
 pub mod Limits
 pub mod Refusals
+pub mod Told
 pub mod Search
 pub mod Former
 pub mod OneOutcome

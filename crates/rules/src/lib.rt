@@ -2,6 +2,7 @@
 // Definitions of the same names stand in specs/; a crate whose code and contract cite different tables is not proved.
 #![tactic(auto)]
 
+pub mod answers;
 pub mod truth;
 
 ghost use Rattle.std.specs.Prelude.{◌≡◌};
@@ -95,8 +96,5 @@ pub const IS_STEADY: u8 = 19;
 pub fn within(lo: u64, hi: u64, x: u64) -> bool
     ensures { result ≡ inside lo hi x }
 {
-    if x < lo {
-        return false;
-    }
-    x <= hi
+    lo <= x && x <= hi
 }

@@ -3,3 +3,4 @@ pub mod Seams
 pub mod Walking
 pub mod InBlocks
 pub mod Passing
+pub mod Ended

@@ -9,6 +9,7 @@ use notice::window::decided;
 use salvage_lines::put_said;
 use salvaging::rows::put_taken;
 use scanning::steps::{Progress, advance};
+use text::page::Page;
 
 // The bytes of a block, and the room for what it takes: no more than it has.
 pub const BLOCK_ROOM: usize = 4_096;
@@ -46,14 +47,12 @@ fn walk(window: &[u8], over: bool, p: Progress, area: &mut [u8], told: &mut [u8]
     while progress.place - base < window.len() && decided(window, progress.place - base, over) {
         let next = advance(window, base, progress);
         at = put_taken(window, base, progress, next, area, at);
-        said = put_said(told, said, progress, next);
+        let mut page = Page::from(told, said);
+        put_said(&mut page, progress, next);
+        said = page.end();
         progress = next;
     }
-    Walked {
-        progress: progress,
-        at: at,
-        said: said,
-    }
+    Walked { progress, at, said }
 }
 
 // Scans what a window decides, in rows that have room for all of it.
@@ -64,12 +63,11 @@ pub fn scan_block(window: &[u8], over: bool, p: Progress) -> Block
     let mut area = [0u8; BLOCK_ROOM];
     let mut told = [0u8; TOLD_ROOM];
     let walked = walk(window, over, p, &mut area, &mut told);
-    let progress = walked.progress;
     Block {
-        progress: progress,
-        area: area,
+        progress: walked.progress,
+        area,
         at: walked.at,
-        told: told,
+        told,
         said: walked.said,
     }
 }

@@ -65,14 +65,8 @@ fn pass_on(rt: &HostRuntime, p: Progress, window: &[u8], over: bool, ports: Port
     let told = block.told;
     let said = block.said;
     let progress = block.progress;
-    let mut written = give(rt, ports.taken, &area[..at]);
-    if written {
-        written = give(rt, ports.told, &told[..said]);
-    }
-    Passed {
-        progress: progress,
-        written: written,
-    }
+    let written = give(rt, ports.taken, &area[..at]) && give(rt, ports.told, &told[..said]);
+    Passed { progress, written }
 }
 
 // Nothing more is read.
@@ -80,7 +74,7 @@ fn ended(progress: Progress) -> Fed
     ensures { (result.more ≡ false) × (result.progress ≡ progress) }
 {
     Fed {
-        progress: progress,
+        progress,
         kept: 0,
         more: false,
     }
@@ -137,27 +131,26 @@ fn feed(rt: &HostRuntime, fed: Fed, buffer: &mut [u8], ports: Ports) -> Fed
     ensures { (result.more ≡ true → result.kept < longest_notice) × Counts result.progress }
 {
     let progress = fed.progress;
-    let filled = refill(rt, buffer, fed.kept);
-    match filled {
-        Filled::More(n) => pass_filled(rt, progress, buffer, n, ports),
-        Filled::Last(n) => pass_last(rt, progress, &buffer[..n], ports),
-        Filled::Failed => ended(progress),
+    match refill(rt, buffer, fed.kept) {
+        Some(Filled::More(n)) => pass_filled(rt, progress, buffer, n, ports),
+        Some(Filled::Last(n)) => pass_last(rt, progress, &buffer[..n], ports),
+        None => ended(progress),
     }
 }
 
-// Salvages standard input. A proved loop has to end, and nothing says that input does: the loop counts its turns down, from a
+// Salvages standard input. A proved loop has to end, and nothing says that input does: the loop counts its turns, up to a
 // number that no run uses up.
 pub fn salvage_input(rt: &HostRuntime, ports: Ports) {
     let mut buffer = [0u8; BLOCK_ROOM];
-    let progress = begun();
     let mut fed = Fed {
-        progress: progress,
+        progress: begun(),
         kept: 0,
         more: true,
     };
-    let mut turns = u64::MAX;
-    while turns > 0 && fed.more {
+    for _ in 0..u64::MAX {
+        if !fed.more {
+            break;
+        }
         fed = feed(rt, fed, &mut buffer, ports);
-        turns -= 1;
     }
 }

@@ -21,8 +21,8 @@ use Rattle.notice.proofs.NoticePlaces.{there}
 use Rattle.text.specs.Texts.{text}
 use Rattle.text.specs.Digits.{decimal}
 use Rattle.text.proofs.Printing.{decimal_short}
-use Rattle.scanning.specs.declared.scan.Last.{Last}
-use Rattle.scanning.specs.declared.scan.Last.TheVariants.{Nothing, Taken}
+use Rattle.std.specs.Prelude.{Option}
+use Rattle.std.specs.Prelude.{Some, None}
 use Rattle.scanning.specs.declared.scan.Move.{Move}
 use Rattle.scanning.specs.declared.scan.Move.TheVariants.{Take, Skip, Stop}
 use Rattle.scanning.specs.declared.steps.Progress.{Progress}
@@ -63,11 +63,11 @@ follows_short s l =
     go true short = omega arith
     go false short = short
 
-gap_short : (before behind : Last) → length (gap_line before behind) ≤ line_most
+gap_short : (before behind : Option ℕ) → length (gap_line before behind) ≤ line_most
 unfolding gap_line
-gap_short (Taken l) (Taken s) = follows_short s l
-gap_short (Taken l) Nothing = omega arith
-gap_short Nothing behind = omega arith
+gap_short (Some l) (Some s) = follows_short s l
+gap_short (Some l) None = omega arith
+gap_short None behind = omega arith
 
 total_short : (n bytes : ℕ) → length (total_line n bytes) ≤ line_most
 unfolding total_line text

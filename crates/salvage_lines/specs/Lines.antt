@@ -3,8 +3,8 @@ use Rattle.std.specs.Prelude.{ℕ, ◌+◌, ◌*◌, List, [], ◌++◌, eqb}
 use Rattle.rules.specs.Refusals.{pick}
 use Rattle.text.specs.Texts.{text}
 use Rattle.text.specs.Digits.{digits_most, decimal}
-use Rattle.scanning.specs.declared.scan.Last.{Last}
-use Rattle.scanning.specs.declared.scan.Last.TheVariants.{Nothing, Taken}
+use Rattle.std.specs.Prelude.{Option}
+use Rattle.std.specs.Prelude.{Some, None}
 use Rattle.scanning.specs.declared.steps.Progress.{Progress}
 use Rattle.scanning.specs.inner.Steps.{is_open_at}
 
@@ -21,10 +21,10 @@ unfoldable pub follows_line : ℕ → ℕ → List ℕ
 follows_line s l = pick (eqb s (l + 1)) [] (two_numbers (text "sequence ") s (text " follows ") l (text "\n"))
 
 -- the gap that a stretch left in the sequences, between the notice that was taken before it, if any, and the one behind it
-unfoldable pub gap_line : Last → Last → List ℕ
-gap_line (Taken l) (Taken s) = follows_line s l
-gap_line (Taken l) Nothing = []
-gap_line Nothing after = []
+unfoldable pub gap_line : Option ℕ → Option ℕ → List ℕ
+gap_line (Some l) (Some s) = follows_line s l
+gap_line (Some l) None = []
+gap_line None after = []
 
 -- the last line, in these words for every number
 unfoldable pub total_line : ℕ → ℕ → List ℕ

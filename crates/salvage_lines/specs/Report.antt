@@ -3,7 +3,7 @@
 use Rattle.std.specs.Prelude.{ℕ, zero, suc, Bool, List, [], ◌∷◌, ◌++◌, length}
 use Rattle.rules.specs.Limits.{both}
 use Rattle.rules.specs.Refusals.{pick}
-use Rattle.scanning.specs.declared.scan.Last.{Last}
+use Rattle.std.specs.Prelude.{Option}
 use Rattle.scanning.specs.declared.steps.Progress.{Progress}
 use Rattle.scanning.specs.Scan.{Stretch, stretch, scan_to, scan_of}
 use Rattle.scanning.specs.inner.Steps.{progress_of, is_open_at}
@@ -13,8 +13,8 @@ use Rattle.salvage_lines.specs.Lines.{stretch_line, gap_line, end_text}
 -- a stretch that has ended, with the last taken sequence before it and the one behind it
 pub record Seam : Type 0 where
   pub skipped : Stretch
-  pub before : Last
-  pub behind : Last
+  pub before : Option ℕ
+  pub behind : Option ℕ
 
 -- a step from p to q takes a notice where a stretch ends
 abbrev pub is_seam : Progress → Progress → Bool

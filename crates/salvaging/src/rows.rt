@@ -95,10 +95,7 @@ fn pour(window: &[u8], over: bool, p: Progress, area: &mut [u8], row: &mut [u64]
         to = lay(window, base, progress, next, to, area, row);
         progress = next;
     }
-    Poured {
-        progress: progress,
-        to: to,
-    }
+    Poured { progress, to }
 }
 
 // How far the scan of all of a log comes. It pours into a place of its own of each, so that one loop serves both passes of the call.
@@ -107,9 +104,7 @@ pub fn measure(log: &[u8]) -> Progress
 {
     let mut area: [u8; 1] = [0];
     let mut row: [u64; 1] = [0];
-    let poured = pour(log, true, begun(), &mut area, &mut row);
-    let progress = poured.progress;
-    progress
+    pour(log, true, begun(), &mut area, &mut row).progress
 }
 
 // All of a log.

@@ -6,11 +6,11 @@ use Prim.Native.Nat.{ℕ}
 use Rattle.notice.specs.declared.Notice.{Notice}
 use Rattle.notice.specs.declared.Found.{Found}
 use Rattle.notice.specs.declared.Found.TheVariants as found
-use Rattle.scanning.specs.declared.scan.Last.{Last}
+use Rattle.std.specs.Prelude.{Option}
 use Rattle.scanning.specs.declared.scan.Move.TheVariants.{Take, Skip, Stop}
 use Rattle.scanning.specs.Scan.{is_later, move_of}
 
-module _ (l : Last) (f : Found) where
+module _ (l : Option ℕ) (f : Found) where
   pub in_turn : (n : Notice) (e : ℕ) → f ≡ found.At n e → is_later l n.sequence ≡ true → Take n e ≡ move_of l f
   in_turn n e is later = rw (is, later)
 

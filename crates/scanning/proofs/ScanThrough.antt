@@ -17,7 +17,7 @@ use Rattle.notice.specs.Decode.{read_at}
 use Rattle.notice.proofs.CaseSplits.{by_order}
 use Rattle.notice.proofs.Cases.{at_end}
 use Rattle.notice.proofs.NoticePlaces.{inside, ended}
-use Rattle.scanning.specs.declared.scan.Last.{Last}
+use Rattle.std.specs.Prelude.{Option}
 use Rattle.scanning.specs.declared.scan.Move.{Move}
 use Rattle.scanning.specs.declared.scan.Move.TheVariants.{Take, Skip, Stop}
 use Rattle.scanning.specs.Scan.{is_later, move_of, Scan, last_of, scan_after, move_in, scan_to, scan_of}
@@ -25,11 +25,11 @@ use Rattle.scanning.specs.Scan.{is_later, move_of, Scan, last_of, scan_after, mo
 -- ---- what a move tells
 
 -- a notice that is taken is one that the log has there, and its turn
-pub record Takes (bs : List ℕ) (l : Last) (p : ℕ) (n : Notice) (e : ℕ) : Type 0 where
+pub record Takes (bs : List ℕ) (l : Option ℕ) (p : ℕ) (n : Notice) (e : ℕ) : Type 0 where
   pub found : read_at bs p ≡ found.At n e
   pub later : is_later l n.sequence ≡ true
 
-pub takes : (bs : List ℕ) (l : Last) (p : ℕ) (n : Notice) (e : ℕ) → move_of l (read_at bs p) ≡ Take n e → Takes bs l p n e
+pub takes : (bs : List ℕ) (l : Option ℕ) (p : ℕ) (n : Notice) (e : ℕ) → move_of l (read_at bs p) ≡ Take n e → Takes bs l p n e
 takes bs l p n e is = go (read_at bs p) refl is
   where
     none : {A : Type 0} → Skip ≡ Take n e → A
@@ -50,7 +50,7 @@ takes bs l p n e is = go (read_at bs p) refl is
 -- ---- where it stops, and where it skips
 
 -- a scan stops only where no byte is left
-pub stops : (bs : List ℕ) (l : Last) (p : ℕ) → move_of l (read_at bs p) ≡ Stop → length bs ≤ p
+pub stops : (bs : List ℕ) (l : Option ℕ) (p : ℕ) → move_of l (read_at bs p) ≡ Stop → length bs ≤ p
 stops bs l p is = go (read_at bs p) refl is
   where
     by : (m : Notice) (d : ℕ) (b : Bool) → pick b (Take m d) Skip ≡ Stop → length bs ≤ p
@@ -63,7 +63,7 @@ stops bs l p is = go (read_at bs p) refl is
     go found.Malformed r q = absurd (let z : ◌≡◌ {A = ℕ} 0 1 = cc in omega arith)
 
 -- and a byte is skipped only where one is left
-pub skips : (bs : List ℕ) (l : Last) (p : ℕ) → move_of l (read_at bs p) ≡ Skip → p < length bs
+pub skips : (bs : List ℕ) (l : Option ℕ) (p : ℕ) → move_of l (read_at bs p) ≡ Skip → p < length bs
 skips bs l p is =
     by_order p (length bs) (λ lt. lt)
     (λ le.

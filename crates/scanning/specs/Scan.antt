@@ -7,18 +7,18 @@ use Rattle.notice.specs.declared.Notice.{Notice}
 use Rattle.notice.specs.declared.Found.{Found}
 use Rattle.notice.specs.declared.Found.TheVariants as found
 use Rattle.notice.specs.Decode.{read_at}
-use Rattle.scanning.specs.declared.scan.Last.{Last}
-use Rattle.scanning.specs.declared.scan.Last.TheVariants.{Nothing, Taken}
+use Rattle.std.specs.Prelude.{Option}
+use Rattle.std.specs.Prelude.{Some, None}
 use Rattle.scanning.specs.declared.scan.Move.{Move}
 use Rattle.scanning.specs.declared.scan.Move.TheVariants.{Take, Skip, Stop}
 
 -- a sequence that comes after the last taken one
-abbrev pub is_later : Last → ℕ → Bool
-is_later Nothing s = true
-is_later (Taken l) s = ltb l s
+abbrev pub is_later : Option ℕ → ℕ → Bool
+is_later None s = true
+is_later (Some l) s = ltb l s
 
 -- what is done where a log has this
-abbrev pub move_of : Last → Found → Move
+abbrev pub move_of : Option ℕ → Found → Move
 move_of l (found.At n e) = pick (is_later l n.sequence) (Take n e) Skip
 move_of l found.End = Stop
 move_of l found.Malformed = Skip
@@ -47,9 +47,9 @@ pub record Scan : Type 0 where
   pub kept : List ℕ
   pub skipped : List Stretch
 
-abbrev pub last_of : List Notice → Last
-last_of [] = Nothing
-last_of (n ∷ ns) = Taken n.sequence
+abbrev pub last_of : List Notice → Option ℕ
+last_of [] = None
+last_of (n ∷ ns) = Some n.sequence
 
 abbrev pub scan_after : List ℕ → Scan → Move → Scan
 scan_after bs s (Take n e) =

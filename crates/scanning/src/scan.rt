@@ -6,13 +6,6 @@ ghost use Rattle.scanning.specs.Scan.{is_later, move_of};
 
 use notice::{Found, Notice, next_in};
 
-// The sequence of the last taken notice, if any.
-#[derive(Clone, Copy)]
-pub enum Last {
-    Nothing,
-    Taken(u32),
-}
-
 // What is done at a place: a notice is taken up to its end, one byte is skipped, or no byte is left.
 #[derive(Clone, Copy)]
 pub enum Move {
@@ -22,17 +15,17 @@ pub enum Move {
 }
 
 // Whether a sequence is larger than that of the last taken notice, if any.
-fn is_later(last: Last, sequence: u32) -> bool
+fn is_later(last: Option<u32>, sequence: u32) -> bool
     ensures { result ≡ is_later last sequence }
 {
     match last {
-        Last::Nothing => true,
-        Last::Taken(before) => before < sequence,
+        Some(before) => before < sequence,
+        None => true,
     }
 }
 
 // What is done at a place of a log.
-pub fn look(log: &[u8], place: usize, last: Last) -> Move
+pub fn look(log: &[u8], place: usize, last: Option<u32>) -> Move
     ensures { result ≡ move_of last (read_at log.now place) }
 {
     let found = next_in(log, place);

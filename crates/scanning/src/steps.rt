@@ -3,14 +3,14 @@
 ghost use Rattle.std.specs.Prelude.{◌≡◌, ◌+◌, ◌<◌, ◌^◌, length};
 ghost use Rattle.scanning.specs.inner.Steps.{is_open_at, taking_notice, skipping, Counts, Within, Advances, fresh_progress};
 
-use super::scan::{Last, Move, look};
+use super::scan::{Move, look};
 
 // How far a scan has come: its place in the input, the last taken notice, how many notices and bytes were taken, how many
 // stretches skipped, and where the latest of these starts and how long it is.
 #[derive(Clone, Copy)]
 pub struct Progress {
     pub place: usize,
-    pub last: Last,
+    pub last: Option<u32>,
     pub notices: usize,
     pub bytes: usize,
     pub stretches: usize,
@@ -24,7 +24,7 @@ pub fn begun() -> Progress
 {
     Progress {
         place: 0,
-        last: Last::Nothing,
+        last: None,
         notices: 0,
         bytes: 0,
         stretches: 0,
@@ -51,7 +51,7 @@ fn take(p: Progress, sequence: u32, end: usize) -> Progress
 {
     Progress {
         place: end,
-        last: Last::Taken(sequence),
+        last: Some(sequence),
         notices: p.notices + 1,
         bytes: p.bytes + (end - p.place),
         stretches: p.stretches,
@@ -69,7 +69,7 @@ fn skip(p: Progress) -> Progress
     if is_open(p) {
         return Progress {
             place: p.place + 1,
-            last: last,
+            last,
             notices: p.notices,
             bytes: p.bytes,
             stretches: p.stretches,
@@ -79,7 +79,7 @@ fn skip(p: Progress) -> Progress
     }
     Progress {
         place: p.place + 1,
-        last: last,
+        last,
         notices: p.notices,
         bytes: p.bytes,
         stretches: p.stretches + 1,

@@ -1,6 +1,6 @@
 // The scheduler's calls. No public function has a `requires`: any numbers and any state may be handed in, and each contract
 // says what is answered. A refusal gives back the state as it came in, number for number, and writes nothing that is lent.
-#![tactic(auto)]
+#![tactic(auto, unfolding(rules::specs::Refusals::first_hit, crate::specs::Outcomes::settled_answer, crate::specs::Outcomes::held_answer, crate::specs::Outcomes::held_shown, story::specs::Calls::lane_shows))]
 
 ghost use Rattle.std.specs.Prelude.{◌≡◌, eqb};
 ghost use Rattle.rules.specs.Refusals.{pick};
@@ -25,6 +25,7 @@ use scheme::{PADDED, STEADY};
 use story::{ABSENT, Act, CLEAR, Event, Film, State, Title};
 use verdicts::events::{sets_count, verdict};
 
+// kept: a customer's call gives back 01's number (docs/PROMISES.md, "Public calls"; `rongalishu_c`).
 // What a fresh call gives back.
 #[derive(Clone, Copy)]
 pub struct Started {
@@ -65,7 +66,7 @@ fn blank_title() -> Title
     };
     Title {
         mode: ABSENT,
-        film: film,
+        film,
         opened: 0,
         count: 0,
         mark: CLEAR,
@@ -86,7 +87,7 @@ fn empty_pool(lanes: u64) -> State
     State {
         pool: lanes,
         last: 0,
-        titles: titles,
+        titles,
     }
 }
 
@@ -98,7 +99,7 @@ pub fn fresh(pool: u64) -> Started
         let state = empty_pool(pool);
         return Started {
             answer: DONE,
-            state: state,
+            state,
         };
     }
     let none = empty_pool(0);
@@ -114,14 +115,12 @@ fn settle(s: State, next: State, time: u64, asks: bool) -> Outcome
     requires pool_value { next.pool ≡ s.pool }
     ensures { (result.answer ≡ settled_answer asks next time) × (result.state ≡ pick (eqb (settled_answer asks next time) 0) next s) }
 {
-    if asks {
-        if s.pool < lanes_held(next, time) {
-            let kept = s;
-            return Outcome {
-                answer: NO_LANES,
-                state: kept,
-            };
-        }
+    if asks && s.pool < lanes_held(next, time) {
+        let kept = s;
+        return Outcome {
+            answer: NO_LANES,
+            state: kept,
+        };
     }
     Outcome {
         answer: DONE,
@@ -133,17 +132,16 @@ fn settle(s: State, next: State, time: u64, asks: bool) -> Outcome
 pub fn call(s: State, e: Event) -> Outcome
     ensures { (result.answer ≡ answered s e) × (result.state ≡ called s e) }
 {
-    let first = verdict(s, e);
-    if first == DONE {
-        let id = e.title;
-        let time = e.time;
-        let act = e.act;
-        let next = with_title(s, id, next_title(title_of(s, id), time, act), time);
-        return settle(s, next, time, sets_count(act));
-    }
-    Outcome {
-        answer: first,
-        state: s,
+    match verdict(s, e) {
+        Ok(()) => {
+            let turned = next_title(title_of(s, e.title), e.time, e.act);
+            let next = with_title(s, e.title, turned, e.time);
+            settle(s, next, e.time, sets_count(e.act))
+        }
+        Err(refusal) => Outcome {
+            answer: refusal.number(),
+            state: s,
+        },
     }
 }
 
@@ -153,8 +151,8 @@ pub fn event_at(id: u64, time: u64, act: Act) -> Event
 {
     Event {
         title: id,
-        time: time,
-        act: act,
+        time,
+        act,
     }
 }
 
@@ -163,15 +161,12 @@ pub fn opening(kind: u64, length: u64, floor: u64, cap: u64, count: u64) -> Act
     ensures { result ≡ Opens (film_of kind length floor cap) count }
 {
     let film = Film {
-        kind: kind,
-        length: length,
-        floor: floor,
-        cap: cap,
+        kind,
+        length,
+        floor,
+        cap,
     };
-    Act::Opens {
-        film: film,
-        count: count,
-    }
+    Act::Opens { film, count }
 }
 
 // Opens a title on the padded grid.
@@ -198,7 +193,7 @@ pub fn skip(s: State, id: u64, time: u64, length: u64, count: u64) -> Outcome
 pub fn change(s: State, id: u64, time: u64, count: u64) -> Outcome
     ensures { (result.answer ≡ answered s (event id time (Changes count))) × (result.state ≡ called s (event id time (Changes count))) }
 {
-    call(s, event_at(id, time, Act::Changes { count: count }))
+    call(s, event_at(id, time, Act::Changes { count }))
 }
 
 // Closes a title. It needs no lanes: a close only drops them.
@@ -226,17 +221,18 @@ pub fn lift(s: State, id: u64, time: u64) -> Outcome
 pub fn lane(s: State, id: u64, lane: u64, time: u64) -> Shown
     ensures { (result.answer ≡ lane_answer s id lane time) × (result.cell ≡ lane_shows s id lane time) }
 {
-    let answer = lane_verdict(s, id, lane, time);
-    if answer == DONE {
-        let t = title_of(s, id);
-        return Shown {
-            answer: DONE,
-            cell: shows(t, lane, tick_at(t, time)),
-        };
-    }
-    Shown {
-        answer: answer,
-        cell: 0,
+    match lane_verdict(s, id, lane, time) {
+        Ok(()) => {
+            let t = title_of(s, id);
+            Shown {
+                answer: DONE,
+                cell: shows(t, lane, tick_at(t, time)),
+            }
+        }
+        Err(refusal) => Shown {
+            answer: refusal.number(),
+            cell: 0,
+        },
     }
 }
 
@@ -244,15 +240,14 @@ pub fn lane(s: State, id: u64, lane: u64, time: u64) -> Shown
 pub fn held(s: State, time: u64) -> HeldLanes
     ensures { (result.answer ≡ held_answer s time) × (result.lanes ≡ held_shown s time) }
 {
-    let answer = asked_verdict(s, time, true);
-    if answer == DONE {
-        return HeldLanes {
+    match asked_verdict(s, time, true) {
+        Ok(()) => HeldLanes {
             answer: DONE,
             lanes: lanes_held(s, time),
-        };
-    }
-    HeldLanes {
-        answer: answer,
-        lanes: 0,
+        },
+        Err(refusal) => HeldLanes {
+            answer: refusal.number(),
+            lanes: 0,
+        },
     }
 }

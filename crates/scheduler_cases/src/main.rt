@@ -3,31 +3,27 @@
 // and the number of a refusal.
 #![tactic(auto)]
 
+use std::fmt::Display;
 use story::State;
 
 const POOL: u64 = 8;
 
 // What can't be written is left out.
-fn write(rt: &HostRuntime, bytes: &[u8]) {
-    let _ = rt.write_all(bytes);
+fn write<D: Display + Drop>(rt: &HostRuntime, shown: D) {
+    let _ = rt.print(shown);
 }
 
-fn write_number(rt: &HostRuntime, n: u64) {
-    let _ = rt.print(n);
-}
-
-fn word(rt: &HostRuntime, n: u64) {
-    write(rt, b" ");
-    write_number(rt, n);
+fn word<D: Display + Drop>(rt: &HostRuntime, n: D) {
+    write(rt, format_args!(" {n}"));
 }
 
 fn line(rt: &HostRuntime) {
-    write(rt, b"\n");
+    write(rt, "\n");
 }
 
 // An event's answer, and the state that it gives back.
 fn told(rt: &HostRuntime, o: scheduler::Outcome) -> State {
-    word(rt, o.answer as u64);
+    word(rt, o.answer);
     o.state
 }
 
@@ -43,29 +39,26 @@ fn show(rt: &HostRuntime, s: State, lane: u64, time: u64) {
     if shown.answer == 0 {
         word(rt, shown.cell);
     } else {
-        write(rt, b" r");
-        write_number(rt, shown.answer as u64);
+        write(rt, format_args!(" r{}", shown.answer));
     }
 }
 
 // What a lane shows at each time from one up to another.
 fn show_from(rt: &HostRuntime, s: State, lane: u64, from: u64, to: u64) {
-    write(rt, b" :");
-    let mut time = from;
-    while time < to {
+    write(rt, " :");
+    for time in from..to {
         show(rt, s, lane, time);
-        time += 1;
     }
 }
 
 // Lanes held at a time.
 fn show_held(rt: &HostRuntime, s: State, time: u64) {
-    write(rt, b" held");
+    write(rt, " held");
     word(rt, scheduler::held(s, time).lanes);
 }
 
 fn case5(rt: &HostRuntime) {
-    write(rt, b"5");
+    write(rt, "5");
     let s = opened(rt, 3);
     let t = told(rt, scheduler::change(s, 0, 4, 2));
     show_from(rt, t, 2, 4, 7);
@@ -75,7 +68,7 @@ fn case5(rt: &HostRuntime) {
 }
 
 fn case6(rt: &HostRuntime) {
-    write(rt, b"6");
+    write(rt, "6");
     let s = opened(rt, 4);
     let t = told(rt, scheduler::change(s, 0, 4, 3));
     show_from(rt, t, 3, 4, 7);
@@ -88,7 +81,7 @@ fn case6(rt: &HostRuntime) {
 // Floor 4, cap 5, tick 1 ms: from 5 to 4 at 2 lane 4 owes three cells. At 3 a raise comes too soon; at 4, one floor slot
 // after the drop, the lane resumes its usual cell, and the third is forgotten.
 fn resumed(rt: &HostRuntime) {
-    write(rt, b"resumed");
+    write(rt, "resumed");
     let pool = scheduler::fresh(POOL);
     let s = told(rt, scheduler::open(pool.state, 0, 0, 30, 4, 5, 5));
     let t = told(rt, scheduler::change(s, 0, 2, 4));
@@ -101,7 +94,7 @@ fn resumed(rt: &HostRuntime) {
 }
 
 fn case7(rt: &HostRuntime) {
-    write(rt, b"7");
+    write(rt, "7");
     let s = opened(rt, 4);
     let t = told(rt, scheduler::change(s, 0, 8, 3));
     show_from(rt, t, 3, 8, 10);
@@ -109,7 +102,7 @@ fn case7(rt: &HostRuntime) {
 }
 
 fn case8(rt: &HostRuntime) {
-    write(rt, b"8");
+    write(rt, "8");
     let s = opened(rt, 3);
     let t = told(rt, scheduler::change(s, 0, 2, 2));
     let u = told(rt, scheduler::change(t, 0, 6, 2));
@@ -120,7 +113,7 @@ fn case8(rt: &HostRuntime) {
 
 // A count of 11 is above the cap; 13 is the one outside the limits.
 fn case9(rt: &HostRuntime) {
-    write(rt, b"9");
+    write(rt, "9");
     let s = opened(rt, 4);
     let t = told(rt, scheduler::change(s, 0, 4, 4));
     let u = told(rt, scheduler::change(t, 0, 4, 5));
@@ -132,7 +125,7 @@ fn case9(rt: &HostRuntime) {
 
 // Floor 4, cap 5, tick 1 ms: opened with count 4, to 5 at 4, closed at 6. One tick of lane 3 is owed to count 4 alone.
 fn two_counts(rt: &HostRuntime) {
-    write(rt, b"two counts");
+    write(rt, "two counts");
     let pool = scheduler::fresh(POOL);
     let s = told(rt, scheduler::open(pool.state, 0, 0, 30, 4, 5, 4));
     let t = told(rt, scheduler::change(s, 0, 4, 5));
@@ -144,7 +137,7 @@ fn two_counts(rt: &HostRuntime) {
 // The doors are held at 7 and the count goes from 4 to 3 behind them: lane 1 then owes to the boxes of count 4 alone. A second hold, a
 // hold in a slot of count 3 and a lift of what is not held are refused.
 fn behind_doors(rt: &HostRuntime) {
-    write(rt, b"doors");
+    write(rt, "doors");
     let s = opened(rt, 4);
     let t = told(rt, scheduler::hold(s, 0, 7));
     let u = told(rt, scheduler::hold(t, 0, 8));
@@ -166,28 +159,26 @@ fn row(rt: &HostRuntime, count: u64, held: u64, mark: u64) {
     word(rt, mark);
 }
 
+// The status of some titles at 6, over rows of nines: the answer, and what each title's places hold.
+fn print_status<const N: usize>(rt: &HostRuntime, s: State, ids: [u64; N]) {
+    let mut counts = [9u64; N];
+    let mut held = [9u64; N];
+    let mut marks = [9u64; N];
+    let answer = status::status(s, 6, &ids, &mut counts, &mut held, &mut marks);
+    word(rt, answer);
+    for i in 0..N {
+        row(rt, counts[i], held[i], marks[i]);
+    }
+}
+
 // Titles 0, 1 and 0 while a lane sends and the doors are held; then an id that is none, whose rows stay as they were.
 fn asked(rt: &HostRuntime) {
-    write(rt, b"status");
+    write(rt, "status");
     let s = opened(rt, 4);
     let t = told(rt, scheduler::change(s, 0, 4, 3));
     let u = told(rt, scheduler::hold(t, 0, 6));
-    let ids = [0u64, 1, 0];
-    let mut counts = [9u64; 3];
-    let mut held = [9u64; 3];
-    let mut marks = [9u64; 3];
-    let answer = status::status(u, 6, &ids, &mut counts, &mut held, &mut marks);
-    word(rt, answer as u64);
-    row(rt, counts[0], held[0], marks[0]);
-    row(rt, counts[1], held[1], marks[1]);
-    row(rt, counts[2], held[2], marks[2]);
-    let none = [16u64];
-    let mut count = [9u64];
-    let mut lanes = [9u64];
-    let mut mark = [9u64];
-    let refused = status::status(u, 6, &none, &mut count, &mut lanes, &mut mark);
-    word(rt, refused as u64);
-    row(rt, count[0], lanes[0], mark[0]);
+    print_status(rt, u, [0, 1, 0]);
+    print_status(rt, u, [16]);
     line(rt);
 }
 

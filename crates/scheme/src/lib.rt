@@ -71,7 +71,7 @@ pub fn tick(kind: u64, length: u64, floor: u64, cap: u64) -> u64
 {
     if kind == STEADY {
         let blocks = pow2(cap - 1);
-        return (length + (blocks - 1)) / blocks;
+        return length.div_ceil(blocks);
     }
     grid::tick(length, floor, cap)
 }

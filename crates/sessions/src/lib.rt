@@ -34,10 +34,7 @@ pub struct Session {
 
 // Whether lines are typed and answers are seen on a terminal.
 fn is_terminal(rt: &HostRuntime) -> bool {
-    if rt.stdin().is_terminal() {
-        return rt.stdout().is_terminal();
-    }
-    false
+    rt.stdin().is_terminal() && rt.stdout().is_terminal()
 }
 
 // A session at its start.
@@ -81,10 +78,7 @@ pub fn ended(rt: &HostRuntime, session: Session, out: &[u8]) -> Session {
 
 // Whether the output row has room for one more answer, where `longest` is the longest.
 fn has_room(session: Session, out: &[u8], longest: usize) -> bool {
-    if longest <= out.len() {
-        return session.at <= out.len() - longest;
-    }
-    false
+    longest <= out.len() && session.at <= out.len() - longest
 }
 
 // The session with a line at hand, and the place behind it.
@@ -101,12 +95,8 @@ fn with_line(session: Session, from: usize, end: usize, next: usize) -> Session 
 pub fn line(session: Session, input: &[u8]) -> &[u8] {
     let from = session.from;
     let end = session.end;
-    if session.found {
-        if end <= input.len() {
-            if from <= end {
-                return &input[from..end];
-            }
-        }
+    if session.found && end <= input.len() && from <= end {
+        return &input[from..end];
     }
     &input[..0]
 }
@@ -171,10 +161,7 @@ fn shown(rt: &HostRuntime, session: Session, bytes: &[u8]) -> Session {
 
 // The session with its prompt written. A line of which a part is there, or is passed over, has had its own.
 fn prompted(rt: &HostRuntime, session: Session) -> Session {
-    if session.passing {
-        return session;
-    }
-    if session.next < session.to {
+    if session.passing || session.next < session.to {
         return session;
     }
     shown(rt, session, b"> ")
@@ -184,11 +171,10 @@ fn prompted(rt: &HostRuntime, session: Session) -> Session {
 // is typed leaves the prompt's line.
 fn read_block(rt: &HostRuntime, session: Session, input: &mut [u8]) -> Session {
     let kept = feed::compact(input, session.next, session.to);
-    let filled = refill(rt, input, kept);
-    match filled {
-        Filled::More(n) => with_block(session, input, n),
-        Filled::Last(n) => with_last(shown(rt, session, b"\n"), n),
-        Filled::Failed => over(session),
+    match refill(rt, input, kept) {
+        Some(Filled::More(n)) => with_block(session, input, n),
+        Some(Filled::Last(n)) => with_last(shown(rt, session, b"\n"), n),
+        None => over(session),
     }
 }
 
@@ -219,12 +205,7 @@ fn written_on(rt: &HostRuntime, session: Session, input: &mut [u8], out: &[u8]) 
 // Whether `turned` writes out what was answered: no line is at hand, or the longest answer might not fit. Who has to do
 // something before an answer is seen does it then.
 pub fn writes(session: Session, out: &[u8], answer: usize) -> bool {
-    if session.found {
-        if has_room(session, out, answer) {
-            return false;
-        }
-    }
-    true
+    !(session.found && has_room(session, out, answer))
 }
 
 // The session that sought a line, with room for an answer to it: the output row is written out and begun anew where the

@@ -13,8 +13,7 @@ ghost use Rattle.story.specs.Kept.{numbers_ok, state_ok};
 ghost use Rattle.sharers.specs.Sharers.{rates_ok, is_sharer, kept_apart, floors_of, shared_pool};
 
 use measures::lanes::ruling;
-use rules::truth::also;
-use rules::{RATE_MAX, RATE_MIN, TITLES_MAX, within};
+use rules::{RATE_MAX, RATE_MIN, within};
 use scheme::STEADY;
 use story::{OPEN, State, Title};
 
@@ -22,7 +21,7 @@ use story::{OPEN, State, Title};
 pub fn takes_part(t: Title) -> bool
     ensures { result ≡ is_sharer t }
 {
-    also(t.mode == OPEN, t.film.kind != STEADY)
+    t.mode == OPEN && t.film.kind != STEADY
 }
 
 // The floor of a title that takes part, 0 of another.
@@ -48,13 +47,9 @@ fn kept_apart(t: Title) -> u64
 pub fn rates_ok(rates: &[u32]) -> bool
     ensures { result ≡ rates_ok rates.now }
 {
-    let mut ok = true;
-    let mut i = 0;
-    while i < rates.len() {
-        ok = also(within(RATE_MIN, RATE_MAX, rates[i] as u64), ok);
-        i += 1;
-    }
-    ok
+    rates
+        .iter()
+        .all(|rate| within(RATE_MIN, RATE_MAX, u64::from(*rate)))
 }
 
 // The floors together of the titles that take part.
@@ -63,11 +58,8 @@ pub fn floors(s: State) -> u64
     ensures { result ≡ floors_of s }
 {
     let mut sum = 0;
-    let mut i = 0;
-    while i < TITLES_MAX {
-        let t = s.titles[i];
-        sum += floor_of(t);
-        i += 1;
+    for t in &s.titles {
+        sum += floor_of(*t);
     }
     sum
 }
@@ -78,15 +70,8 @@ pub fn shared_pool(s: State) -> u64
     ensures { result ≡ shared_pool s }
 {
     let mut sum = 0;
-    let mut i = 0;
-    while i < TITLES_MAX {
-        let t = s.titles[i];
-        sum += kept_apart(t);
-        i += 1;
+    for t in &s.titles {
+        sum += kept_apart(*t);
     }
-    let pool = s.pool;
-    if pool < sum {
-        return 0;
-    }
-    pool - sum
+    s.pool.saturating_sub(sum)
 }

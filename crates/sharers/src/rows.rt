@@ -12,6 +12,7 @@ use rules::TITLES_MAX;
 use story::{State, Title};
 
 // Of the first `many` places of each row, a title's numbers.
+// kept: `sharing::share`, which is a call of C's too, takes a row of each number, and no heap gives a list of so many.
 #[derive(Clone, Copy)]
 pub struct Rows {
     pub many: usize,
@@ -60,11 +61,8 @@ pub fn rows_of(s: State, rates: &[u32]) -> Rows
         floors: none,
         caps: none,
     };
-    let mut i = 0;
-    while i < TITLES_MAX {
-        let t = s.titles[i];
-        q = joined_if_part(q, t, rates[i]);
-        i += 1;
+    for (i, t) in s.titles.iter().enumerate() {
+        q = joined_if_part(q, *t, rates[i]);
     }
     q
 }

@@ -3,7 +3,6 @@ ghost use Rattle.std.specs.Prelude.{◌≡◌};
 ghost use Rattle.sharing_titles.specs.Titles.{titles, SameLengths};
 ghost use Rattle.sharing.specs.Verdict.{rows_fit, allowed as allowedOf, TalliesTitles, verdict_of};
 
-use rules::truth::also;
 use rules::within;
 use sharing_titles::titles::{Rated, floor_total, title_at};
 
@@ -17,27 +16,28 @@ pub struct TitlesTally {
 }
 
 // Four rows of one length, at most sixteen titles, and room for their counts.
+#[tactic(auto, unfolding(crate::specs::Verdict::rows_fit))]
 fn rows_fit(rates: &[u32], lengths: &[u32], floors: &[u32], caps: &[u32], room: usize) -> bool
     ensures { result
         ≡ rows_fit rates.now lengths.now floors.now caps.now room }
 {
     let n = rates.len();
-    let rooms = also(n <= rules::TITLES_MAX, n <= room);
-    also(
-        lengths.len() == n,
-        also(floors.len() == n, also(caps.len() == n, rooms)),
-    )
+    lengths.len() == n
+        && floors.len() == n
+        && caps.len() == n
+        && n <= rules::TITLES_MAX
+        && n <= room
 }
 
 // Each number of the title is within its limits.
+#[tactic(auto, unfolding(crate::specs::Verdict::allowed))]
 fn allowed(t: Rated) -> bool
     ensures { result ≡ allowedOf t }
 {
-    let rate = within(rules::RATE_MIN, rules::RATE_MAX, t.rate as u64);
-    let length = within(rules::LENGTH_MIN, rules::LENGTH_MAX, t.length as u64);
-    let floor = within(rules::FLOOR_MIN, rules::FLOOR_MAX, t.floor as u64);
-    let cap = within(rules::COUNT_MIN, rules::COUNT_MAX, t.cap as u64);
-    also(rate, also(length, also(floor, cap)))
+    within(rules::RATE_MIN, rules::RATE_MAX, t.rate as u64)
+        && within(rules::LENGTH_MIN, rules::LENGTH_MAX, t.length as u64)
+        && within(rules::FLOOR_MIN, rules::FLOOR_MAX, t.floor as u64)
+        && within(rules::COUNT_MIN, rules::COUNT_MAX, t.cap as u64)
 }
 
 // One look at every title.
@@ -48,12 +48,10 @@ fn examine(rates: &[u32], lengths: &[u32], floors: &[u32], caps: &[u32]) -> Titl
 {
     let mut good = true;
     let mut kept = true;
-    let mut i = 0;
-    while i < rates.len() {
+    for i in 0..rates.len() {
         let t = title_at(rates, lengths, floors, caps, i);
-        good = also(good, allowed(t));
-        kept = also(kept, t.floor <= t.cap);
-        i += 1;
+        good &= allowed(t);
+        kept &= t.floor <= t.cap;
     }
     TitlesTally {
         allowed: good,
@@ -73,20 +71,21 @@ pub fn verdict(
     ensures { result
         ≡ verdict_of pool rates.now lengths.now floors.now caps.now room }
 {
-    if rows_fit(rates, lengths, floors, caps, room) {
-        let t = examine(rates, lengths, floors, caps);
-        let inside = also(within(rules::POOL_MIN, rules::POOL_MAX, pool), t.allowed);
-        if inside {
-            let kept = t.ordered;
-            if kept {
-                if pool < floor_total(floors) {
-                    return rules::NO_LANES;
-                }
-                return rules::DONE;
-            }
-            return rules::FLOOR_ABOVE_CAP;
-        }
+    if !rows_fit(rates, lengths, floors, caps, room) {
+        return rules::WRONG_ROWS;
+    }
+    if !within(rules::POOL_MIN, rules::POOL_MAX, pool) {
         return rules::OUTSIDE_LIMITS;
     }
-    rules::WRONG_ROWS
+    let t = examine(rates, lengths, floors, caps);
+    if !t.allowed {
+        return rules::OUTSIDE_LIMITS;
+    }
+    if !t.ordered {
+        return rules::FLOOR_ABOVE_CAP;
+    }
+    if pool < floor_total(floors) {
+        return rules::NO_LANES;
+    }
+    rules::DONE
 }

@@ -3,34 +3,20 @@
 // that a line shows which places stay.
 #![tactic(auto)]
 
+use std::fmt::Display;
+
 // What can't be written is left out.
-fn write(rt: &HostRuntime, bytes: &[u8]) {
-    let _ = rt.write_all(bytes);
-}
-
-fn write_number(rt: &HostRuntime, n: u64) {
-    let _ = rt.print(n);
-}
-
-// A blank, then a number.
-fn number(rt: &HostRuntime, n: u64) {
-    write(rt, b" ");
-    write_number(rt, n);
-}
-
-fn newline(rt: &HostRuntime) {
-    write(rt, b"\n");
+fn write<D: Display + Drop>(rt: &HostRuntime, shown: D) {
+    let _ = rt.print(shown);
 }
 
 // The answer and the row, on a line.
 fn line(rt: &HostRuntime, answer: u8, row: &[u32]) {
-    write_number(rt, answer as u64);
-    let mut i = 0;
-    while i < row.len() {
-        number(rt, row[i] as u64);
-        i += 1;
+    write(rt, answer);
+    for n in row {
+        write(rt, format_args!(" {n}"));
     }
-    newline(rt);
+    write(rt, "\n");
 }
 
 fn run(rt: &HostRuntime, pool: u64, rates: &[u32], lengths: &[u32], floors: &[u32], caps: &[u32]) {

@@ -18,8 +18,7 @@ fn next_title(rates: &[u32], lengths: &[u32], floors: &[u32], caps: &[u32], coun
     let n = rates.len();
     let mut best = n;
     let mut most: u64 = 0;
-    let mut i = 0;
-    while i < n {
+    for i in 0..n {
         let t = title_at(rates, lengths, floors, caps, i);
         let worth = gain(t, counts[i]);
         // a gain is never 0 below the cap, so the first title that has one is taken, and a tie stays with the earlier
@@ -27,7 +26,6 @@ fn next_title(rates: &[u32], lengths: &[u32], floors: &[u32], caps: &[u32], coun
             best = i;
             most = worth;
         }
-        i += 1;
     }
     best
 }
@@ -46,25 +44,11 @@ fn give(
     ensures { counts.new ≡ shared (row_total floors.now + spare)
         (titles rates.now lengths.now floors.now caps.now) }
 {
-    let mut given: u64 = 0;
-    while given < spare {
+    for _ in 0..spare {
         let at = next_title(rates, lengths, floors, caps, counts);
         if at < rates.len() {
-            counts[at] = counts[at] + 1;
+            counts[at] += 1;
         }
-        given += 1;
-    }
-}
-
-// One row becomes the other.
-fn copy(from: &[u32], to: &mut [u32])
-    requires { length to.old ≡ length from.now }
-    ensures { to.new ≡ from.now }
-{
-    let mut i = 0;
-    while i < from.len() {
-        to[i] = from[i];
-        i += 1;
     }
 }
 
@@ -81,7 +65,7 @@ pub fn fill(
     ensures { counts.new ≡ shared pool
         (titles rates.now lengths.now floors.now caps.now) }
 {
-    copy(floors, counts);
+    counts.copy_from_slice(floors);
     let spare = pool - floor_total(floors);
     give(rates, lengths, floors, caps, spare, counts);
 }

@@ -33,10 +33,8 @@ pub fn floor_total(floors: &[u32]) -> u64
     ensures { result ≡ row_total floors.now }
 {
     let mut sum: u64 = 0;
-    let mut i = 0;
-    while i < floors.len() {
-        sum += floors[i] as u64;
-        i += 1;
+    for floor in floors {
+        sum += u64::from(*floor);
     }
     sum
 }

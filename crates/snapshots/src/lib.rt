@@ -34,10 +34,8 @@ fn lay(row: &[u64], room: &mut [u8])
     requires { 8 * length row.now ≤ length room.old }
     ensures { room.new ≡ sets room.old 0 (number_bytes row.now) }
 {
-    let mut i = 0;
-    while i < row.len() {
-        put(room, i * NUMBER, NUMBER, row[i]);
-        i += 1;
+    for (i, number) in row.iter().enumerate() {
+        put(room, i * NUMBER, NUMBER, *number);
     }
 }
 
@@ -77,10 +75,8 @@ fn fill(bytes: &[u8], row: &mut [u64])
     requires { 8 * length row.old ≤ length bytes.now }
     ensures { row.new ≡ numbers_in bytes.now (length row.old) }
 {
-    let mut i = 0;
-    while i < row.len() {
-        row[i] = get(bytes, i * NUMBER, NUMBER);
-        i += 1;
+    for (i, number) in row.iter_mut().enumerate() {
+        *number = get(bytes, i * NUMBER, NUMBER);
     }
 }
 

@@ -1,14 +1,12 @@
 -- What is drawn of a log, as the code meets its cases. Rests on the definitions, and on what a read makes of the row.
-use Prim.Native.Nat.{ℕ, ◌≤◌, min, max}
+use Prim.Native.Nat.{ℕ, ◌≤◌, ◌<◌}
 use mathlib.Core.Path.{◌≡◌, refl, sym, ap, ◌∙◌}
 use mathlib.Core.Bool.{Bool, true, false}
 use mathlib.Core.List.{List}
-use borrow.Author.Tests.{leb-true}
+use borrow.Author.Tests.{eq-eqb, ne_eqb, le-leb, lt-leb}
 use lib.Dec.{leb, eqb}
-use lib.ListN.{get_or, set}
 use Rattle.rules.specs.Limits.{both, id_max, titles_max}
 use Rattle.rules.specs.Refusals.{pick, done}
-use Rattle.rules.proofs.Tests.{both_r}
 use Rattle.notice.specs.declared.Found.{Found}
 use Rattle.notice.specs.declared.Found.TheVariants as found
 use Rattle.story.specs.declared.Title.{Title}
@@ -16,36 +14,29 @@ use Rattle.story.specs.Kept.{title_at}
 use Rattle.agent.specs.declared.Agent.{Agent}
 use Rattle.agent.specs.Played.{agent_played}
 use Rattle.agent_rows.specs.Packed.{unpacked}
-use Rattle.text.specs.Numbers.{byte_most}
 use Rattle.logs.specs.declared.ReadOn.{ReadOn}
 use Rattle.logs.specs.declared.PlayedLog.{PlayedLog}
 use Rattle.logs.specs.Reading.{stepped, agent_read, kept_read, read_next, PlayedStep, ReadsLog, Plays}
 use Rattle.spans.specs.declared.Extent.{Extent}
 use Rattle.spans.specs.Extents.{no_extent, widened, heard_extent, latest_over, measure_of}
 
--- ---- one accepted event more
-
-module _ (x : Extent) (i τ K m c : ℕ) where
-  pub widens : x.begun ≡ true → m ≡ max (get_or x.caps i 0) K → c ≡ min m byte_most →
-      record { begun = true; first = x.first; caps = set x.caps i c } ≡ widened x i τ K
-  unfolding widened
-  widens h e f = rw (h, f, e) refl
-
-  pub begins : x.begun ≡ false → m ≡ max (get_or x.caps i 0) K → c ≡ min m byte_most →
-      record { begun = true; first = τ; caps = set x.caps i c } ≡ widened x i τ K
-  unfolding widened
-  begins h e f = rw (h, f, e) refl
-
 -- ---- one read more
 
 -- an accepted event was read of a title that there is
-abbrev counts : ReadOn → Bool
+abbrev pub counts : ReadOn → Bool
 counts o = both o.played.more (both (eqb o.answer done) (leb o.title id_max))
 
-pub title_low : (o : ReadOn) (a b : Bool) → a ≡ both (eqb o.answer done) (leb o.title id_max) → b ≡ both o.played.more a → b ≡ true →
-    o.title ≤ id_max
-title_low o a b e f h =
-    leb-true o.title id_max (both_r (eqb o.answer done) (leb o.title id_max) (sym e ∙ both_r o.played.more a (sym f ∙ h)))
+pub counts_all : (o : ReadOn) → (o.played.more ≡ true) × (o.answer ≡ done) × (o.title ≤ id_max) → counts o ≡ true
+counts_all o all = simp (all.0, eq-eqb _ _ all.1, le-leb _ _ all.2)
+
+pub counts_late : (o : ReadOn) → (o.played.more ≡ true) × (o.answer ≡ done) × (id_max < o.title) → counts o ≡ false
+counts_late o all = simp (all.0, eq-eqb _ _ all.1, lt-leb _ _ all.2)
+
+pub counts_refused : (o : ReadOn) → (o.played.more ≡ true) × (o.answer ≡ done → ⊥) → counts o ≡ false
+counts_refused o all = simp (all.0, ne_eqb _ _ all.1)
+
+pub counts_none : (o : ReadOn) → o.played.more ≡ false → counts o ≡ false
+counts_none o h = simp h
 
 module _ (r : List ℕ) (at : ℕ) (x : Extent) (f : Found) (o : ReadOn) (s : List ℕ) (read : ReadsLog r at f o s) where
   read_played : (f : Found) → (read_next (unpacked r) at f).played ≡ stepped at f
@@ -72,19 +63,13 @@ module _ (r : List ℕ) (at : ℕ) (x : Extent) (f : Found) (o : ReadOn) (s : Li
             ∙ ap (after (read_next (unpacked r) at f)) read.row_read.agent_is ∙ kept_heard f;
       }
 
-  module _ (a b : Bool) (inner : a ≡ both (eqb o.answer done) (leb o.title id_max)) (outer : b ≡ both o.played.more a) where
-    is_counts : b ≡ counts o
-    is_counts = outer ∙ ap (both o.played.more) inner
+  pub steps_widened : counts o ≡ true → (t : Title) (y : Extent) → t ≡ title_at (unpacked s).state o.title →
+      y ≡ widened x o.title o.time t.film.cap → PlayedStep heard_extent r at x f s o.played y
+  steps_widened h t y is e =
+      told y (e ∙ ap (λ (u : Title). widened x o.title o.time u.film.cap) is ∙ sym (rw h refl))
 
-    pub steps_widened : b ≡ true → (t : Title) (y : Extent) → t ≡ title_at (unpacked s).state o.title →
-        y ≡ widened x o.title o.time t.film.cap → PlayedStep heard_extent r at x f s o.played y
-    steps_widened h t y is e =
-        told y
-        (e ∙ ap (λ (u : Title). widened x o.title o.time u.film.cap) is
-        ∙ sym (rw (sym is_counts ∙ h) refl))
-
-    pub steps_still : b ≡ false → PlayedStep heard_extent r at x f s o.played x
-    steps_still h = told x (rw (sym is_counts ∙ h) refl)
+  pub steps_still : counts o ≡ false → PlayedStep heard_extent r at x f s o.played x
+  steps_still h = told x (rw h refl)
 
 -- ---- the row as it is then
 

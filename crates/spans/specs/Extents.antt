@@ -1,6 +1,6 @@
 -- Over which time a log of notices is drawn: from the first accepted event to the last, or to the last release of a lane that still
 -- sends; and for how many lanes each id has a row: those of the largest cap that it was opened with.
-use Rattle.std.specs.Prelude.{ℕ, zero, suc, min, max, true, false, List, leb, eqb, get_or, set, replicate}
+use Rattle.std.specs.Prelude.{ℕ, zero, suc, min, max, List, Some, None, unwrap_or, leb, eqb, get_or, set, replicate}
 use Rattle.rules.specs.Limits.{both, id_max, titles_max}
 use Rattle.rules.specs.Refusals.{pick, done}
 use Rattle.notice.specs.declared.Notice.{Notice}
@@ -19,12 +19,12 @@ use Rattle.spans.specs.declared.Extent.{Extent}
 use Rattle.spans.specs.declared.Outline.{Outline}
 
 abbrev pub no_extent : Extent
-no_extent = record { begun = false; first = 0; caps = replicate titles_max 0 }
+no_extent = record { first = None; caps = replicate titles_max 0 }
 
 -- one accepted event more, of title i at τ, which has cap K after it
 unfoldable pub widened : Extent → ℕ → ℕ → ℕ → Extent
 widened x i τ K =
-    record { begun = true; first = pick x.begun x.first τ; caps = set x.caps i (min (max (get_or x.caps i 0) K) byte_most) }
+    record { first = Some (unwrap_or x.first τ); caps = set x.caps i (min (max (get_or x.caps i 0) K) byte_most) }
 
 -- a notice that is refused changes nothing
 unfoldable pub heard_extent : Agent → Notice → Extent → Extent

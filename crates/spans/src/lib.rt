@@ -15,8 +15,6 @@ ghost use Rattle.spans.specs.Extents.{no_extent, widened, heard_extent, latest_o
 use agent_rows::ROW_LENGTH;
 use agent_rows::reading::title_at;
 use logs::{PlayedLog, not_begun, read_on};
-use moments::starts::larger;
-use rules::truth::also;
 use rules::{DONE, ID_MAX, TITLES_MAX};
 use text::numbers::as_byte;
 
@@ -24,12 +22,11 @@ pub mod releases;
 
 use releases::title_until;
 
-// What is drawn of a log as far as it was played: whether an event was accepted, the time of the first, and of each id the largest cap
+// What is drawn of a log as far as it was played: the time of the first accepted event, if there was one, and of each id the largest cap
 // that it was opened with, 0 where it was not.
 #[derive(Clone, Copy)]
 pub struct Extent {
-    pub begun: bool,
-    pub first: u64,
+    pub first: Option<u64>,
     pub caps: [u8; TITLES_MAX],
 }
 
@@ -53,8 +50,7 @@ fn no_extent() -> Extent
     ensures { result ≡ no_extent }
 {
     Extent {
-        begun: false,
-        first: 0,
+        first: None,
         caps: [0; TITLES_MAX],
     }
 }
@@ -64,16 +60,10 @@ fn widen(extent: Extent, id: u64, time: u64, cap: u64) -> Extent
     requires { id ≤ id_max }
     ensures { result ≡ widened extent id time cap }
 {
-    let begun = extent.begun;
-    let old = extent.caps[id as usize];
+    let place = id as usize;
     let mut next = extent;
-    next.begun = true;
-    if begun {
-        next.caps[id as usize] = as_byte(larger(old as u64, cap));
-        return next;
-    }
-    next.first = time;
-    next.caps[id as usize] = as_byte(larger(old as u64, cap));
+    next.first = Some(next.first.unwrap_or(time));
+    next.caps[place] = as_byte(u64::from(next.caps[place]).max(cap));
     next
 }
 
@@ -86,7 +76,7 @@ fn step(row: &mut [u64], measured: Measured, log: &[u8]) -> Measured
     let extent = measured.extent;
     let read = read_on(row, measured.played.place, log);
     let next = read.played;
-    if also(next.more, also(read.answer == DONE, read.title <= ID_MAX)) {
+    if next.more && read.answer == DONE && read.title <= ID_MAX {
         let t = title_at(row, read.title);
         return Measured {
             played: next,
@@ -95,7 +85,7 @@ fn step(row: &mut [u64], measured: Measured, log: &[u8]) -> Measured
     }
     Measured {
         played: next,
-        extent: extent,
+        extent,
     }
 }
 
@@ -105,11 +95,9 @@ fn play(row: &mut [u64], pool: u64, log: &[u8]) -> Measured
     requires pool_value { within pool_min pool_max pool ≡ true }
     ensures { Plays heard_extent pool log.now no_extent row.new result.played result.extent × Tested row.new }
 {
-    let played = not_begun(row, pool);
-    let extent = no_extent();
     let mut measured = Measured {
-        played: played,
-        extent: extent,
+        played: not_begun(row, pool),
+        extent: no_extent(),
     };
     while measured.played.more {
         measured = step(row, measured, log);
@@ -122,11 +110,9 @@ fn latest(row: &[u64]) -> u64
     requires { Tested row.now }
     ensures { result ≡ latest_over (unpacked row.now).state titles_max }
 {
-    let mut end = 0;
-    let mut id = 0;
-    while id < TITLES_MAX as u64 {
-        end = larger(end, title_until(title_at(row, id)));
-        id += 1;
+    let mut end: u64 = 0;
+    for id in 0..TITLES_MAX as u64 {
+        end = end.max(title_until(title_at(row, id)));
     }
     end
 }
@@ -138,9 +124,8 @@ pub fn measure(pool: u64, log: &[u8]) -> Outline
 {
     let mut row = [0; ROW_LENGTH];
     let measured = play(&mut row, pool, log);
-    let extent = measured.extent;
     Outline {
-        extent: extent,
+        extent: measured.extent,
         end: latest(&row),
         stop: measured.played.place,
     }

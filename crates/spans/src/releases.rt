@@ -8,7 +8,6 @@ ghost use Rattle.spans.specs.Extents.{later_of, gone_at, title_until};
 
 use measures::lanes::ruling;
 use moments::releases::release_of;
-use moments::starts::larger;
 use story::{ABSENT, Title};
 
 // The later of a moment and the release of a lane, where it is not active.
@@ -18,7 +17,7 @@ fn later(t: Title, tick: u64, moment: u64, lane: u64) -> u64
     ensures { result ≡ later_of t moment lane }
 {
     if ruling(t) <= lane {
-        return larger(moment, release_of(t, tick, lane));
+        return moment.max(release_of(t, tick, lane));
     }
     moment
 }
@@ -28,13 +27,10 @@ fn last_release(t: Title) -> u64
     requires { Timed t }
     ensures { result ≡ gone_at t }
 {
-    let cap = t.film.cap;
     let tick = scheme::tick(t.film.kind, t.film.length, t.film.floor, t.film.cap);
     let mut moment = t.last;
-    let mut lane = 0;
-    while lane < cap {
+    for lane in 0..t.film.cap {
         moment = later(t, tick, moment, lane);
-        lane += 1;
     }
     moment
 }

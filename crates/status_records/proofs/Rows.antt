@@ -1,20 +1,21 @@
 -- Records: what the flat call over one place makes of one, and a row of them that is filled from the front.
 -- Rests on the laws of lists, searches and the refusals' order.
-use mathlib.Core.Path.{◌≡◌, refl, ap, ◌∙◌}
-use mathlib.Core.Bool.{Bool, true, false}
+use Rattle.std.proofs.Common.{◌↔◌, IsTrue}
+use mathlib.Core.Path.{◌≡◌, refl, sym, ap, ◌∙◌}
+use mathlib.Core.Bool.{Bool, true, false, false≢true}
 use mathlib.Core.Logic.{⊎_elim}
 use mathlib.Core.List.{List, [], ◌∷◌, map}
 use Prim.Native.Nat.{ℕ, zero, suc, ◌≤◌, ◌<◌}
 use native.Mathlib.Omega.{arith}
-use native.Mathlib.Nat.{le_antisymm}
 use lib.Dec.{leb, eqb}
 use lib.ListN.{length, length-set, length-map, get_or-map, get_or, set}
 use lib.Seq.{get_or-set_same, get_or-set_other}
-use borrow.Author.Tests.{eq-eqb}
+use borrow.Author.Tests.{eq-eqb, le-leb, leb-true}
 use Rattle.rules.specs.Limits.{id_max}
 use Rattle.rules.specs.Refusals.{pick, first_hit}
 use Rattle.rules.specs.Search.{every}
-use Rattle.rules.proofs.Search.{below_suc, every_out}
+use Rattle.rules.proofs.Search.{below_suc, every_in, every_out}
+use Rattle.rules.proofs.Tests.{fails}
 use Rattle.story.specs.declared.State.{State}
 use Rattle.story.specs.Calls.{status_answer, status_count, status_held, status_mark}
 use Rattle.questions.specs.Asked.{asked_answer}
@@ -93,11 +94,12 @@ records_filled s τ xs none =
     (λ k l. full.1 k l ∙ done_record s τ (get_or xs k no_record) (rw ids at none)
     (every_out (λ j. leb (get_or xs j no_record).id id_max) (length xs) k ids l))
 
--- the answer, once the ids of the whole row are judged
-pub all_judged : (s : State) (τ : ℕ) (rows : List Record) (i : ℕ) (ids : Bool) → i ≤ length rows → length rows ≤ i
-    → ids ≡ record_ids_ok rows i → asked_answer s τ ids ≡ records_answer s τ rows
-unfolding records_answer
-all_judged s τ rows i ids l m e = ap (λ (b : Bool). asked_answer s τ b) (rw (le_antisymm l m) at e)
+-- a row of ids is one where no id is past the last
+pub all_ids : (rows : List Record) (b : Bool) → (IsTrue b ↔ ((k : ℕ) → k < length rows → (get_or rows k no_record).id ≤ id_max)) →
+    b ≡ record_ids_ok rows (length rows)
+unfolding record_ids_ok
+all_ids rows true i = sym (every_in _ (length rows) (λ j l. le-leb _ _ (i.0 refl j l)))
+all_ids rows false i = sym (fails _ (λ t. false≢true (i.1 (λ k l. leb-true _ _ (every_out _ (length rows) k t l)))))
 
 -- the answer over records is the flat call's over their ids, in rows of one length
 pub flat_answer : (s : State) (τ : ℕ) (rows : List Record) →

@@ -1,13 +1,11 @@
 // Status over a lent row of records, thin above the flat call (01, "Status"; 02, 7). It has no `requires`; a refusal writes nothing.
-#![tactic(auto)]
+#![tactic(auto, unfolding(crate::specs::Records::records_answer))]
 
-ghost use Rattle.std.specs.Prelude.{◌≡◌, map, leb, eqb};
-ghost use Rattle.rules.specs.Limits.{both, id_max};
+ghost use Rattle.std.specs.Prelude.{◌≡◌, map, eqb, length};
 ghost use Rattle.rules.specs.Refusals.{pick};
-ghost use Rattle.status_records.specs.Records.{records_answer, filled_record, record_for};
+ghost use Rattle.status_records.specs.Records.{record_ids_ok, records_answer, filled_record, record_for};
 
 use questions::asked_verdict;
-use rules::truth::also;
 use rules::{DONE, ID_MAX};
 use status::status;
 use story::State;
@@ -21,11 +19,11 @@ pub struct Record {
     pub mark: u64,
 }
 
-// A record's id is an id, and so were those before it.
-fn id_ok(r: Record, ok: bool) -> bool
-    ensures { result ≡ both (leb r.id id_max) ok }
+// The records' ids are ids.
+fn ids_ok(rows: &[Record]) -> bool
+    ensures { result ≡ record_ids_ok rows.now (length rows.now) }
 {
-    also(r.id <= ID_MAX, ok)
+    rows.iter().all(|r| r.id <= ID_MAX)
 }
 
 // A record filled in, by the flat call over rows of one place.
@@ -45,24 +43,17 @@ fn row_for(s: State, time: u64, r: Record) -> Record
     }
 }
 
+// kept: a customer's call gives back 01's number (docs/PROMISES.md, "Public calls").
 // Fills in counts, lanes held and marks by id, over a row of records.
 pub fn records(s: State, time: u64, rows: &mut [Record]) -> u8
     ensures { (result ≡ records_answer s time rows.old)
         × (rows.new ≡ pick (eqb result 0) (map (λ q. filled_record s time q) rows.old) rows.old) }
 {
-    let mut ids = true;
-    let mut i = 0;
-    while i < rows.len() {
-        ids = id_ok(rows[i], ids);
-        i += 1;
+    if let Err(refusal) = asked_verdict(s, time, ids_ok(rows)) {
+        return refusal.number();
     }
-    let answer = asked_verdict(s, time, ids);
-    if answer == DONE {
-        i = 0;
-        while i < rows.len() {
-            rows[i] = row_for(s, time, rows[i]);
-            i += 1;
-        }
+    for r in rows.iter_mut() {
+        *r = row_for(s, time, *r);
     }
-    answer
+    DONE
 }

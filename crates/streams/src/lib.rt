@@ -7,22 +7,11 @@
 pub mod ports;
 pub mod usage;
 
-ghost use Rattle.std.specs.Prelude.{length};
-ghost use Rattle.streams.specs.Reads.{Fits, Holds};
+ghost use Rattle.std.specs.Prelude.{length, IfSome};
+ghost use Rattle.streams.specs.Reads.{Holds, Grows};
 
 use crate::ports::fail;
 use std::io::{Read, Write};
-
-// What one read gave.
-#[derive(Clone, Copy)]
-enum Got {
-    // so many bytes, at the room's start: one at least
-    Bytes(usize),
-    // no byte will follow, or there is no room
-    End,
-    // nothing, and standard error says why
-    Failed,
-}
 
 // What stands at a buffer's start after a read behind the bytes that were kept there.
 #[derive(Clone, Copy)]
@@ -31,48 +20,37 @@ pub enum Filled {
     More(usize),
     // the kept ones, so many, and no byte will follow
     Last(usize),
-    // nothing that counts, and standard error says why
-    Failed,
 }
 
-// Reads once, whatever is there, into the start of a room.
-fn read_some<R: Read>(rt: &HostRuntime, file: &mut R, name: &[u8], room: &mut [u8]) -> Got
-    ensures { Fits (length room.old) result }
-{
-    match file.read(room) {
-        Ok(0) => Got::End,
-        Ok(n) => Got::Bytes(n),
-        Err(error) => {
-            fail(rt, name, error);
-            Got::Failed
-        }
-    }
-}
-
-// Reads once, from an open file, behind the first bytes of a buffer, which are kept; none are where it has not so many.
+// Reads once, from an open file, whatever is there, behind the first bytes of a buffer, which are kept; none are where it has not so many.
+// Where that failed nothing counts, and standard error says why.
 pub fn refill_from<R: Read>(
     rt: &HostRuntime,
     file: &mut R,
     name: &[u8],
     buffer: &mut [u8],
     kept: usize,
-) -> Filled
-    ensures { Holds (length buffer.old) result }
+) -> Option<Filled>
+    ensures room { IfSome result (Holds (length buffer.old)) }
+    ensures grows { IfSome result (Grows kept) }
 {
     if buffer.len() < kept {
-        return Filled::Last(0);
+        return Some(Filled::Last(0));
     }
-    let got = read_some(rt, file, name, &mut buffer[kept..]);
-    match got {
-        Got::Bytes(n) => Filled::More(kept + n),
-        Got::End => Filled::Last(kept),
-        Got::Failed => Filled::Failed,
+    match file.read(&mut buffer[kept..]) {
+        Ok(0) => Some(Filled::Last(kept)),
+        Ok(n) => Some(Filled::More(kept + n)),
+        Err(error) => {
+            fail(rt, name, error);
+            None
+        }
     }
 }
 
 // The same from standard input.
-pub fn refill(rt: &HostRuntime, buffer: &mut [u8], kept: usize) -> Filled
-    ensures { Holds (length buffer.old) result }
+pub fn refill(rt: &HostRuntime, buffer: &mut [u8], kept: usize) -> Option<Filled>
+    ensures room { IfSome result (Holds (length buffer.old)) }
+    ensures grows { IfSome result (Grows kept) }
 {
     let mut input = rt.stdin();
     refill_from(rt, &mut input, b"standard input", buffer, kept)

@@ -1,6 +1,6 @@
 // The latest boxes of the counts that had a lane.
 
-ghost use Rattle.std.specs.Prelude.{suc, ◌+◌, ◌^◌, ◌≤◌, ◌<◌, max, ◌≡◌, true, eqb};
+ghost use Rattle.std.specs.Prelude.{suc, ◌+◌, ◌^◌, ◌≤◌, ◌<◌, ◌≡◌, true, eqb};
 ghost use Rattle.rules.specs.Limits.{count_max, count_places};
 ghost use Rattle.rules.specs.Refusals.{pick};
 ghost use Rattle.story.specs.Kept.{row_ok};
@@ -15,13 +15,6 @@ use rules::COUNT_PLACES;
 pub struct Latest {
     pub until: u64,
     pub end: u64,
-}
-
-// The larger of two numbers.
-pub fn larger(a: u64, b: u64) -> u64
-    ensures { result ≡ max a b }
-{
-    if a <= b { b } else { a }
 }
 
 // A count that ended so, moved by so many ticks; 0 stays, as it never ruled.
@@ -42,17 +35,12 @@ pub fn latest_above(ends: &[u64; COUNT_PLACES], cap: u64, lane: u64) -> Latest
     ensures { IsLatest ends.now cap lane (suc cap) result.until result.end }
 {
     let width = slot(cap, lane + 1);
-    let mut until = 0;
-    let mut end = 0;
-    let mut count = lane + 1;
-    while count <= cap {
+    let mut until: u64 = 0;
+    let mut end: u64 = 0;
+    for count in lane + 1..cap + 1 {
         let ended = ends[count as usize];
-        until = larger(until, moved(ended, width - slot(cap, count)));
-        end = larger(end, ended);
-        count += 1;
+        until = until.max(moved(ended, width - slot(cap, count)));
+        end = end.max(ended);
     }
-    Latest {
-        until: until,
-        end: end,
-    }
+    Latest { until, end }
 }

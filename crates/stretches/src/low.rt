@@ -21,12 +21,10 @@ ghost use Rattle.stretches.specs.inner.Low.{
   Idle,
 };
 
-use crate::latest::{larger, latest_above, moved};
+use crate::latest::{latest_above, moved};
 use crate::upper::film_cells;
 use grid::{pow2, slot};
-use measures::ticks::since;
 use rules::COUNT_PLACES;
-use rules::truth::smaller;
 use story::{Film, Title};
 
 // A lane of a film below its floor: the ticks of a slot of the floor's count, and the segments that the lane repeats.
@@ -48,7 +46,7 @@ fn low_of(film: Film, lane: u64) -> Low
     Low {
         floor: film.floor,
         cap: film.cap,
-        lane: lane,
+        lane,
         width: slot(film.cap, film.floor),
         own: pow2(lane),
     }
@@ -59,7 +57,7 @@ fn highest(n: u64) -> u64
     requires { (0 < n) × (n ≤ 2 ^ count_max) }
     ensures { (k : ℕ) × (result ≡ 2 ^ k) × (result ≤ n) × (n < 2 ^ suc k) }
 {
-    pow2(63 - u64::leading_zeros(n) as u64)
+    pow2(u64::from(n.ilog2()))
 }
 
 // Of two spans the long one where so many ticks are within a slot.
@@ -78,16 +76,12 @@ fn till(ends: &[u64; COUNT_PLACES], s: Low, left: u64) -> u64
     let cap = s.cap;
     let long = s.width * s.own;
     let short = s.width * pow2(s.lane - 1);
-    let mut most = 0;
-    let mut count = s.floor;
-    while count <= cap {
+    let mut most: u64 = 0;
+    // kept: a walk shared with `latest_above` would take a closure for what each end moves by, and find here a latest end that nobody asks
+    for count in s.floor..cap + 1 {
         let ended = ends[count as usize];
         let width = slot(cap, count);
-        most = larger(
-            most,
-            moved(ended, span_by(left, width, long, short) - width),
-        );
-        count += 1;
+        most = most.max(moved(ended, span_by(left, width, long, short) - width));
     }
     most
 }
@@ -144,7 +138,7 @@ fn ticks_at(s: Low, till: u64, film: u64, tick: u64, length: u64) -> u64
     ensures { result ≡ min length (min (till - tick) (film - cell_at s.floor s.cap s.lane tick)) }
 {
     let cell = (s.own - 1 + place_at(s, tick)) * s.width + tick % s.width;
-    smaller(length, smaller(since(tick, till), since(cell, film)))
+    length.min(till.saturating_sub(tick).min(film.saturating_sub(cell)))
 }
 
 // How many ticks a lane owes that is dropped at a tick.
@@ -158,11 +152,12 @@ pub fn owed_low(t: Title, lane: u64, at: u64) -> u64
     let s = low_of(film, lane);
     let cells = film_cells(film);
     let late = till(&t.ends, s, 0);
-    let end = smaller(pow2(film.cap - 1), since(at, late));
+    let end = pow2(film.cap - 1).min(late.saturating_sub(at));
     let mut owed = 0;
     let mut i = 0;
+    // kept: one walk for this loop and that of `nth_low` would compare each stretch's ticks with a number that is asked for here by nobody
     while i < end {
-        let length = smaller(length_at(s, at + i), end - i);
+        let length = length_at(s, at + i).min(end - i);
         owed += ticks_at(s, till_at(&t.ends, s, late, at + i), cells, at + i, length);
         i += length;
     }
@@ -181,11 +176,11 @@ pub fn nth_low(t: Title, lane: u64, at: u64, nth: u64) -> u64
     let cells = film_cells(film);
     let late = till(&t.ends, s, 0);
     let reach = pow2(film.cap - 1);
-    let end = smaller(reach, since(at, late));
+    let end = reach.min(late.saturating_sub(at));
     let mut owed = 0;
     let mut i = 0;
     while i < end {
-        let length = smaller(length_at(s, at + i), end - i);
+        let length = length_at(s, at + i).min(end - i);
         let ticks = ticks_at(s, till_at(&t.ends, s, late, at + i), cells, at + i, length);
         if nth < owed + ticks {
             return i + (nth - owed);
@@ -203,8 +198,5 @@ pub fn is_idle(ends: &[u64; COUNT_PLACES], film: Film, at: u64) -> bool
     ensures { result ≡ true → Idle ends.now film at }
 {
     let latest = latest_above(ends, film.cap, film.floor - 1);
-    if at < latest.end {
-        return false;
-    }
-    at % slot(film.cap, film.floor) == 0
+    latest.end <= at && at % slot(film.cap, film.floor) == 0
 }

@@ -10,8 +10,6 @@ ghost use Rattle.stretches.specs.inner.Turns.{turn_due, TurnsAt};
 
 use crate::latest::moved;
 use crate::upper::film_cells;
-use measures::ticks::since;
-use rules::truth::smaller;
 use scheme::{lane_cell, period};
 use story::Film;
 
@@ -32,7 +30,8 @@ fn due_at(film: Film, ended: u64, lane: u64, tick: u64) -> u64
 {
     let till = moved(ended, period(lane) - 1);
     let cell = lane_cell(film.kind, film.floor, film.cap, lane, tick);
-    smaller(since(tick, till), since(cell, film_cells(film)))
+    till.saturating_sub(tick)
+        .min(film_cells(film).saturating_sub(cell))
 }
 
 // The two turns of a lane dropped at a tick, after its count had ended so.
@@ -45,8 +44,8 @@ pub fn turns_at(film: Film, ended: u64, lane: u64, at: u64) -> Turns
     let turn = period(lane);
     let left = turn - at % turn;
     Turns {
-        left: left,
-        first: smaller(left, due_at(film, ended, lane, at)),
+        left,
+        first: left.min(due_at(film, ended, lane, at)),
         second: due_at(film, ended, lane, at + left),
     }
 }

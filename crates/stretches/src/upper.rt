@@ -19,8 +19,6 @@ ghost use Rattle.stretches.specs.inner.Walk.{
 };
 
 use grid::{pow2, slot};
-use measures::ticks::since;
-use rules::truth::smaller;
 use scheme::STEADY;
 use story::Film;
 
@@ -42,16 +40,7 @@ pub fn is_reached(film: Film, lane: u64, at: u64, end: u64) -> bool
     requires { (lane < film.cap) × (film.cap ≤ count_max) }
     ensures { result ≡ is_reached film lane at end }
 {
-    if film.kind == STEADY {
-        return false;
-    }
-    if lane < film.floor {
-        return false;
-    }
-    if at < end {
-        return false;
-    }
-    at % slot(film.cap, lane + 1) == 0
+    film.kind != STEADY && film.floor <= lane && end <= at && at % slot(film.cap, lane + 1) == 0
 }
 
 // How many cells of a film hold some.
@@ -74,11 +63,11 @@ pub fn walk_of(film: Film, lane: u64, at: u64, until: u64) -> Walk
     let turn = at / width + 1 + (pow2(lane + 1) - pow2(lane + 1 - film.floor));
     let cells = if until == 0 { 0 } else { film_cells(film) };
     Walk {
-        lane: lane,
-        at: at,
-        width: width,
-        turn: turn,
-        until: until,
+        lane,
+        at,
+        width,
+        turn,
+        until,
         film: cells,
     }
 }
@@ -88,7 +77,7 @@ fn rest_on(s: Walk, channel: u64) -> u64
     requires { OnChannel s channel }
     ensures { Exactly (rest_on s channel) 0 (2 ^ count_max) result }
 {
-    s.turn % pow2(smaller(channel + 1, s.lane))
+    s.turn % pow2((channel + 1).min(s.lane))
 }
 
 // How far from the drop the channel's slot lies that may still be awaited.
@@ -96,7 +85,7 @@ fn from_on(s: Walk, channel: u64) -> u64
     requires { OnChannel s channel }
     ensures { Exactly (from_on s channel) 0 (2 ^ 25) result }
 {
-    since(rest_on(s, channel) + 1, pow2(channel)) * s.width
+    pow2(channel).saturating_sub(rest_on(s, channel) + 1) * s.width
 }
 
 // How many ticks of that slot are owed, its first ones: while the latest box takes the channel, and as far as there is film.
@@ -113,8 +102,8 @@ fn ticks_on(s: Walk, channel: u64) -> u64
     if until <= s.at {
         return 0;
     }
-    let film = since((2 * span - 2) * s.width, s.film);
-    smaller(s.width, smaller(until - s.at, film))
+    let film = s.film.saturating_sub((2 * span - 2) * s.width);
+    s.width.min((until - s.at).min(film))
 }
 
 // How many ticks are owed on all channels.
@@ -122,12 +111,9 @@ pub fn owed_in(s: Walk) -> u64
     requires { Walkable s }
     ensures { result ≡ ticks_to s s.lane }
 {
-    let lane = s.lane;
     let mut owed = 0;
-    let mut i = 0;
-    while i < lane {
+    for i in 0..s.lane {
         owed += ticks_on(s, i + 1);
-        i += 1;
     }
     owed
 }
@@ -137,16 +123,13 @@ pub fn nth_in(s: Walk, nth: u64) -> u64
     requires { Walkable s }
     ensures { NthIn s nth result }
 {
-    let lane = s.lane;
     let mut owed = 0;
-    let mut i = 0;
-    while i < lane {
+    for i in 0..s.lane {
         let ticks = ticks_on(s, i + 1);
         if nth < owed + ticks {
             return from_on(s, i + 1) + (nth - owed);
         }
         owed += ticks;
-        i += 1;
     }
-    pow2(lane) * s.width
+    pow2(s.lane) * s.width
 }

@@ -1,6 +1,6 @@
 -- The rows of a title's lanes: filled where a lane is active, hatched where it sends, and the end of what it sends marked.
-use Rattle.std.specs.Prelude.{ℕ, zero, suc, ◌+◌, ◌-◌, ◌*◌, max, Bool, List, [], ◌++◌, get_or, set}
-use Rattle.rules.specs.Limits.{both, either, lane_max}
+use Rattle.std.specs.Prelude.{ℕ, zero, suc, ◌+◌, ◌-◌, ◌*◌, max, Bool, Option, Some, None, is_some, List, [], ◌++◌, get_or, set}
+use Rattle.rules.specs.Limits.{either, lane_max}
 use Rattle.rules.specs.Refusals.{pick}
 use Rattle.story.specs.declared.Title.{Title}
 use Rattle.text.specs.Texts.{text}
@@ -32,11 +32,16 @@ lowest_top = four_bytes_most + lanes_down + lane_max * lane_step
 abbrev pub lane_height : ℕ
 lane_height = 76
 
+-- active, or sending so many cells
+unfoldable pub doing_text : Option ℕ → List ℕ
+doing_text None = text ", active"
+doing_text (Some cells) = text ", sending " ++ decimal cells ++ text " cells"
+
 -- what hovering over a stretch tells: the lane, from when to when, active or sending so many cells
 unfoldable pub hover_text : ℕ → Stretch → List ℕ
 hover_text l S =
     text "lane " ++ decimal l ++ text ", " ++ clock_text S.from ++ text " to " ++ clock_text S.to
-    ++ pick S.active (text ", active") (text ", sending " ++ decimal S.cells ++ text " cells")
+    ++ doing_text S.owed
 
 -- the end of what a lane sends
 unfoldable pub tail_text : ℕ → ℕ → List ℕ
@@ -48,8 +53,9 @@ lane_area b l x end = record { x = x; y = lane_top b.top l; width = end - x; hei
 -- a stretch of lane l, from one place of its row to another
 unfoldable pub strip_text : Band → ℕ → ℕ → ℕ → Stretch → List ℕ
 strip_text b l x end S =
-    pick S.active (rect_text (text "t") b.id (lane_area b l x end) ++ hover_text l S ++ rect_end)
+    pick (is_some S.owed)
     (rect_text (text "s") b.id (lane_area b l x end) ++ hover_text l S ++ rect_end ++ tail_text end (lane_top b.top l))
+    (rect_text (text "t") b.id (lane_area b l x end) ++ hover_text l S ++ rect_end)
 
 -- its left end, which is no further left than what was drawn last, and its right one
 abbrev pub left_of : Band → List ℕ → ℕ → Stretch → ℕ
@@ -60,16 +66,18 @@ right_of b S = end_across b.scale S.from S.to
 
 -- a stretch that ends is drawn where it is new in its row
 abbrev pub is_drawn : Band → List ℕ → ℕ → Stretch → Bool
-is_drawn b kept l S = both S.some (is_new kept (lanes_at b.id l) (right_of b S))
+is_drawn b kept l S = is_new kept (lanes_at b.id l) (right_of b S)
 
-unfoldable pub ended_text : Band → List ℕ → ℕ → Stretch → List ℕ
-ended_text b kept l S = pick (is_drawn b kept l S) (strip_text b l (left_of b kept l S) (right_of b S) S) []
+unfoldable pub ended_text : Band → List ℕ → ℕ → Option Stretch → List ℕ
+ended_text b kept l None = []
+ended_text b kept l (Some S) = pick (is_drawn b kept l S) (strip_text b l (left_of b kept l S) (right_of b S) S) []
 
-unfoldable pub ended_kept : Band → List ℕ → ℕ → Stretch → List ℕ
-ended_kept b kept l S = pick (is_drawn b kept l S) (set kept (lanes_at b.id l) (right_of b S)) kept
+unfoldable pub ended_kept : Band → List ℕ → ℕ → Option Stretch → List ℕ
+ended_kept b kept l None = kept
+ended_kept b kept l (Some S) = pick (is_drawn b kept l S) (set kept (lanes_at b.id l) (right_of b S)) kept
 
 -- the stretch that lane l is in, as far as τ
-abbrev pub lane_stretch : Band → List ℕ → Title → ℕ → ℕ → Stretch
+abbrev pub lane_stretch : Band → List ℕ → Title → ℕ → ℕ → Option Stretch
 lane_stretch b kept t τ l = stretch_since t l (get_or kept (since_at b.id l) 0) τ
 
 -- at τ count k rules from now on: a lane's stretch ends where the lane switches, or where all stretches are over

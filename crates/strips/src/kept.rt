@@ -45,6 +45,7 @@ pub fn kept_in(id: u64, j: u64) -> usize
 }
 
 // Whether a mark is new in its row: what was drawn there last ends left of a place. It is drawn then, and ends at another.
+// kept: a function over the drawing would be called with seven arguments where `if claim(..) { .. }` now stands, which is no plainer.
 pub fn claim(kept: &mut [u64], j: usize, from: u64, end: u64) -> bool
     requires { j < length kept.old }
     ensures { (result ≡ is_new kept.old j from) × (kept.new ≡ drawn_to kept.old j from end) }

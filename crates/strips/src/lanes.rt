@@ -4,7 +4,7 @@ ghost use Rattle.std.specs.Prelude.{◌≤◌, ◌<◌, ◌≡◌, length};
 ghost use Rattle.rules.specs.Limits.{count_max, id_max};
 ghost use Rattle.story.specs.Kept.{absent_mode};
 ghost use Rattle.moments.specs.Searched.{Timed};
-ghost use Rattle.text.specs.Output.{Written};
+ghost use Rattle.text.specs.Pages.{Puts};
 ghost use Rattle.strips.specs.Kept.{kept_length};
 ghost use Rattle.strips.specs.Lanes.{
   lane_top,
@@ -26,11 +26,9 @@ use crate::states::{Stretch, stretch_of, switches};
 use clocks::put_clock;
 use drawing::pieces::{Area, put_path, put_path_end, put_point, put_rect, put_rect_end, put_step};
 use measures::ticks::since;
-use moments::starts::larger;
 use rules::COUNT_MAX;
 use story::Title;
-use text::digits::put_number;
-use text::output::put;
+use text::page::Page;
 
 // A band's first lane, from its top; from one lane to the next, and a lane's height.
 pub const LANES_DOWN: u64 = 380;
@@ -48,94 +46,81 @@ fn lane_top(top: u32, lane: u64) -> u64
 }
 
 // What hovering over a stretch tells.
-fn put_told(out: &mut [u8], at: usize, lane: u64, s: Stretch) -> usize
-    ensures { Written out.old at (hover_text lane s) out.new result }
+fn put_told(page: &mut Page<'_>, lane: u64, s: Stretch)
+    ensures { Puts page.old (hover_text lane s) page.new }
 {
-    let a = put(out, at, b"lane ");
-    let b = put_number(out, a, lane);
-    let c = put(out, b, b", ");
-    let d = put_clock(out, c, s.from);
-    let e = put(out, d, b" to ");
-    let f = put_clock(out, e, s.to);
-    if s.active {
-        return put(out, f, b", active");
+    page.put(b"lane ");
+    page.put_number(lane);
+    page.put(b", ");
+    put_clock(page, s.from);
+    page.put(b" to ");
+    put_clock(page, s.to);
+    match s.owed {
+        None => page.put(b", active"),
+        Some(cells) => {
+            page.put(b", sending ");
+            page.put_number(cells);
+            page.put(b" cells");
+        }
     }
-    let g = put(out, f, b", sending ");
-    let h = put_number(out, g, s.cells);
-    put(out, h, b" cells")
 }
 
 // The mark at the end of what a lane sends.
-fn put_tail(out: &mut [u8], at: usize, x: u64, y: u64) -> usize
+fn put_tail(page: &mut Page<'_>, x: u64, y: u64)
     requires { y ≤ lowest_top }
-    ensures { Written out.old at (tail_text x y) out.new result }
+    ensures { Puts page.old (tail_text x y) page.new }
 {
-    let a = put_path(out, at, b"axis");
-    let b = put_point(out, a, b'M', x, y);
-    let c = put_step(out, b, b'V', y + LANE_HEIGHT);
-    put_path_end(out, c)
+    put_path(page, b"axis");
+    put_point(page, b'M', x, y);
+    put_step(page, b'V', y + LANE_HEIGHT);
+    put_path_end(page);
 }
 
 // A stretch, from one place of a row to another.
-fn put_strip(
-    out: &mut [u8],
-    at: usize,
-    band: Band,
-    lane: u64,
-    x: u64,
-    end: u64,
-    s: Stretch,
-) -> usize
+fn put_strip(page: &mut Page<'_>, band: Band, lane: u64, x: u64, end: u64, s: Stretch)
     requires { lane < count_max }
-    ensures { Written out.old at (strip_text band lane x end s) out.new result }
+    ensures { Puts page.old (strip_text band lane x end s) page.new }
 {
     let y = lane_top(band.top, lane);
     let area = Area {
-        x: x,
-        y: y,
+        x,
+        y,
         width: since(x, end),
         height: LANE_HEIGHT,
     };
-    if s.active {
-        let a = put_rect(out, at, b"t", band.id, area);
-        let b = put_told(out, a, lane, s);
-        return put_rect_end(out, b);
+    if s.owed.is_some() {
+        put_rect(page, b"s", band.id, area);
+        put_told(page, lane, s);
+        put_rect_end(page);
+        put_tail(page, end, y);
+    } else {
+        put_rect(page, b"t", band.id, area);
+        put_told(page, lane, s);
+        put_rect_end(page);
     }
-    let c = put_rect(out, at, b"s", band.id, area);
-    let d = put_told(out, c, lane, s);
-    let e = put_rect_end(out, d);
-    put_tail(out, e, end, y)
 }
 
-// A stretch that ends, where its row is not drawn so far: behind what was drawn last.
-fn put_ended(
-    out: &mut [u8],
-    at: usize,
-    kept: &mut [u64],
-    band: Band,
-    lane: u64,
-    s: Stretch,
-) -> usize
+// A stretch that ends, if there is one, where its row is not drawn so far: behind what was drawn last.
+fn put_ended(page: &mut Page<'_>, kept: &mut [u64], band: Band, lane: u64, stretch: Option<Stretch>)
     requires { (length kept.old ≡ kept_length) × ((band.id ≤ id_max) × (lane < count_max)) }
-    ensures written { Written out.old at (ended_text band kept.old lane s) out.new result }
-    ensures kept_after { kept.new ≡ ended_kept band kept.old lane s }
+    ensures written { Puts page.old (ended_text band kept.old lane stretch) page.new }
+    ensures kept_after { kept.new ≡ ended_kept band kept.old lane stretch }
 {
+    let Some(s) = stretch else {
+        return;
+    };
     let j = kept_in(band.id, LANES + lane);
     let scale = band.scale;
     let right = end(scale, s.from, s.to);
-    let left = larger(place(scale, s.from), kept[j]);
-    if s.some {
-        if claim(kept, j, right, right) {
-            return put_strip(out, at, band, lane, left, right, s);
-        }
+    let left = place(scale, s.from).max(kept[j]);
+    if claim(kept, j, right, right) {
+        put_strip(page, band, lane, left, right, s);
     }
-    at
 }
 
 // A lane of a title at an event that leaves it another ruling count: its stretch ends if it switches, or if all stretches do.
 fn put_lane(
-    out: &mut [u8],
-    at: usize,
+    page: &mut Page<'_>,
     kept: &mut [u64],
     band: Band,
     lane: u64,
@@ -143,46 +128,38 @@ fn put_lane(
     count: u64,
     over: bool,
     time: u64,
-) -> usize
+)
     requires timed { (t.mode ≡ absent_mode → ⊥) → Timed t }
     requires kept_len { (length kept.old ≡ kept_length) × ((band.id ≤ id_max) × (lane < count_max)) }
-    ensures written { Written out.old at (lane_mark band kept.old t count over time lane) out.new result }
+    ensures written { Puts page.old (lane_mark band kept.old t count over time lane) page.new }
     ensures kept_after { kept.new ≡ lane_kept band kept.old t count over time lane }
 {
     let j = kept_in(band.id, SINCE + lane);
     let s = stretch_of(t, lane, kept[j], time);
     if switches(t, count, lane) {
-        let a = put_ended(out, at, kept, band, lane, s);
+        put_ended(page, kept, band, lane, s);
         kept[j] = time;
-        return a;
+    } else if over {
+        put_ended(page, kept, band, lane, s);
     }
-    if over {
-        return put_ended(out, at, kept, band, lane, s);
-    }
-    at
 }
 
 // All lanes of a title.
 pub fn put_lanes(
-    out: &mut [u8],
-    at: usize,
+    page: &mut Page<'_>,
     kept: &mut [u64],
     band: Band,
     t: Title,
     count: u64,
     over: bool,
     time: u64,
-) -> usize
+)
     requires timed { (t.mode ≡ absent_mode → ⊥) → Timed t }
     requires kept_len { (length kept.old ≡ kept_length) × (band.id ≤ id_max) }
-    ensures written { Written out.old at (lanes_marks band kept.old t count over time count_max) out.new result }
+    ensures written { Puts page.old (lanes_marks band kept.old t count over time count_max) page.new }
     ensures kept_after { kept.new ≡ lanes_kept band kept.old t count over time count_max }
 {
-    let mut place = at;
-    let mut lane = 0;
-    while lane < COUNT_MAX {
-        place = put_lane(out, place, kept, band, lane, t, count, over, time);
-        lane += 1;
+    for lane in 0..COUNT_MAX {
+        put_lane(page, kept, band, lane, t, count, over, time);
     }
-    place
 }

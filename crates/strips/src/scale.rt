@@ -7,7 +7,6 @@ ghost use Rattle.strips.specs.Scale.{place_across, end_across};
 
 use drawing::axis::{PLOT_LEFT, part};
 use measures::ticks::since;
-use moments::starts::larger;
 
 // The first moment that is drawn, how many follow it, the plot's columns, and how many tenths of a pixel each has.
 #[derive(Clone, Copy)]
@@ -36,5 +35,5 @@ pub fn place(s: Scale, time: u64) -> u64
 pub fn end(s: Scale, from: u64, to: u64) -> u64
     ensures { Exactly (end_across s from to) plot_left (2 ^ 34) result }
 {
-    larger(place(s, to), place(s, from) + s.grain as u64)
+    place(s, to).max(place(s, from) + s.grain as u64)
 }

@@ -4,72 +4,53 @@ ghost use Rattle.std.specs.Prelude.{◌<◌, ◌≡◌};
 ghost use Rattle.rules.specs.Limits.{count_max};
 ghost use Rattle.story.specs.Kept.{absent_mode};
 ghost use Rattle.moments.specs.Searched.{Timed};
-ghost use Rattle.strips.specs.States.{no_stretch, sending_stretch, stretch_since, switches as switchesOf};
+ghost use Rattle.strips.specs.States.{sending_stretch, stretch_since, switches as switchesOf};
 
 use measures::lanes::ruling;
 use moments::releases::release_of;
-use rules::truth::smaller;
 use story::{ABSENT, Title};
 
-// Whether there is one, whether the lane is active in it, from when to when, and of a sending lane how many cells it owed.
+// From when to when, and of a lane that sends how many cells it owed; none where it is active.
 #[derive(Clone, Copy)]
 pub struct Stretch {
-    pub some: bool,
-    pub active: bool,
     pub from: u64,
     pub to: u64,
-    pub cells: u64,
-}
-
-fn none() -> Stretch
-    ensures { result ≡ no_stretch }
-{
-    Stretch {
-        some: false,
-        active: false,
-        from: 0,
-        to: 0,
-        cells: 0,
-    }
+    pub owed: Option<u64>,
 }
 
 // Of a lane that is not active.
-fn sending(t: Title, lane: u64, since: u64, time: u64) -> Stretch
+fn sending(t: Title, lane: u64, since: u64, time: u64) -> Option<Stretch>
     requires timed { Timed t }
     requires lane_lt_count_max { lane < count_max }
     ensures { result ≡ sending_stretch t lane since time }
 {
     let owed = t.owed[lane as usize];
     if owed == 0 {
-        return none();
+        return None;
     }
     let tick = scheme::tick(t.film.kind, t.film.length, t.film.floor, t.film.cap);
-    Stretch {
-        some: true,
-        active: false,
+    Some(Stretch {
         from: since,
-        to: smaller(release_of(t, tick, lane), time),
-        cells: owed,
-    }
+        to: release_of(t, tick, lane).min(time),
+        owed: Some(owed),
+    })
 }
 
 // The stretch that a lane of a title is in, since a moment, as far as a time.
-pub fn stretch_of(t: Title, lane: u64, since: u64, time: u64) -> Stretch
+pub fn stretch_of(t: Title, lane: u64, since: u64, time: u64) -> Option<Stretch>
     requires timed { (t.mode ≡ absent_mode → ⊥) → Timed t }
     requires lane_lt_count_max { lane < count_max }
     ensures { result ≡ stretch_since t lane since time }
 {
     if t.mode == ABSENT {
-        return none();
+        return None;
     }
     if lane < ruling(t) {
-        return Stretch {
-            some: true,
-            active: true,
+        return Some(Stretch {
             from: since,
             to: time,
-            cells: 0,
-        };
+            owed: None,
+        });
     }
     sending(t, lane, since, time)
 }

@@ -7,10 +7,10 @@ use mathlib.Core.Logic.{⊎_elim}
 use mathlib.Core.List.{List}
 use Prim.Native.Nat.{ℕ, zero, suc, ◌/◌, ◌%◌, ◌≤◌, ◌<◌, ◌^◌}
 use native.Mathlib.Omega.{arith}
-use lib.Bits.{bit_xor, xor_lt, xor_self, xor_zero_l, xor_zero_r, xor_comm}
+use lib.Bits.{bit_xor, xor_lt, xor_self, xor_zero_l, xor_comm}
 use lib.Dec.{eqb}
 use lib.ListN.{length, get_or}
-use borrow.Author.Tests.{eqb-true, eqb-false}
+use borrow.Author.Tests.{eqb-false}
 use Rattle.rules.specs.Refusals.{pick}
 use Rattle.rules.proofs.Search.{below_suc}
 use Rattle.sums.specs.Crc.{polynomial, ones, shifted, shifted_by, with_byte, register, sum_of}

@@ -43,18 +43,10 @@ pub(crate) fn with_byte(r: u32, b: u32) -> u32
     ensures { result ≡ with_byte r b }
 {
     let mut x = r ^ b;
-    let mut i = 0;
-    while i < BITS {
+    for _ in 0..BITS {
         x = shift(x);
-        i += 1;
     }
     x
-}
-
-fn wide(b: u8) -> u32
-    ensures { result ≡ b }
-{
-    b as u32
 }
 
 // The byte at a place goes in.
@@ -62,7 +54,7 @@ fn next(bytes: &[u8], at: usize, r: u32) -> u32
     requires { at < length bytes.now }
     ensures { result ≡ with_byte r (get_or bytes.now at 0) }
 {
-    with_byte(r, wide(bytes[at]))
+    with_byte(r, u32::from(bytes[at]))
 }
 
 // The bytes from a place to the end go in.
@@ -71,10 +63,8 @@ fn rest(bytes: &[u8], from: usize, r: u32) -> u32
     ensures { result ≡ register_from bytes.now from r (length bytes.now - from) }
 {
     let mut x = r;
-    let mut at = from;
-    while at < bytes.len() {
+    for at in from..bytes.len() {
         x = next(bytes, at, x);
-        at += 1;
     }
     x
 }
@@ -92,13 +82,11 @@ fn parts(bytes: &[u8], many: usize) -> Registers
     let mut b = 0;
     let mut c = 0;
     let mut d = 0;
-    let mut i = 0;
-    while i < many {
+    for i in 0..many {
         a = next(bytes, i, a);
         b = next(bytes, many + i, b);
         c = next(bytes, 2 * many + i, c);
         d = next(bytes, 3 * many + i, d);
-        i += 1;
     }
     Registers(a, b, c, d)
 }

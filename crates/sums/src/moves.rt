@@ -17,10 +17,7 @@ const WIDTH: u32 = 32;
 fn chosen(bit: u32, k: u32) -> u32
     ensures { result ≡ pick (eqb bit 1) k 0 }
 {
-    if bit == 1 {
-        return k;
-    }
-    0
+    if bit == 1 { k } else { 0 }
 }
 
 // The register x moved on as far as the highest bit was moved to become k.
@@ -28,10 +25,8 @@ pub(crate) fn moved(x: u32, k: u32) -> u32
     ensures { (result ≡ moved_to x k 32) × (x < 2 ^ 32) }
 {
     let mut r = 0;
-    let mut i = 0;
-    while i < WIDTH {
+    for i in 0..WIDTH {
         r = shift(r) ^ chosen((x >> i) % 2, k);
-        i += 1;
     }
     r
 }
@@ -40,10 +35,7 @@ pub(crate) fn moved(x: u32, k: u32) -> u32
 fn bits_of(n: u64) -> u64
     ensures { (n < 2 ^ result) × (result ≤ 64) }
 {
-    if n == 0 {
-        return 0;
-    }
-    64 - u64::leading_zeros(n) as u64
+    u64::from(u64::BITS - n.leading_zeros())
 }
 
 // A byte of zeros goes in, or none.
@@ -51,20 +43,15 @@ fn with_zero(r: u32, bit: u64) -> u32
     requires { bit < 2 }
     ensures { result ≡ shifted_by (8 * bit) r }
 {
-    if bit == 1 {
-        return with_byte(r, 0);
-    }
-    r
+    if bit == 1 { with_byte(r, 0) } else { r }
 }
 
 // Where the highest bit comes to by so many bytes.
 pub(crate) fn far(bytes: u64) -> u32
     ensures { result ≡ shifted_by (8 * bytes) highest }
 {
-    let mut left = bits_of(bytes);
     let mut k = HIGHEST;
-    while 0 < left {
-        left -= 1;
+    for left in (0..bits_of(bytes)).rev() {
         k = with_zero(moved(k, k), (bytes >> left) % 2);
     }
     k

@@ -2,17 +2,8 @@
 #![tactic(auto)]
 
 // What can't be written is left out.
-fn write(rt: &HostRuntime, bytes: &[u8]) {
-    let _ = rt.write_all(bytes);
-}
-
-fn write_number(rt: &HostRuntime, n: u64) {
-    let _ = rt.print(n);
-}
-
 fn print_sum(rt: &HostRuntime, bytes: &[u8]) {
-    write_number(rt, sums::sum(bytes) as u64);
-    write(rt, b"\n");
+    let _ = rt.println(sums::sum(bytes));
 }
 
 // An iSCSI read command of 48 bytes.

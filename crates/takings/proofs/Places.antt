@@ -1,20 +1,19 @@
 -- Laws of the first number that passes a test, found one by one, of the place at which a cell is taken, and of a count going on.
-use Prim.Native.Nat.{ℕ, suc, ◌+◌, ◌*◌, ◌≤◌, ◌<◌}
-use mathlib.Core.Path.{◌≡◌, refl, sym, ap, ◌∙◌}
+use Prim.Native.Nat.{ℕ, ◌+◌, ◌*◌, ◌≤◌, ◌<◌}
+use mathlib.Core.Path.{◌≡◌, refl, sym, ◌∙◌}
 use mathlib.Core.Bool.{Bool, true, false, false≢true}
 use mathlib.Core.Logic.{⊎_elim}
 use native.Mathlib.Omega.{arith}
 use native.Mathlib.Nat.{le_antisymm}
 use native.Mathlib.Numerals.{add-one}
 use borrow.Author.Tests.{ltb-true, ltb-false, lt-ltb, le-ltb}
-use lib.Dec.{leb, ltb, eqb}
-use Rattle.rules.specs.Limits.{both}
+use lib.Dec.{ltb, eqb}
 use Rattle.rules.specs.Refusals.{pick}
 use Rattle.rules.specs.Search.{first, how_many}
 use Rattle.rules.proofs.Tests.{decide}
 use Rattle.rules.proofs.Search.{first_hit_lem, first_before, first_least}
 use Rattle.scheme.specs.Scheme.{film_in}
-use Rattle.takings.specs.Takings.{taking_place, is_kept, kept_at}
+use Rattle.takings.specs.Takings.{taking_place}
 
 module _ (p : ℕ → Bool) where
   pub first_none : first p 0 ≡ 0

@@ -9,7 +9,6 @@ ghost use Rattle.plans.specs.Row.{written};
 ghost use Rattle.takings.specs.Takings.{taking_place, is_kept, kept_at, peak_to};
 
 use rules::LANE_PLACES;
-use rules::truth::{also, one_if};
 
 // The most cells that are kept in any tick, and the first tick in which they are.
 #[derive(Clone, Copy)]
@@ -22,14 +21,12 @@ pub struct Peak {
 fn find(numbers: &[u16], cell: u16) -> usize
     ensures { (result ≡ first (λ j. eqb (get_or numbers.now j 0) cell) (places numbers.now)) × (result ≤ places numbers.now) }
 {
-    let mut i = 0;
-    while i < numbers.len() {
-        if numbers[i] == cell {
+    for (i, number) in numbers.iter().enumerate() {
+        if *number == cell {
             return i;
         }
-        i += 1;
     }
-    i
+    numbers.len()
 }
 
 // The place at which a cell is taken.
@@ -51,18 +48,17 @@ pub fn take_all(numbers: &[u16], length: u64, tick: u64, taken: &mut [u16])
     requires taken_bound { places taken.old ≤ plan_places }
     ensures { taken.new ≡ written (taking_place length tick (λ j. get_or numbers.now j 0) (places numbers.now)) taken.old (places taken.old) }
 {
-    let mut cell: usize = 0;
-    while cell < taken.len() {
-        taken[cell] = place_of(numbers, length, tick, cell as u16);
-        cell += 1;
+    for (cell, place) in taken.iter_mut().enumerate() {
+        *place = place_of(numbers, length, tick, cell as u16);
     }
 }
 
 // Whether a cell that is taken at a place is kept in a tick.
+#[tactic(auto, using(std::proofs::lemmas::Bool::Decides::nat_tests), unfolding(crate::specs::Takings::is_kept))]
 fn is_kept(place: u16, tick: u64, cell: u64) -> bool
     ensures { result ≡ is_kept (λ c. place) tick cell }
 {
-    also(place as u64 / LANE_PLACES as u64 <= tick, tick < cell)
+    place as u64 / LANE_PLACES as u64 <= tick && tick < cell
 }
 
 // How many cells of a row are kept in a tick.
@@ -71,10 +67,8 @@ pub fn kept_at(taken: &[u16], tick: u64) -> u64
     ensures { (result ≡ kept_at (λ c. get_or taken.now c 0) (places taken.now) tick) × (result ≤ plan_places) }
 {
     let mut many = 0;
-    let mut cell: usize = 0;
-    while cell < taken.len() {
-        many += one_if(is_kept(taken[cell], tick, cell as u64));
-        cell += 1;
+    for (cell, place) in taken.iter().enumerate() {
+        many += u64::from(is_kept(*place, tick, cell as u64));
     }
     many
 }
@@ -85,17 +79,11 @@ pub fn peak_of(taken: &[u16]) -> Peak
     ensures { result ≡ peak_to (kept_at (λ c. get_or taken.now c 0) (places taken.now)) (places taken.now) }
 {
     let mut most = Peak { many: 0, tick: 0 };
-    let mut tick: usize = 0;
-    while tick < taken.len() {
-        let many = kept_at(taken, tick as u64);
-        let before = most.many;
-        if before < many {
-            most = Peak {
-                many: many,
-                tick: tick as u64,
-            };
+    for tick in 0..taken.len() as u64 {
+        let many = kept_at(taken, tick);
+        if most.many < many {
+            most = Peak { many, tick };
         }
-        tick += 1;
     }
     most
 }

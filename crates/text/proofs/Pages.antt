@@ -1,17 +1,22 @@
 -- Laws of a page: what is written in turn is written as one, the row keeps its length, and where there is room the
 -- bytes stand in the row one behind the other.
 use Prim.Native.Nat.{ℕ, suc, ◌+◌, ◌-◌, ◌<◌, ◌≤◌, min}
-use mathlib.Core.Path.{◌≡◌, refl, sym, ◌∙◌, ap}
+use mathlib.Core.Path.{◌≡◌, refl, sym, ◌∙◌, ap, subst}
 use mathlib.Core.Bool.{Bool, true, false}
 use mathlib.Core.List.{List, [], ◌∷◌, ◌++◌}
 use native.Mathlib.Omega.{arith}
 use native.Mathlib.Numerals.{add-one}
 use borrow.Author.Tests.{lt-ltb, le-ltb, ltb-true, leb-true, leb-false}
-use lib.ListN.{length, get_or, take, drop, set, length-set, length-append, drop_of_length-le}
-use lib.Seq.{drop-cons, sets, sets-eq, take-append_seam}
+use lib.ListN.{length, take, drop, set, length-set, length-append, drop_of_length-le}
+use lib.Seq.{sets, sets-eq, take-append_seam, take_all, length-take-le}
+use borrow.Rule.Slice.PartMut.{put_mid}
+use Rattle.std.proofs.lemmas.Slice.{put_mid-paste}
+use Rattle.std.proofs.lemmas.List.{take-append-drop}
 use lib.Dec.{ltb, leb}
 use Rattle.rules.specs.Refusals.{pick}
 use Rattle.text.specs.Output.{Page, page, put, puts}
+use Rattle.text.specs.declared.page.Page.{Page as Sheet}
+use Rattle.text.specs.Pages.{Puts}
 
 -- the two ways out of `put_byte`
 pub put_in : (row : List ℕ) (at b : ℕ) → at < length row → page (set row at b) (at + 1) ≡ put (page row at) b
@@ -51,18 +56,13 @@ puts_append (b ∷ s) t p = puts_append s t (put p b)
 pub puts_then : (p : Page) {q r : Page} (s t : List ℕ) → q ≡ puts p s → r ≡ puts q t → r ≡ puts p (s ++ t)
 puts_then p {q} {r} s t e f = f ∙ ap (λ (o : Page). puts o t) e ∙ sym (puts_append s t p)
 
--- a turn of the writing loop, and its end
-pub puts_on : (p : Page) (s : List ℕ) (i : ℕ) → i < length s
-    → puts (put p (get_or s i 0)) (drop (i + 1) s) ≡ puts p (drop i s)
-unfolding puts
-puts_on p s i h = rw (add-one, drop-cons s i 0 h)
-
+-- behind all bytes nothing is left to write
 pub puts_end : (p : Page) (s : List ℕ) (i : ℕ) → length s ≤ i → p ≡ puts p (drop i s)
 unfolding puts
 puts_end p s i h = rw (drop_of_length-le s h)
 
 -- where there is no room left, nothing more is written
-puts_full : (s row : List ℕ) (at : ℕ) → length row ≤ at → page row at ≡ puts (page row at) s
+pub puts_full : (s row : List ℕ) (at : ℕ) → length row ≤ at → page row at ≡ puts (page row at) s
 unfolding puts
 puts_full [] row at h = refl
 puts_full (b ∷ s) row at h = puts_full s row at h ∙ ap (λ (p : Page). puts p s) (put_out row at b h)
@@ -93,6 +93,28 @@ puts_sets (b ∷ s) row at h =
 pub puts_fits : (s : List ℕ) (row : List ℕ) (at : ℕ) → at + length s ≤ length row
     → puts (page row at) s ≡ page (take at row ++ s ++ drop (at + length s) row) (at + length s)
 puts_fits s row at h = puts_sets s row at h ∙ ap (λ (r : List ℕ). page r (at + length s)) (sets-eq s row at h)
+
+-- bytes laid at once, as many as have room, are what is written byte by byte
+pub puts_room : (s row laid : List ℕ) (at n k : ℕ) → at ≤ length row → n ≡ min (length s) (length row - at) → laid ≡ take n s → n ≡ k
+    → page (put_mid at k row laid) (at + n) ≡ puts (page row at) s
+puts_room s row laid at n k h e is m =
+    let t = take n s in
+    let size : length t ≡ n = length-take-le n s (omega arith) in
+    let end : at + n ≡ at + length t = omega arith in
+    let row' = put_mid at k row laid in
+    let pasted : row' ≡ take at row ++ t ++ drop (at + length t) row =
+    put_mid-paste at k row laid t n is m (omega arith)
+    ∙ ap (λ (r : List ℕ). take at row ++ r ++ drop (at + n) row) (take_all n t (omega arith))
+    ∙ ap (λ (i : ℕ). take at row ++ t ++ drop i row) end in
+    let head : page row' (at + n) ≡ puts (page row at) t =
+    ap (λ (r : List ℕ). page r (at + n)) pasted
+    ∙ ap (λ (i : ℕ). page (take at row ++ t ++ drop (at + length t) row) (at + i)) (sym size)
+    ∙ sym (puts_fits t row at (omega arith)) in
+    let kept : length row' ≡ length row = ap (λ (p : Page). length p.row) head ∙ puts_length t (page row at) in
+    puts_left s row' at n (rw kept (omega arith))
+    ∙ ap (λ (p : Page). puts p (drop n s)) head
+    ∙ sym (puts_append t (drop n s) (page row at))
+    ∙ ap (puts (page row at)) (take-append-drop n s)
 
 -- the place never passes the row's end
 put_low : (p : Page) (b : ℕ) → p.at ≤ length p.row → (put p b).at ≤ length p.row
@@ -130,3 +152,15 @@ stands s room after size is fits =
       whole = rw (row, many) (take-append_seam s (drop (length s) room));
       within = rw (row, many) (omega (arith, length-append s (drop (length s) room)));
     }
+
+-- one text behind another on a page, and none
+pub then : {p q r : Sheet} {s t : List ℕ} → Puts p s q → Puts q t r → Puts p (s ++ t) r
+then {s = s} {t = t} a b = record { same_row = b.same_row ∙ a.same_row; written = puts_then _ s t a.written b.written }
+
+pub nothing : {p : Sheet} → Puts p [] p
+unfolding puts
+nothing = record { same_row = refl; written = refl }
+
+-- the same by another name of the text
+pub told_as : {p q : Sheet} {s t : List ℕ} → s ≡ t → Puts p s q → Puts p t q
+told_as {p = p} {q = q} e a = subst (λ (l : List ℕ). Puts p l q) e a

@@ -17,31 +17,19 @@ pub enum Sort {
 pub fn is_separator(b: u8) -> bool
     ensures { result ≡ Rattle.text.specs.Bytes.separator b }
 {
-    if b == b' ' {
-        return true;
-    }
-    if b == b'\t' {
-        return true;
-    }
-    b == b'\r'
+    matches!(b, b' ' | b'\t' | b'\r')
 }
 
 pub fn is_digit(b: u8) -> bool
     ensures { result ≡ Rattle.text.specs.Bytes.digit b }
 {
-    rules::within(48, 57, b as u64)
+    b.is_ascii_digit()
 }
 
 pub fn is_hex(b: u8) -> bool
     ensures { result ≡ Rattle.text.specs.Bytes.hex_digit b }
 {
-    if is_digit(b) {
-        return true;
-    }
-    if rules::within(97, 102, b as u64) {
-        return true;
-    }
-    rules::within(65, 70, b as u64)
+    b.is_ascii_hexdigit()
 }
 
 pub fn is_sort(sort: Sort, b: u8) -> bool
@@ -61,23 +49,17 @@ pub fn is_sort(sort: Sort, b: u8) -> bool
 pub fn run_end(s: &[u8], from: usize, sort: Sort) -> usize
     ensures { result ≡ reached sort s.now from }
 {
-    let mut i = from;
-    while i < s.len() {
-        if is_sort(sort, s[i]) {
-            i += 1;
-        } else {
+    for i in from..s.len() {
+        if !is_sort(sort, s[i]) {
             return i;
         }
     }
-    i
+    from.max(s.len())
 }
 
 // What a decimal digit is worth; 0 for bytes below the digits.
 pub fn digit_of(b: u8) -> u64
     ensures { (result ≡ digit_of b) × (result < 256) }
 {
-    if b < 48 {
-        return 0;
-    }
-    (b - 48) as u64
+    u64::from(b.saturating_sub(b'0'))
 }

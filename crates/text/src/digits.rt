@@ -21,16 +21,14 @@ fn decimal(n: u64) -> Digits
 {
     let mut row = [0u8; DIGITS_MOST];
     let mut left = n;
-    let mut i: usize = DIGITS_MOST;
-    while 0 < i {
-        i -= 1;
+    for i in (0..DIGITS_MOST).rev() {
         row[i] = (48 + left % 10) as u8;
         if left < 10 {
             return Digits { row, from: i };
         }
         left /= 10;
     }
-    Digits { row, from: i }
+    Digits { row, from: 0 }
 }
 
 // The number in decimal.
@@ -48,10 +46,7 @@ fn letter(n: u8) -> u8
     requires { n < 16 }
     ensures { result ≡ letter_of n }
 {
-    if n < 10 {
-        return 48 + n;
-    }
-    87 + n
+    if n < 10 { b'0' + n } else { b'a' + (n - 10) }
 }
 
 // The bytes in lower-case hexadecimal.
@@ -59,12 +54,9 @@ pub fn put_hex(out: &mut [u8], at: usize, bytes: &[u8]) -> usize
     ensures { Written out.old at (hex_text bytes.now) out.new result }
 {
     let mut place = at;
-    let mut i = 0;
-    while i < bytes.len() {
-        let b = bytes[i];
-        let p = output::put_byte(out, place, letter(b / 16));
-        place = output::put_byte(out, p, letter(b % 16));
-        i += 1;
+    for b in bytes {
+        let p = output::put_byte(out, place, letter(*b / 16));
+        place = output::put_byte(out, p, letter(*b % 16));
     }
     place
 }
@@ -73,25 +65,12 @@ pub fn put_hex(out: &mut [u8], at: usize, bytes: &[u8]) -> usize
 pub fn hex_of(b: u8) -> u8
     ensures { (result ≡ hex_of b) × (result < 16) }
 {
-    if b < 48 {
-        return 0;
+    match b {
+        b'0'..=b'9' => b - 48,
+        b'A'..=b'F' => b - 55,
+        b'a'..=b'f' => b - 87,
+        _ => 0,
     }
-    if b < 58 {
-        return b - 48;
-    }
-    if b < 65 {
-        return 0;
-    }
-    if b < 71 {
-        return b - 55;
-    }
-    if b < 97 {
-        return 0;
-    }
-    if b < 103 {
-        return b - 87;
-    }
-    0
 }
 
 // The bytes that hexadecimal digits spell, two to a byte, from the row's start on; a last digit by itself is left out.
@@ -99,12 +78,10 @@ pub fn decode(out: &mut [u8], hex: &[u8]) -> usize
     ensures { Written out.old 0 (hex_bytes hex.now) out.new result }
 {
     let mut place = 0;
-    let mut i = 0;
-    while i < hex.len() / 2 {
+    for i in 0..hex.len() / 2 {
         let h = hex_of(hex[2 * i]);
         let l = hex_of(hex[2 * i + 1]);
         place = output::put_byte(out, place, 16 * h + l);
-        i += 1;
     }
     place
 }

@@ -8,17 +8,9 @@ ghost use Rattle.text.specs.Feed.{Moved};
 pub fn compact(buffer: &mut [u8], from: usize, to: usize) -> usize
     ensures { Moved buffer.old from to buffer.new result }
 {
-    if buffer.len() < to {
+    if buffer.len() < to || to < from {
         return 0;
     }
-    if to < from {
-        return 0;
-    }
-    let n = to - from;
-    let mut i = 0;
-    while i < n {
-        buffer[i] = buffer[from + i];
-        i += 1;
-    }
-    n
+    buffer.copy_within(from..to, 0);
+    to - from
 }

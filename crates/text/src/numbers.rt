@@ -46,15 +46,12 @@ pub fn spelt(s: &[u8], from: usize) -> Number
         value: 0,
         over: false,
     };
-    let mut i = from;
-    while i < s.len() {
+    for i in from..s.len() {
         let b = s[i];
-        if bytes::is_digit(b) {
-            n = grow(n, b);
-            i += 1;
-        } else {
+        if !bytes::is_digit(b) {
             return n;
         }
+        n = grow(n, b);
     }
     n
 }
@@ -63,31 +60,19 @@ pub fn spelt(s: &[u8], from: usize) -> Number
 pub fn above(limit: u64, n: Number) -> bool
     ensures { result ≡ beyond limit n }
 {
-    if limit == 0 {
-        return false;
-    }
-    if n.over {
-        return true;
-    }
-    limit < n.value
+    limit != 0 && (n.over || limit < n.value)
 }
 
 // A number as a parameter of one byte takes it: at most its largest value, so that the call itself refuses it.
 pub fn as_byte(n: u64) -> u8
     ensures { result ≡ min n byte_most }
 {
-    if n < BYTE_MOST {
-        return n as u8;
-    }
-    u8::MAX
+    n.min(BYTE_MOST) as u8
 }
 
 // The same for a parameter of four bytes.
 pub fn as_four_bytes(n: u64) -> u32
     ensures { result ≡ min n four_bytes_most }
 {
-    if n < FOUR_BYTES_MOST {
-        return n as u32;
-    }
-    u32::MAX
+    n.min(FOUR_BYTES_MOST) as u32
 }

@@ -1,6 +1,6 @@
 // Bytes into a lent row.
 
-ghost use Rattle.std.specs.Prelude.{◌≡◌, ◌-◌, min};
+ghost use Rattle.std.specs.Prelude.{◌≡◌};
 ghost use Rattle.text.specs.Output.{page, put as laid, Written};
 
 // One byte, where there is room for it.
@@ -25,28 +25,14 @@ pub fn put_value(row: &mut [u64], at: usize, value: u64) -> usize
     at
 }
 
-// How many of some bytes have room in a row of a size, from a place on.
-fn fitting(size: usize, at: usize, many: usize) -> usize
-    ensures { result ≡ min (size - at) many }
-{
-    if size <= at {
-        return 0;
-    }
-    if size - at < many {
-        return size - at;
-    }
-    many
-}
-
 // Bytes in their order, as many as have room: counted before, so that a compiler copies many at once.
 pub fn put(out: &mut [u8], at: usize, bytes: &[u8]) -> usize
     ensures { Written out.old at bytes.now out.new result }
 {
-    let n = fitting(out.len(), at, bytes.len());
-    let mut i = 0;
-    while i < n {
-        out[at + i] = bytes[i];
-        i += 1;
+    if out.len() < at {
+        return at;
     }
+    let n = bytes.len().min(out.len() - at);
+    out[at..at + n].copy_from_slice(&bytes[..n]);
     at + n
 }

@@ -1,10 +1,11 @@
 // What a title alone answers to an event, in 01's order: the refusals behind those of the numbers and of the clock, and before the
 // want of lanes. The functions require a title whose numbers are within their limits, which `limits::state_ok` gives.
-#![tactic(auto)]
+#![tactic(auto, using(measures::proofs::Within::readable), unfolding(rules::specs::Refusals::first_hit))]
 
 ghost use Rattle.std.specs.Prelude.{◌≤◌, ◌≡◌, true};
 ghost use Rattle.rules.specs.Limits.{asked_max};
 ghost use Rattle.rules.specs.Refusals.{first_hit};
+ghost use Rattle.rules.specs.Told.{told};
 ghost use Rattle.story.specs.declared.Act.TheVariants.{Opens, Changes, Closes, Doors};
 ghost use Rattle.story.specs.Story.{is_same_doors};
 ghost use Rattle.story.specs.Kept.{is_shut, title_ok};
@@ -15,11 +16,7 @@ ghost use Rattle.title_verdicts.specs.Titled.{retune_rules, doors_rules};
 
 use measures::lanes::is_there;
 use measures::ticks::{at_tick_start, settled_at, tick_at};
-use rules::truth::smaller;
-use rules::{
-    ABOVE_CAP, BELOW_FLOOR, DONE, DOORS_UNCHANGED, FLOOR_ABOVE_CAP, ID_TAKEN, NOT_AT_SLOT,
-    NOT_THERE, SECOND_EVENT, TOO_SOON, UNCHANGED,
-};
+use rules::answers::Refusal;
 use scheme::{STEADY, starts};
 use story::{Act, CLOSING, Film, HELD, Title};
 
@@ -29,126 +26,111 @@ fn at_slot_start(t: Title, count: u64, time: u64) -> bool
     requires count_le_cap { count ≤ t.film.cap }
     ensures { result ≡ at_slot_start t count time }
 {
-    if at_tick_start(t, time) {
-        return starts(
-            t.film.kind,
-            t.film.floor,
-            t.film.cap,
-            count,
-            tick_at(t, time),
-        );
-    }
-    false
+    let film = t.film;
+    at_tick_start(t, time) && starts(film.kind, film.floor, film.cap, count, tick_at(t, time))
 }
 
 // Of an opening, for the title that its id has so far.
-fn open_verdict(t: Title, film: Film, count: u64, time: u64) -> u8
+fn open_verdict(t: Title, film: Film, count: u64, time: u64) -> Result<(), Refusal>
     requires { title_ok t ≡ true }
-    ensures { result ≡ first_hit (title_rules t time (Opens film count)) }
+    ensures { told result ≡ first_hit (title_rules t time (Opens film count)) }
 {
     if is_there(t, time) {
-        return ID_TAKEN;
+        return Err(Refusal::IdTaken);
     }
     if film.cap < film.floor {
-        return FLOOR_ABOVE_CAP;
+        return Err(Refusal::FloorAboveCap);
     }
     if count < film.floor {
-        return BELOW_FLOOR;
+        return Err(Refusal::BelowFloor);
     }
     if film.cap < count {
-        return ABOVE_CAP;
+        return Err(Refusal::AboveCap);
     }
-    DONE
+    Ok(())
 }
 
 // Whether a title can have an event other than an opening at a time at all.
-fn standing(t: Title, time: u64) -> u8
+fn standing(t: Title, time: u64) -> Result<(), Refusal>
     requires { title_ok t ≡ true }
-    ensures { result ≡ first_hit (standing_rules t time) }
+    ensures { told result ≡ first_hit (standing_rules t time) }
 {
-    if is_there(t, time) {
-        if t.mode == CLOSING {
-            return rules::IS_CLOSING;
-        }
-        return DONE;
+    if !is_there(t, time) {
+        return Err(Refusal::NotThere);
     }
-    NOT_THERE
+    if t.mode == CLOSING {
+        return Err(Refusal::IsClosing);
+    }
+    Ok(())
 }
 
 // Whether an open title has a turn at a time, a slot start of a count.
-fn turn_verdict(t: Title, count: u64, time: u64) -> u8
+fn turn_verdict(t: Title, count: u64, time: u64) -> Result<(), Refusal>
     requires filmed { Filmed t.film }
     requires count_le_cap { count ≤ t.film.cap }
-    ensures { result ≡ first_hit (turn_rules t count time) }
+    ensures { told result ≡ first_hit (turn_rules t count time) }
 {
     if time == t.last {
-        return SECOND_EVENT;
+        Err(Refusal::SecondEvent)
+    } else if at_slot_start(t, count, time) {
+        Ok(())
+    } else {
+        Err(Refusal::NotAtSlot)
     }
-    if at_slot_start(t, count, time) {
-        return DONE;
-    }
-    NOT_AT_SLOT
 }
 
 // Whether an open title can retune at a time, a slot start of a count.
-fn retune_verdict(t: Title, count: u64, time: u64) -> u8
+fn retune_verdict(t: Title, count: u64, time: u64) -> Result<(), Refusal>
     requires filmed { Filmed t.film }
     requires count_le_cap { (count ≤ t.film.cap) × (t.tuned ≤ asked_max) }
-    ensures { result ≡ first_hit (retune_rules t count time) }
+    ensures { told result ≡ first_hit (retune_rules t count time) }
 {
-    let turn = turn_verdict(t, count, time);
-    if turn == SECOND_EVENT {
-        return turn;
+    if t.last == time {
+        return Err(Refusal::SecondEvent);
     }
     if time < settled_at(t) {
-        return TOO_SOON;
+        return Err(Refusal::TooSoon);
     }
-    turn
+    turn_verdict(t, count, time)
 }
 
 // Whether an open title can change to a count at a time: a skip-forward title never can.
-fn count_verdict(t: Title, count: u64, time: u64) -> u8
+fn count_verdict(t: Title, count: u64, time: u64) -> Result<(), Refusal>
     requires filmed { Filmed t.film }
     requires count_le_cap { (t.count ≤ t.film.cap) × (t.tuned ≤ asked_max) }
-    ensures { result ≡ first_hit (count_rules t count time) }
+    ensures { told result ≡ first_hit (count_rules t count time) }
 {
     if t.film.kind == STEADY {
-        return rules::IS_STEADY;
+        return Err(Refusal::IsSteady);
     }
     if count < t.film.floor {
-        return BELOW_FLOOR;
+        return Err(Refusal::BelowFloor);
     }
     if t.film.cap < count {
-        return ABOVE_CAP;
+        return Err(Refusal::AboveCap);
     }
     if count == t.count {
-        return UNCHANGED;
+        return Err(Refusal::Unchanged);
     }
-    retune_verdict(t, smaller(t.count, count), time)
+    retune_verdict(t, t.count.min(count), time)
 }
 
 // Of a change.
-fn change_verdict(t: Title, count: u64, time: u64) -> u8
+fn change_verdict(t: Title, count: u64, time: u64) -> Result<(), Refusal>
     requires { title_ok t ≡ true }
-    ensures { result ≡ first_hit (title_rules t time (Changes count)) }
+    ensures { told result ≡ first_hit (title_rules t time (Changes count)) }
 {
-    let first = standing(t, time);
-    if first == DONE {
-        return count_verdict(t, count, time);
-    }
-    first
+    standing(t, time)?;
+    count_verdict(t, count, time)
 }
 
 // Of a close.
-fn close_verdict(t: Title, time: u64) -> u8
+fn close_verdict(t: Title, time: u64) -> Result<(), Refusal>
     requires { title_ok t ≡ true }
-    ensures { result ≡ first_hit (title_rules t time Closes) }
+    ensures { told result ≡ first_hit (title_rules t time Closes) }
 {
-    let first = standing(t, time);
-    if first == DONE {
-        return turn_verdict(t, t.film.floor, time);
-    }
-    first
+    standing(t, time)?;
+    turn_verdict(t, t.film.floor, time)
 }
 
 // Whether the doors of a title stand already as an event wants them.
@@ -160,37 +142,34 @@ fn same_doors(t: Title, held: bool) -> bool
 }
 
 // Whether the doors of an open title can be held at a time, or lifted: those of a skip-forward title never can.
-fn held_verdict(t: Title, held: bool, time: u64) -> u8
+fn held_verdict(t: Title, held: bool, time: u64) -> Result<(), Refusal>
     requires filmed { Filmed t.film }
     requires count_le_cap { t.count ≤ t.film.cap }
-    ensures { result ≡ first_hit (doors_rules t held time) }
+    ensures { told result ≡ first_hit (doors_rules t held time) }
 {
     let kind = t.film.kind;
     if kind == STEADY {
-        return rules::IS_STEADY;
+        return Err(Refusal::IsSteady);
     }
     if same_doors(t, held) {
-        return DOORS_UNCHANGED;
+        return Err(Refusal::DoorsUnchanged);
     }
     turn_verdict(t, t.count, time)
 }
 
 // Of a hold, or of a lift.
-fn doors_verdict(t: Title, held: bool, time: u64) -> u8
+fn doors_verdict(t: Title, held: bool, time: u64) -> Result<(), Refusal>
     requires { title_ok t ≡ true }
-    ensures { result ≡ first_hit (title_rules t time (Doors held)) }
+    ensures { told result ≡ first_hit (title_rules t time (Doors held)) }
 {
-    let first = standing(t, time);
-    if first == DONE {
-        return held_verdict(t, held, time);
-    }
-    first
+    standing(t, time)?;
+    held_verdict(t, held, time)
 }
 
 // Of any event.
-pub fn title_verdict(t: Title, time: u64, act: Act) -> u8
+pub fn title_verdict(t: Title, time: u64, act: Act) -> Result<(), Refusal>
     requires { title_ok t ≡ true }
-    ensures { result ≡ first_hit (title_rules t time act) }
+    ensures { told result ≡ first_hit (title_rules t time act) }
 {
     match act {
         Act::Opens { film, count } => open_verdict(t, film, count, time),

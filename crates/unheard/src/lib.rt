@@ -89,7 +89,7 @@ fn step(row: &mut [u64], counted: Counted, log: &[u8]) -> Counted
     }
     Counted {
         played: next,
-        tally: tally,
+        tally,
     }
 }
 
@@ -99,11 +99,9 @@ fn play(row: &mut [u64], pool: u64, log: &[u8]) -> Counted
     requires pool_value { is_within pool_min pool_max pool ≡ true }
     ensures { Plays heard_count pool log.now none_told row.new result.played result.tally }
 {
-    let played = not_begun(row, pool);
-    let tally = none_told();
     let mut counted = Counted {
-        played: played,
-        tally: tally,
+        played: not_begun(row, pool),
+        tally: none_told(),
     };
     while counted.played.more {
         counted = step(row, counted, log);
@@ -114,15 +112,9 @@ fn play(row: &mut [u64], pool: u64, log: &[u8]) -> Counted
 fn refused(answer: u8) -> Unheard
     ensures { result ≡ refused_unheard answer }
 {
-    let tally = MissedTally {
-        notices: 0,
-        missed: 0,
-        first: 0,
-        said: DONE,
-    };
     Unheard {
-        answer: answer,
-        tally: tally,
+        answer,
+        tally: none_told(),
     }
 }
 
@@ -134,14 +126,12 @@ pub fn unheard_in(pool: u64, log: &[u8]) -> Unheard
     if within(POOL_MIN, POOL_MAX, pool) {
         let mut row = [0; ROW_LENGTH];
         let counted = play(&mut row, pool, log);
-        let played = counted.played;
-        let tally = counted.tally;
-        if played.place < log.len() {
+        if counted.played.place < log.len() {
             return refused(MALFORMED);
         }
         return Unheard {
             answer: DONE,
-            tally: tally,
+            tally: counted.tally,
         };
     }
     refused(OUTSIDE_LIMITS)

@@ -2,16 +2,18 @@
 // state.
 
 ghost use Rattle.std.specs.Prelude.{◌≡◌, true};
+ghost use Rattle.rules.specs.Limits.{both};
+ghost use Rattle.rules.specs.Told.{told};
 ghost use Rattle.story.specs.Story.{padded_limits, steady_limits, film_limits, act_limits, sets_count};
 ghost use Rattle.story.specs.Calls.{event_ok};
 ghost use Rattle.verdicts.specs.Before.{first_answer};
 
 use limits::state_ok;
 use measures::slots::title_of;
-use rules::truth::also;
+use rules::answers::Refusal;
 use rules::{
     COUNT_MAX, COUNT_MIN, EVENT_TIME_MAX, FLOOR_MAX, FLOOR_MIN, ID_MAX, LENGTH_MAX, LENGTH_MIN,
-    OUTSIDE_LIMITS, STEADY_MAX, TOO_EARLY, within,
+    STEADY_MAX, within,
 };
 use scheme::STEADY;
 use story::{Act, Event, Film, State};
@@ -21,30 +23,27 @@ use title_verdicts::title_verdict;
 pub fn event_ok(s: State, id: u64, time: u64) -> bool
     ensures { result ≡ event_ok s id time }
 {
-    also(state_ok(s), also(id <= ID_MAX, time <= EVENT_TIME_MAX))
+    state_ok(s) && id <= ID_MAX && time <= EVENT_TIME_MAX
 }
 
 // The numbers of a film on the padded grid and the count that it opens with.
 fn padded_ok(film: Film, count: u64) -> bool
     ensures { result ≡ padded_limits film count }
 {
-    let sized = within(LENGTH_MIN, LENGTH_MAX, film.length);
-    let floored = within(FLOOR_MIN, FLOOR_MAX, film.floor);
-    let capped = within(COUNT_MIN, COUNT_MAX, film.cap);
-    let counted = within(COUNT_MIN, COUNT_MAX, count);
-    also(sized, also(floored, also(capped, counted)))
+    within(LENGTH_MIN, LENGTH_MAX, film.length)
+        && within(FLOOR_MIN, FLOOR_MAX, film.floor)
+        && within(COUNT_MIN, COUNT_MAX, film.cap)
+        && within(COUNT_MIN, COUNT_MAX, count)
 }
 
 // Those of a skip-forward title's, whose floor and cap are its count.
 fn steady_ok(film: Film, count: u64) -> bool
     ensures { result ≡ steady_limits film count }
 {
-    let sized = within(LENGTH_MIN, LENGTH_MAX, film.length);
-    let counted = within(COUNT_MIN, STEADY_MAX, count);
-    also(
-        sized,
-        also(counted, also(film.floor == count, film.cap == count)),
-    )
+    within(LENGTH_MIN, LENGTH_MAX, film.length)
+        && within(COUNT_MIN, STEADY_MAX, count)
+        && film.floor == count
+        && film.cap == count
 }
 
 // Those of a film of either kind.
@@ -84,18 +83,22 @@ pub fn sets_count(act: Act) -> bool
     }
 }
 
-// Of any event: its numbers, the clock, and then its title.
-pub fn verdict(s: State, e: Event) -> u8
-    ensures { result ≡ first_answer s e }
+// All numbers of an event.
+fn numbers_ok(s: State, e: Event) -> bool
+    ensures { result ≡ both (event_ok s e.title e.time) (act_limits e.act true) }
 {
-    let id = e.title;
-    let time = e.time;
-    let act = e.act;
-    if also(event_ok(s, id, time), act_ok(act)) {
-        if time < s.last {
-            return TOO_EARLY;
-        }
-        return title_verdict(title_of(s, id), time, act);
+    event_ok(s, e.title, e.time) && act_ok(e.act)
+}
+
+// Of any event: its numbers, the clock, and then its title.
+pub fn verdict(s: State, e: Event) -> Result<(), Refusal>
+    ensures { told result ≡ first_answer s e }
+{
+    if !numbers_ok(s, e) {
+        return Err(Refusal::OutsideLimits);
     }
-    OUTSIDE_LIMITS
+    if e.time < s.last {
+        return Err(Refusal::TooEarly);
+    }
+    title_verdict(title_of(s, e.title), e.time, e.act)
 }

@@ -1,6 +1,7 @@
 -- The report's refusals, as the code meets its cases, and what a row that passes them is. Rest on the laws of listed refusals.
 use mathlib.Core.Path.{◌≡◌, refl, sym, ◌∙◌}
-use mathlib.Core.Bool.{true, false, not, false≢true}
+use Rattle.std.proofs.Common.{IsTrue, ◌↔◌}
+use mathlib.Core.Bool.{Bool, true, false, not}
 use mathlib.Core.Logic.{⊎_elim}
 use mathlib.Core.List.{List, [], ◌∷◌}
 use Prim.Native.Nat.{ℕ, ◌≤◌, ◌<◌}
@@ -10,8 +11,9 @@ use lib.Dec.{leb, ltb, eqb}
 use lib.ListN.{get_or, length, get_or-eq_default}
 use Rattle.rules.specs.Limits.{both, within, pool_min, pool_max, id_max, asked_max}
 use Rattle.rules.specs.Refusals.{pick, refuse, first_hit, done, outside_limits, wrong_rows, malformed}
-use Rattle.rules.proofs.Tests.{decide, both_l, both_r, both_none, fails, pick_true, pick_false}
+use Rattle.rules.proofs.Tests.{decide, both_l, both_r, both_none, same, pick_true, pick_false}
 use Rattle.rules.proofs.Refusals.{hits_of, numbered, cleared, hit_append}
+use Rattle.rules.specs.Search.{every}
 use Rattle.rules.proofs.Search
 use Rattle.notice.specs.Log.{is_whole_log, stop_of}
 use Rattle.admissions.specs.Waits.{row_max}
@@ -20,15 +22,14 @@ use Rattle.waiting.specs.inner.Steps.{row_rules, row_answer}
 
 -- ---- a row
 
-pub row_in : (xs : List ℕ) (n : ℕ) → length xs ≤ n → ((k : ℕ) → k < n → get_or xs k 0 ≤ asked_max) → true ≡ row_in_limits xs
+-- a test of each number tells whether all are
+pub row_told : (xs : List ℕ) (b : Bool) → (IsTrue b ↔ ((k : ℕ) → k < length xs → get_or xs k 0 ≤ asked_max)) → b ≡ row_in_limits xs
 unfolding row_in_limits
-row_in xs n long f =
-    sym (Search.every_in (λ j. leb (get_or xs j 0) asked_max) (length xs) (λ k lt. le-leb (get_or xs k 0) asked_max (f k (omega arith))))
-
-pub row_out : (xs : List ℕ) (k : ℕ) → k < length xs → asked_max < get_or xs k 0 → false ≡ row_in_limits xs
-unfolding row_in_limits
-row_out xs k lt past =
-    sym (fails (row_in_limits xs) (λ h. false≢true (sym (lt-leb (get_or xs k 0) asked_max past) ∙ Search.every_out (λ j. leb (get_or xs j 0) asked_max) (length xs) k h lt)))
+row_told xs b h =
+    let p : ℕ → Bool = λ j. leb (get_or xs j 0) asked_max in
+    same b (every p (length xs))
+    (λ t. Search.every_in p (length xs) (λ k lt. le-leb (get_or xs k 0) asked_max (h.0 t k lt)))
+    (λ t. h.1 (λ k lt. leb-true (get_or xs k 0) asked_max (Search.every_out p (length xs) k t lt)))
 
 pub row_low : (xs : List ℕ) → row_in_limits xs ≡ true → (j : ℕ) → get_or xs j 0 ≤ asked_max
 unfolding row_in_limits

@@ -76,7 +76,7 @@ fn step(row: &mut [u64], counted: Counted, log: &[u8], title: u64, arrivals: &[u
     }
     Counted {
         played: next,
-        tally: tally,
+        tally,
     }
 }
 
@@ -89,11 +89,9 @@ fn play(row: &mut [u64], pool: u64, log: &[u8], title: u64, arrivals: &[u64]) ->
     ensures { Plays (heard_tally title arrivals.now) pool log.now (fresh_tally 0)
         row.new result.played result.tally }
 {
-    let played = not_begun(row, pool);
-    let tally = opened(0);
     let mut counted = Counted {
-        played: played,
-        tally: tally,
+        played: not_begun(row, pool),
+        tally: opened(0),
     };
     while counted.played.more {
         counted = step(row, counted, log, title, arrivals);
@@ -105,31 +103,22 @@ fn play(row: &mut [u64], pool: u64, log: &[u8], title: u64, arrivals: &[u64]) ->
 fn row_ok(arrivals: &[u64]) -> bool
     ensures { result ≡ row_in_limits arrivals.now }
 {
-    let mut i = 0;
-    while i < arrivals.len() {
-        if arrivals[i] > ASKED_MAX {
-            return false;
-        }
-        i += 1;
-    }
-    true
+    arrivals.iter().all(|arrival| *arrival <= ASKED_MAX)
 }
 
 // The refusals that do not hang on the log, in their order.
 fn refusal(pool: u64, title: u64, arrivals: &[u64]) -> u8
     ensures { result ≡ row_answer pool title arrivals.now }
 {
-    if within(POOL_MIN, POOL_MAX, pool) {
-        if title <= ID_MAX {
-            if row_ok(arrivals) {
-                if arrivals.len() > ROW_MAX {
-                    return WRONG_ROWS;
-                }
-                return DONE;
-            }
+    if within(POOL_MIN, POOL_MAX, pool) && title <= ID_MAX && row_ok(arrivals) {
+        if arrivals.len() > ROW_MAX {
+            WRONG_ROWS
+        } else {
+            DONE
         }
+    } else {
+        OUTSIDE_LIMITS
     }
-    OUTSIDE_LIMITS
 }
 
 // A refusal, beside which the other numbers are 0.
@@ -142,9 +131,9 @@ fn refused(answer: u8) -> Report
         sum: 0,
     };
     Report {
-        answer: answer,
+        answer,
         arrivals: 0,
-        waits: waits,
+        waits,
     }
 }
 
@@ -170,6 +159,6 @@ pub fn report_of(pool: u64, log: &[u8], title: u64, arrivals: &[u64]) -> Report
     Report {
         answer: DONE,
         arrivals: arrivals.len() as u64,
-        waits: waits,
+        waits,
     }
 }

@@ -1,6 +1,6 @@
 -- The arrivals that a text spells (02, request 1's program): decimal numbers with spaces, tabs, carriage returns or newlines
 -- between; one that 64 bits do not hold is handed on as the largest.
-use Rattle.std.specs.Prelude.{ℕ, zero, suc, ◌+◌, ◌*◌, min, Bool, true, false, List, eqb, length, get_or}
+use Rattle.std.specs.Prelude.{ℕ, zero, suc, ◌+◌, ◌*◌, min, Bool, Some, None, is_some, unwrap_or, List, eqb, length, get_or}
 use Rattle.rules.specs.Limits.{either}
 use Rattle.rules.specs.Refusals.{pick}
 use Rattle.text.specs.Bytes.{separator, digit, digit_of}
@@ -21,15 +21,14 @@ arrivals_so_far row scan = record { row = row; scan = scan }
 
 -- at first: no number, and none being spelt
 abbrev pub no_arrivals : ArrivalsScan
-no_arrivals = record { count = 0; value = 0; inside = false; ok = true; place = 0 }
+no_arrivals = record { count = 0; spelt = None; wrong = None }
 
 -- the word ends: its number goes into the row, where there is room for it
 unfoldable pub ending_arrival : ArrivalsSoFar → ArrivalsSoFar
 ending_arrival s =
-    pick s.scan.inside
-    (arrivals_so_far (put (page s.row s.scan.count) s.scan.value).row
-    (record
-    { count = (put (page s.row s.scan.count) s.scan.value).at; value = 0; inside = false; ok = s.scan.ok; place = s.scan.place }))
+    pick (is_some s.scan.spelt)
+    (arrivals_so_far (put (page s.row s.scan.count) (unwrap_or s.scan.spelt 0)).row
+    (record { count = (put (page s.row s.scan.count) (unwrap_or s.scan.spelt 0)).at; spelt = None; wrong = s.scan.wrong }))
     s
 
 -- a digit more of a number
@@ -37,19 +36,19 @@ abbrev pub spelling_arrival : ArrivalsSoFar → ℕ → ArrivalsSoFar
 spelling_arrival s b =
     arrivals_so_far s.row
     (record
-    { count = s.scan.count; value = min (10 * s.scan.value + digit_of b) top; inside = true; ok = true; place = s.scan.place })
+    { count = s.scan.count; spelt = Some (min (10 * unwrap_or s.scan.spelt 0 + digit_of b) top); wrong = s.scan.wrong })
 
 -- a byte that is neither in a number nor between two, at a place
 abbrev pub failing_arrival : ArrivalsSoFar → ℕ → ArrivalsSoFar
 failing_arrival s place =
     arrivals_so_far s.row
     (record
-    { count = s.scan.count; value = s.scan.value; inside = s.scan.inside; ok = false; place = place })
+    { count = s.scan.count; spelt = s.scan.spelt; wrong = Some place })
 
 -- one byte more; the first that has no place there ends it
 unfoldable pub taking_arrival : ArrivalsSoFar → ℕ → ℕ → ArrivalsSoFar
 taking_arrival s place b =
-    pick s.scan.ok (pick (digit b) (spelling_arrival s b) (pick (is_gap b) (ending_arrival s) (failing_arrival s place))) s
+    pick (is_some s.scan.wrong) s (pick (digit b) (spelling_arrival s b) (pick (is_gap b) (ending_arrival s) (failing_arrival s place)))
 
 -- the first n bytes; places are counted from 1
 unfoldable pub arrivals_to : List ℕ → List ℕ → ℕ → ArrivalsSoFar

@@ -2,12 +2,13 @@
 
 ghost use Rattle.std.specs.Prelude.{◌≡◌};
 ghost use Rattle.text.specs.Output.{page, puts};
+ghost use Rattle.text.specs.Pages.{Puts};
 ghost use Rattle.waits.specs.Lines.{count_lines, wait_lines, nearest, mean_line, report_text};
 
 use admissions::Waits;
 use files::lines::{difference, put_line};
 use rules::DONE;
-use text::output::put;
+use text::page::Page;
 use waiting::Report;
 use words::put_refusal;
 
@@ -26,51 +27,53 @@ fn mean(sum: u64, n: u64) -> u64
     whole + 1
 }
 
-fn put_counts(out: &mut [u8], arrivals: u64, admitted: u64) -> usize
-    ensures { page out.new result ≡ puts (page out.old 0) (count_lines arrivals admitted) }
+fn put_counts(page: &mut Page<'_>, arrivals: u64, admitted: u64)
+    ensures { Puts page.old (count_lines arrivals admitted) page.new }
 {
-    let a = put_line(out, 0, b"arrivals ", arrivals, b"\n");
-    let b = put_line(out, a, b"admitted ", admitted, b"\n");
-    put_line(
-        out,
-        b,
-        b"turned away ",
-        difference(arrivals, admitted),
-        b"\n",
-    )
+    put_line(page, b"arrivals ", arrivals, b"\n");
+    put_line(page, b"admitted ", admitted, b"\n");
+    put_line(page, b"turned away ", difference(arrivals, admitted), b"\n");
 }
 
-fn put_mean(out: &mut [u8], at: usize, w: Waits) -> usize
-    ensures { page out.new result ≡ puts (page out.old at) (mean_line w) }
+fn put_mean(page: &mut Page<'_>, w: Waits)
+    ensures { Puts page.old (mean_line w) page.new }
 {
-    let sum = w.sum;
     let n = w.admitted;
     if n == 0 {
-        return put(out, at, b"mean wait -\n");
+        page.put(b"mean wait -\n");
+    } else {
+        put_line(page, b"mean wait ", mean(w.sum, n), b" ms\n");
     }
-    put_line(out, at, b"mean wait ", mean(sum, n), b" ms\n")
 }
 
-fn put_waits(out: &mut [u8], at: usize, w: Waits) -> usize
-    ensures { page out.new result ≡ puts (page out.old at) (wait_lines w) }
+fn put_waits(page: &mut Page<'_>, w: Waits)
+    ensures { Puts page.old (wait_lines w) page.new }
 {
-    let a = put_line(out, at, b"longest wait ", w.longest, b" ms\n");
-    let b = put_line(out, a, b"sum of waits ", w.sum, b" ms\n");
-    put_mean(out, b, w)
+    put_line(page, b"longest wait ", w.longest, b" ms\n");
+    put_line(page, b"sum of waits ", w.sum, b" ms\n");
+    put_mean(page, w);
 }
 
 // Six lines, or the refusal's one.
+fn put_lines(page: &mut Page<'_>, report: Report)
+    ensures { Puts page.old (report_text report) page.new }
+{
+    let answer = report.answer;
+    let waits = report.waits;
+    if answer == DONE {
+        put_counts(page, report.arrivals, waits.admitted);
+        put_waits(page, waits);
+    } else {
+        put_refusal(page, answer, 0);
+        page.put(b"\n");
+    }
+}
+
+// The report, from the row's start on.
 pub fn put_report(out: &mut [u8], report: Report) -> usize
     ensures { page out.new result ≡ puts (page out.old 0) (report_text report) }
 {
-    let answer = report.answer;
-    let arrivals = report.arrivals;
-    let waits = report.waits;
-    let admitted = waits.admitted;
-    if answer == DONE {
-        let a = put_counts(out, arrivals, admitted);
-        return put_waits(out, a, waits);
-    }
-    let b = put_refusal(out, 0, answer, 0);
-    put(out, b, b"\n")
+    let mut page = Page::new(out);
+    put_lines(&mut page, report);
+    page.end()
 }

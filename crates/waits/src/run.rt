@@ -4,7 +4,7 @@
 use crate::arrivals::take_text;
 use crate::complaints::put_complaints;
 use crate::lines::put_report;
-use files::arguments::{Asked, pool_and_title};
+use files::arguments::pool_and_title;
 use files::complaints::{complain_at, write_complaints};
 use files::loading::{LOG_ROOM, load_both};
 use files::pages::write_page;
@@ -32,21 +32,18 @@ fn complain_beside(rt: &HostRuntime, pool: u64, log: &[u8], title: u64, arrivals
 fn tell(rt: &HostRuntime, pool: u64, title: u64, log: &[u8], text: &[u8]) {
     let mut row = [0u64; ROW_ROOM];
     let scan = take_text(text, &mut row);
-    if scan.ok {
-        let count = scan.count;
-        show(rt, report_of(pool, log, title, &row[..count]));
-        complain_beside(rt, pool, log, title, count);
+    if let Some(place) = scan.wrong {
+        complain_at(rt, b"ARRIVALS", b": no number at byte ", place);
         return;
     }
-    complain_at(rt, b"ARRIVALS", b": no number at byte ", scan.place);
+    let count = scan.count;
+    show(rt, report_of(pool, log, title, &row[..count]));
+    complain_beside(rt, pool, log, title, count);
 }
 
 fn with_rooms(rt: &HostRuntime, pool: u64, title: u64, log: &mut [u8], text: &mut [u8]) {
-    let read = load_both(rt, log, b"ARRIVALS", text);
-    let size = read.log;
-    let length = read.own;
-    if read.ok {
-        tell(rt, pool, title, &log[..size], &text[..length]);
+    if let Some(read) = load_both(rt, log, b"ARRIVALS", text) {
+        tell(rt, pool, title, &log[..read.log], &text[..read.own]);
     }
 }
 
@@ -63,7 +60,7 @@ fn lend(
 
 // Arguments are tested in their order, then the files.
 pub fn run(rt: &HostRuntime) {
-    let Asked::About(pool, title) = pool_and_title(rt, b"waits POOL TITLE LOG ARRIVALS") else {
+    let Some((pool, title)) = pool_and_title(rt, b"waits POOL TITLE LOG ARRIVALS") else {
         return;
     };
     let mut log = [0u8; LOG_ROOM];

@@ -17,6 +17,7 @@ use rules::TITLES_MAX;
 use story::State;
 
 // The changes that are wished for, in their order: of the first `many` places of each row, the title's id and its count.
+// kept: the planner's call gives each row to C by itself, and no heap gives a list of so many.
 #[derive(Clone, Copy)]
 pub struct Wishes {
     pub many: usize,

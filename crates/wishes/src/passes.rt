@@ -15,14 +15,11 @@ use story::{State, Title};
 fn moves(up: bool, t: Title, share: u64) -> bool
     ensures { result ≡ moves_of up t share }
 {
-    let count = t.count;
-    if takes_part(t) {
-        if up {
-            return count < share;
-        }
-        return share < count;
+    if up {
+        takes_part(t) && t.count < share
+    } else {
+        takes_part(t) && share < t.count
     }
-    false
 }
 
 // One wish more, behind the others.
@@ -55,12 +52,9 @@ pub fn pass(s: State, shares: &[u64; TITLES_MAX], up: bool, w: Wishes) -> Wishes
     ensures { result ≡ pass_to (moves_at up s shares.now) (λ i. get_or shares.now i 0) w titles_max }
 {
     let mut q = w;
-    let mut i = 0;
-    while i < TITLES_MAX {
-        let t = s.titles[i];
+    for (i, t) in s.titles.iter().enumerate() {
         let share = shares[i];
-        q = wished_if(moves(up, t, share), q, i as u64, share);
-        i += 1;
+        q = wished_if(moves(up, *t, share), q, i as u64, share);
     }
     q
 }

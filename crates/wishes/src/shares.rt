@@ -43,25 +43,15 @@ fn place_behind(place: usize, t: Title) -> usize
     if takes_part(t) { place + 1 } else { place }
 }
 
-// A count as wide as a stored one.
-fn wide(count: u32) -> u64
-    ensures { result ≡ count }
-{
-    count as u64
-}
-
 // Counts in the order of the titles that take part, put at their ids.
 fn by_id(s: State, counts: &[u32; TITLES_MAX]) -> [u64; TITLES_MAX]
     ensures { result ≡ shares_to s counts.now titles_max }
 {
     let mut row = [0u64; TITLES_MAX];
     let mut place = 0;
-    let mut i = 0;
-    while i < TITLES_MAX {
-        let t = s.titles[i];
-        row[i] = wide(counts[place]);
-        place = place_behind(place, t);
-        i += 1;
+    for (i, t) in s.titles.iter().enumerate() {
+        row[i] = u64::from(counts[place]);
+        place = place_behind(place, *t);
     }
     row
 }

@@ -3,16 +3,16 @@
 #![tactic(auto)]
 
 ghost use Rattle.std.specs.Prelude.{◌≡◌};
-ghost use Rattle.text.specs.Output.{Written};
+ghost use Rattle.text.specs.Pages.{Puts};
 ghost use Rattle.words.specs.Words.{refusal_words, is_naming, meaning_text, naming_words, refusal_text, missed as missed_of};
 
-use text::{digits, output};
+use text::page::Page;
 
 pub mod lines;
 
 // The words of a refusal, each the line of its number.
-fn refusal_words(out: &mut [u8], at: usize, number: u8) -> usize
-    ensures { Written out.old at (refusal_words number) out.new result }
+fn refusal_words(page: &mut Page<'_>, number: u8)
+    ensures { Puts page.old (refusal_words number) page.new }
 {
     let words = b"done\n\
         number out of range\n\
@@ -34,55 +34,48 @@ fn refusal_words(out: &mut [u8], at: usize, number: u8) -> usize
         doors already held or lifted\n\
         an event would fall after the clock's last time\n\
         a skip-forward title has a steady count and no doors to hold\n";
-    lines::put_line(out, at, words, number)
+    lines::put_line(page, words, number);
 }
 
 // Whether a refusal names a number: those from OUT_OF_TURN to ABOVE_CAP, and TOO_SOON.
 fn names_number(number: u8) -> bool
     ensures { result ≡ is_naming number }
 {
-    if number == rules::TOO_SOON {
-        return true;
-    }
-    rules::within(
-        rules::OUT_OF_TURN as u64,
-        rules::ABOVE_CAP as u64,
-        number as u64,
+    matches!(
+        number,
+        rules::OUT_OF_TURN..=rules::ABOVE_CAP | rules::TOO_SOON
     )
 }
 
 // A refusal's number and its words.
-pub fn put_meaning(out: &mut [u8], at: usize, number: u8) -> usize
-    ensures { Written out.old at (meaning_text number) out.new result }
+pub fn put_meaning(page: &mut Page<'_>, number: u8)
+    ensures { Puts page.old (meaning_text number) page.new }
 {
-    let a = digits::put_number(out, at, number as u64);
-    let b = output::put(out, a, b" ");
-    refusal_words(out, b, number)
+    page.put_number(number as u64);
+    page.put(b" ");
+    refusal_words(page, number);
 }
 
 // The words that lead from a refusal to the number that it names.
-fn put_naming(out: &mut [u8], at: usize, number: u8) -> usize
-    ensures { Written out.old at (naming_words number) out.new result }
+fn put_naming(page: &mut Page<'_>, number: u8)
+    ensures { Puts page.old (naming_words number) page.new }
 {
-    if number == rules::OUT_OF_TURN {
-        return output::put(out, at, b", expected is ");
+    match number {
+        rules::OUT_OF_TURN => page.put(b", expected is "),
+        rules::TOO_SOON => page.put(b", not before "),
+        _ => page.put(b", which is "),
     }
-    if number == rules::TOO_SOON {
-        return output::put(out, at, b", not before ");
-    }
-    output::put(out, at, b", which is ")
 }
 
 // A refusal: its number, its words, and the number that it names, if it names one.
-pub fn put_refusal(out: &mut [u8], at: usize, number: u8, named: u64) -> usize
-    ensures { Written out.old at (refusal_text number named) out.new result }
+pub fn put_refusal(page: &mut Page<'_>, number: u8, named: u64)
+    ensures { Puts page.old (refusal_text number named) page.new }
 {
-    let a = put_meaning(out, at, number);
+    put_meaning(page, number);
     if names_number(number) {
-        let b = put_naming(out, a, number);
-        return digits::put_number(out, b, named);
+        put_naming(page, number);
+        page.put_number(named);
     }
-    a
 }
 
 // Of a count below its floor or above its cap, the one that it missed.
@@ -90,7 +83,8 @@ pub fn missed(number: u8, floor: u64, cap: u64) -> u64
     ensures { result ≡ missed_of number floor cap }
 {
     if number == rules::BELOW_FLOOR {
-        return floor;
+        floor
+    } else {
+        cap
     }
-    cap
 }

@@ -1,11 +1,12 @@
 // A text of which each line ends in a newline, and one line of it.
 
 ghost use Rattle.std.specs.Prelude.{◌≡◌, ◌≤◌, length, drop};
-ghost use Rattle.text.specs.Output.{Written};
+ghost use Rattle.text.specs.Pages.{Puts};
 ghost use Rattle.words.specs.Lines.{line_numbered, after_first};
 
+use text::bytes;
 use text::bytes::Sort;
-use text::{bytes, output};
+use text::page::Page;
 
 // The place behind the newline that ends the line at a place; the text's end where none does.
 fn behind(text: &[u8], from: usize) -> usize
@@ -14,9 +15,10 @@ fn behind(text: &[u8], from: usize) -> usize
 {
     let end = bytes::run_end(text, from, Sort::Line);
     if end < text.len() {
-        return end + 1;
+        end + 1
+    } else {
+        text.len()
     }
-    text.len()
 }
 
 // Where the k-th line begins, from 0.
@@ -25,19 +27,17 @@ fn line_start(text: &[u8], k: u8) -> usize
         × (result ≤ length text.now) }
 {
     let mut from = 0;
-    let mut left = k;
-    while 0 < left {
+    for _ in 0..k {
         from = behind(text, from);
-        left -= 1;
     }
     from
 }
 
 // Writes the k-th line, from 0, without its newline; nothing where the text has no such line.
-pub fn put_line(out: &mut [u8], at: usize, text: &[u8], k: u8) -> usize
-    ensures { Written out.old at (line_numbered text.now k) out.new result }
+pub fn put_line(page: &mut Page<'_>, text: &[u8], k: u8)
+    ensures { Puts page.old (line_numbered text.now k) page.new }
 {
     let from = line_start(text, k);
     let end = bytes::run_end(text, from, Sort::Line);
-    output::put(out, at, &text[from..end])
+    page.put(&text[from..end]);
 }

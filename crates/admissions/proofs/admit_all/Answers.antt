@@ -7,19 +7,19 @@ use Rattle.admissions.specs.Stretches.{gathered}
 use Rattle.admissions.proofs.Slots.{row_room}
 use Rattle.admissions.proofs.admit_all.Goals as goal
 
-pub loop-i-init : goal.loop-i-init
+pub loop-arrival-init : goal.loop-arrival-init
 unfolding gathered
-loop-i-init c = search rules
+loop-arrival-init c = search rules
 
 pub admit-all-requires : goal.admit-all-requires
 admit-all-requires c =
     let pre = c.requires in
-    let inv = c.loop-i.invariant in
-    record { spaced = pre.spaced; upto_le_asked_max = pre.upto_le_asked_max; room = rw inv.1 (row_room _ _ _ _ _ _ _ pre.spaced pre.upto_le_asked_max pre.few (omega arith)) }
+    let inv = c.loop-arrival.invariant in
+    record { spaced = pre.spaced; upto_le_asked_max = pre.upto_le_asked_max; room = rw inv (row_room _ _ _ _ _ _ _ pre.spaced pre.upto_le_asked_max pre.few (omega arith)) }
 
-pub loop-i-preserved : goal.loop-i-preserved
+pub loop-arrival-preserved : goal.loop-arrival-preserved
 unfolding gathered
-loop-i-preserved c = (omega arith, rw add-one (cc))
+loop-arrival-preserved c = rw add-one (cc)
 
 pub returns : goal.returns
-returns c = cc (le_antisymm c.loop-i.invariant.0 c.loop-i-test.false)
+returns c = cc (le_antisymm c.loop-arrival.auto.arrival-index-end c.loop-arrival-test.false)

@@ -1,20 +1,17 @@
 -- `clocks::put_clock` meets its contract: its parts are written one behind the other.
-use Rattle.clocks.proofs.Writing.{whole_seconds, with_thousandths}
+use mathlib.Core.List.{append-nil}
+use borrow.Author.Tests.{eq-eqb, ne_eqb}
+use Rattle.text.proofs.Pages.{then}
+use Rattle.clocks.specs.Clocks.{clock_text}
 use Rattle.clocks.proofs.put_clock.Goals as goal
 
-pub returns-then-left-eq0 : goal.returns-then-left-eq0
-returns-then-left-eq0 c =
-    let at-part2 = c in
-    let at_part = at-part2 in
-    let at-number = at_part in
-    whole_seconds _ _ _ _ _ at-number.put_number-a.ensures at_part.put_part-b.ensures at-part2.put_part-c.ensures c.if-left-eq0.true
+pub returns-then-left-ne0 : goal.returns-then-left-ne0
+unfolding clock_text
+returns-then-left-ne0 c =
+    rw (ne_eqb _ _ c.if-left-ne0.true)
+    (then (then (then c.put_number.ensures c.put_part.ensures) c.put_part-2.ensures) c.put_thousandths.ensures)
 
-pub returns : goal.returns
-returns c =
-    let at-thousandths = c in
-    let at-if1 = at-thousandths in
-    let at-part2 = at-if1 in
-    let at_part = at-part2 in
-    let at-number = at_part in
-    with_thousandths _ _ _ _ _ at-number.put_number-a.ensures at_part.put_part-b.ensures at-part2.put_part-c.ensures _
-    at-if1.if-left-eq0.false at-thousandths.put_thousandths.ensures
+pub returns-else-left-ne0 : goal.returns-else-left-ne0
+unfolding clock_text
+returns-else-left-ne0 c =
+    rw (eq-eqb _ _ c.if-left-ne0.false, append-nil) (then (then c.put_number.ensures c.put_part.ensures) c.put_part-2.ensures)

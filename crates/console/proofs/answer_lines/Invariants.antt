@@ -1,9 +1,6 @@
--- Both rows keep their length, and the turns are counted down.
+-- Both rows keep their length.
 use Rattle.std.proofs.Common.{◌≡◌, length}
 use Rattle.console.proofs.answer_lines.Given as goal
 
-abbrev pub invariant-loop-turns : goal.invariant-loop-turns
-invariant-loop-turns l = (length l.input ≡ 65536) × (length l.out ≡ 65536)
-
-abbrev pub decreases-loop-turns : goal.decreases-loop-turns
-decreases-loop-turns l = l.turns
+abbrev pub invariant-loop : goal.invariant-loop
+invariant-loop l = (length l.input ≡ 65536) × (length l.out ≡ 65536)

@@ -9,7 +9,4 @@ slice_bounds-put_asked-end c = rw length-take (omega (arith, c.pairs_of-pairs.en
 
 pub returns : goal.returns
 unfolding balance_reason
-returns c =
-    let at-put-asked = c in
-    let at-pairs-of = at-put-asked in
-    rw (← at-pairs-of.pairs_of-pairs.ensures.0) at-put-asked.put_asked.ensures
+returns c = rw (← c.pairs_of-pairs.ensures.0) c.put_asked.ensures

@@ -1,14 +1,14 @@
 -- `console_desk::answer` meets its contract: what is read is replied to, and whether the session is over.
 use mathlib.Core.Path.{◌∙◌, ap}
 use Rattle.console_desk.specs.Desk.{is_last}
+use Rattle.console_desk.proofs.Ended.{ended}
 use Rattle.console_desk.proofs.answer.Goals as goal
 
-pub reply-t-requires : goal.reply-t-requires
-reply-t-requires c = c.parse-line.ensures
+pub reply-after-requires : goal.reply-after-requires
+reply-after-requires c = c.parse-line.ensures
 
 pub returns : goal.returns
 returns c =
-    let at-reply = c in
-    let at-ends = at-reply in
-    let at-parse = at-ends in
-    (at-reply.reply-t.ensures, at-ends.ends-over.ensures ∙ ap is_last at-parse.parse-line.ensures)
+    let answered = c.reply-after.ensures in
+    let row = ended c.from-page.ensures answered.written c.end.ensures.place c.end.ensures.row search in
+    (record { agent = answered.agent; written = row }, c.ends-over.ensures ∙ ap is_last c.parse-line.ensures)

@@ -1,38 +1,24 @@
 -- `console_desk::whole` meets its contract: nothing asked, an act, or a question, with a newline behind its answer.
-use Rattle.text.specs.Output.{page}
-use Rattle.console_desk.proofs.Lines.{asks_nothing, it_acts, it_asks}
+use mathlib.Core.Path.{refl, sym, ◌∙◌}
+use Rattle.text.proofs.Pages.{then, nothing}
+use Rattle.console_desk.specs.Desk.{after_whole, whole_text}
+use Rattle.console_desk.proofs.Silent.{silent_stays}
 use Rattle.console_desk.proofs.whole.Goals as goal
 
 pub returns-then-is_silent : goal.returns-then-is_silent
+unfolding after_whole whole_text
 returns-then-is_silent c =
-    let at-is-silent = c in
-    let x = at-is-silent.args in
-    asks_nothing x.agent x.line x.s.now (page x.out.now x.at) _ at-is-silent.is_silent.ensures c.if-is_silent.true
+    let silent = sym c.is_silent.ensures ∙ c.if-is_silent.true in
+    rw (silent, silent_stays _ silent) record { agent = refl; written = nothing }
 
 pub returns-then-may_change : goal.returns-then-may_change
+unfolding after_whole whole_text
 returns-then-may_change c =
-    let at-put = c in
-    let at-act = at-put in
-    let at-if2 = at-act in
-    let at-may-change = at-if2 in
-    let at-if1 = at-may-change in
-    let at-is-silent = at-if1 in
-    let at_start = at-is-silent in
-    let x = at_start.args in
-    let p = page x.out.now x.at in
-    it_acts x.agent x.line x.s.now p _ at-is-silent.is_silent.ensures at-if1.if-is_silent.false _ at-may-change.may_change.ensures _ _ _
-    at-if2.if-may_change.true at-act.act-t.ensures at-put.put-p.ensures
+    rw (sym c.is_silent.ensures ∙ c.if-is_silent.false, sym c.may_change.ensures ∙ c.if-may_change.true)
+    record { agent = c.act-next.ensures.agent; written = then c.act-next.ensures.written c.put.ensures }
 
 pub returns : goal.returns
+unfolding after_whole whole_text
 returns c =
-    let at-put2 = c in
-    let at-ask = at-put2 in
-    let at-if2 = at-ask in
-    let at-may-change = at-if2 in
-    let at-if1 = at-may-change in
-    let at-is-silent = at-if1 in
-    let at_start = at-is-silent in
-    let x = at_start.args in
-    let p = page x.out.now x.at in
-    it_asks x.agent x.line x.s.now p _ at-is-silent.is_silent.ensures at-if1.if-is_silent.false _ at-may-change.may_change.ensures x.agent _ _
-    at-if2.if-may_change.false at-ask.ask-q.ensures at-put2.put-e.ensures
+    rw (sym c.is_silent.ensures ∙ c.if-is_silent.false, sym c.may_change.ensures ∙ c.if-may_change.false)
+    record { agent = refl; written = then c.ask.ensures c.put-2.ensures }

@@ -10,18 +10,7 @@ use Rattle.curves.proofs.next_release.Goals as goal
 
 pub loop-id-init : goal.loop-id-init
 unfolding release_in
-loop-id-init c = (omega arith, refl)
-
-pub title_at-requires : goal.title_at-requires
-title_at-requires c =
-    let at_start = c in
-    (at_start.requires.long, omega (arith, c.loop-id-test.true))
-
-pub title_release-r-requires : goal.title_release-r-requires
-title_release-r-requires c =
-    let at-loop-test = c in
-    let at_start = at-loop-test in
-    title_timed _ _ at_start.requires.ok (omega (arith, at-loop-test.loop-id-test.true)) _ c.title_at.ensures
+loop-id-init c = refl
 
 pub loop-id-preserved : goal.loop-id-preserved
 unfolding release_in
@@ -29,17 +18,17 @@ loop-id-preserved c =
     let at-title-at = c in
     let at-loop-test = at-title-at in
     let at-loop = at-loop-test in
-    (omega (arith, at-loop-test.loop-id-test.true), rw (add-one, ← at-loop.loop-id.invariant.1, ← at-title-at.title_at.ensures) c.title_release-r.ensures)
+    rw (add-one, ← at-loop.loop-id.invariant, ← at-title-at.title_at.ensures) c.title_release-r.ensures
 
 pub returns : goal.returns
 returns c =
     let at-loop = c in
     let at_start = at-loop in
-    let all = le_antisymm at-loop.loop-id.invariant.0 c.loop-id-test.false in
-    at-loop.loop-id.invariant.1 ∙ ap (release_in (unpacked at_start.args.row.now).state at_start.args.time) all
+    let all = le_antisymm (omega arith) c.loop-id-test.false in
+    at-loop.loop-id.invariant ∙ ap (release_in (unpacked at_start.args.row.now).state at_start.args.time) all
 
-pub overflow_add-id : goal.overflow_add-id
-overflow_add-id c = omega arith
-
-pub loop-id-smaller : goal.loop-id-smaller
-loop-id-smaller c = omega arith
+pub title_release-r-requires : goal.title_release-r-requires
+title_release-r-requires c =
+    let at-loop-test = c in
+    let at_start = at-loop-test in
+    title_timed _ _ at_start.requires.ok (omega (arith, at-loop-test.loop-id-test.true)) _ c.title_at.ensures

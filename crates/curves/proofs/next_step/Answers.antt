@@ -11,7 +11,7 @@ returns-then-time-next c =
     let at-if1 = c in
     let at-next-release = at-if1 in
     let at_start = at-next-release in
-    (rw (← at-next-release.next_release-next.ensures, lt-ltb _ _ at-if1.if-time-next.true) c.smaller.ensures, (omega (arith, c.smaller.ensures, at-if1.if-time-next.true, at_start.requires.time_lt_to), omega (arith, c.smaller.ensures)))
+    (rw (← at-next-release.next_release-next.ensures, lt-ltb _ _ at-if1.if-time-next.true) c.min.ensures, (omega (arith, c.min.ensures, at-if1.if-time-next.true, at_start.requires.time_lt_to), omega (arith, c.min.ensures)))
 
 pub returns : goal.returns
 unfolding next_step

@@ -15,6 +15,6 @@ returns c =
     let a = s.args in
     let width = c.slot in
     let shift = c.shift in
-    parts_added a.floor a.cap a.lane a.tick width.result shift.result c.apart.result
+    parts_added a.floor a.cap a.lane a.tick width.result shift.result c.abs_diff.result
     c.low_zeros.result s.requires.floor_le_lane.0 (omega (arith, s.requires.counted.fit)) width.ensures.is shift.ensures.is
-    c.apart.ensures c.low_zeros.ensures
+    c.abs_diff.ensures c.low_zeros.ensures

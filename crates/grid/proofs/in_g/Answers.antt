@@ -11,17 +11,17 @@ returns-then-pow2-cell c =
     let s = c.before.before in
     sym (in_cells _ _ _ _ _ s.requires.counted.fit (omega (arith, c.if-pow2-cell.true, c.pow2.ensures.is)))
 
-pub returns-then-count-channel : goal.returns-then-count-channel
-returns-then-count-channel c =
-    let a = c.args in
-    let d = c.carrier-channel in
-    sym (in_carried a.floor a.cap a.count a.tick a.cell d.result d.ensures
-    ∙ rw (le-ltb _ _ c.if-count-channel.true) refl)
-
-pub returns : goal.returns
-returns c =
+pub returns-then-channel-count : goal.returns-then-channel-count
+returns-then-channel-count c =
     let a = c.args in
     let d = c.carrier-channel in
     rw c.channel_cell.ensures.is
     (sym (in_carried a.floor a.cap a.count a.tick a.cell d.result d.ensures
-    ∙ rw (lt-ltb _ _ c.if-count-channel.false) refl))
+    ∙ rw (lt-ltb _ _ c.if-channel-count.true) refl))
+
+pub returns-else-channel-count : goal.returns-else-channel-count
+returns-else-channel-count c =
+    let a = c.args in
+    let d = c.carrier-channel in
+    sym (in_carried a.floor a.cap a.count a.tick a.cell d.result d.ensures
+    ∙ rw (le-ltb _ _ c.if-channel-count.false) refl)

@@ -1,4 +1,5 @@
 -- `logs::read_on` meets its contract, by what the reader finds at the place.
+use mathlib.Core.Logic.{⊎_elim}
 use mathlib.Core.Path.{sym, ◌∙◌}
 use Rattle.logs.proofs.Own.{reads_notice, reads_end, reads_none}
 use Rattle.logs.proofs.read_on.Goals as goal
@@ -11,10 +12,8 @@ returns-in-At c =
 
 pub returns-in-End : goal.returns-in-End
 returns-in-End c =
-    let read = c in
-    reads_end _ _ _ read.requires _ (sym read.next_in-found.ensures.is ∙ c.in-End.is) c.nothing_read.ensures
-
-pub returns-in-Malformed : goal.returns-in-Malformed
-returns-in-Malformed c =
-    let read = c in
-    reads_none _ _ _ read.requires _ (sym read.next_in-found.ensures.is ∙ c.in-Malformed.is) c.nothing_read-in-Malformed.ensures
+    let is = sym c.next_in-found.ensures.is in
+    ⊎_elim
+    (λ e. reads_end _ _ _ c.requires _ (is ∙ e) c.nothing_read.ensures)
+    (λ e. reads_none _ _ _ c.requires _ (is ∙ e) c.nothing_read.ensures)
+    c.in-End.is

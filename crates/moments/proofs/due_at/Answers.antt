@@ -18,6 +18,6 @@ returns c =
     let a = c.args in
     let t = c.title_of-t in
     let free = c.lanes_from-free in
-    let counted = c.smaller in
+    let counted = c.min in
     let permitted = c.permitted_from in
-    due_exactly a.s a.id a.count t.ensures counted.ensures free.ensures permitted.ensures c.smaller-2.ensures
+    due_exactly a.s a.id a.count t.ensures counted.ensures free.ensures permitted.ensures c.min-2.ensures

@@ -1,6 +1,5 @@
 -- `next` meets its contract: by what the log has at the place.
 use Rattle.notice_rows.proofs.Answered.{step_short, step_at_lem, step_end, step_none}
-use borrow.Author.Rules.{rules}
 use Rattle.notice_rows.proofs.next.Goals as goal
 
 pub returns-then-fields-lt-ROWS : goal.returns-then-fields-lt-ROWS

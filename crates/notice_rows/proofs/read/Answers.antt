@@ -1,6 +1,5 @@
 -- `read` meets its contract: by what the bytes read as.
 use Rattle.notice_rows.proofs.Answered.{read_short, read_whole, read_none}
-use borrow.Author.Rules.{rules}
 use Rattle.notice_rows.proofs.read.Goals as goal
 
 pub returns-then-fields-lt-ROWS : goal.returns-then-fields-lt-ROWS

@@ -3,7 +3,6 @@ use mathlib.Core.Path.{sym}
 use native.Mathlib.Omega.{arith}
 use Rattle.notice_fields.proofs.Table.{no_bit}
 use Rattle.notice_rows.proofs.Widths.{needs_none}
-use borrow.Author.Rules.{rules}
 use Rattle.notice_rows.proofs.size_of.Goals as goal
 
 pub returns : goal.returns

@@ -3,7 +3,6 @@ use mathlib.Core.Path.{sym, ◌∙◌}
 use Rattle.notice_rows.proofs.Answered.{not_eight, too_short, no_notice, whole_row}
 use Rattle.notice_rows.proofs.Rows.{known_row}
 use Rattle.notice_rows.proofs.Widths.{known_small}
-use borrow.Author.Rules.{rules}
 use Rattle.notice_rows.proofs.write.Goals as goal
 
 pub returns-then-fields-ne-ROWS : goal.returns-then-fields-ne-ROWS

@@ -1,7 +1,7 @@
 -- `presence` meets its contract: each way out decides the tests up to it.
 use mathlib.Core.Path.{◌≡◌}
 use mathlib.Core.Bool.{true}
-use Prim.Native.Nat.{◌≤◌}
+use Prim.Native.Nat.{ℕ, ◌≤◌}
 use native.Mathlib.Omega.{arith}
 use lib.Dec.{leb}
 use borrow.Author.Tests.{leb-true, eq-eqb, ne_eqb}
@@ -10,31 +10,32 @@ use Rattle.rules.proofs.Tests.{both_l, both_r}
 use Rattle.story.specs.Kept.{state_ok}
 use Rattle.measures.proofs.Within.{all_readable}
 use Rattle.outlook.specs.Outlook.{presence_of}
-use Rattle.outlook.proofs.presence.Tie as tie
-use Rattle.outlook.proofs.presence.Lts as lts
-use Rattle.outlook.proofs.presence.Reads as reads
+use mathlib.Core.Bool.{Bool}
+use Rattle.story.specs.declared.State.{State}
+use mathlib.Core.Path.{sym, ◌∙◌}
+use Rattle.rules.proofs.Tests.{both_in}
+use borrow.Author.Tests.{le-leb, lt-leb}
+use Rattle.outlook.proofs.presence.Goals.{else-state_ok-via-then-state_ok+else-id-le-ID_MAX, else-state_ok-via-else-state_ok}
 use Rattle.outlook.proofs.presence.Goals as goal
 
 -- past the first test the state and the id are within their limits
-inside : (c : lts.Then1 tie.the-claims reads.Pre reads.Post) →
-    let a = c.args in
-    both (state_ok a.s) (leb a.id id_max) ≡ true
-inside c = simp (← c.state_ok.ensures, ← c.also.ensures, c.if-also.true)
+inside : (s : State) (i : ℕ) (b : Bool) → b ≡ state_ok s → b ≡ true → i ≤ id_max → both (state_ok s) (leb i id_max) ≡ true
+inside s i b is ok low = both_in _ _ (sym is ∙ ok) (le-leb _ _ low)
 
 pub title_of-t-requires : goal.title_of-t-requires
-title_of-t-requires c = let ok = inside c in search (both_l, both_r, leb-true)
+title_of-t-requires c = let ok = inside c.args.s c.args.id _ c.state_ok.ensures c.if-state_ok.true c.if-id-le-ID_MAX.true in search (both_l, both_r, leb-true)
 
 pub returns-then-t-eq-ABSENT : goal.returns-then-t-eq-ABSENT
 unfolding presence_of
 returns-then-t-eq-ABSENT c =
     let at-title = c in
-    simp (inside at-title.before.before.before, ← at-title.title_of-t.ensures, eq-eqb _ _ c.if-t-eq-ABSENT.true)
+    simp (inside at-title.args.s at-title.args.id _ at-title.state_ok.ensures at-title.if-state_ok.true at-title.if-id-le-ID_MAX.true, ← at-title.title_of-t.ensures, eq-eqb _ _ c.if-t-eq-ABSENT.true)
 
 pub is_there-requires : goal.is_there-requires
 is_there-requires c =
     let at-title = c in
     let a = at-title.args in
-    let ok = inside at-title.before.before.before in
+    let ok = inside at-title.args.s at-title.args.id _ at-title.state_ok.ensures at-title.if-state_ok.true at-title.if-id-le-ID_MAX.true in
     let i : a.id ≤ id_max = search (both_l, both_r, leb-true) in
     let t = at-title.title_of-t in
     rw t.ensures (all_readable a.s (both_l _ _ ok) a.id (omega arith))
@@ -44,19 +45,19 @@ unfolding presence_of
 returns-then-is_there c =
     let at-title = c in
     simp (
-      inside at-title.before.before.before.before.before,
+      inside at-title.args.s at-title.args.id _ at-title.state_ok.ensures at-title.if-state_ok.true at-title.if-id-le-ID_MAX.true,
       ← at-title.title_of-t.ensures,
       ne_eqb _ _ c.if-t-eq-ABSENT.false,
       ← c.is_there.ensures,
       c.if-is_there.true,
     )
 
-pub returns-then-also : goal.returns-then-also
+pub returns-then-id-le-ID_MAX : goal.returns-then-id-le-ID_MAX
 unfolding presence_of
-returns-then-also c =
+returns-then-id-le-ID_MAX c =
     let at-title = c in
     simp (
-      inside at-title.before.before.before.before.before,
+      inside at-title.args.s at-title.args.id _ at-title.state_ok.ensures at-title.if-state_ok.true at-title.if-id-le-ID_MAX.true,
       ← at-title.title_of-t.ensures,
       ne_eqb _ _ c.if-t-eq-ABSENT.false,
       ← c.is_there.ensures,
@@ -65,4 +66,8 @@ returns-then-also c =
 
 pub returns : goal.returns
 unfolding presence_of
-returns c = simp (← c.state_ok.ensures, ← c.also.ensures, c.if-also.false)
+returns c =
+    elim c.else-state_ok.branch [
+      | else-state_ok-via-then-state_ok+else-id-le-ID_MAX w ↦ simp (← c.state_ok.ensures, w.if-state_ok.true, lt-leb _ _ w.if-id-le-ID_MAX.false)
+      | else-state_ok-via-else-state_ok w ↦ simp (← c.state_ok.ensures, w.if-state_ok.false)
+    ]

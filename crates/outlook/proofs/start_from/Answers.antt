@@ -39,7 +39,7 @@ returns-then-event_ok c =
     let ok = fits at-title.before.before.before.before.before in
     let there : (title_at a.s a.e.title).mode ≡ absent_mode → ⊥ =
     λ none. c.if-t-eq-ABSENT.false (ap (λ (t : Title). t.mode) at-title.title_of-t.ensures ∙ none) in
-    c.smaller.ensures
+    c.min.ensures
     ∙ start_found a.s a.e ok there (omega (arith, on_clock a.s a.e.title a.e.time ok)) at-title.title_of-t.ensures
     c.allowed_from.ensures
 

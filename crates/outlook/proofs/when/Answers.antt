@@ -28,7 +28,7 @@ said c =
     let a = at-larger.args in
     at_call.call-answer.ensures.0
     ∙ ap (λ (f : Event). answered a.s f)
-    (at_call.event_at-late.ensures ∙ ap (λ (n : ℕ). asked_at a.e n) at-larger.larger.ensures)
+    (at_call.event_at-late.ensures ∙ ap (λ (n : ℕ). asked_at a.e n) at-larger.max.ensures)
 
 pub returns-then-is_mended : goal.returns-then-is_mended
 returns-then-is_mended c =

@@ -1,23 +1,11 @@
 -- `list` meets its contract: each way out settles answer and rows.
-use mathlib.Core.Path.{◌≡◌, ap, ◌∙◌}
+use mathlib.Core.Path.{ap, ◌∙◌}
 use Prim.Native.Nat.{ℕ, min}
 use lib.ListN.{length}
 use Rattle.wishes.proofs.Wished.{all_wished}
-use Rattle.planner.specs.Outcome.{room_of}
 use Rattle.planner.proofs.Answers.{stands}
 use Rattle.planner.proofs.Lists.{all_fit, short_rows, too_late, all_written}
-use Rattle.planner.proofs.list.Tie as tie
-use Rattle.planner.proofs.list.Lts as lts
-use Rattle.planner.proofs.list.Reads as reads
 use Rattle.planner.proofs.list.Goals as goal
-
--- the room that is asked is what the shortest row has
-room_is : (c : lts.After-smaller2 tie.the-claims reads.Pre reads.Post tie.handed_clauses) →
-    let a = c.args in
-    c.smaller-room.result ≡ room_of a.ids.now a.times.now a.counts.now
-room_is c =
-    let a = c.args in
-    c.smaller-room.ensures ∙ ap (λ (n : ℕ). min (length a.ids.now) n) c.smaller.ensures
 
 pub wishes_of-w-requires : goal.wishes_of-w-requires
 wishes_of-w-requires c = let start = c in
@@ -47,7 +35,7 @@ returns-then-room-many c =
     c.refused.result.many
     c.refused.ensures.0
     c.refused.ensures.1
-    (rw (room_is tested.before.before.before) at tested.if-room-many.true)
+    (rw (tested.min-room.ensures ∙ ap (λ (n : ℕ). min (length a.ids.now) n) tested.min.ensures) at tested.if-room-many.true)
 
 pub times_of-t-requires : goal.times_of-t-requires
 times_of-t-requires c = let wished = c in
@@ -79,7 +67,7 @@ returns-then-t-gt-EVENT_TIME_MAX c =
     start.requires.1
     timed.times_of-t.result
     timed.times_of-t.ensures
-    (rw (room_is timed.before.before.before.before.before.before) at timed.if-room-many.false)
+    (rw (timed.min-room.ensures ∙ ap (λ (n : ℕ). min (length a.ids.now) n) timed.min.ensures) at timed.if-room-many.false)
     c.refused-then-t-gt-EVENT_TIME_MAX.result.answer
     c.refused-then-t-gt-EVENT_TIME_MAX.result.many
     c.refused-then-t-gt-EVENT_TIME_MAX.ensures.0
@@ -110,7 +98,7 @@ returns c =
     start.requires.1
     timed.times_of-t.result
     timed.times_of-t.ensures
-    (rw (room_is timed.before.before.before.before.before.before.before.before.before.before.before.before.before.before.before.before.before.before.before.before.before.before.before) at timed.if-room-many.false)
+    (rw (timed.min-room.ensures ∙ ap (λ (n : ℕ). min (length a.ids.now) n) timed.min.ensures) at timed.if-room-many.false)
     _
     _
     _

@@ -1,38 +1,25 @@
 -- `plans::plan` meets its contract: it fills the row exactly where its answer is done.
 -- Rests on the laws of refusals and of the row.
 use mathlib.Core.Path.{refl, sym, ◌∙◌}
-use borrow.Author.Rules.{rules}
 use lib.ListN.{length}
+use Rattle.rules.proofs.Told.{some_number}
 use Rattle.plans.specs.Row.{plan_row}
-use Rattle.plans.proofs.padded.Refusals.{Accepted, accepted_only}
+use Rattle.plans.proofs.padded.Refusals.{accepted_only}
 use Rattle.plans.proofs.Row.{left_done, left_refused}
-use Rattle.plans.proofs.plan.Tie as tie
-use Rattle.plans.proofs.plan.Lts as lts
-use Rattle.plans.proofs.plan.Reads as reads
 use Rattle.plans.proofs.plan.Goals as goal
 
--- an answer of done has cleared every refusal
-clear : (c : lts.Then1 tie.the-claims reads.Pre reads.Post tie.handed_clauses) →
-    let a = c.args in
-    Accepted a.floor a.cap a.count a.arrival (length a.row.now)
-clear c =
-    let a = c.args in
-    accepted_only a.floor a.cap a.count a.arrival (length a.row.now) (sym c.answer-number.ensures ∙ c.if-number-eq-DONE.true)
+pub returns-in-Err : goal.returns-in-Err
+unfolding plan_row
+returns-in-Err c =
+    let e = c.number.ensures ∙ c.in-Err.ensures in
+    record { answer = e; left = left_refused _ _ _ _ _ _ e (λ z. some_number c.in-Err.refusal (sym c.number.ensures ∙ z)) refl }
 
 pub fill-requires : goal.fill-requires
 fill-requires c =
-    let t = clear c.before in
+    let a = c.args in
+    let t = accepted_only a.floor a.cap a.count a.arrival (length a.row.now) (sym c.in_default.ensures) in
     record { counted = t.count; arrival_value = t.start; arrival_le_asked_max = (t.arrival, t.room) }
 
-pub returns-then-number-eq-DONE : goal.returns-then-number-eq-DONE
+pub returns : goal.returns
 unfolding plan_row
-returns-then-number-eq-DONE c =
-    let i = c.before.before.before.before in
-    let e = i.answer-number.ensures in
-    record { answer = e; left = left_done _ _ _ _ _ _ e i.if-number-eq-DONE.true c.fill.ensures }
-
-pub returns-else-number-eq-DONE : goal.returns-else-number-eq-DONE
-unfolding plan_row
-returns-else-number-eq-DONE c =
-    let e = c.answer-number.ensures in
-    record { answer = e; left = left_refused _ _ _ _ _ _ e c.if-number-eq-DONE.false refl }
+returns c = record { answer = c.in_default.ensures; left = left_done _ _ _ _ _ _ c.in_default.ensures refl c.fill.ensures }

@@ -2,11 +2,15 @@
 -- Rest on the laws of stores into a list.
 use mathlib.Core.Path.{◌≡◌, refl, sym, ap, ◌∙◌}
 use mathlib.Core.List.{List}
-use Prim.Native.Nat.{ℕ, zero, suc, ◌+◌, ◌<◌}
+use Prim.Native.Nat.{ℕ, zero, suc, ◌+◌, ◌<◌, ◌≤◌}
 use native.Mathlib.Omega.{arith}
 use native.Mathlib.Nat.{add-zero}
 use native.Mathlib.Numerals.{add-one}
 use lib.ListN.{length, set, length-set}
+use Rattle.std.proofs.Common.{replicate, take, drop, ◌++◌, []}
+use Rattle.std.proofs.lemmas.List.{length-replicate}
+use lib.Seq.{paste}
+use Rattle.std.proofs.lemmas.List.Edits.{fill_from_more, paste_none, paste_all}
 use Rattle.plans.specs.Row.{written}
 use Rattle.plans.specs.inner.Rows.{written_from}
 
@@ -47,3 +51,17 @@ pub from_first : (f : ℕ → ℕ) (row : List ℕ) (n : ℕ) → written_from f
 unfolding written_from written
 from_first f row zero = refl
 from_first f row (suc n) = let e : 0 + n ≡ n = omega arith in rw (e, from_first f row n) refl
+
+-- places that are filled with one number are written one by one
+filled_next : (v : ℕ) (row : List ℕ) (from many : ℕ) → from + many ≤ length row →
+    paste row from (replicate many v) many ≡ written_from (λ _. v) row from many
+unfolding written_from
+filled_next v row from zero h = sym (paste_none row from [])
+filled_next v row from (suc n) h =
+    let e : n + 1 ≡ suc n = add-one n in
+    sym (rw e at (fill_from_more row from n v (omega arith))) ∙ ap (λ r. set r (from + n) v) (filled_next v row from n (omega arith))
+
+pub filled_is : (v : ℕ) (row : List ℕ) (from many : ℕ) → from + many ≤ length row →
+    take from row ++ (replicate many v ++ drop (from + many) row) ≡ written_from (λ _. v) row from many
+filled_is v row from many h =
+    sym (paste_all row from (replicate many v) many (sym (length-replicate many v))) ∙ filled_next v row from many h

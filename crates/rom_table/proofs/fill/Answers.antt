@@ -1,6 +1,5 @@
 -- `fill` meets its contract: it writes exactly where the row has the table's length. Rests on the laws of a filled row.
-use mathlib.Core.Path.{◌≡◌, refl, sym}
-use borrow.Author.Rules.{rules}
+use mathlib.Core.Path.{◌≡◌, refl}
 use borrow.Author.Tests.{eq-eqb, ne_eqb}
 use native.Mathlib.Omega.{arith}
 use lib.ListN.{length}

@@ -1,6 +1,5 @@
 -- `planner` meets its contract: the planner's own list, of the row's state.
 use Rattle.row_questions.proofs.Asking.{planner_asked, planner_refused}
-use borrow.Author.Rules.{rules}
 use Rattle.row_questions.proofs.planner.Goals as goal
 
 pub returns-then-row-eq-ROW_LENGTH : goal.returns-then-row-eq-ROW_LENGTH

@@ -7,27 +7,13 @@ pub returns-then-row-ne-ROW_LENGTH : goal.returns-then-row-ne-ROW_LENGTH
 returns-then-row-ne-ROW_LENGTH c = load_other _ _ c.if-row-ne-ROW_LENGTH.true
 
 pub returns-then-load-ne-DONE : goal.returns-then-load-ne-DONE
-returns-then-load-ne-DONE c =
-    let refused = c in
-    let loaded = refused in
-    load_none _ _ loaded.if-row-ne-ROW_LENGTH.false _ refl _ _ loaded.load.ensures refused.if-load-ne-DONE.true
+returns-then-load-ne-DONE c = load_none _ _ c.if-row-ne-ROW_LENGTH.false _ refl _ _ c.load.ensures c.if-load-ne-DONE.true
 
 pub returns-then-row_ok : goal.returns-then-row_ok
 returns-then-row_ok c =
-    let copied = c in
-    let chosen = copied in
-    let tested = chosen in
-    let done = tested in
-    let loaded = done in
-    rw copied.copy.ensures
-    (load_done _ _ loaded.if-row-ne-ROW_LENGTH.false _ refl _ _ loaded.load.ensures done.if-load-ne-DONE.false
-    (sym tested.row_ok.ensures ∙ chosen.if-row_ok.true))
+    rw c.copy_from_slice.ensures.after
+    (load_done _ _ c.if-row-ne-ROW_LENGTH.false _ refl _ _ c.load.ensures c.if-load-ne-DONE.false (sym c.row_ok.ensures ∙ c.if-row_ok.true))
 
 pub returns : goal.returns
 returns c =
-    let outside = c in
-    let tested = outside in
-    let done = tested in
-    let loaded = done in
-    load_outside _ _ loaded.if-row-ne-ROW_LENGTH.false _ refl _ _ loaded.load.ensures done.if-load-ne-DONE.false
-    (sym tested.row_ok.ensures ∙ outside.if-row_ok.false)
+    load_outside _ _ c.if-row-ne-ROW_LENGTH.false _ refl _ _ c.load.ensures c.if-load-ne-DONE.false (sym c.row_ok.ensures ∙ c.if-row_ok.false)

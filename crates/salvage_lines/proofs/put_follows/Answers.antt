@@ -4,8 +4,8 @@ use Rattle.salvage_lines.proofs.Saying.{next_follows, other_follows}
 use Rattle.salvage_lines.proofs.put_follows.Goals as goal
 
 pub returns-then-s-l : goal.returns-then-s-l
-returns-then-s-l c = next_follows _ _ _ c.if-s-l.true
-
-pub returns : goal.returns
 unfolding text
-returns c = other_follows _ _ _ _ c.if-s-l.false c.put_two.ensures
+returns-then-s-l c = other_follows _ _ _ _ c.if-s-l.true c.put_two.ensures
+
+pub returns-else-s-l : goal.returns-else-s-l
+returns-else-s-l c = next_follows _ _ _ c.if-s-l.false

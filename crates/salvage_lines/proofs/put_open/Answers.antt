@@ -6,5 +6,5 @@ use Rattle.salvage_lines.proofs.put_open.Goals as goal
 pub returns-then-is_open : goal.returns-then-is_open
 returns-then-is_open c = open_some _ c.args.p _ (sym c.is_open.ensures ∙ c.if-is_open.true) c.put_stretch.ensures
 
-pub returns : goal.returns
-returns c = open_none _ c.args.p (sym c.is_open.ensures ∙ c.if-is_open.false)
+pub returns-else-is_open : goal.returns-else-is_open
+returns-else-is_open c = open_none _ c.args.p (sym c.is_open.ensures ∙ c.if-is_open.false)

@@ -4,7 +4,7 @@ use Rattle.std.specs.Prelude.{ℕ, ◌+◌, ◌-◌, ◌≤◌, ◌<◌, ◌^◌
 use Rattle.rules.specs.Limits.{both}
 use Rattle.rules.specs.Refusals.{pick}
 use Rattle.notice.specs.Decode.{read_at}
-use Rattle.scanning.specs.declared.scan.Last.TheVariants.{Nothing, Taken}
+use Rattle.std.specs.Prelude.{Some, None}
 use Rattle.scanning.specs.declared.scan.Move.{Move}
 use Rattle.scanning.specs.declared.scan.Move.TheVariants.{Take, Skip, Stop}
 use Rattle.scanning.specs.declared.steps.Progress.{Progress}
@@ -28,7 +28,7 @@ progress_of s =
     }
 
 abbrev pub fresh_progress : Progress
-fresh_progress = record { place = 0; last = Nothing; notices = 0; bytes = 0; stretches = 0; start = 0; size = 0 }
+fresh_progress = record { place = 0; last = None; notices = 0; bytes = 0; stretches = 0; start = 0; size = 0 }
 
 -- the latest stretch ends at the place
 unfoldable pub is_open_at : Progress → Bool
@@ -43,7 +43,7 @@ abbrev pub taking_notice : Progress → ℕ → ℕ → Progress
 taking_notice p s e =
     record {
       place = e;
-      last = Taken s;
+      last = Some s;
       notices = p.notices + 1;
       bytes = p.bytes + (e - p.place);
       stretches = p.stretches;

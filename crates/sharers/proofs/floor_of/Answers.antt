@@ -2,7 +2,6 @@
 use mathlib.Core.Path.{sym, ◌∙◌}
 use native.Mathlib.Omega.{arith}
 use Rattle.sharers.proofs.Sharers.{floor_high}
-use borrow.Author.Rules.{rules}
 use Rattle.sharers.proofs.floor_of.Goals as goal
 
 pub returns-then-takes_part : goal.returns-then-takes_part

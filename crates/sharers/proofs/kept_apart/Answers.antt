@@ -2,7 +2,6 @@
 use native.Mathlib.Omega.{arith}
 use borrow.Author.Tests.{eq-eqb, ne_eqb}
 use Rattle.sharers.proofs.Sharers.{rules_few}
-use borrow.Author.Rules.{rules}
 use Rattle.sharers.proofs.kept_apart.Goals as goal
 
 pub returns-then-t-eq-STEADY : goal.returns-then-t-eq-STEADY

@@ -1,30 +1,15 @@
--- `rates_ok` meets its contract: the loop's value is the test of every rate passed.
-use Prim.Native.Nat.{◌≤◌, ◌-◌}
-use mathlib.Core.Path.{◌≡◌, ap, ◌∙◌}
-use native.Mathlib.Omega.{arith}
-use native.Mathlib.Numerals.{add-one}
-use native.Mathlib.Nat.{le_antisymm}
-use lib.ListN.{get_or, length}
+-- `rates_ok` meets its contract: the test of each rate is the definition's at its place.
+use Rattle.std.proofs.Common.{◌∙◌, rules}
+use Rattle.std.proofs.lemmas.Iterator.Search.{all_from_yields_List}
+use Rattle.std.proofs.lemmas.Iterator.{YieldsList-from_slice}
 use Rattle.rules.specs.Limits.{within, rate_min, rate_max}
-use Rattle.rules.specs.Search.{every}
 use Rattle.sharers.specs.Sharers.{rates_ok}
-use borrow.Author.Rules.{rules}
+use Rattle.sharers.proofs.All.{all_every}
 use Rattle.sharers.proofs.rates_ok.Goals as goal
-
-pub loop-i-init : goal.loop-i-init
-unfolding every
-loop-i-init c = search rules
-
-pub overflow_cast-rates : goal.overflow_cast-rates
-overflow_cast-rates c = omega (arith, c.shared_slice_known-in-loop-i-1.given c.loop-i.i)
-
-pub loop-i-preserved : goal.loop-i-preserved
-unfolding every
-loop-i-preserved c =
-    (omega arith, rw (add-one, ← c.loop-i.invariant.1, ← c.within.ensures) c.also-ok.ensures)
 
 pub returns : goal.returns
 unfolding rates_ok
 returns c =
-    let all = le_antisymm c.loop-i.invariant.0 c.loop-i-test.false in
-    c.loop-i.invariant.1 ∙ ap (every _) all
+    let rates = c.args.rates.now in
+    all_from_yields_List (λ x. within rate_min rate_max x) _ _ c.all.result c.all.ensures.ran (YieldsList-from_slice rates cc) (λ x b q k. search rules)
+    ∙ all_every (λ x. within rate_min rate_max x) rates

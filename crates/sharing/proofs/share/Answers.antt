@@ -2,7 +2,6 @@
 -- row stays.
 use mathlib.Core.Path.{sym, ◌∙◌}
 use lib.Seq.{length-take-le}
-use borrow.Author.Rules.{rules}
 use Rattle.sharing.proofs.verdict.Laws.{Ready, ready, row_done, row_refused}
 use Rattle.sharing.proofs.share.Tie as tie
 use Rattle.sharing.proofs.share.Lts as lts

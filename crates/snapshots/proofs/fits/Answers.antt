@@ -3,7 +3,6 @@ use native.Mathlib.Omega.{arith}
 use mathlib.Core.Path.{sym, ◌∙◌}
 use lib.Seq.{length-take-le}
 use Rattle.snapshots.proofs.Answered.{wrong_size, wrong_sum, right_sum}
-use borrow.Author.Rules.{rules}
 use Rattle.snapshots.proofs.fits.Goals as goal
 
 pub returns-then-bytes-ne-BYTES : goal.returns-then-bytes-ne-BYTES

@@ -2,7 +2,6 @@
 use native.Mathlib.Omega.{arith}
 use mathlib.Core.Path.{sym, ◌∙◌}
 use Rattle.snapshots.proofs.Answered.{load_odd, load_none, load_done, fitting_size}
-use borrow.Author.Rules.{rules}
 use Rattle.snapshots.proofs.load.Goals as goal
 
 pub returns-then-row-ne-NUMBERS : goal.returns-then-row-ne-NUMBERS

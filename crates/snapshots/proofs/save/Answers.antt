@@ -6,7 +6,6 @@ use lib.Seq.{length-take-le, length-sets}
 use Rattle.snapshots.specs.Bytes.{number_bytes}
 use Rattle.snapshots.proofs.Answered.{save_odd, save_short, save_done}
 use Rattle.snapshots.proofs.Laying.{summed, saved}
-use borrow.Author.Rules.{rules}
 use Rattle.snapshots.proofs.save.Goals as goal
 
 pub returns-then-row-ne-NUMBERS : goal.returns-then-row-ne-NUMBERS

@@ -10,7 +10,7 @@ use Rattle.spans.proofs.latest.Goals as goal
 
 pub loop-id-init : goal.loop-id-init
 unfolding latest_over
-loop-id-init c = (omega arith, refl)
+loop-id-init c = refl
 
 pub title_at-requires : goal.title_at-requires
 title_at-requires c =
@@ -30,17 +30,11 @@ loop-id-preserved c =
     let at-title-at = at-title-until in
     let at-loop-test = at-title-at in
     let at-loop = at-loop-test in
-    (omega (arith, at-loop-test.loop-id-test.true), rw (add-one, ← at-loop.loop-id.invariant.1, ← at-title-at.title_at.ensures, ← at-title-until.title_until.ensures) c.larger-end.ensures)
+    rw (add-one, ← at-loop.loop-id.invariant, ← at-title-at.title_at.ensures, ← at-title-until.title_until.ensures) c.max-end.ensures
 
 pub returns : goal.returns
 returns c =
     let at-loop = c in
     let at_start = at-loop in
-    let all = le_antisymm at-loop.loop-id.invariant.0 c.loop-id-test.false in
-    at-loop.loop-id.invariant.1 ∙ ap (latest_over (unpacked at_start.args.row.now).state) all
-
-pub overflow_add-id : goal.overflow_add-id
-overflow_add-id c = omega arith
-
-pub loop-id-smaller : goal.loop-id-smaller
-loop-id-smaller c = omega arith
+    let all = le_antisymm (omega arith) c.loop-id-test.false in
+    at-loop.loop-id.invariant ∙ ap (latest_over (unpacked at_start.args.row.now).state) all

@@ -7,7 +7,7 @@ use Rattle.spans.proofs.play.Goals as goal
 pub loop-measured-init : goal.loop-measured-init
 loop-measured-init c =
     let at-not-begun = c in
-    not_begun _ _ _ _ _ _ _ at-not-begun.not_begun-played.ensures c.no_extent-extent.ensures
+    not_begun _ _ _ _ _ _ _ at-not-begun.not_begun.ensures c.no_extent.ensures
 
 pub step-measured-requires : goal.step-measured-requires
 step-measured-requires c =

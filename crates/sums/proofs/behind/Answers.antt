@@ -1,6 +1,5 @@
 -- `behind` meets its contract: what is moved on differs from the second where their bits do.
 use mathlib.Core.Path.{ap}
-use borrow.Author.Rules.{rules}
 use lib.Bits.{bit_xor}
 use Rattle.sums.proofs.behind.Goals as goal
 

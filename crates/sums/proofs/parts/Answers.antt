@@ -1,10 +1,8 @@
 -- `parts` meets its contract: after i rounds i bytes of each part have gone in.
 -- Rests on the laws of registers of parts.
-use Prim.Native.Nat.{◌+◌, ◌-◌, ◌*◌, ◌≤◌}
+use Prim.Native.Nat.{◌+◌, ◌*◌}
 use mathlib.Core.Path.{◌≡◌, ap, ◌∙◌}
 use native.Mathlib.Omega.{arith}
-use native.Mathlib.Nat.{le_antisymm}
-use borrow.Author.Rules.{rules}
 use Rattle.sums.specs.Crc.{ones}
 use Rattle.sums.specs.inner.Moves.{register_from}
 use Rattle.sums.proofs.Parted.{none_in, next_in_lem}
@@ -14,7 +12,7 @@ pub loop-i-init : goal.loop-i-init
 loop-i-init c =
     let a = c.args in
     let b = a.bytes.now in
-    (omega arith, none_in b 0 ones, none_in b a.many 0, none_in b (2 * a.many) 0, none_in b (3 * a.many) 0)
+    (none_in b 0 ones, none_in b a.many 0, none_in b (2 * a.many) 0, none_in b (3 * a.many) 0)
 
 pub loop-i-preserved : goal.loop-i-preserved
 loop-i-preserved c =
@@ -23,11 +21,10 @@ loop-i-preserved c =
     let a = one.args in
     let b = a.bytes.now in
     let e : 0 + l.i ≡ l.i = omega arith in (
-      omega (arith, one.loop-i-test.true),
-      next_in_lem b 0 ones l.i l.a _ l.invariant.1 (rw e one.next-a.ensures),
-      next_in_lem b a.many 0 l.i l.b _ l.invariant.2 c.next-b.ensures,
-      next_in_lem b (2 * a.many) 0 l.i l.c _ l.invariant.3 c.next-c.ensures,
-      next_in_lem b (3 * a.many) 0 l.i l.d _ l.invariant.4 c.next-d.ensures,
+      next_in_lem b 0 ones l.i l.a _ l.invariant.0 (rw e one.next-a.ensures),
+      next_in_lem b a.many 0 l.i l.b _ l.invariant.1 c.next-b.ensures,
+      next_in_lem b (2 * a.many) 0 l.i l.c _ l.invariant.2 c.next-c.ensures,
+      next_in_lem b (3 * a.many) 0 l.i l.d _ l.invariant.3 c.next-d.ensures,
     )
 
 pub returns : goal.returns
@@ -35,10 +32,10 @@ returns c =
     let l = c.loop-i in
     let a = c.args in
     let b = a.bytes.now in
-    let e : l.i ≡ a.many = le_antisymm l.invariant.0 c.loop-i-test.false in
+    let e : l.i ≡ a.many = omega arith in
     record {
-      first = l.invariant.1 ∙ ap (register_from b 0 ones) e;
-      second = l.invariant.2 ∙ ap (register_from b a.many 0) e;
-      third = l.invariant.3 ∙ ap (register_from b (2 * a.many) 0) e;
-      fourth = l.invariant.4 ∙ ap (register_from b (3 * a.many) 0) e;
+      first = l.invariant.0 ∙ ap (register_from b 0 ones) e;
+      second = l.invariant.1 ∙ ap (register_from b a.many 0) e;
+      third = l.invariant.2 ∙ ap (register_from b (2 * a.many) 0) e;
+      fourth = l.invariant.3 ∙ ap (register_from b (3 * a.many) 0) e;
     }

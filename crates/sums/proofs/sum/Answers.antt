@@ -7,7 +7,6 @@ use Prim.Native.Nat.{ℕ, ◌+◌, ◌-◌, ◌*◌, ◌/◌, ◌≤◌, ◌<◌
 use native.Mathlib.Omega.{arith}
 use lib.Bits.{bit_xor}
 use lib.ListN.{length}
-use borrow.Author.Rules.{rules}
 use Rattle.sums.specs.declared.Registers.{Registers}
 use Rattle.sums.specs.Crc.{ones, shifted_by, register, sum_of}
 use Rattle.sums.specs.inner.Moves.{highest, moved_to, register_from}

@@ -2,7 +2,6 @@
 -- Rests on the laws of registers of parts.
 use mathlib.Core.Path.{ap}
 use lib.Bits.{bit_xor}
-use borrow.Author.Rules.{rules}
 use Rattle.sums.specs.Crc.{ones, sum_of}
 use Rattle.sums.proofs.Parted.{joined_in}
 use Rattle.sums.proofs.sum_joined.Goals as goal

@@ -1,33 +1,9 @@
--- `close_verdict` meets its contract: the title's standing, then its turn.
-use mathlib.Core.Path.{refl, sym, ◌∙◌}
-use Rattle.rules.specs.Refusals.{numbered}
-use Rattle.rules.proofs.Refusals.{then_late, then_first}
-use Rattle.title_verdicts.specs.Titled.{standing_rules, turn_rules}
+-- `close_verdict` meets its contract: a title that stands has a film.
+use mathlib.Core.Path.{sym}
 use Rattle.title_verdicts.proofs.Stands.{standing_changeable}
 use Rattle.title_verdicts.proofs.close_verdict.Goals as goal
 
-pub standing-first-requires : goal.standing-first-requires
-standing-first-requires c = c.requires
-
 pub turn_verdict-requires : goal.turn_verdict-requires
-turn_verdict-requires c = let at-standing = c in
-    let a = at-standing.args in
-    let ready = standing_changeable a.t a.time at-standing.requires (sym at-standing.standing-first.ensures ∙ c.if-first-eq-DONE.true) in
+turn_verdict-requires c =
+    let ready = standing_changeable c.args.t c.args.time c.requires (sym c.in_ok-standing.ensures) in
     record { filmed = ready.owing.film; count_le_cap = ready.owing.film.cut.fit }
-
-pub returns-then-first-eq-DONE : goal.returns-then-first-eq-DONE
-unfolding numbered
-returns-then-first-eq-DONE c =
-    let at-if1 = c in
-    let at-standing = at-if1 in
-    let a = at-standing.args in
-    then_late (standing_rules a.t a.time) (turn_rules a.t a.t.film.floor a.time) at-standing.standing-first.result refl
-    at-standing.standing-first.ensures c.turn_verdict.result at-if1.if-first-eq-DONE.true c.turn_verdict.ensures
-
-pub returns : goal.returns
-unfolding numbered
-returns c =
-    let at-standing = c in
-    let a = at-standing.args in
-    then_first (standing_rules a.t a.time) (turn_rules a.t a.t.film.floor a.time) at-standing.standing-first.result refl
-    at-standing.standing-first.ensures c.if-first-eq-DONE.false

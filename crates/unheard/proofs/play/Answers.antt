@@ -6,7 +6,7 @@ use Rattle.unheard.proofs.Counting.{small}
 use Rattle.unheard.proofs.play.Goals as goal
 
 pub loop-counted-init : goal.loop-counted-init
-loop-counted-init c = not_begun _ _ _ _ _ _ _ c.not_begun-played.ensures c.none_told-tally.ensures
+loop-counted-init c = not_begun _ _ _ _ _ _ _ c.not_begun.ensures c.none_told.ensures
 
 pub step-counted-requires : goal.step-counted-requires
 step-counted-requires c = let at-loop = c in

@@ -6,7 +6,7 @@ use Rattle.waiting.proofs.Reading.{ready}
 use Rattle.waiting.proofs.play.Goals as goal
 
 pub loop-counted-init : goal.loop-counted-init
-loop-counted-init c = not_begun _ _ _ _ _ _ _ c.not_begun-played.ensures c.opened-tally.ensures
+loop-counted-init c = not_begun _ _ _ _ _ _ _ c.not_begun.ensures c.opened.ensures
 
 pub step-counted-requires : goal.step-counted-requires
 step-counted-requires c = let at-loop = c in

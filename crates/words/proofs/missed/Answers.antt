@@ -7,6 +7,6 @@ pub returns-then-number-eq-BELOW_FLOOR : goal.returns-then-number-eq-BELOW_FLOOR
 unfolding missed
 returns-then-number-eq-BELOW_FLOOR c = simp (eq-eqb _ _ c.if-number-eq-BELOW_FLOOR.true)
 
-pub returns : goal.returns
+pub returns-else-number-eq-BELOW_FLOOR : goal.returns-else-number-eq-BELOW_FLOOR
 unfolding missed
-returns c = simp (ne_eqb _ _ c.if-number-eq-BELOW_FLOOR.false)
+returns-else-number-eq-BELOW_FLOOR c = simp (ne_eqb _ _ c.if-number-eq-BELOW_FLOOR.false)

@@ -1,18 +1,18 @@
 -- `words::put_naming` meets its contract, by the refusal.
-use borrow.Author.Tests.{eq-eqb, ne_eqb}
 use Rattle.text.specs.Texts.{text}
 use Rattle.words.specs.Words.{naming_words}
-use borrow.Author.Rules.{rules}
+use borrow.Author.Tests.{ne_eqb}
+use native.Mathlib.Omega.{arith}
 use Rattle.words.proofs.put_naming.Goals as goal
 
-pub returns-then-number-eq-OUT_OF_TURN : goal.returns-then-number-eq-OUT_OF_TURN
+pub returns-in-12 : goal.returns-in-12
 unfolding naming_words text
-returns-then-number-eq-OUT_OF_TURN c = rw (eq-eqb _ _ c.if-number-eq-OUT_OF_TURN.true) c.put.ensures
+returns-in-12 c = rw (c.in-12.is) c.put.ensures
 
-pub returns-then-number-eq-TOO_SOON : goal.returns-then-number-eq-TOO_SOON
+pub returns-in-16 : goal.returns-in-16
 unfolding naming_words text
-returns-then-number-eq-TOO_SOON c = rw (ne_eqb _ _ c.if-number-eq-OUT_OF_TURN.false, eq-eqb _ _ c.if-number-eq-TOO_SOON.true) c.put-then-number-eq-TOO_SOON.ensures
+returns-in-16 c = rw (c.in-16.is) c.put-in-16.ensures
 
-pub returns : goal.returns
+pub returns-in_default : goal.returns-in_default
 unfolding naming_words text
-returns c = rw (ne_eqb _ _ c.if-number-eq-OUT_OF_TURN.false, ne_eqb _ _ c.if-number-eq-TOO_SOON.false) c.put-2.ensures
+returns-in_default c = rw (ne_eqb c.args.number 12 (omega arith), ne_eqb c.args.number 16 (omega arith)) c.put-in_default.ensures

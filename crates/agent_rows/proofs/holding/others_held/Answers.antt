@@ -25,11 +25,11 @@ pub loop-id-preserved : goal.loop-id-preserved
 unfolding total
 loop-id-preserved c =
     let l = c.loop-id in
-    (omega arith, rw (add-one l.id) (ap₂ (λ (x y : ℕ). x + y) l.invariant.1 c.held_unless-n.ensures.is), omega arith)
+    (rw (add-one l.id) (ap₂ (λ (x y : ℕ). x + y) l.invariant.0 c.held_unless-n.ensures.is), omega arith)
 
 pub returns : goal.returns
 unfolding others_held
 returns c =
     let l = c.loop-id in
-    let done : l.id ≡ titles_max = le_antisymm l.invariant.0 c.loop-id-test.false in
-    record { is = l.invariant.1 ∙ ap (total _) done; low = omega arith; high = omega (arith, done) }
+    let done : l.id ≡ titles_max = le_antisymm l.auto.id-end c.loop-id-test.false in
+    record { is = l.invariant.0 ∙ ap (total _) done; low = omega arith; high = omega (arith, done) }

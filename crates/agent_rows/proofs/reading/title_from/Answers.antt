@@ -15,4 +15,4 @@ pub returns : goal.returns
 returns c =
     let lanes = c in
     let a = lanes.args in
-    with_own a.row.now a.at _ _ _ lanes.counts_from-ends.ensures lanes.lanes_from-dropped.ensures lanes.lanes_from-owed.ensures
+    with_own a.row.now a.at _ _ _ lanes.numbers_from-ends.ensures lanes.numbers_from-dropped.ensures lanes.numbers_from-owed.ensures

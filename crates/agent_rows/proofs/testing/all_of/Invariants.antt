@@ -1,11 +1,7 @@
--- What the loop keeps, and what falls.
-use Prim.Native.Nat.{ℕ, ◌+◌, ◌≤◌, ◌<◌, ◌-◌}
+-- What the loop keeps.
+use Prim.Native.Nat.{ℕ, ◌+◌, ◌≤◌, ◌<◌}
 use lib.ListN.{get_or}
-use Rattle.agent_rows.specs.Layout.{title_places}
 use Rattle.agent_rows.proofs.testing.all_of.Given as goal
 
-abbrev pub invariant-loop-i : goal.invariant-loop-i
-invariant-loop-i l = (l.i ≤ title_places) × ((j : ℕ) → j < l.i → get_or l.row (l.at + j) 0 ≤ l.all)
-
-abbrev pub decreases-loop-i : goal.decreases-loop-i
-decreases-loop-i l = title_places - l.i
+abbrev pub invariant-loop-number : goal.invariant-loop-number
+invariant-loop-number l = (j : ℕ) → j < l.number-index → get_or l.row (l.at + j) 0 ≤ l.all

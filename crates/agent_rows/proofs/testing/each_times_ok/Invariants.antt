@@ -1,7 +1,6 @@
--- What the loop keeps, and what falls.
-use Prim.Native.Nat.{◌≤◌, ◌-◌}
+-- What the loop keeps.
 use mathlib.Core.Path.{◌≡◌}
-use Rattle.rules.specs.Limits.{titles_max}
+use mathlib.Core.Bool.{true}
 use Rattle.rules.specs.Search.{every}
 use Rattle.agent_rows.specs.Layout.{title_place}
 use Rattle.agent_rows.specs.Packed.{title_from}
@@ -9,7 +8,4 @@ use Rattle.agent_rows.specs.inner.Tested.{times_ok}
 use Rattle.agent_rows.proofs.testing.each_times_ok.Given as goal
 
 abbrev pub invariant-loop-i : goal.invariant-loop-i
-invariant-loop-i l = (l.i ≤ titles_max) × (l.ok ≡ every (λ j. times_ok (title_from l.row (title_place j))) l.i)
-
-abbrev pub decreases-loop-i : goal.decreases-loop-i
-decreases-loop-i l = titles_max - l.i
+invariant-loop-i l = every (λ j. times_ok (title_from l.row (title_place j))) l.i ≡ true

@@ -1,30 +1,12 @@
 -- `order_ok` meets its contract: each way out decides the tests up to it.
-use borrow.Author.Tests.{le-leb, lt-leb}
+use borrow.Author.Rules.{rules}
 use Rattle.agent_rows.specs.inner.Tested.{ordered_numbers}
 use Rattle.agent_rows.proofs.testing.order_ok.Goals as goal
 
-pub returns-then-length-lt-LENGTH_MIN : goal.returns-then-length-lt-LENGTH_MIN
+pub returns-then-within : goal.returns-then-within
 unfolding ordered_numbers
-returns-then-length-lt-LENGTH_MIN c = search (le-leb, lt-leb)
+returns-then-within c = search rules
 
-pub returns-then-floor-lt-FLOOR_MIN : goal.returns-then-floor-lt-FLOOR_MIN
+pub returns-else-within : goal.returns-else-within
 unfolding ordered_numbers
-returns-then-floor-lt-FLOOR_MIN c = search (le-leb, lt-leb)
-
-pub returns-then-floor-cap : goal.returns-then-floor-cap
-unfolding ordered_numbers
-returns-then-floor-cap c = search (le-leb, lt-leb)
-
-pub returns : goal.returns
-unfolding ordered_numbers
-returns c =
-    let at-if3 = c in
-    let at-if2 = at-if3 in
-    simp (
-      le-leb _ _ at-if2.if-length-lt-LENGTH_MIN.false,
-      le-leb _ _ at-if2.if-floor-lt-FLOOR_MIN.false,
-      le-leb _ _ at-if3.if-floor-cap.false,
-      ← c.within.ensures,
-      ← c.is_level.ensures,
-    )
-    c.also.ensures
+returns-else-within c = search rules

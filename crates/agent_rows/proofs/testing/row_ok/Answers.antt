@@ -10,16 +10,16 @@ use Rattle.agent_rows.proofs.testing.row_ok.Goals as goal
 
 pub returns-then-head_ok : goal.returns-then-head_ok
 returns-then-head_ok c =
-    let at-if = c in
-    let r = at-if.args.row.now in
+    let r = c.args.row.now in
     rw (state_in_parts r)
     (c.titles_ok.ensures
     ∙ head_in (row_sound r) (leb (get_or r pool_at 0) pool_max) (leb (get_or r last_at 0) asked_max) (smalls r) (times r)
-    (sym at-if.head_ok.ensures ∙ at-if.if-head_ok.true))
+    (sym c.head_ok.ensures ∙ c.if-head_ok.true))
 
-pub returns : goal.returns
-returns c =
+pub returns-else-head_ok : goal.returns-else-head_ok
+returns-else-head_ok c =
     let r = c.args.row.now in
     rw (state_in_parts r)
-    (head_out (row_sound r) (leb (get_or r pool_at 0) pool_max) (leb (get_or r last_at 0) asked_max) (both (smalls r) (times r))
+    (c.if-head_ok.false
+    ∙ head_out (row_sound r) (leb (get_or r pool_at 0) pool_max) (leb (get_or r last_at 0) asked_max) (both (smalls r) (times r))
     (sym c.head_ok.ensures ∙ c.if-head_ok.false))

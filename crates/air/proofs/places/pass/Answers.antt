@@ -1,7 +1,6 @@
 -- `air::places::pass` meets its contract, by the byte.
 use mathlib.Core.Path.{sym, ◌∙◌}
 use Rattle.air.proofs.Placing.{passes_line, passes_gap, passes_inside, passes_word}
-use borrow.Author.Rules.{rules}
 use Rattle.air.proofs.places.pass.Goals as goal
 
 pub returns-then-b-eq10 : goal.returns-then-b-eq10

@@ -2,7 +2,6 @@
 use mathlib.Core.Path.{sym}
 use lib.Seq.{length-take-le}
 use Rattle.air_record.proofs.Reading.{taken_within}
-use borrow.Author.Rules.{rules}
 use Rattle.air.proofs.run.tell.Goals as goal
 
 pub slice_bounds-record-end : goal.slice_bounds-record-end

@@ -1,9 +1,8 @@
--- `air_record::record::one_more` meets its contract: whether there is a number more.
-use Rattle.air_record.proofs.Reading.{more_within, more_top}
+-- `air_record::record::one_more` meets its contract: one more, or as far as 64 bits count.
+use native.Mathlib.Omega.{arith}
+use Rattle.air_record.specs.Record.{one_more_of}
 use Rattle.air_record.proofs.record.one_more.Goals as goal
 
-pub returns-then-n-lt-TOP : goal.returns-then-n-lt-TOP
-returns-then-n-lt-TOP c = more_within _ c.if-n-lt-TOP.true
-
 pub returns : goal.returns
-returns c = more_top _ c.if-n-lt-TOP.false
+unfolding one_more_of
+returns c = omega (arith, c.saturating_add.ensures)

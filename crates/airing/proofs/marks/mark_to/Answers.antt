@@ -3,7 +3,6 @@ use mathlib.Core.Path.{refl, ap, ◌∙◌}
 use Prim.Native.Nat.{◌-◌}
 use native.Mathlib.Nat.{le_antisymm}
 use native.Mathlib.Omega.{arith}
-use lib.ListN.{length-set}
 use Rattle.story.specs.Kept.{tick_at}
 use Rattle.airing.specs.inner.Steps.{marked_from, marked_to}
 use Rattle.airing.proofs.Ticks.{marked_next, sub_zero}
@@ -13,10 +12,7 @@ pub loop-tick-init : goal.loop-tick-init
 unfolding marked_from
 loop-tick-init c =
     let is = c.tick_at-tick.ensures.is in
-    let none = sub_zero _ _ is in (omega (arith, is), omega (arith, is), rw none refl, refl)
-
-pub loop-tick-smaller : goal.loop-tick-smaller
-loop-tick-smaller c = omega arith
+    let none = sub_zero _ _ is in (omega (arith, is), omega (arith, is), rw none refl)
 
 pub loop-tick-preserved : goal.loop-tick-preserved
 loop-tick-preserved c =
@@ -26,17 +22,13 @@ loop-tick-preserved c =
       omega (arith, l.invariant.0),
       omega (arith, l.invariant.0, l.invariant.1, c.loop-tick-test.true),
       marked_next a.t (tick_at a.t a.t.last) a.marks.now l.marks l.tick m.result l.invariant.0 l.invariant.2 m.ensures,
-      length-set l.marks l.tick m.result ∙ l.invariant.3,
     )
-
-pub shape_of-marks : goal.shape_of-marks
-shape_of-marks c = c.loop-tick.invariant.3
 
 pub returns : goal.returns
 unfolding marked_to
 returns c =
     let l = c.loop-tick in
     let a = c.args in
-    let end = c.smaller-end.ensures in
+    let end = c.min-end.ensures in
     let all = le_antisymm l.invariant.1 (omega (arith, c.loop-tick-test.false)) in
     l.invariant.2 ∙ ap (λ n. marked_from a.t (tick_at a.t a.t.last) a.marks.now n) (all ∙ ap (λ n. n - tick_at a.t a.t.last) end)

@@ -1,13 +1,9 @@
--- What the loop keeps, and what falls.
+-- What the loop keeps.
 use mathlib.Core.Path.{◌≡◌}
 use Prim.Native.Nat.{◌-◌, ◌≤◌}
-use lib.ListN.{length}
 use Rattle.story.specs.Kept.{tick_at}
 use Rattle.airing.specs.inner.Steps.{marked_from}
 use Rattle.airing.proofs.marks.mark_to.Given as goal
 
 abbrev pub invariant-loop-tick : goal.invariant-loop-tick
-invariant-loop-tick l = (tick_at l.t l.t.last ≤ l.tick) × (l.tick - tick_at l.t l.t.last ≤ l.end - tick_at l.t l.t.last) × (l.marks ≡ marked_from l.t (tick_at l.t l.t.last) l.initial.marks (l.tick - tick_at l.t l.t.last)) × (length l.marks ≡ length l.initial.marks)
-
-abbrev pub decreases-loop-tick : goal.decreases-loop-tick
-decreases-loop-tick l = l.end - l.tick
+invariant-loop-tick l = (tick_at l.t l.t.last ≤ l.tick) × (l.tick - tick_at l.t l.t.last ≤ l.end - tick_at l.t l.t.last) × (l.marks ≡ marked_from l.t (tick_at l.t l.t.last) l.initial.marks (l.tick - tick_at l.t l.t.last))

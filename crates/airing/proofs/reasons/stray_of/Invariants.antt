@@ -1,16 +1,12 @@
--- What the loop keeps, and what falls.
-use Prim.Native.Nat.{◌≤◌, ◌-◌}
+-- What the loop keeps.
 use mathlib.Core.Path.{◌≡◌}
-use mathlib.Core.Bool.{not}
 use lib.Dec.{ltb, eqb}
-use lib.ListN.{get_or, length}
+use lib.ListN.{get_or}
 use Rattle.rules.specs.Limits.{either}
-use Rattle.rules.specs.Search.{first}
 use Rattle.judging.specs.Record.{nothing_seen}
+use mathlib.Core.Bool.{true}
+use Prim.Native.Nat.{ℕ, ◌<◌}
 use Rattle.airing.proofs.reasons.stray_of.Given as goal
 
 abbrev pub invariant-loop-i : goal.invariant-loop-i
-invariant-loop-i l = (l.i ≤ length l.«record») × (l.first ≡ first (λ j. not (either (eqb (get_or l.«record» j 0) nothing_seen) (ltb (get_or l.«record» j 0) l.cells))) l.i)
-
-abbrev pub decreases-loop-i : goal.decreases-loop-i
-decreases-loop-i l = length l.«record» - l.i
+invariant-loop-i l = (k : ℕ) → k < l.i → either (eqb (get_or l.«record» k 0) nothing_seen) (ltb (get_or l.«record» k 0) l.cells) ≡ true

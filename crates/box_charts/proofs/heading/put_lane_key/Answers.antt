@@ -1,24 +1,11 @@
 -- `box_charts::heading::put_lane_key` meets its contract: its parts are written one behind the other.
-use Rattle.text.proofs.Pages.{puts_then}
 use Rattle.text.specs.Texts.{text}
 use Rattle.box_charts.specs.Heading.{lane_key}
+use Rattle.text.proofs.Pages.{then}
 use Rattle.box_charts.proofs.heading.put_lane_key.Goals as goal
 
 pub returns : goal.returns
 unfolding text lane_key
 returns c =
-    let at-6 = c in
-    let at_5 = at-6 in
-    let at-4 = at_5 in
-    let at-3 = at-4 in
-    let at-2 = at-3 in
-    let at_1 = at-2 in
-    puts_then _ _ _
-    (puts_then _ _ _
-    (puts_then _ _ _
-    (puts_then _ _ _
-    (puts_then _ _ _ at_1.put_rect-a.ensures at-2.put_lane_name-b.ensures)
-    at-3.put_rect_end-c.ensures)
-    at-4.put_label-d.ensures)
-    at_5.put_lane_name-e.ensures)
-    at-6.put_label_end.ensures
+    then (then (then (then (then c.put_rect.ensures c.put_lane_name.ensures) c.put_rect_end.ensures) c.put_label.ensures)
+    c.put_lane_name-2.ensures) c.put_label_end.ensures

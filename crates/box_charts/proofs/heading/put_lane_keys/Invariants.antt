@@ -1,12 +1,7 @@
--- What the loop keeps, and what falls.
-use Prim.Native.Nat.{◌-◌, ◌≤◌}
-use mathlib.Core.Path.{◌≡◌}
-use Rattle.text.specs.Output.{page, puts}
+-- What the loop keeps.
 use Rattle.box_charts.specs.Heading.{lane_keys}
+use Rattle.text.specs.Pages.{Puts}
 use Rattle.box_charts.proofs.heading.put_lane_keys.Given as goal
 
 abbrev pub invariant-loop-lane : goal.invariant-loop-lane
-invariant-loop-lane l = (l.lane ≤ l.lanes) × (page l.out l.place ≡ puts (page l.initial.out l.at) (lane_keys l.lane))
-
-abbrev pub decreases-loop-lane : goal.decreases-loop-lane
-decreases-loop-lane l = l.lanes - l.lane
+invariant-loop-lane l = Puts l.initial.page (lane_keys l.lane) l.page

@@ -1,30 +1,11 @@
 -- `box_charts::marks::put_taken_line` meets its contract: its parts are written one behind the other.
-use Rattle.text.proofs.Pages.{puts_then}
 use Rattle.text.specs.Texts.{text}
 use Rattle.box_charts.specs.Marks.{taken_line}
+use Rattle.text.proofs.Pages.{then}
 use Rattle.box_charts.proofs.marks.put_taken_line.Goals as goal
 
 pub returns : goal.returns
 unfolding text taken_line
 returns c =
-    let at_8 = c in
-    let at_7 = at_8 in
-    let at-6 = at_7 in
-    let at_5 = at-6 in
-    let at-4 = at_5 in
-    let at-3 = at-4 in
-    let at-2 = at-3 in
-    let at_1 = at-2 in
-    puts_then _ _ _
-    (puts_then _ _ _
-    (puts_then _ _ _
-    (puts_then _ _ _
-    (puts_then _ _ _
-    (puts_then _ _ _
-    (puts_then _ _ _ at_1.put-a.ensures at-2.put_number-b.ensures)
-    at-3.put-c.ensures)
-    at-4.put_number-d.ensures)
-    at_5.put-e.ensures)
-    at-6.put_number-f.ensures)
-    at_7.put-g.ensures)
-    at_8.put_number.ensures
+    then (then (then (then (then (then (then c.put.ensures c.put_number.ensures) c.put-2.ensures) c.put_number-2.ensures) c.put-3.ensures)
+    c.put_number-3.ensures) c.put-4.ensures) c.put_number-4.ensures

@@ -5,4 +5,4 @@ use Rattle.charts.proofs.whole.view_at.Goals as goal
 pub returns : goal.returns
 returns c =
     let at_start = c in
-    view_is at_start.args.m _ _ _ _ _ c.since.ensures
+    view_is at_start.args.m _ _ _ _ _ _ c.first_drawn-first.ensures c.since.ensures

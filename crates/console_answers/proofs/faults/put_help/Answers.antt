@@ -1,31 +1,24 @@
 -- `console_answers::faults::put_help` meets its contract: the commands passed are listed, in the order of the definition.
-use mathlib.Core.Path.{refl, ◌∙◌}
+use mathlib.Core.Path.{◌∙◌}
 use native.Mathlib.Omega.{arith}
+use lib.ListN.{drop}
 use Rattle.console_answers.specs.Faults.{help_order, help_text}
-use Rattle.text.proofs.Pages.{same_room}
-use Rattle.console_answers.proofs.Usages.{listing_first, listing_on, listed_all}
+use Rattle.console_answers.proofs.Usages.{listing_on, listed_all}
 use Rattle.console_answers.proofs.faults.put_help.Goals as goal
 
-pub loop-i-init : goal.loop-i-init
+pub loop-command-preserved : goal.loop-command-preserved
 unfolding help_order
-loop-i-init c = listing_first _ _ _
-
-pub loop-i-preserved : goal.loop-i-preserved
-unfolding help_order
-loop-i-preserved c =
-    let at-usage = c in
-    let at-put = at-usage in
-    let at-loop = at-put in
-    listing_on help_order _ _ _ at-loop.loop-i.invariant _ _ (omega arith) at-put.put-p.ensures at-usage.put_usage-place-in-loop-i.ensures
-
-pub loop-i-smaller : goal.loop-i-smaller
-unfolding help_order
-loop-i-smaller c = omega arith
-
-pub shape_of-out : goal.shape_of-out
-shape_of-out c = c.loop-i.invariant.room ∙ same_room _ _ c.put_usage-place.ensures refl
+loop-command-preserved c =
+    let line = c.put_usage-in-loop-command.ensures in (
+      line.same_row ∙ c.put.ensures.same_row ∙ c.loop-command.invariant.0,
+      listing_on (drop 1 help_order) _ c.loop-command.command-index _ c.loop-command.invariant.1 _ _ (omega arith) c.put.ensures.written line.written,
+    )
 
 pub returns : goal.returns
 unfolding help_text help_order
 returns c =
-    listed_all _ _ _ _ _ _ c.loop-i.invariant (omega arith) c.put_usage-place.ensures
+    record {
+      same_row = c.loop-command.invariant.0 ∙ c.put_usage.ensures.same_row;
+      written =
+          listed_all (drop 1 help_order) _ c.loop-command.command-index _ c.loop-command.invariant.1 _ _ (omega arith) c.put_usage.ensures.written;
+    }

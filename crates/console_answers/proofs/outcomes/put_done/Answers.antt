@@ -8,6 +8,6 @@ pub returns-then-answer-eq-DONE : goal.returns-then-answer-eq-DONE
 unfolding done_text text
 returns-then-answer-eq-DONE c = rw (eq-eqb _ _ c.if-answer-eq-DONE.true) c.put.ensures
 
-pub returns : goal.returns
+pub returns-else-answer-eq-DONE : goal.returns-else-answer-eq-DONE
 unfolding done_text
-returns c = rw (ne_eqb _ _ c.if-answer-eq-DONE.false) c.put_refusal.ensures
+returns-else-answer-eq-DONE c = rw (ne_eqb _ _ c.if-answer-eq-DONE.false) c.put_refusal.ensures

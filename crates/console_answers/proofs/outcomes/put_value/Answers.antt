@@ -5,10 +5,8 @@ use Rattle.console_answers.proofs.outcomes.put_value.Goals as goal
 
 pub returns-then-answer-eq-DONE : goal.returns-then-answer-eq-DONE
 unfolding value_text
-returns-then-answer-eq-DONE c =
-    let at-if1 = c in
-    told _ _ _ _ _ _ at-if1.put_done-a.ensures at-if1.if-answer-eq-DONE.true c.put_entry.ensures
+returns-then-answer-eq-DONE c = told _ _ c.put_done.ensures c.if-answer-eq-DONE.true c.put_entry.ensures
 
-pub returns : goal.returns
+pub returns-else-answer-eq-DONE : goal.returns-else-answer-eq-DONE
 unfolding value_text
-returns c = refused _ _ _ _ _ c.put_done-a.ensures c.if-answer-eq-DONE.false
+returns-else-answer-eq-DONE c = refused _ _ c.put_done.ensures c.if-answer-eq-DONE.false

@@ -1,6 +1,6 @@
--- What the loop keeps, and what falls.
-use Prim.Native.Nat.{◌-◌, ◌≤◌}
+-- What the loop keeps: the pairs passed have ids.
 use mathlib.Core.Path.{◌≡◌}
+use mathlib.Core.Bool.{true}
 use lib.Dec.{leb}
 use Rattle.rules.specs.Limits.{id_max}
 use Rattle.rules.specs.Search.{every}
@@ -8,7 +8,4 @@ use Rattle.console_balance.specs.Rates.{pair_id}
 use Rattle.console_balance.proofs.rates.ids_ok.Given as goal
 
 abbrev pub invariant-loop-i : goal.invariant-loop-i
-invariant-loop-i l = (l.i ≤ l.pairs) × (l.ok ≡ every (λ j. leb (pair_id l.numbers j) id_max) l.i)
-
-abbrev pub decreases-loop-i : goal.decreases-loop-i
-decreases-loop-i l = l.pairs - l.i
+invariant-loop-i l = every (λ j. leb (pair_id l.numbers j) id_max) l.i ≡ true

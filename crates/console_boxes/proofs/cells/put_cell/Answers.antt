@@ -8,6 +8,6 @@ pub returns-then-n-eq-NEVER : goal.returns-then-n-eq-NEVER
 unfolding cell_entry text
 returns-then-n-eq-NEVER c = rw (eq-eqb _ _ c.if-n-eq-NEVER.true) c.put.ensures
 
-pub returns : goal.returns
+pub returns-else-n-eq-NEVER : goal.returns-else-n-eq-NEVER
 unfolding cell_entry
-returns c = rw (ne_eqb _ _ c.if-n-eq-NEVER.false) c.put_entry.ensures
+returns-else-n-eq-NEVER c = rw (ne_eqb _ _ c.if-n-eq-NEVER.false) c.put_entry.ensures

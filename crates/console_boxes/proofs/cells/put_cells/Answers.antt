@@ -1,26 +1,16 @@
 -- `console_boxes::cells::put_cells` meets its contract: of the plan, the cells passed are written.
+use Prim.Native.Nat.{◌<◌}
 use native.Mathlib.Omega.{arith}
-use Rattle.console_answers.proofs.Rows.{passed_none, passed_on, passed_all}
+use lib.ListN.{length-take}
+use lib.Seq.{get_or-take}
+use Rattle.console_answers.proofs.Rows.{each_none, each_more}
 use Rattle.console_boxes.proofs.cells.put_cells.Goals as goal
 
-pub loop-i-preserved : goal.loop-i-preserved
-loop-i-preserved c =
-    let at-put = c in
-    let at-loop-test = at-put in
-    let at-loop = at-loop-test in
-    passed_on _ _ _ _ at-loop.loop-i.invariant at-loop-test.loop-i-test.true at-put.put_cell-place.ensures
+pub loop-cell-init : goal.loop-cell-init
+loop-cell-init c = each_none _
 
-pub loop-i-init : goal.loop-i-init
-loop-i-init c = passed_none _ _ _
-
-pub overflow_add-i : goal.overflow_add-i
-overflow_add-i c = omega arith
-
-pub loop-i-smaller : goal.loop-i-smaller
-loop-i-smaller c = omega arith
-
-pub shape_of-out : goal.shape_of-out
-shape_of-out c = c.loop-i.invariant.room
-
-pub returns : goal.returns
-returns c = passed_all _ _ _ _ c.loop-i.invariant c.loop-i-test.false
+pub loop-cell-preserved : goal.loop-cell-preserved
+loop-cell-preserved c =
+    let i = c.loop-cell.cell-index in
+    let among : i < c.args.n = omega (arith, simp length-take at c.loop-cell-test.true) in
+    each_more _ _ c.loop-cell.invariant (rw (get_or-take c.args.n c.args.row.now i 0 among) at c.put_cell.ensures)

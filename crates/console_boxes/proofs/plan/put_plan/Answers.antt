@@ -11,9 +11,4 @@ slice_bounds-put_row-end c =
 
 pub returns : goal.returns
 unfolding plan_in
-returns c =
-    rw (
-      ← c.places_of-n.ensures.0,
-      ← c.blank_row-row.ensures.0,
-    )
-    c.put_row.ensures
+returns c = rw (← c.places_of-n.ensures.0, ← c.blank_row-row.ensures.0) c.put_row.ensures

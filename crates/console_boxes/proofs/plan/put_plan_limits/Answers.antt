@@ -5,12 +5,8 @@ use Rattle.console_boxes.proofs.plan.put_plan_limits.Goals as goal
 
 pub returns-then-command-eq-SKIP_PLAN : goal.returns-then-command-eq-SKIP_PLAN
 unfolding plan_numbers
-returns-then-command-eq-SKIP_PLAN c =
-    let at-put-limits = c in
-    rw (eq-eqb _ _ at-put-limits.if-command-eq-SKIP_PLAN.true) at-put-limits.put_limits.ensures
+returns-then-command-eq-SKIP_PLAN c = rw (eq-eqb _ _ c.if-command-eq-SKIP_PLAN.true) c.put_limits.ensures
 
-pub returns : goal.returns
+pub returns-else-command-eq-SKIP_PLAN : goal.returns-else-command-eq-SKIP_PLAN
 unfolding plan_numbers
-returns c =
-    let at-put-limits2 = c in
-    rw (ne_eqb _ _ at-put-limits2.if-command-eq-SKIP_PLAN.false) at-put-limits2.put_limits-2.ensures
+returns-else-command-eq-SKIP_PLAN c = rw (ne_eqb _ _ c.if-command-eq-SKIP_PLAN.false) c.put_limits-else-command-eq-SKIP_PLAN.ensures

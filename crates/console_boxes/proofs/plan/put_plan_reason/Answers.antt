@@ -5,14 +5,8 @@ use Rattle.console_boxes.proofs.plan.put_plan_reason.Goals as goal
 
 pub returns-then-is_other_plan : goal.returns-then-is_other_plan
 unfolding plan_reason
-returns-then-is_other_plan c =
-    let at-put-small = c in
-    let at-if1 = at-put-small in
-    rw (sym at-if1.is_other_plan.ensures ∙ at-if1.if-is_other_plan.true) at-put-small.put_small.ensures
+returns-then-is_other_plan c = rw (sym c.is_other_plan.ensures ∙ c.if-is_other_plan.true) c.put_small.ensures
 
-pub returns : goal.returns
+pub returns-else-is_other_plan : goal.returns-else-is_other_plan
 unfolding plan_reason
-returns c =
-    let at-put-plan-limits = c in
-    let at-if1 = at-put-plan-limits in
-    rw (sym at-if1.is_other_plan.ensures ∙ at-if1.if-is_other_plan.false) at-put-plan-limits.put_plan_limits.ensures
+returns-else-is_other_plan c = rw (sym c.is_other_plan.ensures ∙ c.if-is_other_plan.false) c.put_plan_limits.ensures

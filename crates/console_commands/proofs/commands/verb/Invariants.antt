@@ -1,13 +1,9 @@
--- What the loop keeps, and what falls.
-use Prim.Native.Nat.{◌≤◌}
+-- What the loop keeps: of the rows from the last on down to a command's, the first that the word names.
 use mathlib.Core.Path.{◌≡◌}
 use lib.ListN.{drop}
 use Rattle.console_commands.specs.Letters.{lowered}
-use Rattle.console_commands.specs.Commands.{command_count, command_table, seek}
+use Rattle.console_commands.specs.Commands.{command_table, seek}
 use Rattle.console_commands.proofs.commands.verb.Given as goal
 
-abbrev pub invariant-loop-left : goal.invariant-loop-left
-invariant-loop-left l = (l.left ≤ command_count) × (l.found ≡ seek (lowered l.word) l.left (drop l.left command_table))
-
-abbrev pub decreases-loop-left : goal.decreases-loop-left
-decreases-loop-left l = l.left
+abbrev pub invariant-loop-command : goal.invariant-loop-command
+invariant-loop-command l = l.found ≡ seek (lowered l.word) l.command (drop l.command command_table)

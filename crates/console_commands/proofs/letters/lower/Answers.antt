@@ -1,16 +1,7 @@
--- `console_commands::letters::lower` meets its contract: its tests are those of the definition.
-use borrow.Author.Tests.{lt-ltb, le-ltb}
-use Rattle.console_commands.specs.Letters.{lower_of}
+-- `console_commands::letters::lower` meets its contract: the library's small letter is that of the definition.
+use Rattle.std.proofs.Common.{◌∙◌}
+use Rattle.console_commands.proofs.Cases.{small_letter}
 use Rattle.console_commands.proofs.letters.lower.Goals as goal
 
-pub returns-then-b-lt65 : goal.returns-then-b-lt65
-unfolding lower_of
-returns-then-b-lt65 c = simp (lt-ltb _ _ c.if-b-lt65.true)
-
-pub returns-then-b-gt90 : goal.returns-then-b-gt90
-unfolding lower_of
-returns-then-b-gt90 c = simp (le-ltb _ _ c.if-b-lt65.false, lt-ltb _ _ c.if-b-gt90.true)
-
 pub returns : goal.returns
-unfolding lower_of
-returns c = simp (le-ltb _ _ c.if-b-lt65.false, le-ltb _ _ c.if-b-gt90.false)
+returns c = c.to_ascii_lowercase.ensures.value ∙ small_letter c.args.b

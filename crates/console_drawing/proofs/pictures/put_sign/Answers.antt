@@ -6,27 +6,16 @@ use Rattle.console_drawing.proofs.pictures.put_sign.Goals as goal
 
 pub returns-then-lane-ruling : goal.returns-then-lane-ruling
 unfolding sign_text
-returns-then-lane-ruling c =
-    let at-put = c in
-    let at-if1 = at-put in
-    rw (← at-if1.ruling.ensures, lt-ltb _ _ at-if1.if-lane-ruling.true) at-put.put.ensures
+returns-then-lane-ruling c = rw (← c.ruling.ensures, lt-ltb _ _ c.if-lane-ruling.true) c.put.ensures
 
 pub returns-then-is_held : goal.returns-then-is_held
 unfolding sign_text
 returns-then-is_held c =
-    let at-put = c in
-    let at-if2 = at-put in
-    let at-is-held = at-if2 in
-    let at-if1 = at-is-held in
-    rw (← at-if1.ruling.ensures, le-ltb _ _ at-if1.if-lane-ruling.false, sym at-is-held.is_held.ensures ∙ at-if2.if-is_held.true)
-    at-put.put-then-is_held.ensures
+    rw (← c.ruling.ensures, le-ltb _ _ c.if-lane-ruling.false, sym c.is_held.ensures ∙ c.if-is_held.true)
+    c.put-then-is_held.ensures
 
-pub returns : goal.returns
+pub returns-else-is_held : goal.returns-else-is_held
 unfolding sign_text
-returns c =
-    let at-put = c in
-    let at-if2 = at-put in
-    let at-is-held = at-if2 in
-    let at-if1 = at-is-held in
-    rw (← at-if1.ruling.ensures, le-ltb _ _ at-if1.if-lane-ruling.false, sym at-is-held.is_held.ensures ∙ at-if2.if-is_held.false)
-    at-put.put-2.ensures
+returns-else-is_held c =
+    rw (← c.ruling.ensures, le-ltb _ _ c.if-lane-ruling.false, sym c.is_held.ensures ∙ c.if-is_held.false)
+    c.put-else-is_held.ensures

@@ -5,14 +5,8 @@ use Rattle.console_limits.proofs.asked.put_asked.Goals as goal
 
 pub returns-then-answer-eq-TOO_EARLY : goal.returns-then-answer-eq-TOO_EARLY
 unfolding asked_reason
-returns-then-answer-eq-TOO_EARLY c =
-    let at-put-last = c in
-    let at-if1 = at-put-last in
-    rw (eq-eqb _ _ at-if1.if-answer-eq-TOO_EARLY.true) at-put-last.put_last.ensures
+returns-then-answer-eq-TOO_EARLY c = rw (eq-eqb _ _ c.if-answer-eq-TOO_EARLY.true) c.put_last.ensures
 
-pub returns : goal.returns
+pub returns-else-answer-eq-TOO_EARLY : goal.returns-else-answer-eq-TOO_EARLY
 unfolding asked_reason
-returns c =
-    let at-put-limits = c in
-    let at-if1 = at-put-limits in
-    rw (ne_eqb _ _ at-if1.if-answer-eq-TOO_EARLY.false) at-put-limits.put_limits.ensures
+returns-else-answer-eq-TOO_EARLY c = rw (ne_eqb _ _ c.if-answer-eq-TOO_EARLY.false) c.put_limits.ensures

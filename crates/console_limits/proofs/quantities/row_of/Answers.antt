@@ -1,11 +1,9 @@
 -- `console_limits::quantities::row_of` meets its contract: the code's rows are those of the definitions' table.
+use Rattle.std.proofs.Common.{rules}
 use Rattle.console_limits.specs.Quantities.{quantity_table}
-use Rattle.console_limits.proofs.Tables.{row_in, row_past}
+use Rattle.console_limits.proofs.Tables.{row_lent}
 use Rattle.console_limits.proofs.quantities.row_of.Goals as goal
 
-pub returns-then-k-lt-COMMANDS : goal.returns-then-k-lt-COMMANDS
-unfolding quantity_table
-returns-then-k-lt-COMMANDS c = row_in _ _ c.if-k-lt-COMMANDS.true
-
 pub returns : goal.returns
-returns c = row_past _ c.if-k-lt-COMMANDS.false
+unfolding quantity_table
+returns c = rw (c.unwrap_or.ensures, c.copied.ensures) (row_lent c.args.command c.get.result (search rules))

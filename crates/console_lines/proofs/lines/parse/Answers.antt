@@ -1,39 +1,26 @@
 -- `console_lines::lines::parse` meets its contract: reading on from each word passed gives what the whole line means.
-use Prim.Native.Nat.{◌-◌}
+use Prim.Native.Nat.{◌+◌, ◌-◌}
 use mathlib.Core.Path.{◌∙◌, ap}
 use native.Mathlib.Omega.{arith}
 use Rattle.console_lines.specs.Lines.{read_on, numbers_most, meaning}
 use Rattle.console_lines.proofs.Reading.{read_on_lem, read_stop, read_none}
 use Rattle.console_lines.proofs.lines.parse.Goals as goal
 
-pub loop-left-init : goal.loop-left-init
+pub loop-init : goal.loop-init
 unfolding meaning
-loop-left-init c =
-    let x = c.args in
-    ap (read_on numbers_most x.s.now) c.begin-line.ensures
+loop-init c = ap (read_on numbers_most c.args.s.now) c.begin-line.ensures
 
-pub loop-left-preserved : goal.loop-left-preserved
-loop-left-preserved c =
-    let x = c.args in
-    let l = c.loop-left in
-    ap (read_on (l.left - 1) x.s.now) c.step-line.ensures
-    ∙ read_on_lem x.s.now l.line l.left (l.left - 1) (omega arith) c.if-fault-eq-UNREAD.true
+pub loop-preserved : goal.loop-preserved
+loop-preserved c =
+    let s = c.args.s.now in
+    let l = c.loop in
+    ap (read_on (numbers_most - (l.counter + 1)) s) c.step-line.ensures
+    ∙ read_on_lem s l.line (numbers_most - l.counter) _ (omega arith) c.if-line-ne-UNREAD.false
     ∙ l.invariant
 
-pub returns-else-fault-eq-UNREAD : goal.returns-else-fault-eq-UNREAD
-returns-else-fault-eq-UNREAD c =
-    let x = c.args in
-    let l = c.loop-left in
-    read_stop x.s.now l.line l.left c.if-fault-eq-UNREAD.false ∙ l.invariant
+pub returns-then-line-ne-UNREAD : goal.returns-then-line-ne-UNREAD
+returns-then-line-ne-UNREAD c =
+    read_stop c.args.s.now c.loop.line _ c.if-line-ne-UNREAD.true ∙ c.loop.invariant
 
 pub returns : goal.returns
-returns c =
-    let x = c.args in
-    let l = c.loop-left in
-    read_none x.s.now l.line l.left (omega arith) ∙ l.invariant
-
-pub overflow_sub-left : goal.overflow_sub-left
-overflow_sub-left c = omega arith
-
-pub loop-left-smaller : goal.loop-left-smaller
-loop-left-smaller c = omega arith
+returns c = read_none c.args.s.now c.loop.line _ (omega arith) ∙ c.loop.invariant

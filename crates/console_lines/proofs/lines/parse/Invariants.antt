@@ -1,10 +1,8 @@
--- What the loop keeps, and what falls.
+-- What the loop keeps: reading on for as many words as are left gives what the whole line means.
+use Prim.Native.Nat.{◌-◌}
 use mathlib.Core.Path.{◌≡◌}
-use Rattle.console_lines.specs.Lines.{read_on, meaning}
+use Rattle.console_lines.specs.Lines.{read_on, numbers_most, meaning}
 use Rattle.console_lines.proofs.lines.parse.Given as goal
 
-abbrev pub invariant-loop-left : goal.invariant-loop-left
-invariant-loop-left l = read_on l.left l.s l.line ≡ meaning l.s
-
-abbrev pub decreases-loop-left : goal.decreases-loop-left
-decreases-loop-left l = l.left
+abbrev pub invariant-loop : goal.invariant-loop
+invariant-loop l = read_on (numbers_most - l.counter) l.s l.line ≡ meaning l.s

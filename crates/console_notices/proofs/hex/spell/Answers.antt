@@ -1,22 +1,18 @@
 -- `console_notices::hex::spell` meets its contract: the digits between the places, which the room holds.
 use native.Mathlib.Omega.{arith}
+use Rattle.std.proofs.Common.{inl, inr}
 use Rattle.console_notices.proofs.Spelling.{none_past, none_before, spelt}
 use Rattle.console_notices.proofs.hex.spell.Goals as goal
 
-pub returns-then-size-to : goal.returns-then-size-to
-returns-then-size-to c = (none_past _ c.args.from _ c.if-size-to.true, omega arith)
-
-pub returns-then-to-from : goal.returns-then-to-from
-returns-then-to-from c = (none_before _ _ _ c.if-size-to.false c.if-to-from.true, omega arith)
+pub returns-in_default : goal.returns-in_default
+returns-in_default c =
+    elim c.in_default.ensures.lookup.0 [
+      | inl x ↦ (none_before _ _ _ x, omega arith)
+      | inr x ↦ (none_past _ c.args.from _ x, omega arith)
+    ]
 
 pub returns : goal.returns
 returns c =
-    let at-decode = c in
-    let at-if1 = at-decode in
-    let at_start = at-if1 in
-    let x = at_start.args in
-    spelt x.s.now x.from x.to x.room.now _ _
-    at-if1.if-size-to.false
-    at_start.requires.0
-    at_start.requires.1
-    at-decode.decode.ensures
+    let x = c.args in
+    let found = c.in-Some.ensures.lookup.0 in
+    spelt x.s.now x.from x.to x.room.now _ _ found.1 c.requires.0 c.requires.1 (rw found.2 at c.decode.ensures)

@@ -16,9 +16,5 @@ slice_bounds-put_hex-end c =
 
 pub returns : goal.returns
 returns c =
-    let at-put-hex = c in
-    let at_size = at-put-hex in
-    let at-write = at_size in
-    let at_start = at-write in
-    rw (first at_start.args.n _ _ _ _ at-write.write.ensures (sym open_length) at_size.size-size.ensures) at
-    at-put-hex.put_hex.ensures
+    let same = first c.args.n _ _ _ _ c.write.ensures (sym open_length) c.size-size.ensures in
+    rw same at c.put_hex.ensures

@@ -1,12 +1,8 @@
--- What the loop keeps, and what falls.
-use Prim.Native.Nat.{◌-◌, ◌≤◌}
+-- What the loop keeps: the titles passed have their number.
 use mathlib.Core.Path.{◌≡◌}
 use Rattle.console_pools.specs.Shares.{column}
-use Rattle.console_commands.specs.Commands.{titles_most}
 use Rattle.console_pools.proofs.columns.column.Given as goal
 
 abbrev pub invariant-loop-i : goal.invariant-loop-i
-invariant-loop-i l = (l.i ≤ titles_most) × (l.c ≡ column l.row l.first l.apart l.i)
-
-abbrev pub decreases-loop-i : goal.decreases-loop-i
-decreases-loop-i l = titles_most - l.i
+invariant-loop-i l =
+    l.n-items ≡ column l.row l.first l.apart l.i

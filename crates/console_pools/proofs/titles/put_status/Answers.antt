@@ -42,8 +42,4 @@ put_rows-requires c =
 
 pub returns : goal.returns
 unfolding ids_in
-returns c =
-    let at-put-rows = c in
-    let at-ids-of = at-put-rows in
-    let n = at-ids-of.ids_of-n.result in
-    rw (← at-ids-of.ids_of-n.ensures.0) (rw (add-one, head, rest) at at-put-rows.put_rows.ensures)
+returns c = rw (← c.ids_of-n.ensures.0) (rw (add-one, head, rest) at c.put_rows.ensures)

@@ -5,7 +5,4 @@ use Rattle.console_reasons.proofs.events.put_start.Goals as goal
 
 pub returns : goal.returns
 unfolding start_text text
-returns c =
-    let at-put-clock-words = c in
-    let at-start-from = at-put-clock-words in
-    rw (← at-start-from.start_from.ensures) at-put-clock-words.put_clock_words.ensures
+returns c = rw (← c.start_from.ensures) c.put_clock_words.ensures

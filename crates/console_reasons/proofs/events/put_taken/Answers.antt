@@ -6,16 +6,8 @@ use Rattle.console_reasons.proofs.events.put_taken.Goals as goal
 
 pub returns-then-is_open : goal.returns-then-is_open
 unfolding taken_text text
-returns-then-is_open c =
-    let at-put = c in
-    let at-if1 = at-put in
-    rw (sym at-if1.is_open.ensures ∙ at-if1.if-is_open.true) at-put.put.ensures
+returns-then-is_open c = rw (sym c.is_open.ensures ∙ c.if-is_open.true) c.put.ensures
 
-pub returns : goal.returns
+pub returns-else-is_open : goal.returns-else-is_open
 unfolding taken_text text
-returns c =
-    let at-put-clock-words = c in
-    let at-id-free-from = at-put-clock-words in
-    let at-if1 = at-id-free-from in
-    rw (sym at-if1.is_open.ensures ∙ at-if1.if-is_open.false, ← at-id-free-from.id_free_from-free.ensures)
-    at-put-clock-words.put_clock_words.ensures
+returns-else-is_open c = rw (sym c.is_open.ensures ∙ c.if-is_open.false, ← c.id_free_from-free.ensures) c.put_clock_words.ensures

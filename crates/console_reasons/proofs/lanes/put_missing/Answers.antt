@@ -6,20 +6,12 @@ use Rattle.console_reasons.proofs.lanes.put_missing.Goals as goal
 
 pub returns-then-presence-eq-NEVER_OPENED : goal.returns-then-presence-eq-NEVER_OPENED
 unfolding missing_text text
-returns-then-presence-eq-NEVER_OPENED c =
-    let at-put = c in
-    rw (eq-eqb _ _ at-put.if-presence-eq-NEVER_OPENED.true) at-put.put.ensures
+returns-then-presence-eq-NEVER_OPENED c = rw (eq-eqb _ _ c.if-presence-eq-NEVER_OPENED.true) c.put.ensures
 
 pub returns-then-presence-eq-GONE : goal.returns-then-presence-eq-GONE
 unfolding missing_text text
-returns-then-presence-eq-GONE c =
-    let at-put2 = c in
-    let at-if2 = at-put2 in
-    rw (ne_eqb _ _ at-if2.if-presence-eq-NEVER_OPENED.false, eq-eqb _ _ at-if2.if-presence-eq-GONE.true) at-put2.put-then-presence-eq-GONE.ensures
+returns-then-presence-eq-GONE c = rw (ne_eqb _ _ c.if-presence-eq-NEVER_OPENED.false, eq-eqb _ _ c.if-presence-eq-GONE.true) c.put-then-presence-eq-GONE.ensures
 
-pub returns : goal.returns
+pub returns-else-presence-eq-GONE : goal.returns-else-presence-eq-GONE
 unfolding missing_text text
-returns c =
-    let at-put3 = c in
-    let at-if2 = at-put3 in
-    rw (ne_eqb _ _ at-if2.if-presence-eq-NEVER_OPENED.false, ne_eqb _ _ at-if2.if-presence-eq-GONE.false) at-put3.put-2.ensures
+returns-else-presence-eq-GONE c = rw (ne_eqb _ _ c.if-presence-eq-NEVER_OPENED.false, ne_eqb _ _ c.if-presence-eq-GONE.false) c.put-else-presence-eq-GONE.ensures

@@ -6,14 +6,8 @@ use Rattle.console_views.proofs.coming.put_doors.Goals as goal
 
 pub returns-then-t-eq-HELD : goal.returns-then-t-eq-HELD
 unfolding doors_text text
-returns-then-t-eq-HELD c =
-    let at-put = c in
-    let at-if1 = at-put in
-    rw (eq-eqb _ _ at-if1.if-t-eq-HELD.true) at-put.put.ensures
+returns-then-t-eq-HELD c = rw (eq-eqb _ _ c.if-t-eq-HELD.true) c.put.ensures
 
-pub returns : goal.returns
+pub returns-else-t-eq-HELD : goal.returns-else-t-eq-HELD
 unfolding doors_text text
-returns c =
-    let at-put2 = c in
-    let at-if1 = at-put2 in
-    rw (ne_eqb _ _ at-if1.if-t-eq-HELD.false) at-put2.put-2.ensures
+returns-else-t-eq-HELD c = rw (ne_eqb _ _ c.if-t-eq-HELD.false) c.put-else-t-eq-HELD.ensures

@@ -1,26 +1,9 @@
 -- `console_views::lanes::put_lines` meets its contract: the lanes passed have their lines.
-use native.Mathlib.Omega.{arith}
-use Rattle.console_answers.proofs.Rows.{passed_none, passed_on, passed_all}
+use Rattle.console_answers.proofs.Rows.{each_none, each_more}
 use Rattle.console_views.proofs.lanes.put_lines.Goals as goal
 
-pub loop-lane-preserved : goal.loop-lane-preserved
-loop-lane-preserved c =
-    let at-put = c in
-    let at-loop-test = at-put in
-    let at-loop = at-loop-test in
-    passed_on _ _ _ _ at-loop.loop-lane.invariant at-loop-test.loop-lane-test.true at-put.put_line-place.ensures
-
 pub loop-lane-init : goal.loop-lane-init
-loop-lane-init c = passed_none _ _ _
+loop-lane-init c = each_none _
 
-pub overflow_add-lane : goal.overflow_add-lane
-overflow_add-lane c = omega arith
-
-pub loop-lane-smaller : goal.loop-lane-smaller
-loop-lane-smaller c = omega arith
-
-pub shape_of-out : goal.shape_of-out
-shape_of-out c = c.loop-lane.invariant.room
-
-pub returns : goal.returns
-returns c = passed_all _ _ _ _ c.loop-lane.invariant c.loop-lane-test.false
+pub loop-lane-preserved : goal.loop-lane-preserved
+loop-lane-preserved c = each_more _ _ c.loop-lane.invariant c.put_line.ensures

@@ -5,16 +5,8 @@ use Rattle.console_views.proofs.lanes.put_reason.Goals as goal
 
 pub returns-then-answer-eq-NOT_THERE : goal.returns-then-answer-eq-NOT_THERE
 unfolding lanes_reason
-returns-then-answer-eq-NOT_THERE c =
-    let at-put-missing = c in
-    let at-presence = at-put-missing in
-    rw (eq-eqb _ _ at-presence.if-answer-eq-NOT_THERE.true, ← at-presence.presence.ensures)
-    at-put-missing.put_missing.ensures
+returns-then-answer-eq-NOT_THERE c = rw (eq-eqb _ _ c.if-answer-eq-NOT_THERE.true, ← c.presence.ensures) c.put_missing.ensures
 
-pub returns : goal.returns
+pub returns-else-answer-eq-NOT_THERE : goal.returns-else-answer-eq-NOT_THERE
 unfolding lanes_reason
-returns c =
-    let at-put-asked = c in
-    let at-last-in = at-put-asked in
-    rw (ne_eqb _ _ at-last-in.if-answer-eq-NOT_THERE.false, ← at-last-in.last_in.ensures)
-    at-put-asked.put_asked.ensures
+returns-else-answer-eq-NOT_THERE c = rw (ne_eqb _ _ c.if-answer-eq-NOT_THERE.false, ← c.last_in.ensures) c.put_asked.ensures

@@ -1,74 +1,56 @@
 -- `console_views::titles::put_title` meets its contract: of a title that is there its parts one behind the other, else nothing.
-use mathlib.Core.Path.{refl, sym, ◌∙◌}
+use Prim.Native.Nat.{ℕ, ◌<◌}
+use mathlib.Core.Path.{◌≡◌, sym, ◌∙◌}
+use mathlib.Core.Bool.{Bool, true}
 use native.Mathlib.Omega.{arith}
+use Rattle.rules.specs.Limits.{titles_max}
+use Rattle.story.specs.declared.Title.{Title}
+use Rattle.story.specs.declared.State.{State}
+use Rattle.story.specs.Kept.{title_at, state_ok, is_there}
 use Rattle.text.specs.Texts.{text}
-use Rattle.text.specs.Output.{puts}
-use Rattle.text.proofs.Pages.{puts_then}
+use Rattle.text.proofs.Pages.{then, nothing}
 use Rattle.measures.proofs.Within.{all_readable}
 use Rattle.console_views.specs.Titles.{title_line}
 use Rattle.console_views.proofs.Standing.{Standing, stands}
-use Rattle.console_views.proofs.titles.put_title.Tie as tie
-use Rattle.console_views.proofs.titles.put_title.Lts as lts
-use Rattle.console_views.proofs.titles.put_title.Reads as reads
 use Rattle.console_views.proofs.titles.put_title.Goals as goal
 
 -- what is known of a title that is there
-abbrev standing : (c : lts.Then1 tie.the-claims reads.Pre reads.Post tie.handed_clauses) → Standing c.title_of-t.result
-standing c =
-    let at-title-of = c in
-    let at_start = at-title-of in
-    let x = at_start.args in
-    let there = rw at-title-of.title_of-t.ensures at (sym c.is_there.ensures ∙ c.if-is_there.true) in
-    rw at-title-of.title_of-t.ensures (stands x.s at_start.requires.s_value x.id at_start.requires.id_lt_titles_max.0 x.time there)
+standing : (s : State) → state_ok s ≡ true → (i : ℕ) → i < titles_max → (τ : ℕ) {t : Title} {b : Bool} → t ≡ title_at s i → b ≡ is_there t τ → b ≡ true
+    → Standing t
+standing s ok i l τ is e y = rw is (stands s ok i l τ (rw is at (sym e ∙ y)))
 
 pub title_of-t-requires : goal.title_of-t-requires
-title_of-t-requires c =
-    let at_start = c in
-    omega (arith, at_start.requires.id_lt_titles_max.0)
+title_of-t-requires c = omega (arith, c.requires.id_lt_titles_max.0)
 
 pub is_there-requires : goal.is_there-requires
 is_there-requires c =
-    let at_start = c in
-    let x = at_start.args in
-    rw c.title_of-t.ensures (all_readable x.s at_start.requires.s_value x.id at_start.requires.id_lt_titles_max.0)
+    let x = c.args in
+    rw c.title_of-t.ensures (all_readable x.s c.requires.s_value x.id c.requires.id_lt_titles_max.0)
 
-pub put_film-c-requires : goal.put_film-c-requires
-put_film-c-requires c =
-    let at-if1 = c in
-    (standing at-if1.before.before.before.before.before.before.before.before.before.before.before).timed.film
+pub put_film-requires : goal.put_film-requires
+put_film-requires c =
+    let x = c.args in
+    (standing x.s c.requires.s_value x.id c.requires.id_lt_titles_max.0 x.time c.title_of-t.ensures c.is_there.ensures c.if-is_there.true).timed.film
 
-pub put_holds-e-requires : goal.put_holds-e-requires
-put_holds-e-requires c =
-    let at-if1 = c in
-    (standing at-if1.before.before.before.before.before.before.before.before.before.before.before.before.before.before.before.before.before.before.before).timed
+pub put_holds-requires : goal.put_holds-requires
+put_holds-requires c =
+    let x = c.args in
+    (standing x.s c.requires.s_value x.id c.requires.id_lt_titles_max.0 x.time c.title_of-t.ensures c.is_there.ensures c.if-is_there.true).timed
 
 pub put_coming-requires : goal.put_coming-requires
-put_coming-requires c = let at-if1 = c in
-    let at_start = at-if1 in
-    let is = standing at-if1.before.before.before.before.before.before.before.before.before.before.before.before.before.before.before.before.before.before.before.before.before.before.before in
-    record { filmed = is.timed.film; count_le_cap = (is.ruled, (is.tuned, at_start.requires.id_lt_titles_max.1)) }
+put_coming-requires c =
+    let x = c.args in
+    let is = standing x.s c.requires.s_value x.id c.requires.id_lt_titles_max.0 x.time c.title_of-t.ensures c.is_there.ensures c.if-is_there.true in
+    record { filmed = is.timed.film; count_le_cap = (is.ruled, (is.tuned, c.requires.id_lt_titles_max.1)) }
 
 pub returns-then-is_there : goal.returns-then-is_there
 unfolding title_line text
 returns-then-is_there c =
-    let at-put-coming = c in
-    let at-put-holds = at-put-coming in
-    let at-put-count = at-put-holds in
-    let at-put-film = at-put-count in
-    let at-put-number = at-put-film in
-    let at-put = at-put-number in
-    let at-if1 = at-put in
-    let at-is-there = at-if1 in
-    let at-title-of = at-is-there in
-    rw (← at-title-of.title_of-t.ensures, ← at-is-there.is_there.ensures, at-if1.if-is_there.true)
-    (puts_then _ _ _
-    (puts_then _ _ _
-    (puts_then _ _ _
-    (puts_then _ _ _ (puts_then _ _ _ at-put.put-a.ensures at-put-number.put_number-b.ensures) at-put-film.put_film-c.ensures)
-    at-put-count.put_count-d.ensures)
-    at-put-holds.put_holds-e.ensures)
-    at-put-coming.put_coming.ensures)
+    rw (← c.title_of-t.ensures, ← c.is_there.ensures, c.if-is_there.true)
+    (then
+    (then (then (then (then c.put.ensures c.put_number.ensures) c.put_film.ensures) c.put_count.ensures) c.put_holds.ensures)
+    c.put_coming.ensures)
 
-pub returns : goal.returns
-unfolding title_line puts
-returns c = rw (← c.title_of-t.ensures, ← c.is_there.ensures, c.if-is_there.false) refl
+pub returns-else-is_there : goal.returns-else-is_there
+unfolding title_line
+returns-else-is_there c = rw (← c.title_of-t.ensures, ← c.is_there.ensures, c.if-is_there.false) nothing

@@ -1,12 +1,11 @@
 -- `console_views::titles::put_titles` meets its contract: the reason stands behind the answer.
-use Rattle.text.proofs.Pages.{puts_then}
+use mathlib.Core.Path.{◌∙◌}
+use Rattle.text.proofs.Pages.{then}
 use Rattle.console_views.specs.Titles.{titles_text}
 use Rattle.console_views.proofs.titles.put_titles.Goals as goal
 
 pub returns : goal.returns
 unfolding titles_text
 returns c =
-    let at-put-reason = c in
-    let at-verdict = at-put-reason in
-    let at-put-told = at-verdict in
-    rw (← at-verdict.asked_verdict.ensures) (puts_then _ _ _ at-put-told.put_told-a.ensures at-put-reason.put_reason.ensures)
+    let says = c.told.ensures ∙ c.asked_verdict.ensures in
+    rw (← says) (then c.put_told.ensures c.put_reason.ensures)

@@ -1,35 +1,31 @@
 -- `console_views::titles::titles_there` meets its contract: the loop's number is how many of the titles passed are there.
-use mathlib.Core.Path.{refl, ap, ◌∙◌}
+use Prim.Native.Nat.{◌≤◌}
+use mathlib.Core.Path.{◌≡◌, refl}
+use mathlib.Core.Bool.{Bool, true, false}
+use mir.Val.{bool_byte}
 use native.Mathlib.Omega.{arith}
 use native.Mathlib.Numerals.{add-one}
-use native.Mathlib.Nat.{le_antisymm}
+use Rattle.rules.specs.Refusals.{pick}
 use Rattle.rules.specs.Search.{how_many}
 use Rattle.measures.proofs.Within.{all_readable}
-use borrow.Author.Rules.{rules}
 use Rattle.console_views.proofs.titles.titles_there.Goals as goal
 
-pub loop-i-init : goal.loop-i-init
+-- a title counts as one where it is there
+counted : (b : Bool) → (bool_byte b ≡ pick b 1 0) × (bool_byte b ≤ 1)
+counted true = (refl, omega arith)
+counted false = (refl, omega arith)
+
+pub loop-t-init : goal.loop-t-init
 unfolding how_many
-loop-i-init c = search rules
+loop-t-init c = (refl, omega arith)
 
 pub is_there-requires : goal.is_there-requires
-is_there-requires c =
-    let at-loop-test = c in
-    let at-loop = at-loop-test in
-    let at_start = at-loop in
-    all_readable at_start.args.s at_start.requires at-loop.loop-i.i at-loop-test.loop-i-test.true
+is_there-requires c = all_readable c.args.s c.requires c.loop-t.t-index (omega arith)
 
-pub loop-i-preserved : goal.loop-i-preserved
+pub loop-t-preserved : goal.loop-t-preserved
 unfolding how_many
-loop-i-preserved c =
-    let at-is-there = c in
-    let at-loop = at-is-there in
-    (omega arith, rw (add-one, ← at-loop.loop-i.invariant.1, ← at-is-there.is_there.ensures, c.one_if-n.ensures.0) refl, omega arith)
-
-pub returns : goal.returns
-returns c =
-    let at-loop = c in
-    at-loop.loop-i.invariant.1 ∙ ap (how_many _) (le_antisymm at-loop.loop-i.invariant.0 c.loop-i-test.false)
-
-pub overflow_add-n : goal.overflow_add-n
-overflow_add-n c = omega arith
+loop-t-preserved c =
+    let one = counted c.is_there.result in (
+      rw (add-one, ← c.loop-t.invariant.0, ← c.is_there.ensures, c.from-n.ensures, one.0) refl,
+      omega (arith, c.loop-t.invariant.1, one.1, c.from-n.ensures),
+    )

@@ -6,15 +6,8 @@ use Rattle.console_views.proofs.when.put_reason.Goals as goal
 pub returns-then-answer-eq-NOT_THERE : goal.returns-then-answer-eq-NOT_THERE
 unfolding when_reason
 returns-then-answer-eq-NOT_THERE c =
-    let at-put-missing = c in
-    let at-presence = at-put-missing in
-    let at-larger = at-presence in
-    let at-if1 = at-larger in
-    rw (eq-eqb _ _ at-if1.if-answer-eq-NOT_THERE.true, ← at-larger.larger-time.ensures, ← at-presence.presence.ensures)
-    at-put-missing.put_missing.ensures
+    rw (eq-eqb _ _ c.if-answer-eq-NOT_THERE.true, ← c.max-time.ensures, ← c.presence.ensures) c.put_missing.ensures
 
-pub returns : goal.returns
+pub returns-else-answer-eq-NOT_THERE : goal.returns-else-answer-eq-NOT_THERE
 unfolding when_reason
-returns c =
-    let at-put-reason = c in
-    rw (ne_eqb _ _ at-put-reason.if-answer-eq-NOT_THERE.false) at-put-reason.put_reason.ensures
+returns-else-answer-eq-NOT_THERE c = rw (ne_eqb _ _ c.if-answer-eq-NOT_THERE.false) c.put_reason.ensures

@@ -1,12 +1,17 @@
 -- `held_at` meets its contract: the lane is held just when the question is answered.
+use mathlib.Core.Path.{◌≡◌, ap, ◌∙◌}
+use Prim.Native.Nat.{ℕ}
 use native.Mathlib.Omega.{arith}
-use borrow.Author.Tests.{eq-eqb, ne_eqb}
+use lib.Dec.{eqb}
+use mir.Val.{bool_byte}
+use Rattle.rules.specs.Refusals.{pick}
+use Rattle.grid.specs.Bounds.{Exactly}
+use Rattle.figures.proofs.Told.{as_number, at_most_one}
 use Rattle.figures.proofs.holding.held_at.Goals as goal
 
-pub returns-then-answer-eq-DONE : goal.returns-then-answer-eq-DONE
-returns-then-answer-eq-DONE c =
-    record { is = simp (← c.lane-shown.ensures.0, eq-eqb _ _ c.if-answer-eq-DONE.true); low = omega arith; high = omega arith }
+held : (r a x : ℕ) → r ≡ bool_byte (eqb a 0) → a ≡ x → Exactly (pick (eqb x 0) 1 0) 0 1 r
+held r a x e f =
+    record { is = e ∙ as_number (eqb a 0) ∙ ap (λ n. pick (eqb n 0) 1 0) f; low = omega arith; high = rw e (at_most_one (eqb a 0)) }
 
 pub returns : goal.returns
-returns c =
-    record { is = simp (← c.lane-shown.ensures.0, ne_eqb _ _ c.if-answer-eq-DONE.false); low = omega arith; high = omega arith }
+returns c = held _ _ _ c.from.ensures c.lane.ensures.0

@@ -15,6 +15,6 @@ pub returns : goal.returns
 unfolding plan_answer first_hit slot starts
 returns c =
     let s = c in
-    c.wide.ensures
+    c.from.ensures
     ∙ (ap (λ (r : List ℕ). get_or r (s.args.segment - 1) 0) c.plan.ensures.left
     ∙ row_first_lem 4 4 4 0 _ refl (s.args.segment - 1) (omega (arith, s.requires)))

@@ -1,8 +1,8 @@
--- `figures::segments::unbuffered` meets its contract, by the test.
+-- `figures::segments::unbuffered` meets its contract: the test told as a number.
+use mathlib.Core.Path.{ap, ◌∙◌}
+use Rattle.rules.specs.Refusals.{pick}
+use Rattle.figures.proofs.Told.{as_number}
 use Rattle.figures.proofs.segments.unbuffered.Goals as goal
 
-pub returns-then-needs_no_buffer : goal.returns-then-needs_no_buffer
-returns-then-needs_no_buffer c = rw (← c.needs_no_buffer.ensures, c.if-needs_no_buffer.true)
-
-pub returns-else-needs_no_buffer : goal.returns-else-needs_no_buffer
-returns-else-needs_no_buffer c = rw (← c.needs_no_buffer.ensures, c.if-needs_no_buffer.false)
+pub returns : goal.returns
+returns c = c.from.ensures ∙ as_number _ ∙ ap (λ b. pick b 1 0) c.needs_no_buffer.ensures

@@ -20,35 +20,28 @@ small : (K cell : ℕ) → K ≤ count_max → cell < 2 ^ K → cell + 1 < 2 ^ 6
 small K cell high l = let m : 2 ^ K ≤ 2 ^ count_max = pow_mono high in omega arith
 
 pub loop-i-init : goal.loop-i-init
-loop-i-init c = (omega arith, (refl, λ i l. absurd (omega arith)))
+loop-i-init c = (refl, λ i l. absurd (omega arith))
 
 pub lane_cell-requires : goal.lane_cell-requires
-lane_cell-requires c = let p = c.requires in
-    record { floor_cap = p.floor_cap; lane_lt_cap = (p.lane_lt_count, omega (arith, c.loop-i-test.true)) }
+lane_cell-requires c =
+    let p = c.requires in
+    record { floor_cap = p.floor_cap; lane_lt_cap = (p.lane_lt_count, omega arith) }
 
-pub overflow_add-row : goal.overflow_add-row
-overflow_add-row c =
-    let s = c in
-    record { fits = small s.args.count c.lane_cell.result s.requires.floor_cap.high c.lane_cell.ensures.within }
+pub overflow_add-block : goal.overflow_add-block
+overflow_add-block c = record { fits = small c.args.count c.lane_cell.result c.requires.floor_cap.high c.lane_cell.ensures.within }
 
 pub loop-i-preserved : goal.loop-i-preserved
 loop-i-preserved c =
     let a = c.args in
     let l = c.loop-i in
     let v : ℕ = c.lane_cell.result + 1 in
-    let room : l.i < length l.row = omega (arith, l.invariant.1.0, c.loop-i-test.true) in (
-      omega (arith, c.loop-i-test.true),
-      (
-        length-set l.row l.i v ∙ l.invariant.1.0,
-        filled_next (block_on a.lane) l.row l.i v room l.invariant.1.1
-            (block a.count a.lane l.i c.lane_cell.result c.lane_cell.ensures.is),
-      ),
+    let room : l.i < length l.block-items = omega (arith, c.loop-i-test.true) in (
+      length-set l.block-items l.i v ∙ l.invariant.0,
+      filled_next (block_on a.lane) l.block-items l.i v room l.invariant.1
+          (block a.count a.lane l.i c.lane_cell.result c.lane_cell.ensures.is),
     )
 
 pub returns : goal.returns
 returns c =
     let l = c.loop-i in
-    record {
-      size = l.invariant.1.0;
-      value = λ i b. l.invariant.1.1 i (omega (arith, c.loop-i-test.false));
-    }
+    record { size = l.invariant.0; value = λ i b. l.invariant.1 i (omega (arith, c.loop-i-test.false)) }

@@ -22,31 +22,20 @@ planned start lent plan time size is =
     (ap length is ∙ row_length_lem 4 start lent ∙ size, λ i l. ap (λ (r : List ℕ). get_or r i 0) is ∙ row_first_lem 4 start lent yes i l)
 
 pub loop-i-init : goal.loop-i-init
-loop-i-init c =
-    let s = c in (
-      omega arith,
-      (refl, (λ i l. absurd (omega arith), planned s.args.start _ _ s.requires refl c.skip_plan.ensures.left)),
-    )
+loop-i-init c = (refl, ((λ i l. absurd (omega arith)), planned c.args.start _ _ c.requires refl c.skip_plan.ensures.left))
 
 pub loop-i-preserved : goal.loop-i-preserved
 loop-i-preserved c =
     let l = c.loop-i in
-    let s = c in
-    let more : l.i < 8 = c.loop-i-test.true in
-    let v : ℕ = c.wide.result in
-    let given : v ≡ skip_at 4 s.args.start l.i = c.wide.ensures ∙ l.invariant.1.1.1.1 l.i more in
-    let room : l.i < length l.row = omega (arith, l.invariant.1.0, more) in (
-      omega (arith, more),
-      (
-        length-set l.row l.i v ∙ l.invariant.1.0,
-        (filled_next (skip_at 4 s.args.start) l.row l.i v room l.invariant.1.1.0 given, l.invariant.1.1.1),
-      ),
+    let more : l.i < 8 = omega (arith, l.invariant.1.1.0) in
+    let v : ℕ = c.from.result in
+    let given : v ≡ skip_at 4 c.args.start l.i = c.from.ensures ∙ l.invariant.1.1.1 l.i more in
+    let room : l.i < length l.row = omega (arith, l.invariant.0, more) in (
+      length-set l.row l.i v ∙ l.invariant.0,
+      (filled_next (skip_at 4 c.args.start) l.row l.i v room l.invariant.1.0 given, l.invariant.1.1),
     )
 
 pub returns : goal.returns
 returns c =
     let l = c.loop-i in
-    record {
-      size = l.invariant.1.0;
-      value = λ i b. l.invariant.1.1.0 i (omega (arith, c.loop-i-test.false));
-    }
+    record { size = l.invariant.0; value = λ i b. l.invariant.1.0 i (omega (arith, l.invariant.1.1.0)) }

@@ -4,6 +4,4 @@ use Rattle.frames.proofs.headings.put_legend.Goals as goal
 
 pub returns : goal.returns
 unfolding text
-returns c =
-    let at-put = c in
-    at-put.put.ensures
+returns c = c.put.ensures

@@ -9,12 +9,12 @@ use Rattle.journal_records.specs.Records.{verifies_at}
 use Rattle.journal_records.proofs.search.next_record.Goals as goal
 
 pub loop-at-init : goal.loop-at-init
-loop-at-init c = (omega arith, (omega arith, λ q le lt. absurd (omega arith)))
+loop-at-init c = λ q le lt. absurd (omega arith)
 
 pub returns-then-verifies : goal.returns-then-verifies
 returns-then-verifies c =
     let l = c.loop-at in
-    record { low = l.invariant.0; high = l.invariant.1.0; none_before = l.invariant.1.1; stands = λ _. sym c.verifies.ensures ∙ c.if-verifies.true }
+    record { low = omega arith; high = omega arith; none_before = l.invariant; stands = λ _. sym c.verifies.ensures ∙ c.if-verifies.true }
 
 -- one place more
 one_more : (identity bs : List ℕ) (from at : ℕ) → ((q : ℕ) → from ≤ q → q < at → verifies_at identity bs q ≡ false)
@@ -24,12 +24,15 @@ one_more identity bs from at before here at' is q le lt =
 
 pub loop-at-preserved : goal.loop-at-preserved
 loop-at-preserved c =
-    let l = c.loop-at in (
-      omega (arith, l.invariant.0),
-      (omega (arith, l.invariant.1.0), one_more _ _ _ l.at l.invariant.1.1 (sym c.verifies.ensures ∙ c.if-verifies.false) _ (omega arith)),
-    )
+    let l = c.loop-at in
+    one_more _ _ _ l.at l.invariant (sym c.verifies.ensures ∙ c.if-verifies.false) _ (omega arith)
 
 pub returns : goal.returns
 returns c =
     let l = c.loop-at in
-    record { low = l.invariant.0; high = l.invariant.1.0; none_before = l.invariant.1.1; stands = λ lt. absurd (omega (arith, c.loop-at-test.false)) }
+    record {
+      low = omega (arith, c.max.ensures);
+      high = omega (arith, c.max.ensures);
+      none_before = λ q le lt. l.invariant q le (omega (arith, c.max.ensures));
+      stands = λ lt. absurd (omega (arith, c.max.ensures));
+    }

@@ -1,26 +1,23 @@
 -- `steps::stopped` meets its contract, by whether the bytes are torn, and by their kind alone.
-use mathlib.Core.Path.{sym, ap, ◌∙◌}
-use Rattle.rules.specs.Limits.{both}
-use Rattle.journals.specs.Start.{has_sum}
+use mathlib.Core.Path.{refl, sym, ◌∙◌}
+use borrow.Author.Tests.{lt-ltb, le-ltb}
 use Rattle.journals.proofs.StepCases.{kind_was, is_torn_lem, no_notice}
+use Rattle.journals.proofs.steps.stopped.Goals.{else-start-via-then-start+else-had_kind, else-start-via-else-start}
 use Rattle.journals.proofs.steps.stopped.Goals as goal
 
-pub returns-then-also : goal.returns-then-also
-returns-then-also c =
-    let joined = c in
-    let torn = joined in
-    let x = torn.args in
-    kind_was _ _ _ _ (sym torn.is_torn.ensures ∙ torn.if-is_torn.true)
-    (sym (joined.also.ensures ∙ ap (both (has_sum x.start)) joined.had_kind.ensures) ∙ c.if-also.true) c.ended.ensures
+pub returns-then-had_kind : goal.returns-then-had_kind
+returns-then-had_kind c =
+    kind_was _ _ _ _ (sym c.is_torn.ensures ∙ c.if-is_torn.true)
+    (rw (lt-ltb _ _ c.if-start.true) (sym c.had_kind.ensures ∙ c.if-had_kind.true)) c.ended.ensures
 
 pub returns-then-is_torn : goal.returns-then-is_torn
 returns-then-is_torn c =
-    let joined = c in
-    let torn = joined in
-    let x = torn.args in
-    is_torn_lem _ _ _ _ (sym torn.is_torn.ensures ∙ torn.if-is_torn.true)
-    (sym (joined.also.ensures ∙ ap (both (has_sum x.start)) joined.had_kind.ensures) ∙ c.if-also.false) c.ended-then-is_torn.ensures
+    is_torn_lem _ _ _ _ (sym c.is_torn.ensures ∙ c.if-is_torn.true)
+    (elim c.else-start.branch [
+      | else-start-via-then-start+else-had_kind w ↦ rw (lt-ltb _ _ w.if-start.true) (sym w.had_kind.ensures ∙ w.if-had_kind.false)
+      | else-start-via-else-start w ↦ rw (le-ltb _ _ w.if-start.false) refl
+    ])
+    c.ended-then-is_torn.ensures
 
 pub returns : goal.returns
-returns c =
-    no_notice _ _ _ _ (sym c.is_torn.ensures ∙ c.if-is_torn.false) c.ended-2.ensures
+returns c = no_notice _ _ _ _ (sym c.is_torn.ensures ∙ c.if-is_torn.false) c.ended-2.ensures

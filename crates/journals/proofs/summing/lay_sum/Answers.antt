@@ -4,4 +4,4 @@ use Rattle.journals.proofs.summing.lay_sum.Goals as goal
 pub returns : goal.returns
 returns c =
     let put = c in
-    rw put.sum-total.ensures at put.put.ensures
+    rw (put.from.ensures, put.sum-total.ensures) at put.put.ensures

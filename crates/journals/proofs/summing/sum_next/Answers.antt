@@ -7,20 +7,11 @@ use Rattle.journals.proofs.summing.sum_next.Goals as goal
 
 pub lay_sum-requires : goal.lay_sum-requires
 lay_sum-requires c =
-    let read = c in
-    let i = inside _ _ _ _ (sym read.next_in-found.ensures.is ∙ read.in-At.is) in
-    (omega (arith, i.ahead), (i.within, read.requires))
+    let i = inside _ _ _ _ (sym c.next_in.ensures.is ∙ c.in-At.is) in
+    (omega (arith, i.ahead), (i.within, c.requires))
 
-pub returns-in-At : goal.returns-in-At
-returns-in-At c =
-    let laid = c in
-    let read = laid in
-    sum_laid _ _ _ _ _ _ _ (sym read.next_in-found.ensures.is ∙ read.in-At.is) refl laid.lay_sum.ensures
+pub returns : goal.returns
+returns c = sum_laid _ _ _ _ _ _ _ (sym c.next_in.ensures.is ∙ c.in-At.is) c.lay_sum.ensures
 
-pub returns-in-End : goal.returns-in-End
-returns-in-End c =
-    no_sum _ _ _ _ _ _ (sym c.next_in-found.ensures.is ∙ c.in-End.is) refl c.no_more.ensures refl
-
-pub returns-in-Malformed : goal.returns-in-Malformed
-returns-in-Malformed c =
-    no_sum _ _ _ _ _ _ (sym c.next_in-found.ensures.is ∙ c.in-Malformed.is) refl c.no_more-in-Malformed.ensures refl
+pub returns-in_default : goal.returns-in_default
+returns-in_default c = no_sum _ _ _ _ _ _ (sym c.next_in.ensures.is) c.in_default.not-At refl

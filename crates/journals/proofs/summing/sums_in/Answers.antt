@@ -1,39 +1,22 @@
 -- `summing::sums_in` meets its contract and ends: each turn sums one notice more.
-use mathlib.Core.Path.{refl, sym, ◌∙◌}
+use mathlib.Core.Path.{sym, ◌∙◌}
 use native.Mathlib.Omega.{arith}
-use Rattle.journals.proofs.SumsMade.{not_begun, same_size, has_room, one_more, falls, all_made}
+use Rattle.journals.proofs.SumsMade.{not_begun, one_more, falls, none_made}
 use Rattle.journals.proofs.summing.sums_in.Goals as goal
 
 pub loop-out-init : goal.loop-out-init
-loop-out-init c = not_begun _ _ _ _ refl
+loop-out-init c = not_begun _ _ _
 
-pub is_next-requires : goal.is_next-requires
-is_next-requires c =
-    let w = c.loop-out.invariant in
-    omega (arith, w.fits, same_size _ _ _ _ _ w)
-
-pub sum_next-on-requires : goal.sum_next-on-requires
-sum_next-on-requires c =
-    let turn = c in
-    has_room _ _ _ _ _ turn.loop-out.invariant (sym c.is_next.ensures ∙ c.loop-out-test.true)
+pub sum_next-requires : goal.sum_next-requires
+sum_next-requires c = omega (arith, c.loop-out.invariant.fits)
 
 pub loop-out-smaller : goal.loop-out-smaller
-loop-out-smaller c =
-    let summed = c in
-    let test = summed in
-    let turn = test in
-    falls _ _ _ _ _ turn.loop-out.invariant _ (sym test.is_next.ensures ∙ test.loop-out-test.true) summed.sum_next-on.ensures.0
+loop-out-smaller c = falls _ _ _ _ _ _ c.loop-out.invariant _ (sym c.in-Some.is ∙ c.sum_next.ensures.0)
 
 pub loop-out-preserved : goal.loop-out-preserved
 loop-out-preserved c =
-    let summed = c in
-    let test = summed in
-    let turn = test in
-    one_more _ _ _ _ _ turn.loop-out.invariant _ _ (sym test.is_next.ensures ∙ test.loop-out-test.true) summed.sum_next-on.ensures.0
-    summed.sum_next-on.ensures.1
+    one_more _ _ _ _ _ _ c.loop-out.invariant _ _ (sym c.far.ensures ∙ c.loop-out-test.true) (omega arith)
+    (sym c.in-Some.is ∙ c.sum_next.ensures.0, c.sum_next.ensures.1)
 
-pub shape_of-out : goal.shape_of-out
-shape_of-out c = same_size _ _ _ _ _ c.loop-out.invariant
-
-pub returns : goal.returns
-returns c = all_made _ _ _ _ _ c.loop-out.invariant (sym c.is_next.ensures ∙ c.loop-out-test.false)
+pub returns-in_default : goal.returns-in_default
+returns-in_default c = none_made _ _ _ _ _ _ c.loop-out.invariant _ (sym c.in_default.is ∙ c.sum_next.ensures.0, c.sum_next.ensures.1)

@@ -1,12 +1,9 @@
--- What the loop keeps, and what falls.
+-- What the loop keeps: none of the kinds passed is the bytes' own.
 use mathlib.Core.Path.{◌≡◌}
-use Prim.Native.Nat.{◌-◌, ◌≤◌}
+use mathlib.Core.Bool.{false}
 use Rattle.rules.specs.Search.{some}
 use Rattle.journals.specs.Torn.{is_kind}
 use Rattle.journals.proofs.torn.had_kind.Given as goal
 
 abbrev pub invariant-loop-kind : goal.invariant-loop-kind
-invariant-loop-kind l = (l.kind ≤ 7) × (l.had ≡ some (is_kind l.rest l.total) l.kind)
-
-abbrev pub decreases-loop-kind : goal.decreases-loop-kind
-decreases-loop-kind l = 7 - l.kind
+invariant-loop-kind l = some (is_kind l.rest l.total) l.kind ≡ false

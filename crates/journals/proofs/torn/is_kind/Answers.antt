@@ -27,7 +27,7 @@ pub returns-then-rest-size : goal.returns-then-rest-size
 returns-then-rest-size c =
     let laid = c in
     let test = laid in
-    kind_sum _ _ _ _ test.start-size.ensures _ _ _ test.if-rest-size.true laid.lay_over.ensures c.sum.ensures
+    rw c.from.ensures (kind_sum _ _ _ _ test.start-size.ensures _ _ _ test.if-rest-size.true laid.lay_over.ensures c.sum.ensures)
 
 pub returns : goal.returns
 returns c = other_length _ _ _ _ c.start-size.ensures c.if-rest-size.false

@@ -40,7 +40,7 @@ returns-then-rest-whole c =
     let put = laid in
     let test = put in
     torn_is _ _ _ test.kind_begun-kind.ensures test.start-whole.ensures _ _ _ _ test.if-rest-whole.true (longest _)
-    put.put_rows.ensures laid.lay_over.ensures c.alone.ensures
+    (rw put.from.ensures at put.put_rows.ensures) laid.lay_over.ensures c.alone.ensures
 
 pub returns : goal.returns
 returns c =

@@ -4,7 +4,7 @@ use Prim.Native.Nat.{ℕ, ◌+◌, ◌*◌, ◌<◌}
 use native.Mathlib.Omega.{arith}
 use native.Mathlib.Nat.{le_antisymm}
 use borrow.Author.Rules.{rules}
-use lib.ListN.{length, get_or, length-set}
+use lib.ListN.{length, get_or}
 use lib.Seq.{set_out}
 use Rattle.rules.specs.Limits.{lane_places}
 use Rattle.judging.specs.Record.{nothing_seen}
@@ -27,17 +27,11 @@ loop-lane-preserved c =
     let at : ℕ = a.tick * lane_places + l.lane in
     let there : at < length a.air.now = omega arith in
     let x : ℕ = get_or a.air.now at 0 in
-    let noted_one = noted_next a.air.now a.tick a.next.now l.next l.lane x l.invariant.1.0 (get_d_any a.air.now at 0 nothing_seen there) in
+    let noted_one = noted_next a.air.now a.tick a.next.now l.next l.lane x l.invariant (get_d_any a.air.now at 0 nothing_seen there) in
     elim c.if-cell-next.branch [
-      | then-cell-next w ↦ (omega arith, (w.next-is ∙ noted_one, ap length w.next-is ∙ length-set l.next x a.tick ∙ l.invariant.1.1))
-      | else-cell-next w ↦ (
-        omega arith,
-        (
-          w.next-is ∙ sym (set_out l.next x a.tick w.if-cell-next.false) ∙ noted_one,
-          ap length w.next-is ∙ l.invariant.1.1,
-        ),
-      )
+      | then-cell-next w ↦ w.next-is ∙ noted_one
+      | else-cell-next w ↦ w.next-is ∙ sym (set_out l.next x a.tick w.if-cell-next.false) ∙ noted_one
     ]
 
 pub returns : goal.returns
-returns c = c.loop-lane.invariant.1.0 ∙ ap (noted _ _ _) (le_antisymm c.loop-lane.invariant.0 c.loop-lane-test.false)
+returns c = c.loop-lane.invariant ∙ ap (noted _ _ _) (le_antisymm c.loop-lane.auto.lane-end c.loop-lane-test.false)

@@ -22,6 +22,6 @@ pub returns-then-cell-tick : goal.returns-then-cell-tick
 unfolding is_late film_in
 returns-then-cell-tick c = simp (lt-ltb _ _ c.if-cell-tick.true)
 
-pub returns : goal.returns
+pub returns-else-cell-tick : goal.returns-else-cell-tick
 unfolding is_late film_in
-returns c = simp (le-ltb _ _ c.if-cell-tick.false)
+returns-else-cell-tick c = simp (le-ltb _ _ c.if-cell-tick.false)

@@ -1,11 +1,7 @@
--- What the loop keeps, and what falls.
+-- What the loop keeps.
 use mathlib.Core.Path.{◌≡◌}
-use Prim.Native.Nat.{◌-◌, ◌≤◌}
 use Rattle.judging.specs.inner.Walk.{row_to, counts_to}
 use Rattle.judging.proofs.telling.tell.Given as goal
 
 abbrev pub invariant-loop-start : goal.invariant-loop-start
-invariant-loop-start l = (l.start ≤ l.ticks) × ((l.row ≡ row_to l.results l.marks l.cells l.ticks l.initial.row l.start) × (l.counts ≡ counts_to l.results l.marks l.cells l.ticks l.start))
-
-abbrev pub decreases-loop-start : goal.decreases-loop-start
-decreases-loop-start l = l.ticks - l.start
+invariant-loop-start l = (l.row ≡ row_to l.results l.marks l.cells l.ticks l.initial.row l.start) × (l.counts ≡ counts_to l.results l.marks l.cells l.ticks l.start)

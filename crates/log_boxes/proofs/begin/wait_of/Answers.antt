@@ -17,5 +17,5 @@ returns c =
     let start = known in
     let small : Bytes start.args.log.now = λ j. omega (arith, known.shared_slice_known-1.given j) in
     let g = granted _ _ _ _ start.requires in
-    let soon = asked_soon _ _ _ _ small start.requires _ _ at_end.end_of-end.ensures.title_is at-later.later-from.ensures in
+    let soon = asked_soon _ _ _ _ small start.requires _ _ at_end.end_of-end.ensures.title_is at-later.max-from.ensures in
     begins_told _ _ _ _ _ _ start.requires soon.1 (report_told _ _ _ _ (given_in _ _ _ g.limits) soon.0 g.whole _ at-report.report_of-report.ensures)

@@ -3,7 +3,7 @@ use mathlib.Core.Path.{ap, ◌∙◌}
 use native.Mathlib.Omega.{arith}
 use lib.ListN.{length}
 use Rattle.notice.specs.Log.{Bytes}
-use Rattle.text.specs.Output.{puts}
+use Rattle.text.proofs.Pages.{told_as}
 use Rattle.plans.proofs.Row.{written_length}
 use Rattle.log_boxes.proofs.Standing.{time_in, granted, filmed, cells_high, picture_is}
 use Rattle.log_boxes.proofs.draw.draw_into.Goals as goal
@@ -33,12 +33,6 @@ put_picture-requires c = let at_tick = c in
 
 pub returns : goal.returns
 returns c =
-    let at-put = c in
-    let at_tick = at-put in
-    let at_take = at_tick in
-    let known = at_take in
-    let start = known in
-    let small : Bytes start.args.log.now = λ j. omega (arith, known.shared_slice_known-1.given j) in
-    let w = start.requires.box_stands in
-    at-put.put_picture.ensures
-    ∙ ap (puts _) (picture_is _ _ _ _ small w.granted _ w _ _ _ start.requires.box_rooms.places_long at_take.take_places.ensures at_tick.tick.ensures.is)
+    let small : Bytes c.args.log.now = λ j. omega (arith, c.shared_slice_known-1.given j) in
+    let w = c.requires.box_stands in
+    told_as (picture_is _ _ _ _ small w.granted _ w _ _ _ c.requires.box_rooms.places_long c.take_places.ensures c.tick.ensures.is) c.put_picture.ensures

@@ -10,6 +10,5 @@ returns-then-t-eq-OPEN c = rw (eq-eqb _ _ c.if-t-eq-OPEN.true) refl
 
 pub returns : goal.returns
 unfolding left_until
-returns c =
-    let at-if1 = c in
+returns c = let at-if1 = c in
     rw (ne_eqb _ _ at-if1.if-t-eq-OPEN.false) c.title_until.ensures

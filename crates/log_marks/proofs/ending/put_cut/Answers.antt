@@ -4,7 +4,7 @@ use mathlib.Core.List.{List}
 use Prim.Native.Nat.{ℕ}
 use borrow.Author.Tests.{lt-ltb, le-ltb}
 use Rattle.rules.specs.Refusals.{malformed}
-use Rattle.text.specs.Output.{puts}
+use Rattle.text.proofs.Pages.{nothing}
 use Rattle.drawing.specs.Axis.{plot_left}
 use Rattle.marks.specs.Marks.{refused_label, refused_label_kept}
 use Rattle.log_marks.specs.Ending.{cut_marks, cut_kept}
@@ -13,12 +13,13 @@ use Rattle.log_marks.proofs.ending.put_cut.Goals as goal
 
 pub returns-then-place-size : goal.returns-then-place-size
 unfolding cut_marks cut_kept
-returns-then-place-size c = let at-put-number-at = c in
-    let at-put-broken = at-put-number-at in
-    let at-if1 = at-put-broken in
-    let mark = at-put-broken.put_broken-a.ensures in
-    rw (lt-ltb _ _ at-if1.if-place-size.true) record { written = then_text (λ (k : List ℕ). refused_label plot_left k malformed) _ _ mark.written mark.kept_after at-put-number-at.put_number_at.ensures.written; kept_after = then_kept (λ (k : List ℕ). refused_label_kept plot_left k) mark.kept_after at-put-number-at.put_number_at.ensures.kept_after }
+returns-then-place-size c =
+    let mark = c.put_broken.ensures in
+    rw (lt-ltb _ _ c.if-place-size.true) record {
+      written = then_text (λ (k : List ℕ). refused_label plot_left k malformed) mark.written mark.kept_after c.put_number_at.ensures.written;
+      kept_after = then_kept (λ (k : List ℕ). refused_label_kept plot_left k) mark.kept_after c.put_number_at.ensures.kept_after;
+    }
 
-pub returns : goal.returns
-unfolding cut_marks cut_kept puts
-returns c = rw (le-ltb _ _ c.if-place-size.false) record { written = refl; kept_after = refl }
+pub returns-else-place-size : goal.returns-else-place-size
+unfolding cut_marks cut_kept
+returns-else-place-size c = rw (le-ltb _ _ c.if-place-size.false) record { written = nothing; kept_after = refl }

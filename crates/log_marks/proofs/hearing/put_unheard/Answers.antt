@@ -8,10 +8,10 @@ use Rattle.log_marks.proofs.hearing.put_unheard.Goals as goal
 
 pub returns : goal.returns
 unfolding unheard_marks unheard_kept
-returns c = let at-put-number-at = c in
-    let at-put-refused = at-put-number-at in
-    let at-place-of = at-put-refused in
-    let at_start = at-place-of in
-    let x = at_start.args in
-    let mark = at-put-refused.put_refused-a.ensures in
-    rw (← at-place-of.place_of-x.ensures.is) record { written = then_text (λ (k : List ℕ). refused_label at-place-of.place_of-x.result k x.answer) _ _ mark.written mark.kept_after at-put-number-at.put_number_at.ensures.written; kept_after = then_kept (λ (k : List ℕ). refused_label_kept at-place-of.place_of-x.result k) mark.kept_after at-put-number-at.put_number_at.ensures.kept_after }
+returns c =
+    let x = c.args in
+    let mark = c.put_refused.ensures in
+    rw (← c.place_of-x.ensures.is) record {
+      written = then_text (λ (k : List ℕ). refused_label c.place_of-x.result k x.answer) mark.written mark.kept_after c.put_number_at.ensures.written;
+      kept_after = then_kept (λ (k : List ℕ). refused_label_kept c.place_of-x.result k) mark.kept_after c.put_number_at.ensures.kept_after;
+    }

@@ -6,8 +6,8 @@ use Rattle.logs.proofs.Reading.{left}
 use Rattle.log_marks.proofs.Going.{Going}
 use Rattle.log_marks.proofs.playing.play.Given as goal
 
-abbrev pub invariant-loop-d : goal.invariant-loop-d
-invariant-loop-d l = Going l.v l.pool l.log l.initial.out l.at l.initial.kept l.row l.d l.out l.kept × (length l.was ≡ row_length)
+abbrev pub invariant-loop-played : goal.invariant-loop-played
+invariant-loop-played l = Going l.v l.pool l.log l.initial.page l.initial.kept l.row l.played l.page l.kept × (length l.was ≡ row_length)
 
-abbrev pub decreases-loop-d : goal.decreases-loop-d
-decreases-loop-d l = left l.log l.d.played
+abbrev pub decreases-loop-played : goal.decreases-loop-played
+decreases-loop-played l = left l.log l.played

@@ -6,14 +6,8 @@ use Rattle.marks.proofs.lives.put_sort.Goals as goal
 
 pub returns-then-kind-eq-STEADY : goal.returns-then-kind-eq-STEADY
 unfolding sort_text text
-returns-then-kind-eq-STEADY c =
-    let at-put = c in
-    let at-if1 = at-put in
-    rw (eq-eqb _ _ at-if1.if-kind-eq-STEADY.true) at-put.put.ensures
+returns-then-kind-eq-STEADY c = rw (eq-eqb _ _ c.if-kind-eq-STEADY.true) c.put.ensures
 
-pub returns : goal.returns
+pub returns-else-kind-eq-STEADY : goal.returns-else-kind-eq-STEADY
 unfolding sort_text text
-returns c =
-    let at-put2 = c in
-    let at-if1 = at-put2 in
-    rw (ne_eqb _ _ at-if1.if-kind-eq-STEADY.false) at-put2.put-2.ensures
+returns-else-kind-eq-STEADY c = rw (ne_eqb _ _ c.if-kind-eq-STEADY.false) c.put-else-kind-eq-STEADY.ensures

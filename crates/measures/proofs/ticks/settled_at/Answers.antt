@@ -2,7 +2,6 @@
 use native.Mathlib.Omega.{arith}
 use Rattle.grid.proofs.Ticks.{slot_ms_lem}
 use Rattle.story.specs.Kept.{settled_at}
-use borrow.Author.Rules.{rules}
 use Rattle.measures.proofs.ticks.settled_at.Goals as goal
 
 pub overflow_mul-slot : goal.overflow_mul-slot

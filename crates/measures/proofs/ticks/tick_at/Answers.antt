@@ -3,12 +3,11 @@ use Prim.Native.Nat.{◌/◌, ◌≤◌}
 use native.Mathlib.Omega.{arith}
 use native.Mathlib.Nat.{div-le_self}
 use Rattle.story.specs.Kept.{tick_at}
-use borrow.Author.Rules.{rules}
 use Rattle.measures.proofs.ticks.tick_at.Goals as goal
 
 pub returns : goal.returns
 unfolding tick_at
 returns c =
-    let a = c.since in
+    let a = c.saturating_sub in
     let below : a.result / c.tick.result ≤ a.result = div-le_self _ _ in
     record { is = simp (a.ensures, c.tick.ensures.is); low = omega arith; high = omega (arith, a.ensures) }

@@ -8,5 +8,5 @@ lanes_held-requires c = λ i b there. (c.requires i b there).film
 pub returns-then-time-le-EVENT_TIME_MAX : goal.returns-then-time-le-EVENT_TIME_MAX
 returns-then-time-le-EVENT_TIME_MAX c = simp (le-leb _ _ c.if-time-le-EVENT_TIME_MAX.true, ← c.lanes_held.ensures)
 
-pub returns : goal.returns
-returns c = simp (lt-leb _ _ c.if-time-le-EVENT_TIME_MAX.false)
+pub returns-else-time-le-EVENT_TIME_MAX : goal.returns-else-time-le-EVENT_TIME_MAX
+returns-else-time-le-EVENT_TIME_MAX c = simp (lt-leb _ _ c.if-time-le-EVENT_TIME_MAX.false)

@@ -21,9 +21,9 @@ release_of-requires c = let film = c.requires.film in
 
 pub loop-lane-preserved : goal.loop-lane-preserved
 unfolding lanes_release
-loop-lane-preserved c = (omega arith, rw (add-one, ← c.loop-lane.invariant.1, ← c.release_of.ensures) c.sooner-r.ensures, search rules)
+loop-lane-preserved c = rw (add-one, ← c.loop-lane.invariant, ← c.release_of.ensures) c.sooner-r.ensures
 
 pub returns : goal.returns
 returns c =
-    let all = le_antisymm c.loop-lane.invariant.0 c.loop-lane-test.false in
-    c.loop-lane.invariant.1 ∙ ap (lanes_release _ _ _) all
+    let all = le_antisymm c.loop-lane.auto.lane-end c.loop-lane-test.false in
+    c.loop-lane.invariant ∙ ap (lanes_release _ _ _) all

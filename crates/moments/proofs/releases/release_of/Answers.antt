@@ -24,14 +24,14 @@ pub overflow_mul-result : goal.overflow_mul-result
 overflow_mul-result c =
     let start = c in
     let short = start.requires.lane_lt_count_max.1.1 in
-    record { fits = omega (arith, list_ms c.smaller-ticks.result start.args.tick (omega arith) short) }
+    record { fits = omega (arith, list_ms c.min-ticks.result start.args.tick (omega arith) short) }
 
 pub overflow_add-result : goal.overflow_add-result
 overflow_add-result c =
     let start = c in
     let short = start.requires.lane_lt_count_max.1.1 in
-    record { fits = omega (arith, start.requires.timed.opened, list_ms c.smaller-ticks.result start.args.tick (omega arith) short) }
+    record { fits = omega (arith, start.requires.timed.opened, list_ms c.min-ticks.result start.args.tick (omega arith) short) }
 
 pub returns : goal.returns
 unfolding release_moment
-returns c = simp (c.smaller-ticks.ensures, c.requires.lane_lt_count_max.1.0)
+returns c = simp (c.min-ticks.ensures, c.requires.lane_lt_count_max.1.0)

@@ -7,6 +7,6 @@ pub returns-then-b-time : goal.returns-then-b-time
 unfolding sooner_of
 returns-then-b-time c = simp (le-leb _ _ c.if-b-time.true)
 
-pub returns : goal.returns
+pub returns-else-b-time : goal.returns-else-b-time
 unfolding sooner_of
-returns c = simp (lt-leb _ _ c.if-b-time.false) c.smaller.ensures
+returns-else-b-time c = simp (lt-leb _ _ c.if-b-time.false) c.min.ensures

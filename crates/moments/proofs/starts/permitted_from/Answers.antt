@@ -11,5 +11,5 @@ turn_from-requires c = let start = c in
 pub returns : goal.returns
 returns c =
     let a = c.args in
-    let x = c.larger in
+    let x = c.max in
     permitted_settled a.t a.count (rw (x.ensures, c.settled_at.ensures) at c.turn_from.ensures)

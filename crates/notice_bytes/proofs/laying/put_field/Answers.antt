@@ -1,5 +1,4 @@
 -- `laying::put_field` meets its contract: three stores after one another are the field.
-use borrow.Author.Rules.{rules}
 use mathlib.Core.Path.{◌∙◌}
 use native.Mathlib.Omega.{arith}
 use lib.ListN.{length-set}

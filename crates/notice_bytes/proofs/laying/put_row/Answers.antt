@@ -1,5 +1,4 @@
 -- `laying::put_row` meets its contract: the field, or nothing where the kind does not carry it.
-use borrow.Author.Rules.{rules}
 use Rattle.notice_fields.specs.Fields.{span_of}
 use Rattle.notice_bytes.specs.Laying.{row_bytes}
 use Rattle.notice_bytes.proofs.laying.put_row.Goals as goal

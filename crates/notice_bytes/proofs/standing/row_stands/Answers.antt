@@ -1,5 +1,4 @@
 -- `standing::row_stands` meets its contract: by whether the kind carries the row.
-use borrow.Author.Rules.{rules}
 use native.Mathlib.Omega.{arith}
 use Rattle.notice_fields.specs.Fields.{span_of}
 use Rattle.notice_bytes.specs.Standing.{row_stands}

@@ -1,6 +1,5 @@
 -- `standing::value` meets its contract: the number of the row's width after its head.
 -- Rests on the table's law that a row lies within its notice.
-use borrow.Author.Rules.{rules}
 use mathlib.Core.Path.{◌∙◌}
 use native.Mathlib.Omega.{arith}
 use Rattle.notice_bytes.specs.Standing.{value_at}

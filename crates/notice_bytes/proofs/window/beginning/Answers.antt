@@ -1,5 +1,4 @@
 -- `window::beginning` meets its contract: each way out has decided its case of the definition.
-use borrow.Author.Rules.{rules}
 use mathlib.Core.Path.{sym, ap, ◌∙◌}
 use native.Mathlib.Nat.{add-zero}
 use native.Mathlib.Omega.{arith}

@@ -1,5 +1,4 @@
 -- `window::can_be` meets its contract, by whether the byte is there.
-use borrow.Author.Rules.{rules}
 use Prim.Native.Nat.{◌+◌, ◌≤◌, ◌<◌}
 use lib.ListN.{length}
 use native.Mathlib.Omega.{arith}
@@ -12,11 +11,11 @@ unfolding can_be
 returns-then-left-far c =
     let a = c.args in
     let over : length a.bytes.now ≤ a.place + a.far = omega arith in
-    rw (le-leb _ _ over)
+    rw (le-leb _ _ c.if-left-far.true, le-leb _ _ over)
 
-pub returns : goal.returns
+pub returns-else-left-far : goal.returns-else-left-far
 unfolding can_be
-returns c =
+returns-else-left-far c =
     let a = c.args in
     let there : a.place + a.far < length a.bytes.now = omega arith in
     rw (lt-leb _ _ there)

@@ -1,5 +1,4 @@
 -- `window::decided` meets its contract, by its tests.
-use borrow.Author.Rules.{rules}
 use Rattle.notice_bytes.specs.Window.{is_decided}
 use Rattle.notice_bytes.proofs.window.decided.Goals as goal
 
@@ -7,10 +6,6 @@ pub returns-then-over : goal.returns-then-over
 unfolding is_decided
 returns-then-over c = rw c.if-over.true
 
-pub returns-then-beginning : goal.returns-then-beginning
+pub returns-else-over : goal.returns-else-over
 unfolding is_decided
-returns-then-beginning c = rw (c.if-over.false, ← c.beginning.ensures, c.if-beginning.true)
-
-pub returns-else-beginning : goal.returns-else-beginning
-unfolding is_decided
-returns-else-beginning c = rw (c.if-over.false, ← c.beginning.ensures, c.if-beginning.false)
+returns-else-over c = rw (c.if-over.false, ← c.beginning.ensures)

@@ -1,5 +1,4 @@
 -- `window::row_begins` meets its contract: by whether the kind carries the row.
-use borrow.Author.Rules.{rules}
 use native.Mathlib.Omega.{arith}
 use Rattle.notice_fields.proofs.Table.{row_inside, longest_kind}
 use Rattle.notice_bytes.specs.Window.{row_begins}

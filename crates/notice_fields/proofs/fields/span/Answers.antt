@@ -1,6 +1,5 @@
 -- `fields::span` meets its contract: by whether the kind carries the row.
 -- Rests on the table's law that a value has at most eight bytes.
-use borrow.Author.Rules.{rules}
 use native.Mathlib.Omega.{arith}
 use Rattle.notice_fields.specs.Fields.{span_of}
 use Rattle.notice_fields.proofs.Table.{sound}

@@ -1,6 +1,5 @@
 -- `fields::span_before` meets its contract, by its test.
 -- Rests on the table's bound of a span.
-use borrow.Author.Rules.{rules}
 use borrow.Author.Tests.{lt-ltb, le-ltb}
 use native.Mathlib.Omega.{arith}
 use Rattle.notice_fields.proofs.Table.{span_small}

@@ -1,6 +1,5 @@
 -- `fields::spans_before` meets its contract: the spans of the rows before one, summed.
 -- Rests on the table's law of that sum.
-use borrow.Author.Rules.{rules}
 use Rattle.notice_fields.proofs.Table.{start_sum}
 use Rattle.notice_fields.proofs.fields.spans_before.Goals as goal
 

@@ -1,8 +1,7 @@
 -- `fields::start` meets its contract: by the kind, and nothing for a number that is no kind's.
 -- Rests on the table's law of such numbers.
-use mathlib.Core.Path.{◌≡◌, sym, ◌∙◌}
+use mathlib.Core.Path.{sym, ◌∙◌}
 use native.Mathlib.Omega.{arith}
-use borrow.Author.Rules.{rules}
 use Rattle.notice_fields.proofs.Table.{no_start}
 use Rattle.notice_fields.proofs.fields.start.Goals as goal
 

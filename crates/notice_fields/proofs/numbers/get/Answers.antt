@@ -1,8 +1,6 @@
 -- `numbers::get` meets its contract: a number of eight bytes by its halves, any other byte by byte.
 -- Rests on the law of a number in two parts.
-use mathlib.Core.Path.{◌≡◌}
 use native.Mathlib.Omega.{arith}
-use borrow.Author.Rules.{rules}
 use Rattle.notice_fields.proofs.Digits.{number_split}
 use Rattle.notice_fields.proofs.numbers.get.Goals as goal
 

@@ -25,14 +25,14 @@ loop-s-smaller c =
     let l = c in
     let a = l.args in
     let early = tried_early a.s a.e l.loop-s.time (sym c.is_refused.ensures ∙ c.loop-s-test.true) in
-    omega (arith, early, c.larger-time.ensures)
+    omega (arith, early, c.max-time.ensures)
 
 pub loop-s-preserved : goal.loop-s-preserved
 loop-s-preserved c =
     let l = c in
     let a = l.args in
     tried_on a.s a.e l.loop-s.time l.loop-s.invariant (sym c.is_refused.ensures ∙ c.loop-s-test.true)
-    c.next_try.ensures c.larger-time.ensures
+    c.next_try.ensures c.max-time.ensures
 
 pub returns : goal.returns
 returns c =

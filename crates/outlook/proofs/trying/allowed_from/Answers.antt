@@ -12,7 +12,7 @@ permitted_from-requires c = let start = c in
     let t = start.args.t in
     let ok = start.requires.t_value.0 in
     let there = start.requires.t_value.1 in
-    let low : c.smaller.result ≤ t.film.cap = omega (arith, c.smaller.ensures, count_fit t ok there) in
+    let low : c.min.result ≤ t.film.cap = omega (arith, c.min.ensures, count_fit t ok there) in
     record { filmed = readable t ok there; count_le_cap = (low, (last_high t ok, tuned_high t ok)); from_bound = omega (arith, start.requires.from_le_event_time_max) }
 
 pub turn_from-requires : goal.turn_from-requires
@@ -37,7 +37,7 @@ returns-in-Opens c =
 pub returns-in-Changes : goal.returns-in-Changes
 returns-in-Changes c =
     let t = c.args.t in
-    rw c.in-Changes.is (change_found t _ c.smaller.ensures c.permitted_from.ensures)
+    rw c.in-Changes.is (change_found t _ c.min.ensures c.permitted_from.ensures)
 
 pub returns-in-Closes : goal.returns-in-Closes
 unfolding allows

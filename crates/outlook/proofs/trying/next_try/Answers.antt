@@ -14,13 +14,13 @@ returns-then-is_mended c =
     let start = at_event in
     let a = start.args in
     moment_skips a.s a.e a.time start.requires at_event.event_at-now.ensures at_start.start_from.ensures at_room.room_from.ensures
-    c.larger.ensures
+    c.max.ensures
 
 pub returns-then-answer-eq-TOO_EARLY : goal.returns-then-answer-eq-TOO_EARLY
 returns-then-answer-eq-TOO_EARLY c =
     let start = c in
     let a = start.args in
-    early_skips a.s a.e a.time start.requires c.smaller.result c.smaller.ensures
+    early_skips a.s a.e a.time start.requires c.min.result c.min.ensures
 
 pub returns-then-answer-eq-ID_TAKEN : goal.returns-then-answer-eq-ID_TAKEN
 returns-then-answer-eq-ID_TAKEN c =

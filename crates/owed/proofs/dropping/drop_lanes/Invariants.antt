@@ -1,11 +1,7 @@
--- What the loop keeps, and what falls.
-use Prim.Native.Nat.{◌≤◌, ◌-◌}
+-- What the loop keeps.
 use mathlib.Core.Path.{◌≡◌}
 use Rattle.story.specs.Next.{drop_lanes}
 use Rattle.owed.proofs.dropping.drop_lanes.Given as goal
 
 abbrev pub invariant-loop-lane : goal.invariant-loop-lane
-invariant-loop-lane l = (l.lane ≤ l.old) × (l.q ≡ drop_lanes l.initial.q l.tick l.count l.lane) × (l.old ≡ l.initial.q.count)
-
-abbrev pub decreases-loop-lane : goal.decreases-loop-lane
-decreases-loop-lane l = l.old - l.lane
+invariant-loop-lane l = l.q ≡ drop_lanes l.fn.t l.tick l.count l.lane

@@ -6,6 +6,6 @@ pub returns-then-holds_film : goal.returns-then-holds_film
 unfolding kept_owed
 returns-then-holds_film c = simp (← c.lane_cell-cell.ensures.is, ← c.holds_film.ensures, c.if-holds_film.true) c.is_awaited.ensures
 
-pub returns : goal.returns
+pub returns-else-holds_film : goal.returns-else-holds_film
 unfolding kept_owed
-returns c = simp (← c.lane_cell-cell.ensures.is, ← c.holds_film.ensures, c.if-holds_film.false)
+returns-else-holds_film c = simp (← c.lane_cell-cell.ensures.is, ← c.holds_film.ensures, c.if-holds_film.false)

@@ -7,12 +7,13 @@ use native.Mathlib.Numerals.{add-one}
 use native.Mathlib.Nat.{le_antisymm}
 use Rattle.rules.specs.Refusals.{pick}
 use Rattle.rules.specs.Search.{how_many}
+use Rattle.measures.proofs.Active.{byte_pick, byte_le}
 use Rattle.story.specs.Kept.{kept_within}
 use Rattle.owed.proofs.owing.owed_within.Goals as goal
 
 pub loop-i-init : goal.loop-i-init
 unfolding kept_within how_many
-loop-i-init c = (omega arith, refl, omega arith)
+loop-i-init c = (refl, omega arith)
 
 pub loop-i-preserved : goal.loop-i-preserved
 unfolding kept_within how_many
@@ -20,14 +21,13 @@ loop-i-preserved c =
     let at = c in
     let a = at.args in
     let l = at.loop-i in (
-      omega arith,
-      rw add-one (ap₂ ◌+◌ l.invariant.1 (c.one_if-owed.ensures.0 ∙ ap (λ (b : Bool). pick b 1 0) c.is_owed.ensures)),
-      omega (arith, c.one_if-owed.ensures.1),
+      rw add-one (ap₂ ◌+◌ l.invariant.0 (c.from-owed.ensures ∙ byte_pick c.is_owed.result ∙ ap (λ (b : Bool). pick b 1 0) c.is_owed.ensures)),
+      omega (arith, byte_le c.is_owed.result),
     )
 
 pub returns : goal.returns
 returns c =
     let l = c.loop-i in
     let a = c.args in
-    let e = le_antisymm l.invariant.0 c.loop-i-test.false in
-    record { is = l.invariant.1 ∙ ap (kept_within a.t a.lane a.from) e; low = omega arith; high = omega (arith, e, l.invariant.2) }
+    let e = le_antisymm l.auto.i-end c.loop-i-test.false in
+    record { is = l.invariant.0 ∙ ap (kept_within a.t a.lane a.from) e; low = omega arith; high = omega (arith, e, l.invariant.1) }

@@ -1,11 +1,8 @@
--- What the loop keeps, and what falls.
-use Prim.Native.Nat.{◌≤◌, ◌-◌}
+-- What the loop keeps.
+use Prim.Native.Nat.{◌≤◌}
 use mathlib.Core.Path.{◌≡◌}
 use Rattle.story.specs.Kept.{kept_within}
 use Rattle.owed.proofs.owing.owed_within.Given as goal
 
 abbrev pub invariant-loop-i : goal.invariant-loop-i
-invariant-loop-i l = (l.i ≤ l.n) × (l.owed ≡ kept_within l.t l.lane l.from l.i) × (l.owed ≤ l.i)
-
-abbrev pub decreases-loop-i : goal.decreases-loop-i
-decreases-loop-i l = l.n - l.i
+invariant-loop-i l = (l.owed ≡ kept_within l.t l.lane l.from l.i) × (l.owed ≤ l.i)

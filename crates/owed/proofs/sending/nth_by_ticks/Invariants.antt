@@ -1,10 +1,6 @@
--- What the loop keeps, and what falls.
-use Prim.Native.Nat.{◌≤◌, ◌-◌}
+-- What the loop keeps.
 use Rattle.owed.proofs.Nth.{Unmet}
 use Rattle.owed.proofs.sending.nth_by_ticks.Given as goal
 
 abbrev pub invariant-loop-i : goal.invariant-loop-i
-invariant-loop-i l = (l.i ≤ l.end) × Unmet l.t l.lane l.from l.nth l.i l.owed
-
-abbrev pub decreases-loop-i : goal.decreases-loop-i
-decreases-loop-i l = l.end - l.i
+invariant-loop-i l = Unmet l.t l.lane l.from l.nth l.i l.owed

@@ -19,8 +19,8 @@ offset_bounds-t-lane c = omega (arith, c.requires.sending.owing.film.cut.high)
 pub bounds-t-lane : goal.bounds-t-lane
 bounds-t-lane c = omega (arith, c.requires.sending.owing.film.cut.high)
 
-pub since-requires : goal.since-requires
-since-requires c = tt
+pub saturating_sub-requires : goal.saturating_sub-requires
+saturating_sub-requires c = tt
 
 pub nth_owed-requires : goal.nth_owed-requires
 nth_owed-requires c = record { owing = c.requires.sending.owing; lane_lt_cap = (c.requires.lane_lt_cap, dropped_low c.before.before) }
@@ -32,4 +32,4 @@ pub returns : goal.returns
 unfolding sending_tick
 returns c =
     record
-    { is = simp (← c.since.ensures, ← c.nth_owed.ensures.is); low = omega arith; high = omega (arith, dropped_low c.before.before.before) }
+    { is = simp (← c.saturating_sub.ensures, ← c.nth_owed.ensures.is); low = omega arith; high = omega (arith, dropped_low c.before.before.before) }

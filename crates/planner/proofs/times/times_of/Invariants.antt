@@ -1,7 +1,6 @@
--- What the loop keeps, and what falls.
+-- What the loop keeps.
 use mathlib.Core.Path.{◌≡◌}
 use mathlib.Core.List.{map}
-use Prim.Native.Nat.{◌-◌, ◌≤◌}
 use lib.ListN.{length}
 use Rattle.rules.specs.Limits.{titles_max}
 use Rattle.wishes.specs.Wishes.{wishes_to}
@@ -11,10 +10,6 @@ use Rattle.planner.proofs.Running.{Running}
 use Rattle.planner.proofs.times.times_of.Given as goal
 
 abbrev pub invariant-loop-j : goal.invariant-loop-j
-invariant-loop-j l = (l.j ≤ l.many)
-    × (length l.row ≡ titles_max)
+invariant-loop-j l = (length l.row ≡ titles_max)
     × Running l.initial.q l.time (wishes_to l.ids l.counts l.j) l.q l.last
     × (first_of l.row l.j ≡ map (λ m. m.time) (listed l.initial.q l.time (wishes_to l.ids l.counts l.j)))
-
-abbrev pub decreases-loop-j : goal.decreases-loop-j
-decreases-loop-j l = l.many - l.j

@@ -4,7 +4,6 @@ use Prim.Native.Nat.{◌-◌, ◌^◌, ◌<◌}
 use native.Mathlib.Omega.{arith}
 use lib.ListN.{length, length-set}
 use lib.Pow.{pow_pos}
-use borrow.Author.Rules.{rules}
 use Rattle.plans.proofs.rows.Written.{from_length}
 use Rattle.plans.proofs.forward.Lanes.{runs_plan}
 use Rattle.plans.proofs.forward.fill.Goals as goal

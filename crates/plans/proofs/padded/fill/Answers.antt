@@ -6,7 +6,6 @@ use Prim.Native.Nat.{ℕ, ◌+◌, ◌-◌, ◌^◌, ◌≤◌}
 use native.Mathlib.Omega.{arith}
 use lib.Pow.{pow_mono}
 use lib.ListN.{length}
-use borrow.Author.Rules.{rules}
 use Rattle.grid.specs.Ticks.{slot}
 use Rattle.grid.specs.Bounds.{Counted}
 use Rattle.scheme.specs.Scheme.{padded, starts}

@@ -1,10 +1,8 @@
 -- `plans::rows::rise` meets its contract: the numbers that have risen are written.
 -- Rests on the laws of numbers written into a row.
 use mathlib.Core.Path.{◌≡◌, refl, ap, ◌∙◌}
-use Prim.Native.Nat.{◌+◌, ◌-◌, ◌≤◌}
+use Prim.Native.Nat.{◌+◌, ◌-◌}
 use native.Mathlib.Omega.{arith}
-use native.Mathlib.Nat.{le_antisymm}
-use lib.ListN.{length, length-set}
 use borrow.Author.Rules.{rules}
 use Rattle.plans.specs.inner.Rows.{written_from, rising_at}
 use Rattle.plans.proofs.rows.Written.{from_next}
@@ -14,25 +12,16 @@ pub loop-risen-init : goal.loop-risen-init
 unfolding written_from
 loop-risen-init c = search rules
 
-pub loop-risen-smaller : goal.loop-risen-smaller
-loop-risen-smaller c = omega arith
-
 pub loop-risen-preserved : goal.loop-risen-preserved
 loop-risen-preserved c =
     let a = c.args in
     let l = c.loop-risen in
     let e : a.from + l.risen - a.from ≡ l.risen = omega arith in
-    let v = a.first + l.risen in (
-      omega (arith, c.loop-risen-test.true),
-      from_next (rising_at a.from a.first) a.row.now a.from l.row l.risen v l.invariant.1 (rw e refl),
-      length-set l.row (a.from + l.risen) v ∙ l.invariant.2,
-    )
-
-pub shape_of-row : goal.shape_of-row
-shape_of-row c = c.loop-risen.invariant.2
+    let v = a.first + l.risen in
+    from_next (rising_at a.from a.first) a.row.now a.from l.row l.risen v l.invariant (rw e refl)
 
 pub returns : goal.returns
 returns c =
     let a = c.args in
     let l = c.loop-risen in
-    l.invariant.1 ∙ ap (written_from (rising_at a.from a.first) a.row.now a.from) (le_antisymm l.invariant.0 c.loop-risen-test.false)
+    l.invariant ∙ ap (written_from (rising_at a.from a.first) a.row.now a.from) (omega arith)

@@ -1,5 +1,4 @@
 -- `plans::rows::run` meets its contract. Rests on the law that two rises make a run.
-use borrow.Author.Rules.{rules}
 use Rattle.plans.proofs.rows.Places.{two_rises}
 use Rattle.plans.proofs.rows.run.Goals as goal
 

@@ -8,6 +8,6 @@ pub returns-then-j-eq-LANE_MAX : goal.returns-then-j-eq-LANE_MAX
 unfolding behind_place text
 returns-then-j-eq-LANE_MAX c = rw (eq-eqb _ _ c.if-j-eq-LANE_MAX.true) c.put.ensures
 
-pub returns : goal.returns
+pub returns-else-j-eq-LANE_MAX : goal.returns-else-j-eq-LANE_MAX
 unfolding behind_place text
-returns c = rw (ne_eqb _ _ c.if-j-eq-LANE_MAX.false) c.put-2.ensures
+returns-else-j-eq-LANE_MAX c = rw (ne_eqb _ _ c.if-j-eq-LANE_MAX.false) c.put-else-j-eq-LANE_MAX.ensures

@@ -8,6 +8,6 @@ pub returns-then-number-eq-NOTHING_SEEN : goal.returns-then-number-eq-NOTHING_SE
 unfolding carried_text text
 returns-then-number-eq-NOTHING_SEEN c = rw (eq-eqb _ _ c.if-number-eq-NOTHING_SEEN.true) c.put.ensures
 
-pub returns : goal.returns
+pub returns-else-number-eq-NOTHING_SEEN : goal.returns-else-number-eq-NOTHING_SEEN
 unfolding carried_text text
-returns c = rw (ne_eqb _ _ c.if-number-eq-NOTHING_SEEN.false) c.put_number.ensures
+returns-else-number-eq-NOTHING_SEEN c = rw (ne_eqb _ _ c.if-number-eq-NOTHING_SEEN.false) c.put_number.ensures

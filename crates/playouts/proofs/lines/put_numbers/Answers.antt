@@ -1,31 +1,20 @@
 -- `playouts::lines::put_numbers` meets its contract: place by place.
-use mathlib.Core.Path.{refl, ap, ◌∙◌}
 use native.Mathlib.Nat.{le_antisymm}
+use mathlib.Core.Path.{ap}
 use native.Mathlib.Omega.{arith}
 use lib.ListN.{get_or}
-use Rattle.text.specs.Output.{page, puts}
-use Rattle.text.proofs.Pages.{same_room}
+use Rattle.text.proofs.Pages.{told_as}
 use Rattle.playouts.specs.Lines.{number_lines}
 use Rattle.playouts.proofs.Printed.{lines_none, lines_next}
 use Rattle.playouts.proofs.lines.put_numbers.Goals as goal
 
 pub loop-j-init : goal.loop-j-init
-loop-j-init c = (omega arith, lines_none _ _)
+loop-j-init c = lines_none _ _
 
 pub loop-j-preserved : goal.loop-j-preserved
-loop-j-preserved c =
-    let at_behind = c in
-    let at_carried = at_behind in
-    let l = at_carried.loop-j in
-    (omega arith, lines_next _ _ l.j _ _ _ l.invariant.1 at_carried.put_carried-a.ensures at_behind.put_behind-at.ensures)
-
-pub shape_of-out : goal.shape_of-out
-shape_of-out c = same_room _ _ c.loop-j.invariant.1 refl
+loop-j-preserved c = lines_next _ _ c.loop-j.j _ _ _ c.loop-j.invariant c.put_carried.ensures c.put_behind.ensures
 
 pub returns : goal.returns
 returns c =
-    let at-loop = c in
-    let l = at-loop.loop-j in
-    let all = le_antisymm l.invariant.0 c.loop-j-test.false in
-    let x = at-loop.args in
-    l.invariant.1 ∙ ap (λ n. puts (page x.out.now 0) (number_lines (λ j. get_or x.numbers.now j 0) n)) all
+    let all = le_antisymm (omega arith) c.loop-j-test.false in
+    told_as (ap (number_lines (λ j. get_or c.args.numbers.now j 0)) all) c.loop-j.invariant

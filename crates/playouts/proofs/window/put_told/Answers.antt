@@ -7,6 +7,6 @@ pub returns-then-answer-eq-DONE : goal.returns-then-answer-eq-DONE
 unfolding printed_text
 returns-then-answer-eq-DONE c = rw (eq-eqb _ _ c.if-answer-eq-DONE.true) c.put_numbers.ensures
 
-pub returns : goal.returns
+pub returns-else-answer-eq-DONE : goal.returns-else-answer-eq-DONE
 unfolding printed_text
-returns c = rw (ne_eqb _ _ c.if-answer-eq-DONE.false) c.put_refused.ensures
+returns-else-answer-eq-DONE c = rw (ne_eqb _ _ c.if-answer-eq-DONE.false) c.put_refused.ensures

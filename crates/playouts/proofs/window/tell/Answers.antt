@@ -1,7 +1,6 @@
 -- `playouts::window::tell` meets its contract: the numbers are filled in, and told.
-use mathlib.Core.Path.{ap, ◌∙◌}
 use native.Mathlib.Omega.{arith}
-use Rattle.text.specs.Output.{page, puts}
+use Rattle.text.proofs.Pages.{told_as}
 use Rattle.playouts.proofs.Answers.{limits_in, from_high, text_inside}
 use Rattle.playouts.proofs.window.tell.Goals as goal
 
@@ -10,9 +9,7 @@ fill-answer-requires c = let start = c in record { title_value = limits_in _ _ _
 
 pub returns : goal.returns
 returns c =
-    let at_fill_lem = c in
-    let start = at_fill_lem in
-    let x = start.args in
+    let x = c.args in
+    told_as
+    (text_inside x.pool x.log.now x.title x.from x.ticks c.requires.ticks_value x.numbers.now c.requires.whole_ticks.long _ _ c.fill-answer.ensures)
     c.put_told.ensures
-    ∙ ap (puts (page x.out.now 0))
-    (text_inside x.pool x.log.now x.title x.from x.ticks start.requires.ticks_value x.numbers.now start.requires.whole_ticks.long _ _ at_fill_lem.fill-answer.ensures)

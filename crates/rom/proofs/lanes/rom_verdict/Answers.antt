@@ -4,7 +4,7 @@ use mathlib.Core.Bool.{true, false}
 use mathlib.Core.Path.{sym, ap, ◌∙◌}
 use Rattle.rom.specs.Lanes.{is_foreign}
 use Rattle.rom.proofs.Answered.{rule_hits, rule_passed, far_id, foreign_id}
-use Rattle.rom.proofs.lanes.rom_verdict.Goals.{then-id-le-ID_MAX+else-is_foreign, else-id-le-ID_MAX}
+use Rattle.rom.proofs.lanes.rom_verdict.Goals.{else-id-le-ID_MAX-via-then-id-le-ID_MAX+else-is_foreign, else-id-le-ID_MAX-via-else-id-le-ID_MAX}
 use Rattle.rom.proofs.lanes.rom_verdict.Goals as goal
 
 pub returns-then-is_foreign : goal.returns-then-is_foreign
@@ -20,9 +20,9 @@ returns c =
     let a = c.args in
     c.lane_verdict.ensures
     ∙ sym (rule_passed a.s a.id a.lane a.time
-    (elim c.if-id-le-ID_MAX.branch [
-      | then-id-le-ID_MAX+else-is_foreign w ↦
+    (elim c.else-id-le-ID_MAX.branch [
+      | else-id-le-ID_MAX-via-then-id-le-ID_MAX+else-is_foreign w ↦
           foreign_id a.s a.id a.lane a.time w.if-id-le-ID_MAX.true false
           (ap is_foreign (sym w.title_of.ensures) ∙ sym w.is_foreign.ensures ∙ w.if-is_foreign.false)
-      | else-id-le-ID_MAX w ↦ far_id a.s a.id a.lane a.time w.if-id-le-ID_MAX.false
+      | else-id-le-ID_MAX-via-else-id-le-ID_MAX w ↦ far_id a.s a.id a.lane a.time w.if-id-le-ID_MAX.false
     ]))

@@ -1,46 +1,36 @@
 -- `put_event` meets its contract: the numbers, the clock, and then what its title and the lanes decide.
-use mathlib.Core.Path.{◌≡◌, refl, sym, ap₂, ◌∙◌}
-use mathlib.Core.Bool.{true}
-use native.Mathlib.Omega.{arith}
+use Rattle.std.proofs.Common.{sym, ◌∙◌, arith}
 use borrow.Author.Tests.{lt-ltb, le-ltb}
-use Rattle.rules.specs.Limits.{both}
 use Rattle.rules.specs.Refusals.{too_early, outside_limits}
-use Rattle.story.specs.Story.{act_limits}
-use Rattle.story.specs.Calls.{event_ok}
 use Rattle.verdicts.proofs.Event.{out_by_numbers, out_by_clock}
 use Rattle.agent_rows.specs.Packed.{unpacked}
 use Rattle.row_calls.proofs.Rows.{numbers_of_lem, by_first}
-use borrow.Author.Rules.{rules}
-use Rattle.row_calls.proofs.events.put_event.Tie as tie
-use Rattle.row_calls.proofs.events.put_event.Lts as lts
-use Rattle.row_calls.proofs.events.put_event.Reads as reads
 use Rattle.row_calls.proofs.events.put_event.Goals as goal
 
--- the test is that of the event's numbers
-joined : (c : lts.After-also2 tie.the-claims reads.Pre reads.Post tie.handed_clauses) →
+pub returns-then-not-fits-clause-value : goal.returns-then-not-fits-clause-value
+returns-then-not-fits-clause-value c =
     let e = c.args.e in
-    c.also-2.result ≡ both (event_ok (unpacked c.args.row.now).state e.title e.time) (act_limits e.act true)
-joined c =
-    let e = c.args.e in
-    c.also-2.ensures
-    ∙ ap₂ both c.also.ensures c.act_ok.ensures
-    ∙ numbers_of_lem (unpacked c.args.row.now).state e.title e.time e.act c.requires.ok
+    let s = (unpacked c.args.row.now).state in
+    by_first s e.title e.time e.act outside_limits
+    (out_by_numbers s e.title e.time e.act
+    (sym (c.fits.ensures ∙ numbers_of_lem s e.title e.time e.act c.requires.ok) ∙ c.if-not-fits.true))
+    (λ z. omega arith)
 
-pub returns-then-time-row : goal.returns-then-time-row
-returns-then-time-row c = let at-if = c in
-    let s = at-if in
-    let e = s.args.e in
-    let g = unpacked s.args.row.now in
-    let fits = sym (joined at-if.before.before.before.before) ∙ at-if.if-also.true in
-    record { value = by_first g.state e.title e.time e.act too_early (out_by_clock g.state e.title e.time e.act fits (lt-ltb _ _ c.if-time-row.true)) (λ z. omega arith); row_after = refl }
+pub returns-then-time-row-clause-value : goal.returns-then-time-row-clause-value
+returns-then-time-row-clause-value c =
+    let e = c.args.e in
+    let s = (unpacked c.args.row.now).state in
+    let fits = sym (c.fits.ensures ∙ numbers_of_lem s e.title e.time e.act c.requires.ok) ∙ c.if-not-fits.false in
+    by_first s e.title e.time e.act too_early (out_by_clock s e.title e.time e.act fits (lt-ltb _ _ c.if-time-row.true)) (λ z. omega arith)
 
 pub turn-requires : goal.turn-requires
-turn-requires c = let at-if = c in
-    let s = at-if in
-    record { tested = s.requires; timely = record { numbers = sym (joined at-if.before.before.before.before) ∙ at-if.if-also.true; late = le-ltb _ _ c.if-time-row.false } }
-
-pub returns : goal.returns
-returns c = let s = c in
-    let e = s.args.e in
-    let g = unpacked s.args.row.now in
-    record { value = by_first g.state e.title e.time e.act outside_limits (out_by_numbers g.state e.title e.time e.act (sym (joined c.before.before) ∙ c.if-also.false)) (λ z. omega arith); row_after = refl }
+turn-requires c =
+    let e = c.args.e in
+    let s = (unpacked c.args.row.now).state in
+    record {
+      tested = c.requires;
+      timely = record {
+        numbers = sym (c.fits.ensures ∙ numbers_of_lem s e.title e.time e.act c.requires.ok) ∙ c.if-not-fits.false;
+        late = le-ltb _ _ c.if-time-row.false;
+      };
+    }

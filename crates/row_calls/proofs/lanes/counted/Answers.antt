@@ -2,7 +2,6 @@
 use mathlib.Core.Path.{refl}
 use Rattle.agent_rows.specs.Packed.{unpacked}
 use Rattle.row_calls.proofs.Cells.{told, held_outside, held_early, held_told}
-use borrow.Author.Rules.{rules}
 use Rattle.row_calls.proofs.lanes.counted.Goals as goal
 
 pub returns-then-time-gt-ASKED_MAX : goal.returns-then-time-gt-ASKED_MAX

@@ -5,7 +5,6 @@ use Rattle.story.specs.Kept.{state_ok}
 use Rattle.agent_rows.specs.Packed.{unpacked, row_sound}
 use Rattle.row_calls.specs.inner.Steps.{Tested}
 use Rattle.row_calls.proofs.Cells.{told, held_elsewhere, held_row_in, held_row_out}
-use borrow.Author.Rules.{rules}
 use Rattle.row_calls.proofs.lanes.held.Tie as tie
 use Rattle.row_calls.proofs.lanes.held.Lts as lts
 use Rattle.row_calls.proofs.lanes.held.Reads as reads

@@ -1,18 +1,16 @@
 -- `lane` meets its contract: the cell of the tick that was found. Rests on the laws of answered questions.
 use mathlib.Core.Path.{◌≡◌, sym, ap, subst, ◌∙◌}
-use Prim.Native.Nat.{ℕ, ◌<◌, ◌≤◌}
+use Prim.Native.Nat.{ℕ, ◌<◌}
 use native.Mathlib.Omega.{arith}
 use Rattle.rules.specs.Limits.{titles_max}
 use Rattle.story.specs.declared.Title.{Title}
 use Rattle.story.specs.Kept.{title_at, scheme_in}
 use Rattle.measures.specs.Readable.{Filmed}
 use Rattle.questions.proofs.Lane.{lane_id, lane_film, lane_capped}
-use Rattle.agent_rows.specs.Layout.{title_place}
 use Rattle.agent_rows.specs.Packed.{title_from, unpacked}
 use Rattle.agent_rows.proofs.Inverse.{title_at_lem}
-use Rattle.row_calls.specs.Answers.{row_lane, row_shows}
+use Rattle.row_calls.specs.Answers.{row_lane}
 use Rattle.row_calls.proofs.Cells.{lane_long, lane_answered, lane_cell_shown, lane_not_shown}
-use borrow.Author.Rules.{rules}
 use Rattle.row_calls.proofs.lanes.lane.Tie as tie
 use Rattle.row_calls.proofs.lanes.lane.Lts as lts
 use Rattle.row_calls.proofs.lanes.lane.Reads as reads

@@ -1,11 +1,10 @@
 -- `owed_tick` meets its contract: whether the lane still sends, and then the tick whose turn it is.
-use mathlib.Core.Path.{◌≡◌, refl, sym, ap, ◌∙◌}
+use mathlib.Core.Path.{refl, sym, ap, ◌∙◌}
 use borrow.Author.Tests.{le-ltb}
 use Rattle.story.specs.declared.Title.{Title}
 use Rattle.story.specs.Kept.{sending_tick}
 use Rattle.owed.proofs.Shown.{tick_sending}
 use Rattle.agent_rows.specs.Packed.{title_from}
-use borrow.Author.Rules.{rules}
 use Rattle.row_calls.proofs.lanes.owed_tick.Goals as goal
 
 pub sending_tick-requires : goal.sending_tick-requires

@@ -5,7 +5,6 @@ use Rattle.story.specs.Kept.{state_ok}
 use Rattle.agent_rows.specs.Packed.{unpacked, row_sound}
 use Rattle.row_calls.specs.inner.Steps.{Tested}
 use Rattle.row_calls.proofs.Cells.{told_tick, lane_elsewhere, lane_row_in, lane_row_out}
-use borrow.Author.Rules.{rules}
 use Rattle.row_calls.proofs.lanes.shown_tick.Tie as tie
 use Rattle.row_calls.proofs.lanes.shown_tick.Lts as lts
 use Rattle.row_calls.proofs.lanes.shown_tick.Reads as reads

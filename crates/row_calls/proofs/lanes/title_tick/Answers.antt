@@ -9,7 +9,6 @@ use Rattle.measures.proofs.Within.{readable, sending}
 use Rattle.owed.proofs.Shown.{tick_active}
 use Rattle.agent_rows.specs.Packed.{title_from}
 use Rattle.row_calls.proofs.Cells.{told_tick, asked_early, asked_absent, asked_above, asked_held, active_is_held}
-use borrow.Author.Rules.{rules}
 use Rattle.row_calls.proofs.lanes.title_tick.Tie as tie
 use Rattle.row_calls.proofs.lanes.title_tick.Lts as lts
 use Rattle.row_calls.proofs.lanes.title_tick.Reads as reads

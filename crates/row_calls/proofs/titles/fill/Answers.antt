@@ -1,5 +1,5 @@
 -- `fill` meets its contract: the places passed have the counts, the lanes held and the marks of their ids.
-use Prim.Native.Nat.{◌+◌, ◌≤◌, ◌<◌, ◌-◌}
+use Prim.Native.Nat.{◌+◌, ◌≤◌, ◌<◌}
 use mathlib.Core.Path.{◌≡◌, sym, ap, ◌∙◌}
 use native.Mathlib.Omega.{arith}
 use native.Mathlib.Numerals.{add-one}
@@ -12,11 +12,10 @@ use Rattle.story.specs.declared.Title.{Title}
 use Rattle.story.specs.Kept.{clear_mark, ruling, title_held, title_at}
 use Rattle.story.specs.Calls.{status_count, status_held, status_mark}
 use Rattle.measures.proofs.Within.{title_ok_lem}
-use Rattle.status.proofs.Filled.{Filled, filled_more, filled_all, id_below}
+use Rattle.status.proofs.Filled.{filled_more, filled_all, id_below}
 use Rattle.agent_rows.specs.Layout.{title_places}
 use Rattle.agent_rows.specs.Packed.{title_from, unpacked}
 use Rattle.agent_rows.proofs.Inverse.{title_at_lem}
-use borrow.Author.Rules.{rules}
 use Rattle.row_calls.proofs.titles.fill.Tie as tie
 use Rattle.row_calls.proofs.titles.fill.Lts as lts
 use Rattle.row_calls.proofs.titles.fill.Reads as reads
@@ -45,7 +44,6 @@ own c =
 pub loop-i-init : goal.loop-i-init
 loop-i-init c =
     let s = c in (
-      omega arith,
       s.requires.counts_len.0,
       s.requires.counts_len.1.0,
       s.requires.counts_len.1.1,
@@ -61,7 +59,7 @@ pub ruling-requires : goal.ruling-requires
 ruling-requires c = placed c.before
 
 pub bounds-counts-i : goal.bounds-counts-i
-bounds-counts-i c = let l = c.loop-i in omega (arith, l.invariant.1, c.loop-i-test.true)
+bounds-counts-i c = let l = c.loop-i in omega (arith, l.invariant.0, c.loop-i-test.true)
 
 pub title_held-requires : goal.title_held-requires
 title_held-requires c = let turn = c in
@@ -71,13 +69,13 @@ title_held-requires c = let turn = c in
     record { title_places_in_bounds = placed c.before.before; at_value = rw (own c.before.before) (title_ok_lem (unpacked r).state s.requires.tested.0.ok id (id_below_all turn.before.before.before.before)) }
 
 pub bounds-held-i : goal.bounds-held-i
-bounds-held-i c = let l = c.loop-i in omega (arith, l.invariant.2, c.loop-i-test.true)
+bounds-held-i c = let l = c.loop-i in omega (arith, l.invariant.1, c.loop-i-test.true)
 
 pub shown_mark-requires : goal.shown_mark-requires
 shown_mark-requires c = placed c.before.before.before
 
 pub bounds-marks-i : goal.bounds-marks-i
-bounds-marks-i c = let l = c.loop-i in omega (arith, l.invariant.3, c.loop-i-test.true)
+bounds-marks-i c = let l = c.loop-i in omega (arith, l.invariant.2, c.loop-i-test.true)
 
 pub loop-i-preserved : goal.loop-i-preserved
 loop-i-preserved c =
@@ -92,17 +90,16 @@ loop-i-preserved c =
     let count = at_count.ruling.ensures ∙ ap (λ (t : Title). ruling t) title in
     let lanes = at_held.title_held.ensures.is ∙ ap (λ (t : Title). title_held t a.time) title in
     let mark = c.shown_mark.ensures ∙ ap (λ (t : Title). pick (eqb (ruling t) 0) clear_mark t.mark) title in (
-      omega arith,
+      simp length-set l.invariant.0,
       simp length-set l.invariant.1,
       simp length-set l.invariant.2,
-      simp length-set l.invariant.3,
-      rw (add-one l.i) (filled_more (λ j. status_count g.state j) a.ids.now l.counts l.i at_count.ruling.result (omega (arith, l.invariant.1)) l.invariant.4 count),
-      rw (add-one l.i) (filled_more (λ j. status_held g.state j a.time) a.ids.now l.held l.i at_held.title_held.result (omega (arith, l.invariant.2)) l.invariant.5 lanes),
-      rw (add-one l.i) (filled_more (λ j. status_mark g.state j) a.ids.now l.marks l.i c.shown_mark.result (omega (arith, l.invariant.3)) l.invariant.6 mark),
+      rw (add-one l.i) (filled_more (λ j. status_count g.state j) a.ids.now l.counts l.i at_count.ruling.result (omega (arith, l.invariant.0)) l.invariant.3 count),
+      rw (add-one l.i) (filled_more (λ j. status_held g.state j a.time) a.ids.now l.held l.i at_held.title_held.result (omega (arith, l.invariant.1)) l.invariant.4 lanes),
+      rw (add-one l.i) (filled_more (λ j. status_mark g.state j) a.ids.now l.marks l.i c.shown_mark.result (omega (arith, l.invariant.2)) l.invariant.5 mark),
     )
 
 pub returns : goal.returns
 returns c = let l = c.loop-i in
     let a = c.args in
     let g = unpacked a.row.now in
-    let all = le_antisymm l.invariant.0 c.loop-i-test.false in record { counts_after = filled_all (λ j. status_count g.state j) a.ids.now l.counts l.invariant.1 (rw (← all) l.invariant.4); held_after = filled_all (λ j. status_held g.state j a.time) a.ids.now l.held l.invariant.2 (rw (← all) l.invariant.5); marks_after = filled_all (λ j. status_mark g.state j) a.ids.now l.marks l.invariant.3 (rw (← all) l.invariant.6) }
+    let all = le_antisymm l.auto.i-end c.loop-i-test.false in record { counts_after = filled_all (λ j. status_count g.state j) a.ids.now l.counts l.invariant.0 (rw (← all) l.invariant.3); held_after = filled_all (λ j. status_held g.state j a.time) a.ids.now l.held l.invariant.1 (rw (← all) l.invariant.4); marks_after = filled_all (λ j. status_mark g.state j) a.ids.now l.marks l.invariant.2 (rw (← all) l.invariant.5) }

@@ -1,6 +1,5 @@
 -- `shown_mark` meets its contract: each way out decides whether the count shows 0.
 use borrow.Author.Tests.{eq-eqb, ne_eqb}
-use borrow.Author.Rules.{rules}
 use Rattle.row_calls.proofs.titles.shown_mark.Goals as goal
 
 pub returns-then-count-eq0 : goal.returns-then-count-eq0

@@ -1,41 +1,24 @@
 -- `status` meets its contract: an answer of done fills the three rows, any other leaves them as they were.
-use mathlib.Core.Path.{refl, sym, ◌∙◌}
-use lib.ListN.{length}
-use borrow.Author.Tests.{eq-eqb, ne_eqb}
+use Rattle.std.proofs.Common.{sym, length, ◌∙◌}
+use Rattle.rules.proofs.Told.{told_ok}
 use Rattle.status.proofs.Asked.{count_row_lem, held_row, mark_row, rows_ids}
 use Rattle.agent_rows.specs.Packed.{unpacked}
 use Rattle.row_calls.proofs.Listed.{done_answer, done_tested}
-use borrow.Author.Rules.{rules}
 use Rattle.row_calls.proofs.titles.status.Goals as goal
 
 pub fill-requires : goal.fill-requires
-fill-requires c = let tested = c in
-    let at-verdict = tested in
-    let a = at-verdict.args in
-    let none = sym at-verdict.status_verdict-answer.ensures ∙ tested.if-answer-eq-DONE.true in
+fill-requires c =
+    let a = c.args in
+    let none = sym c.status_verdict-answer.ensures ∙ told_ok _ c.if-is_ok.ensures.value in
     let s = (unpacked a.row.now).state in
     let m = length a.counts.now in
     let h = length a.held.now in
     let d = length a.marks.now in
-    let answer = done_answer a.row.now a.time a.ids.now m h d none in record {
+    let answer = done_answer a.row.now a.time a.ids.now m h d none in
+    record {
       counts_len = (
         count_row_lem s a.time a.ids.now m h d answer,
         (held_row s a.time a.ids.now m h d answer, mark_row s a.time a.ids.now m h d answer),
       );
       tested = (done_tested a.row.now a.time a.ids.now m h d none, rows_ids s a.time a.ids.now m h d answer);
     }
-
-pub returns-then-answer-eq-DONE : goal.returns-then-answer-eq-DONE
-returns-then-answer-eq-DONE c =
-    let called = c in
-    let tested = called in
-    let f = called.fill.ensures in
-    simp (eq-eqb _ _ tested.if-answer-eq-DONE.true) (record {
-      value = tested.status_verdict-answer.ensures;
-      counts_after = f.counts_after;
-      held_after = f.held_after;
-      marks_after = f.marks_after;
-    })
-
-pub returns-else-answer-eq-DONE : goal.returns-else-answer-eq-DONE
-returns-else-answer-eq-DONE c = simp (ne_eqb _ _ c.if-answer-eq-DONE.false) (record { value = c.status_verdict-answer.ensures; counts_after = refl; held_after = refl; marks_after = refl })

@@ -1,13 +1,11 @@
 -- `rom_tick` meets its contract: each way out decides the rule in front.
 -- Rests on the laws of that rule.
 use mathlib.Core.Bool.{true, false}
-use mathlib.Core.Logic.{⊎_elim}
 use mathlib.Core.List.{List}
 use mathlib.Core.Path.{◌≡◌, sym, ap, ◌∙◌}
-use Prim.Native.Nat.{ℕ, ◌<◌, ◌≤◌}
+use Prim.Native.Nat.{ℕ, ◌≤◌}
 use native.Mathlib.Omega.{arith}
-use borrow.Author.Rules.{rules}
-use Rattle.rules.specs.Limits.{id_max, titles_max}
+use Rattle.rules.specs.Limits.{id_max}
 use Rattle.story.specs.Kept.{title_at}
 use Rattle.rom.specs.Lanes.{is_foreign}
 use Rattle.rom.proofs.Answered.{far_id, foreign_id}
@@ -16,7 +14,7 @@ use Rattle.agent_rows.specs.Packed.{title_from, unpacked}
 use Rattle.agent_rows.proofs.Inverse.{title_at_lem}
 use Rattle.row_calls.proofs.Cells.{lane_tick}
 use Rattle.row_questions.proofs.Asking.{rule_told, passed_told}
-use Rattle.row_questions.proofs.small.rom_tick.Goals.{then-id-le-ID_MAX+else-is_foreign, else-id-le-ID_MAX}
+use Rattle.row_questions.proofs.small.rom_tick.Goals.{else-id-le-ID_MAX-via-then-id-le-ID_MAX+else-is_foreign, else-id-le-ID_MAX-via-else-id-le-ID_MAX}
 use Rattle.row_questions.proofs.small.rom_tick.Goals as goal
 
 -- the title of an id is the one at its place
@@ -46,11 +44,11 @@ returns c =
     let told = c.shown_tick.ensures in (
       told.0
           ∙ passed_told r a.id a.lane a.time s.requires
-          (elim c.if-id-le-ID_MAX.branch [
-            | then-id-le-ID_MAX+else-is_foreign w ↦
+          (elim c.else-id-le-ID_MAX.branch [
+            | else-id-le-ID_MAX-via-then-id-le-ID_MAX+else-is_foreign w ↦
                 foreign_id (unpacked r).state a.id a.lane a.time w.if-id-le-ID_MAX.true false
                 (same r a.id w.title_place.result w.if-id-le-ID_MAX.true w.title_place.ensures ∙ sym w.is_foreign.ensures ∙ w.if-is_foreign.false)
-            | else-id-le-ID_MAX w ↦ far_id (unpacked r).state a.id a.lane a.time w.if-id-le-ID_MAX.false
+            | else-id-le-ID_MAX-via-else-id-le-ID_MAX w ↦ far_id (unpacked r).state a.id a.lane a.time w.if-id-le-ID_MAX.false
           ]),
       λ e. told.1.is ∙ lane_tick r a.id a.lane a.time (sym told.0 ∙ e),
     )

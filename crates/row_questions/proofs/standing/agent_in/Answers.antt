@@ -1,5 +1,4 @@
 -- `agent_in` meets its contract: the test of the length is the definition's.
-use borrow.Author.Rules.{rules}
 use borrow.Author.Tests.{eq-eqb, ne_eqb}
 use Rattle.row_questions.specs.Questions.{agent_in}
 use Rattle.row_questions.proofs.standing.agent_in.Goals as goal
@@ -10,4 +9,4 @@ returns-then-row-eq-ROW_LENGTH c = rw (eq-eqb _ _ c.if-row-eq-ROW_LENGTH.true) c
 
 pub returns : goal.returns
 unfolding agent_in
-returns c = rw (ne_eqb _ _ c.if-row-eq-ROW_LENGTH.false) c.fresh_agent-none.ensures.1
+returns c = rw (ne_eqb _ _ c.if-row-eq-ROW_LENGTH.false) c.fresh_agent.ensures.1

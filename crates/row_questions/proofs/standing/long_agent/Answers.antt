@@ -1,6 +1,5 @@
 -- `long_agent` meets its contract: the test of the layout is the definition's.
 use mathlib.Core.Path.{sym, ◌∙◌}
-use borrow.Author.Rules.{rules}
 use Rattle.row_questions.proofs.standing.long_agent.Goals as goal
 
 pub sound_agent-requires : goal.sound_agent-requires
@@ -11,4 +10,4 @@ returns-then-is_sound c = rw (sym c.is_sound.ensures ∙ c.if-is_sound.true) c.s
 
 pub returns : goal.returns
 returns c =
-    rw (sym c.is_sound.ensures ∙ c.if-is_sound.false) c.fresh_agent-none.ensures.1
+    rw (sym c.is_sound.ensures ∙ c.if-is_sound.false) c.fresh_agent.ensures.1

@@ -1,7 +1,6 @@
 -- `pool_in` meets its contract: the test of the layout is the definition's.
 use mathlib.Core.Path.{refl, sym, ◌∙◌}
 use Rattle.row_questions.specs.Questions.{pool_in}
-use borrow.Author.Rules.{rules}
 use Rattle.row_questions.proofs.standing.pool_in.Goals as goal
 
 pub returns-then-is_sound : goal.returns-then-is_sound

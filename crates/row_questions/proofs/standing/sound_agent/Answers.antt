@@ -1,11 +1,9 @@
 -- `sound_agent` meets its contract: its parts are the definition's.
-use mathlib.Core.Path.{◌≡◌}
 use mathlib.Core.List.{List}
 use Prim.Native.Nat.{ℕ}
 use Rattle.story.specs.declared.Title.{Title}
 use Rattle.agent.specs.declared.Agent.{Agent}
 use Rattle.agent_rows.specs.Packed.{unpacked}
-use borrow.Author.Rules.{rules}
 use Rattle.row_questions.proofs.standing.sound_agent.Goals as goal
 
 -- an agent with this pool and time, by its sequence and its titles
@@ -16,4 +14,4 @@ pub returns : goal.returns
 returns c =
     let named = c in
     let row = named.args.row.now in
-    λ i. made (unpacked row).state.pool (unpacked row).state.last (named.sequence_in-sequence.ensures i) (named.titles_in-titles.ensures i)
+    λ i. made (unpacked row).state.pool (unpacked row).state.last (named.sequence_in.ensures i) (named.titles_in.ensures i)

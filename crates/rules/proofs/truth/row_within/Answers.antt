@@ -1,22 +1,10 @@
--- `row_within` meets its contract: the loop's value is the test of every number passed.
-use Prim.Native.Nat.{◌≤◌, ◌-◌}
-use mathlib.Core.Path.{◌≡◌}
-use native.Mathlib.Omega.{arith}
-use native.Mathlib.Numerals.{add-one}
-use native.Mathlib.Nat.{le_antisymm}
-use lib.Dec.{leb}
-use lib.ListN.{get_or}
-use Rattle.rules.specs.Search.{every}
-use borrow.Author.Rules.{rules}
+-- `row_within` meets its contract: every number passed where none of the first n fails.
+use Rattle.std.proofs.Common.{rules, ◌≤◌, ◌<◌, length, get_or, ℕ, take, IsTrue, ◌↔◌}
 use Rattle.rules.proofs.truth.row_within.Goals as goal
-
-pub loop-i-init : goal.loop-i-init
-unfolding every
-loop-i-init c = search rules
-
-pub loop-i-preserved : goal.loop-i-preserved
-unfolding every
-loop-i-preserved c = (omega arith, rw add-one (cc))
+use Rattle.rules.proofs.Search.{all_at_most}
 
 pub returns : goal.returns
-returns c = cc (le_antisymm c.loop-i.invariant.0 c.loop-i-test.false)
+returns c =
+    let a = c.args in
+    let h : IsTrue c.all.result ↔ ((k : ℕ) → k < length (take a.n a.row.now) → get_or (take a.n a.row.now) k 0 ≤ a.most) = search rules in
+    all_at_most a.row.now a.n a.most c.all.result c.requires h

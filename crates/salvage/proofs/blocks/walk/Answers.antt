@@ -5,6 +5,7 @@ use native.Mathlib.Omega.{arith}
 use lib.ListN.{length}
 use Rattle.salvaging.proofs.Laying.{falls}
 use Rattle.salvage.proofs.Walking.{WalkedTo, not_begun, between, in_window, walked_on_lem, at_end, undecided}
+use Rattle.salvage.proofs.Ended.{ended}
 use borrow.Author.Rules.{rules}
 use Rattle.salvage.proofs.blocks.walk.Goals as goal
 
@@ -25,8 +26,8 @@ advance-next-requires c =
 pub put_taken-at-requires : goal.put_taken-at-requires
 put_taken-at-requires c = between _ _ _ _ _ _ _ _ _ _ _ c.loop-progress.invariant c.advance-next.ensures c.loop-progress-test.true
 
-pub put_said-said-requires : goal.put_said-said-requires
-put_said-said-requires c = c.loop-progress.invariant.counts
+pub put_said-requires : goal.put_said-requires
+put_said-requires c = c.loop-progress.invariant.counts
 
 pub loop-progress-smaller : goal.loop-progress-smaller
 loop-progress-smaller c = falls _ _ _ _ c.loop-progress.invariant.ahead c.advance-next.ensures c.loop-progress-test.true
@@ -34,7 +35,8 @@ loop-progress-smaller c = falls _ _ _ _ c.loop-progress.invariant.ahead c.advanc
 pub loop-progress-preserved : goal.loop-progress-preserved
 loop-progress-preserved c =
     walked_on_lem _ _ _ _ _ _ _ _ _ _ _ _ _ _ _ c.loop-progress.invariant c.advance-next.ensures c.put_taken-at.ensures
-    c.put_said-said.ensures c.loop-progress-test.true (sym c.decided.ensures ∙ c.if-decided.true)
+    (ended c.from-page.ensures c.put_said.ensures c.end-said.ensures.place c.end-said.ensures.row search)
+    c.loop-progress-test.true (sym c.decided.ensures ∙ c.if-decided.true)
 
 pub shape_of-area-else-decided : goal.shape_of-area-else-decided
 shape_of-area-else-decided c = c.loop-progress.invariant.area_size

@@ -6,11 +6,11 @@ use Rattle.salvage.proofs.Passing.{over_counts, over_none}
 use borrow.Author.Rules.{rules}
 use Rattle.salvage.proofs.input.feed.Goals as goal
 
-pub returns-in-Last : goal.returns-in-Last
-returns-in-Last c = (over_none c.pass_last.result c.pass_last.ensures.0, c.pass_last.ensures.1)
+pub returns-in-Some-Last : goal.returns-in-Some-Last
+returns-in-Some-Last c = (over_none c.pass_last.result c.pass_last.ensures.0, c.pass_last.ensures.1)
 
-pub returns-in-Failed : goal.returns-in-Failed
-returns-in-Failed c =
+pub returns-in-None : goal.returns-in-None
+returns-in-None c =
     let e = c.ended.ensures in
     let at-refill = c in
     let pre = at-refill.requires in

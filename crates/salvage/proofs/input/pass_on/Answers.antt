@@ -7,5 +7,5 @@ use Rattle.salvage.proofs.input.pass_on.Goals as goal
 pub slice_bounds-give-end : goal.slice_bounds-give-end
 slice_bounds-give-end c = sym (length-take-le _ _ c.scan_block-block.ensures.bytes_low)
 
-pub slice_bounds-give-end-then-written : goal.slice_bounds-give-end-then-written
-slice_bounds-give-end-then-written c = sym (length-take-le _ _ c.scan_block-block.ensures.told_low)
+pub slice_bounds-give-end-then-give : goal.slice_bounds-give-end-then-give
+slice_bounds-give-end-then-give c = sym (length-take-le _ _ c.scan_block-block.ensures.told_low)

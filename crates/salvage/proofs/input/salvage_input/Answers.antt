@@ -1,4 +1,4 @@
--- `salvage::input::salvage_input` is safe and ends. The buffer keeps its length; the measure is the number of turns left.
+-- `salvage::input::salvage_input` is safe and ends. The buffer keeps its length.
 use mathlib.Core.Path.{◌≡◌}
 use native.Mathlib.Omega.{arith}
 use lib.ListN.{length}
@@ -8,13 +8,13 @@ use Rattle.salvage.specs.Blocks.{block_room}
 use borrow.Author.Rules.{rules}
 use Rattle.salvage.proofs.input.salvage_input.Goals as goal
 
-pub loop-turns-init : goal.loop-turns-init
-loop-turns-init c = (fresh_counts _ c.begun-progress.ensures, search rules)
+pub loop-init : goal.loop-init
+loop-init c = (fresh_counts _ c.begun.ensures, search rules)
 
 pub feed-fed-requires : goal.feed-fed-requires
 feed-fed-requires c =
-    let inv = c.loop-turns.invariant in
+    let inv = c.loop.invariant in
     (inv.0, omega (arith, inv.1))
 
-pub loop-turns-preserved : goal.loop-turns-preserved
-loop-turns-preserved c = (c.feed-fed.ensures.1, search rules)
+pub loop-preserved : goal.loop-preserved
+loop-preserved c = (c.feed-fed.ensures.1, search rules)

@@ -1,4 +1,4 @@
--- What the loop keeps, and what falls.
+-- What the loop keeps.
 use mathlib.Core.Path.{◌≡◌}
 use native.Mathlib.Omega.{arith}
 use lib.ListN.{length}
@@ -8,8 +8,5 @@ use Rattle.salvage.specs.Blocks.{block_room}
 use borrow.Author.Rules.{rules}
 use Rattle.salvage.proofs.input.salvage_input.Given as goal
 
-abbrev pub invariant-loop-turns : goal.invariant-loop-turns
-invariant-loop-turns l = Counts l.fed.progress × (block_room ≡ length l.buffer)
-
-abbrev pub decreases-loop-turns : goal.decreases-loop-turns
-decreases-loop-turns l = l.turns
+abbrev pub invariant-loop : goal.invariant-loop
+invariant-loop l = Counts l.fed.progress × (block_room ≡ length l.buffer)

@@ -4,5 +4,5 @@ use borrow.Author.Rules.{rules}
 use Rattle.scanning.specs.Scan.{is_later}
 use Rattle.scanning.proofs.scan.is_later.Goals as goal
 
-pub returns-in-Taken : goal.returns-in-Taken
-returns-in-Taken c = sym (ap (λ l. is_later l c.args.sequence) c.in-Taken.is)
+pub returns-in-Some : goal.returns-in-Some
+returns-in-Some c = sym (ap (λ l. is_later l c.args.sequence) c.in-Some.is)

@@ -1,7 +1,6 @@
 -- `joined` meets its contract: the numbers of a title fit its rows.
 use native.Mathlib.Omega.{arith}
 use Rattle.sharers.proofs.Sharers.{length_high, floor_small, cap_high}
-use borrow.Author.Rules.{rules}
 use Rattle.sharers.proofs.rows.joined.Goals as goal
 
 pub overflow_cast-r : goal.overflow_cast-r

@@ -1,5 +1,4 @@
 -- `joined_if_part` meets its contract, from the test of taking part.
-use borrow.Author.Rules.{rules}
 use Rattle.sharers.proofs.rows.joined_if_part.Goals as goal
 
 pub returns-then-takes_part : goal.returns-then-takes_part

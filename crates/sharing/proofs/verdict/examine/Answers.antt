@@ -1,14 +1,14 @@
 -- `sharing::verdict::examine` meets its contract. The loop's invariant: each flag, with what the titles ahead will add,
 -- is the test of all.
-use mathlib.Core.Path.{◌≡◌, refl, ap, ◌∙◌}
-use Prim.Native.Nat.{◌<◌, ◌-◌}
+use mathlib.Core.Path.{refl, ap, ◌∙◌}
+use Prim.Native.Nat.{◌<◌}
 use native.Mathlib.Omega.{arith}
-use lib.ListN.{length, drop}
-use borrow.Author.Rules.{rules}
+use lib.ListN.{length}
 use Rattle.rules.specs.Limits.{both}
+use Rattle.rules.proofs.Tests.{and_both}
 use Rattle.sharing_titles.specs.declared.titles.Rated.{Rated}
 use Rattle.sharing_titles.specs.Titles.{titles}
-use Rattle.sharing.specs.Verdict.{allowed, ordered, each_title}
+use Rattle.sharing.specs.Verdict.{allowed, ordered}
 use Rattle.sharing_titles.proofs.titles.Laws.{titles_length}
 use Rattle.sharing.proofs.verdict.Laws.{passed_next, passed_all}
 use Rattle.sharing.proofs.verdict.examine.Goals as goal
@@ -18,18 +18,6 @@ loop-i-init c = (refl, refl)
 
 pub title_at-t-requires : goal.title_at-t-requires
 title_at-t-requires c = record { same_lengths = c.requires; i_in_bounds = c.loop-i-test.true }
-
-pub allowed-requires : goal.allowed-requires
-allowed-requires c = tt
-
-pub also-good-requires : goal.also-good-requires
-also-good-requires c = tt
-
-pub also-kept-requires : goal.also-kept-requires
-also-kept-requires c = tt
-
-pub loop-i-smaller : goal.loop-i-smaller
-loop-i-smaller c = omega arith
 
 pub loop-i-preserved : goal.loop-i-preserved
 unfolding ordered
@@ -43,9 +31,8 @@ loop-i-preserved c =
     omega (arith, at-loop-test.loop-i-test.true, titles_length _ _ _ _ s.requires) in
     let t = c.title_at-t.ensures in (
       passed_next allowed ts l.good _ l.i h
-          (c.also-good.ensures
-          ∙ ap (both l.good) (c.allowed.ensures ∙ ap allowed t)) l.invariant.0,
-      passed_next ordered ts l.kept _ l.i h (c.also-kept.ensures ∙ ap (λ (x : Rated). both l.kept (ordered x)) t)
+          (and_both l.good c.allowed-good.result ∙ ap (both l.good) (c.allowed-good.ensures ∙ ap allowed t)) l.invariant.0,
+      passed_next ordered ts l.kept _ l.i h (and_both l.kept (ordered c.title_at-t.result) ∙ ap (λ (x : Rated). both l.kept (ordered x)) t)
           l.invariant.1,
     )
 

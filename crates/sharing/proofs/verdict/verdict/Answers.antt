@@ -1,64 +1,50 @@
 -- `sharing::verdict::verdict` meets its contract: at each way out the tests before it say which refusal is the first
 -- (proofs/verdict/Laws).
-use mathlib.Core.Path.{◌≡◌, sym, ap₂, ◌∙◌}
-use mathlib.Core.Bool.{true}
+use mathlib.Core.Path.{refl, sym, ◌∙◌}
 use native.Mathlib.Omega.{arith}
-use borrow.Author.Rules.{rules}
-use Rattle.rules.specs.Limits.{both, within, pool_min, pool_max}
-use Rattle.sharing_titles.specs.Titles.{titles}
-use Rattle.sharing.specs.Verdict.{rows_fit, allowed, each_title}
+use Rattle.std.proofs.lemmas.Bool.{not-true, not-false}
+use Rattle.rules.proofs.Tests.{both_in, both_none}
 use Rattle.sharing.proofs.verdict.Laws.{fit, accepted}
 use Rattle.sharing.proofs.verdict.Laws.{refused_rows, refused_limits, refused_counts, refused_lanes}
-use Rattle.sharing.proofs.verdict.verdict.Tie as tie
-use Rattle.sharing.proofs.verdict.verdict.Lts as lts
-use Rattle.sharing.proofs.verdict.verdict.Reads as reads
 use Rattle.sharing.proofs.verdict.verdict.Goals as goal
 
--- past the first test the rows fit
-fits : (c : lts.Then1 tie.the-claims reads.Pre reads.Post) →
-    let a = c.args in
-    rows_fit a.rates.now a.lengths.now a.floors.now a.caps.now a.room ≡ true
-fits c = sym c.rows_fit.ensures ∙ c.if-rows_fit.true
+pub returns-then-not-rows_fit : goal.returns-then-not-rows_fit
+returns-then-not-rows_fit c = refused_rows _ _ _ _ _ _ (sym c.rows_fit.ensures ∙ c.if-not-rows_fit.true)
 
--- what the second test tests
-inside : (c : lts.After-also tie.the-claims reads.Pre reads.Post) →
-    let at-if1 = c in
-    let a = at-if1.args in
-    both (within pool_min pool_max a.pool)
-    (each_title allowed (titles a.rates.now a.lengths.now a.floors.now a.caps.now))
-    ≡ c.also-inside.result
-inside c = sym (c.also-inside.ensures ∙ ap₂ both c.within.ensures c.examine-t.ensures.limits)
+pub returns-then-not-within : goal.returns-then-not-within
+returns-then-not-within c =
+    refused_limits _ _ _ _ _ _ (sym c.rows_fit.ensures ∙ c.if-not-rows_fit.false)
+    (rw (sym c.within.ensures ∙ c.if-not-within.true) refl)
 
 pub examine-t-requires : goal.examine-t-requires
-examine-t-requires c = (fit _ _ _ _ _ (fits c.before)).even
+examine-t-requires c = (fit _ _ _ _ _ (sym c.rows_fit.ensures ∙ c.if-not-rows_fit.false)).even
+
+pub returns-then-not-t : goal.returns-then-not-t
+returns-then-not-t c =
+    refused_limits _ _ _ _ _ _ (sym c.rows_fit.ensures ∙ c.if-not-rows_fit.false)
+    (rw (sym c.examine-t.ensures.limits ∙ not-true _ c.if-not-t.true) (both_none _))
+
+pub returns-then-not-t-2 : goal.returns-then-not-t-2
+returns-then-not-t-2 c =
+    refused_counts _ _ _ _ _ _ (sym c.rows_fit.ensures ∙ c.if-not-rows_fit.false)
+    (both_in _ _ (sym c.within.ensures ∙ c.if-not-within.false) (sym c.examine-t.ensures.limits ∙ not-false _ c.if-not-t.false))
+    (sym c.examine-t.ensures.order ∙ not-true _ c.if-not-t-2.true)
 
 pub floor_total-requires : goal.floor_total-requires
 floor_total-requires c =
-    let f = fit _ _ _ _ _ (fits c.before.before.before.before.before.before) in
+    let f = fit _ _ _ _ _ (sym c.rows_fit.ensures ∙ c.if-not-rows_fit.false) in
     omega (arith, f.few, f.even.third)
 
 pub returns-then-pool-floor_total : goal.returns-then-pool-floor_total
 returns-then-pool-floor_total c =
-    let t = c in
-    refused_lanes _ _ _ _ _ _ (fits c.before.before.before.before.before.before.before.before) (inside c.before.before.before.before.before ∙ t.if-inside.true)
-    (sym t.examine-t.ensures.order ∙ c.if-kept.true)
+    refused_lanes _ _ _ _ _ _ (sym c.rows_fit.ensures ∙ c.if-not-rows_fit.false)
+    (both_in _ _ (sym c.within.ensures ∙ c.if-not-within.false) (sym c.examine-t.ensures.limits ∙ not-false _ c.if-not-t.false))
+    (sym c.examine-t.ensures.order ∙ not-false _ c.if-not-t-2.false)
     (omega (arith, c.if-pool-floor_total.true, c.floor_total.ensures))
 
-pub returns-then-kept : goal.returns-then-kept
-returns-then-kept c =
-    let t = c in
-    accepted _ _ _ _ _ _ (fits c.before.before.before.before.before.before.before.before) (inside c.before.before.before.before.before ∙ t.if-inside.true)
-    (sym t.examine-t.ensures.order ∙ c.if-kept.true)
-    (omega (arith, c.if-pool-floor_total.false, c.floor_total.ensures))
-
-pub returns-then-inside : goal.returns-then-inside
-returns-then-inside c =
-    let t = c in
-    refused_counts _ _ _ _ _ _ (fits c.before.before.before.before.before.before) (inside c.before.before.before ∙ t.if-inside.true)
-    (sym t.examine-t.ensures.order ∙ c.if-kept.false)
-
-pub returns-then-rows_fit : goal.returns-then-rows_fit
-returns-then-rows_fit c = refused_limits _ _ _ _ _ _ (fits c.before.before.before.before.before) (inside c.before.before ∙ c.if-inside.false)
-
 pub returns : goal.returns
-returns c = refused_rows _ _ _ _ _ _ (sym c.rows_fit.ensures ∙ c.if-rows_fit.false)
+returns c =
+    accepted _ _ _ _ _ _ (sym c.rows_fit.ensures ∙ c.if-not-rows_fit.false)
+    (both_in _ _ (sym c.within.ensures ∙ c.if-not-within.false) (sym c.examine-t.ensures.limits ∙ not-false _ c.if-not-t.false))
+    (sym c.examine-t.ensures.order ∙ not-false _ c.if-not-t-2.false)
+    (omega (arith, c.if-pool-floor_total.false, c.floor_total.ensures))

@@ -4,7 +4,6 @@ use Prim.Native.Nat.{ℕ, ◌+◌, ◌-◌}
 use native.Mathlib.Omega.{arith}
 use Rattle.sharing_titles.specs.Titles.{titles, row_total}
 use Rattle.sharing_choice.specs.Choice.{shared}
-use borrow.Author.Rules.{rules}
 use Rattle.sharing_choice.proofs.giving.fill.Goals as goal
 
 pub returns : goal.returns

@@ -1,12 +1,11 @@
--- `giving::give` meets its contract. The loop's invariant: the counts are those after `given` lanes
+-- `giving::give` meets its contract. The loop's invariant: the counts are those after `counter` lanes
 -- (proofs/giving/Laws), which after the last one are the shared counts.
 use mathlib.Core.Path.{◌≡◌, sym, ap, ap₂, subst, ◌∙◌}
 use mathlib.Core.List.{List}
-use mathlib.Core.Logic.{inl, inr, ⊎_elim}
-use Prim.Native.Nat.{ℕ, ◌≤◌, ◌-◌, ◌+◌, ◌<◌}
+use mathlib.Core.Logic.{inl, inr}
+use Prim.Native.Nat.{ℕ, ◌+◌, ◌<◌}
 use native.Mathlib.Omega.{arith}
 use lib.ListN.{length}
-use borrow.Author.Rules.{rules}
 use Rattle.sharing_titles.specs.Titles.{titles, row_total}
 use Rattle.sharing_choice.specs.Choice.{shared}
 use Rattle.sharing_titles.proofs.titles.Laws.{titles_length, titles_floors}
@@ -17,28 +16,28 @@ use Rattle.sharing_choice.proofs.giving.give.Reads as reads
 use Rattle.sharing_choice.proofs.giving.give.Goals.{then-at-rates, else-at-rates}
 use Rattle.sharing_choice.proofs.giving.give.Goals as goal
 
-pub loop-given-init : goal.loop-given-init
-loop-given-init c =
+pub loop-init : goal.loop-init
+loop-init c =
     let s = c in
     let ts = titles s.args.rates.now s.args.lengths.now s.args.floors.now s.args.caps.now in
     let e = titles_floors _ _ _ _ s.requires.sound.even ∙ sym s.requires.counts_value in
-    (omega arith, subst (λ (l : List ℕ). Progress ts 0 l) e (begins ts s.requires.sound.weighable))
+    subst (λ (l : List ℕ). Progress ts 0 l) e (begins ts s.requires.sound.weighable)
 
 pub next_title-at-requires : goal.next_title-at-requires
 next_title-at-requires c =
     let at-loop = c in
-    record { sound = at-loop.requires.sound; way = at-loop.loop-given.invariant.1.way }
+    record { sound = at-loop.requires.sound; way = at-loop.loop.invariant.way }
 
 -- where a lane is given, the place is a title's, and has a count
-inside : (c : lts.Then1 tie.the-claims reads.Pre reads.Post goal.the-invariant-loop-given goal.the-decreases-loop-given tie.handed_clauses) →
+inside : (c : lts.Then1 tie.the-claims reads.Pre reads.Post goal.the-invariant-loop goal.the-decreases-loop tie.handed_clauses) →
     let at-loop = c in
     let s = at-loop in
     let ts = titles s.args.rates.now s.args.lengths.now s.args.floors.now s.args.caps.now in
-    (c.next_title-at.result < length ts) × (length at-loop.loop-given.counts ≡ length ts)
+    (c.next_title-at.result < length ts) × (length at-loop.loop.counts ≡ length ts)
 inside c =
     let at-loop = c in
     let n = titles_length _ _ _ _ at-loop.requires.sound.even in
-    (omega (arith, c.if-at-rates.true, n), at-loop.loop-given.invariant.1.way.places)
+    (omega (arith, c.if-at-rates.true, n), at-loop.loop.invariant.way.places)
 
 pub bounds-counts-at : goal.bounds-counts-at
 bounds-counts-at c = omega (arith, inside c.before.before)
@@ -50,28 +49,23 @@ overflow_add-counts c =
     let l = (inside c.before.before).0 in
     omega (
       arith,
-      at-loop.loop-given.invariant.1.way.high at l,
+      at-loop.loop.invariant.way.high at l,
       (at-loop.requires.sound.weighable.each at l).cap_high,
     )
 
 pub bounds-counts-at-then-at-rates : goal.bounds-counts-at-then-at-rates
 bounds-counts-at-then-at-rates c = omega (arith, inside c.before.before)
 
-pub loop-given-smaller : goal.loop-given-smaller
-loop-given-smaller c = omega arith
-
-pub loop-given-preserved : goal.loop-given-preserved
-loop-given-preserved c =
+pub loop-preserved : goal.loop-preserved
+loop-preserved c =
     let at-loop = c in
     let s = at-loop in
     let n = titles_length _ _ _ _ s.requires.sound.even in
-    let next = goes_on _ s.requires.sound.weighable at-loop.loop-given.invariant.1 c.next_title-at.ensures in (
-      omega arith,
-      elim c.if-at-rates.branch [
-        | then-at-rates w ↦ next (inl (omega (arith, w.if-at-rates.true, n), w.counts-is))
-        | else-at-rates w ↦ next (inr (omega (arith, w.if-at-rates.false, n), w.counts-is))
-      ],
-    )
+    let next = goes_on _ s.requires.sound.weighable at-loop.loop.invariant c.next_title-at.ensures in
+    elim c.if-at-rates.branch [
+      | then-at-rates w ↦ next (inl (omega (arith, w.if-at-rates.true, n), w.counts-is))
+      | else-at-rates w ↦ next (inr (omega (arith, w.if-at-rates.false, n), w.counts-is))
+    ]
 
 pub shape_of-counts : goal.shape_of-counts
 shape_of-counts c =
@@ -79,7 +73,7 @@ shape_of-counts c =
     let even = s.requires.sound.even in
     omega (
       arith,
-      c.loop-given.invariant.1.way.places,
+      c.loop.invariant.way.places,
       titles_length _ _ _ _ even,
       even.third,
       ap length s.requires.counts_value,
@@ -89,6 +83,6 @@ pub returns : goal.returns
 returns c =
     let s = c in
     let ts = titles s.args.rates.now s.args.lengths.now s.args.floors.now s.args.caps.now in
-    let e : c.loop-given.given ≡ s.args.spare = omega (arith, c.loop-given-test.false, c.loop-given.invariant.0) in
-    ends ts s.requires.sound.weighable c.loop-given.given c.loop-given.counts c.loop-given.invariant.1
+    let e : c.loop.counter ≡ s.args.spare = omega (arith, c.loop-test.false) in
+    ends ts s.requires.sound.weighable c.loop.counter c.loop.counts c.loop.invariant
     ∙ ap₂ (λ (f : List ℕ) (n : ℕ). shared (row_total f + n) ts) (titles_floors _ _ _ _ s.requires.sound.even) e

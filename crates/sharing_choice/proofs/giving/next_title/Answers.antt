@@ -1,11 +1,10 @@
 -- `giving::next_title` meets its contract. The loop's invariant: `best` leads among the titles passed
 -- (proofs/giving/Laws).
 use mathlib.Core.Path.{◌≡◌, subst, subst⁻¹, ◌∙◌, ap}
-use mathlib.Core.Logic.{inl, inr, ⊎_elim}
-use Prim.Native.Nat.{ℕ, ◌<◌, ◌-◌}
+use mathlib.Core.Logic.{inl, inr}
+use Prim.Native.Nat.{ℕ, ◌<◌}
 use native.Mathlib.Omega.{arith}
 use lib.ListN.{length, get_or}
-use borrow.Author.Rules.{rules}
 use Rattle.sharing_titles.specs.declared.titles.Rated.{Rated}
 use Rattle.sharing_titles.specs.Titles.{titles, rated_title}
 use Rattle.sharing_titles.specs.inner.Weighing.{Weighable}
@@ -51,9 +50,6 @@ gain-worth-requires c =
     let l = inside c.before.before.before in
     let w = at-loop.requires.sound.weighable.each i l in
     subst⁻¹ Weighable c.title_at-t.ensures w
-
-pub loop-i-smaller : goal.loop-i-smaller
-loop-i-smaller c = omega arith
 
 pub loop-i-preserved : goal.loop-i-preserved
 loop-i-preserved c =

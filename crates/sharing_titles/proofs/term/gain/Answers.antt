@@ -1,8 +1,6 @@
 -- `term::gain` meets its contract: below the cap it is rate x tick x the slot of one lane more, which is as
 -- much as falls, and it fits 64 bits (proofs/term/Laws).
 use Prim.Native.Nat.{◌*◌, ◌≤◌, ◌<◌, ◌^◌}
-use native.Mathlib.Omega.{arith}
-use borrow.Author.Rules.{rules}
 use borrow.Author.Tests.{lt-ltb, le-ltb}
 use Rattle.rules.specs.Limits.{count_max, length_max}
 use Rattle.sharing_titles.specs.Term.{worth}
@@ -17,9 +15,6 @@ room : (c : lts.After-slot tie.the-claims reads.Pre reads.Post tie.handed_clause
 room c =
     let w = c.requires in
     slot_fits c.tick-tick.ensures.high w.length_high c.slot.ensures.high
-
-pub overflow_mul-slot : goal.overflow_mul-slot
-overflow_mul-slot c = omega (arith, room c)
 
 pub overflow_mul-result : goal.overflow_mul-result
 overflow_mul-result c =

@@ -1,6 +1,5 @@
 -- `titles::title_at` meets its contract: the four numbers at a place are the title there (`titles_at_lem`).
 use mathlib.Core.Path.{sym}
-use borrow.Author.Rules.{rules}
 use Rattle.sharing_titles.proofs.titles.Laws.{titles_at_lem}
 use Rattle.sharing_titles.proofs.titles.title_at.Goals as goal
 

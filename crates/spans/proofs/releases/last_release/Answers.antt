@@ -11,7 +11,7 @@ tick-tick-requires c = record { length = c.requires.film.sized; floor_cap = c.re
 
 pub loop-lane-init : goal.loop-lane-init
 unfolding released_to
-loop-lane-init c = (omega arith, refl, refl)
+loop-lane-init c = refl
 
 pub later-moment-requires : goal.later-moment-requires
 later-moment-requires c = let at-loop = c in
@@ -19,24 +19,18 @@ later-moment-requires c = let at-loop = c in
     let at_start = at_tick in
     let film = at_start.requires.film in
     let tick = at_tick.tick-tick.ensures in
-    record { timed = at_start.requires; lane_lt_count_max = (omega (arith, film.cut.high, at-loop.loop-lane.invariant.2, c.loop-lane-test.true), (tick.is, omega (arith, tick.high, film.sized.high))) }
+    record { timed = at_start.requires; lane_lt_count_max = (omega (arith, film.cut.high, c.loop-lane-test.true), (tick.is, omega (arith, tick.high, film.sized.high))) }
 
 pub loop-lane-preserved : goal.loop-lane-preserved
 unfolding released_to
 loop-lane-preserved c =
     let at-loop-test = c in
     let at-loop = at-loop-test in
-    (omega (arith, at-loop.loop-lane.invariant.2, at-loop-test.loop-lane-test.true), rw (add-one, ← at-loop.loop-lane.invariant.1) c.later-moment.ensures, at-loop.loop-lane.invariant.2)
+    rw (add-one, ← at-loop.loop-lane.invariant) c.later-moment.ensures
 
 pub returns : goal.returns
 returns c =
     let at-loop = c in
     let at_start = at-loop in
-    let all = le_antisymm at-loop.loop-lane.invariant.0 (omega (arith, at-loop.loop-lane.invariant.2, c.loop-lane-test.false)) in
-    at-loop.loop-lane.invariant.1 ∙ ap (released_to at_start.args.t) all
-
-pub overflow_add-lane : goal.overflow_add-lane
-overflow_add-lane c = omega arith
-
-pub loop-lane-smaller : goal.loop-lane-smaller
-loop-lane-smaller c = omega arith
+    let all = le_antisymm (omega arith) c.loop-lane-test.false in
+    at-loop.loop-lane.invariant ∙ ap (released_to at_start.args.t) all

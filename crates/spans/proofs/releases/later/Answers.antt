@@ -10,7 +10,7 @@ returns-then-ruling-lane c =
     let at-release-of = c in
     let at-if1 = at-release-of in
     let at-ruling = at-if1 in
-    rw (← at-ruling.ruling.ensures, le-leb _ _ at-if1.if-ruling-lane.true, ← at-release-of.release_of.ensures) c.larger.ensures
+    rw (← at-ruling.ruling.ensures, le-leb _ _ at-if1.if-ruling-lane.true, ← at-release-of.release_of.ensures) c.max.ensures
 
 pub returns : goal.returns
 unfolding later_of

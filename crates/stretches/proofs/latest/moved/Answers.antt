@@ -1,6 +1,5 @@
 -- `moved` meets its contract: each way out decides the test.
 use borrow.Author.Tests.{eq-eqb, ne_eqb}
-use borrow.Author.Rules.{rules}
 use Rattle.stretches.proofs.latest.moved.Goals as goal
 
 pub returns-then-end-eq0 : goal.returns-then-end-eq0

@@ -2,7 +2,6 @@
 use mathlib.Core.Path.{◌∙◌}
 use native.Mathlib.Omega.{arith}
 use Rattle.stretches.proofs.LowSteps.{length_first}
-use borrow.Author.Rules.{rules}
 use Rattle.stretches.proofs.low.length_at.Goals as goal
 
 pub returns-then-place-eq0 : goal.returns-then-place-eq0

@@ -1,15 +1,14 @@
 -- `nth_low` meets its contract: the first stretch that reaches past the number has the tick. Rests on the laws of stretches.
 use Prim.Native.Nat.{◌+◌, ◌-◌, ◌^◌, ◌≤◌, ◌<◌, min}
-use mathlib.Core.Path.{◌≡◌, refl, sym, ap, ap₂, ◌∙◌}
+use mathlib.Core.Path.{refl, sym, ap, ap₂, ◌∙◌}
 use native.Mathlib.Omega.{arith}
 use native.Mathlib.Nat.{le_antisymm}
 use Rattle.rules.specs.Limits.{count_max}
-use Rattle.rules.specs.Search.{first, how_many}
+use Rattle.rules.specs.Search.{how_many}
 use Rattle.story.specs.Life.{reach}
 use Rattle.story.specs.Kept.{kept_within}
 use Rattle.stretches.proofs.LowSteps.{tick_fits, Stepped, step, reach_low, found_low}
 use Rattle.stretches.proofs.BelowFloor.{step_owed, step_nth, none_left}
-use borrow.Author.Rules.{rules}
 use Rattle.stretches.proofs.low.nth_low.Tie as tie
 use Rattle.stretches.proofs.low.nth_low.Lts as lts
 use Rattle.stretches.proofs.low.nth_low.Reads as reads
@@ -40,7 +39,7 @@ loop-i-init c = (omega arith, refl, omega arith, omega arith)
 within : (at : lts.At-loop tie.the-claims reads.Pre reads.Post goal.the-invariant-loop-i goal.the-decreases-loop-i tie.handed_clauses) → at.args.at + at.loop-i.i < 2 ^ 64
 within at =
     let far = at in
-    tick_fits at.args.at at.loop-i.i far.smaller-end.result far.pow2-reach.result _ at.requires.lane_nonzero.1.1 at.loop-i.invariant.0 far.smaller-end.ensures far.pow2-reach.ensures.high
+    tick_fits at.args.at at.loop-i.i far.min-end.result far.pow2-reach.result _ at.requires.lane_nonzero.1.1 at.loop-i.invariant.0 far.min-end.ensures far.pow2-reach.ensures.high
 
 pub overflow_add-at : goal.overflow_add-at
 overflow_add-at c = record { fits = within c.before }
@@ -67,21 +66,21 @@ ticks_at-ticks-requires c = c.low_of-s.ensures.lower
 stepped : (c : lts.After-ticks_at tie.the-claims reads.Pre reads.Post goal.the-invariant-loop-i goal.the-decreases-loop-i tie.handed_clauses) →
     let at = c in
     let q = c in
-    Stepped at.smaller-end.result at.loop-i.i q.smaller-length.result q.length_at.result at.loop-i.owed c.ticks_at-ticks.result
+    Stepped at.min-end.result at.loop-i.i q.min-length.result q.length_at.result at.loop-i.owed c.ticks_at-ticks.result
 stepped c =
     let at = c in
     let q = c in
     let far = at in
-    step far.smaller-end.result at.loop-i.i q.smaller-length.result q.length_at.result at.loop-i.owed c.ticks_at-ticks.result far.pow2-reach.result _ _
-    far.smaller-end.ensures far.pow2-reach.ensures.high q.smaller-length.ensures q.length_at.ensures.some q.loop-i-test.true c.ticks_at-ticks.ensures at.loop-i.invariant.2
+    step far.min-end.result at.loop-i.i q.min-length.result q.length_at.result at.loop-i.owed c.ticks_at-ticks.result far.pow2-reach.result _ _
+    far.min-end.ensures far.pow2-reach.ensures.high q.min-length.ensures q.length_at.ensures.some q.loop-i-test.true c.ticks_at-ticks.ensures at.loop-i.invariant.2
 
 -- a tick that is found lies within reach
 within_reach : (c : lts.Then1 tie.the-claims reads.Pre reads.Post goal.the-invariant-loop-i goal.the-decreases-loop-i tie.handed_clauses) →
     let at = c in
-    at.loop-i.i + c.smaller-length.result ≤ at.pow2-reach.result
+    at.loop-i.i + c.min-length.result ≤ at.pow2-reach.result
 within_reach c =
     let far = c in
-    reach_low far.smaller-end.result far.pow2-reach.result _ _ far.smaller-end.ensures (stepped c.before).room
+    reach_low far.min-end.result far.pow2-reach.result _ _ far.min-end.ensures (stepped c.before).room
 
 found : (c : lts.Then1 tie.the-claims reads.Pre reads.Post goal.the-invariant-loop-i goal.the-decreases-loop-i tie.handed_clauses) →
     let at = c in
@@ -117,7 +116,7 @@ returns-then-nth-owed c =
           ap (λ x. at.loop-i.i + (a.nth - x)) at.loop-i.invariant.1
           ∙ step_nth a.t a.lane a.at low.low_of-s.result start.requires.fact start.requires.owing.film low.low_of-s.ensures
           at.loop-i.i q.length_at.result v.till_at.result cells.film_cells-cells.result q.length_at.ensures v.till_at.ensures cells.film_cells-cells.ensures
-          q.smaller-length.result v.ticks_at-ticks.result (reach a.t.film.cap) a.nth u.less v.ticks_at-ticks.ensures (rw n.ensures.is at (within_reach c)) (rw at.loop-i.invariant.1 at at.loop-i.invariant.3) (rw at.loop-i.invariant.1 at c.if-nth-owed.true);
+          q.min-length.result v.ticks_at-ticks.result (reach a.t.film.cap) a.nth u.less v.ticks_at-ticks.ensures (rw n.ensures.is at (within_reach c)) (rw at.loop-i.invariant.1 at at.loop-i.invariant.3) (rw at.loop-i.invariant.1 at c.if-nth-owed.true);
       low = omega arith;
       high = found c;
     }
@@ -145,7 +144,7 @@ loop-i-preserved c =
       ap (λ n. n + v.ticks_at-ticks.result) at.loop-i.invariant.1
           ∙ step_owed a.t a.lane a.at low.low_of-s.result start.requires.fact start.requires.owing.film low.low_of-s.ensures
           at.loop-i.i q.length_at.result v.till_at.result cells.film_cells-cells.result q.length_at.ensures v.till_at.ensures cells.film_cells-cells.ensures
-          q.smaller-length.result v.ticks_at-ticks.result u.less v.ticks_at-ticks.ensures,
+          q.min-length.result v.ticks_at-ticks.result u.less v.ticks_at-ticks.ensures,
       u.few,
       c.if-nth-owed.false,
     )
@@ -165,7 +164,7 @@ returns c =
       is =
           n.ensures.is
           ∙ sym (none_left a.t a.lane a.at low.low_of-s.result start.requires.fact start.requires.owing.film low.low_of-s.ensures till.till-late.result (reach a.t.film.cap) at.loop-i.i a.nth
-          till.till-late.ensures (e ∙ far.smaller-end.ensures ∙ ap₂ min n.ensures.is far.since.ensures) (rw at.loop-i.invariant.1 at at.loop-i.invariant.3));
+          till.till-late.ensures (e ∙ far.min-end.ensures ∙ ap₂ min n.ensures.is far.saturating_sub.ensures) (rw at.loop-i.invariant.1 at at.loop-i.invariant.3));
       low = omega arith;
       high = n.ensures.high;
     }

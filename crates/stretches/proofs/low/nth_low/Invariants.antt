@@ -1,15 +1,7 @@
 -- What the loop keeps, and what falls.
-use Prim.Native.Nat.{◌+◌, ◌-◌, ◌^◌, ◌≤◌, ◌<◌, min}
-use mathlib.Core.Path.{◌≡◌, refl, sym, ap, ap₂, ◌∙◌}
-use native.Mathlib.Omega.{arith}
-use native.Mathlib.Nat.{le_antisymm}
-use Rattle.rules.specs.Limits.{count_max}
-use Rattle.rules.specs.Search.{first, how_many}
-use Rattle.story.specs.Life.{reach}
+use Prim.Native.Nat.{◌-◌, ◌≤◌}
+use mathlib.Core.Path.{◌≡◌}
 use Rattle.story.specs.Kept.{kept_within}
-use Rattle.stretches.proofs.LowSteps.{tick_fits, Stepped, step, reach_low, found_low}
-use Rattle.stretches.proofs.BelowFloor.{step_owed, step_nth, none_left}
-use borrow.Author.Rules.{rules}
 use Rattle.stretches.proofs.low.nth_low.Given as goal
 
 abbrev pub invariant-loop-i : goal.invariant-loop-i

@@ -1,6 +1,6 @@
 -- `owed_low` meets its contract: the loop's number is that of the ticks passed. Rests on the laws of stretches.
-use Prim.Native.Nat.{◌+◌, ◌-◌, ◌^◌, ◌≤◌, ◌<◌, min}
-use mathlib.Core.Path.{◌≡◌, refl, ap, ap₂, ◌∙◌}
+use Prim.Native.Nat.{◌+◌, ◌^◌, ◌<◌, min}
+use mathlib.Core.Path.{refl, ap, ap₂, ◌∙◌}
 use native.Mathlib.Omega.{arith}
 use native.Mathlib.Nat.{le_antisymm}
 use Rattle.rules.specs.Search.{how_many}
@@ -8,7 +8,6 @@ use Rattle.story.specs.Life.{reach}
 use Rattle.story.specs.Kept.{kept_within}
 use Rattle.stretches.proofs.LowSteps.{tick_fits, Stepped, step}
 use Rattle.stretches.proofs.BelowFloor.{step_owed, all_within}
-use borrow.Author.Rules.{rules}
 use Rattle.stretches.proofs.low.owed_low.Tie as tie
 use Rattle.stretches.proofs.low.owed_low.Lts as lts
 use Rattle.stretches.proofs.low.owed_low.Reads as reads
@@ -39,7 +38,7 @@ loop-i-init c = (omega arith, refl, omega arith)
 within : (at : lts.At-loop tie.the-claims reads.Pre reads.Post goal.the-invariant-loop-i goal.the-decreases-loop-i tie.handed_clauses) → at.args.at + at.loop-i.i < 2 ^ 64
 within at =
     let far = at in
-    tick_fits at.args.at at.loop-i.i far.smaller-end.result far.pow2.result _ at.requires.lane_nonzero.1.1 at.loop-i.invariant.0 far.smaller-end.ensures far.pow2.ensures.high
+    tick_fits at.args.at at.loop-i.i far.min-end.result far.pow2.result _ at.requires.lane_nonzero.1.1 at.loop-i.invariant.0 far.min-end.ensures far.pow2.ensures.high
 
 pub overflow_add-at : goal.overflow_add-at
 overflow_add-at c = record { fits = within c.before }
@@ -66,13 +65,13 @@ ticks_at-owed-requires c = c.low_of-s.ensures.lower
 stepped : (c : lts.After-ticks_at tie.the-claims reads.Pre reads.Post goal.the-invariant-loop-i goal.the-decreases-loop-i tie.handed_clauses) →
     let at = c in
     let q = c in
-    Stepped at.smaller-end.result at.loop-i.i q.smaller-length.result q.length_at.result at.loop-i.owed c.ticks_at-owed.result
+    Stepped at.min-end.result at.loop-i.i q.min-length.result q.length_at.result at.loop-i.owed c.ticks_at-owed.result
 stepped c =
     let at = c in
     let q = c in
     let far = at in
-    step far.smaller-end.result at.loop-i.i q.smaller-length.result q.length_at.result at.loop-i.owed c.ticks_at-owed.result far.pow2.result _ _
-    far.smaller-end.ensures far.pow2.ensures.high q.smaller-length.ensures q.length_at.ensures.some q.loop-i-test.true c.ticks_at-owed.ensures at.loop-i.invariant.2
+    step far.min-end.result at.loop-i.i q.min-length.result q.length_at.result at.loop-i.owed c.ticks_at-owed.result far.pow2.result _ _
+    far.min-end.ensures far.pow2.ensures.high q.min-length.ensures q.length_at.ensures.some q.loop-i-test.true c.ticks_at-owed.ensures at.loop-i.invariant.2
 
 pub overflow_add-owed : goal.overflow_add-owed
 overflow_add-owed c = record { fits = (stepped c).sum_fits }
@@ -95,7 +94,7 @@ loop-i-preserved c =
       u.room,
       ap (λ n. n + c.ticks_at-owed.result) at.loop-i.invariant.1
           ∙ step_owed a.t a.lane a.at low.low_of-s.result start.requires.fact start.requires.owing.film low.low_of-s.ensures
-          at.loop-i.i q.length_at.result c.till_at.result cells.film_cells-cells.result q.length_at.ensures c.till_at.ensures cells.film_cells-cells.ensures q.smaller-length.result c.ticks_at-owed.result u.less c.ticks_at-owed.ensures,
+          at.loop-i.i q.length_at.result c.till_at.result cells.film_cells-cells.result q.length_at.ensures c.till_at.ensures cells.film_cells-cells.ensures q.min-length.result c.ticks_at-owed.result u.less c.ticks_at-owed.ensures,
       u.few,
     )
 
@@ -112,4 +111,4 @@ returns c =
     let e = le_antisymm at.loop-i.invariant.0 c.loop-i-test.false in
     at.loop-i.invariant.1
     ∙ all_within a.t a.lane a.at low.low_of-s.result start.requires.fact start.requires.owing.film low.low_of-s.ensures till.till-late.result _ at.loop-i.i
-    till.till-late.ensures (e ∙ far.smaller-end.ensures ∙ ap₂ min n.ensures.is far.since.ensures)
+    till.till-late.ensures (e ∙ far.min-end.ensures ∙ ap₂ min n.ensures.is far.saturating_sub.ensures)

@@ -5,7 +5,6 @@ use native.Mathlib.Omega.{arith}
 use native.Mathlib.Nat.{mod-lt}
 use Rattle.stretches.proofs.LowSteps.{width_pos, width_high, own_pos, own_high}
 use Rattle.stretches.proofs.Steps.{small}
-use borrow.Author.Rules.{rules}
 use Rattle.stretches.proofs.low.ticks_at.Tie as tie
 use Rattle.stretches.proofs.low.ticks_at.Lts as lts
 use Rattle.stretches.proofs.low.ticks_at.Reads as reads
@@ -48,6 +47,6 @@ pub returns : goal.returns
 returns c =
     let s = c in
     let p = c.place_at in
-    c.smaller-2.ensures
+    c.min-2.ensures
     ∙ rw
-    (c.smaller.ensures, c.since-2.ensures, c.since.ensures, p.ensures.is, s.requires.wide, s.requires.owns) refl
+    (c.min.ensures, c.saturating_sub-2.ensures, c.saturating_sub.ensures, p.ensures.is, s.requires.wide, s.requires.owns) refl

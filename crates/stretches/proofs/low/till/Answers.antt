@@ -9,13 +9,11 @@ use Rattle.rules.specs.Limits.{count_places}
 use Rattle.rules.specs.Refusals.{pick}
 use Rattle.grid.specs.Ticks.{slot as slot_of}
 use Rattle.measures.proofs.Within.{in_row}
-use Rattle.stretches.specs.inner.Walk.{IsMost}
 use Rattle.stretches.specs.inner.Low.{span_by}
 use Rattle.stretches.proofs.LatestBoxes.{most_yet, most_more}
 use Rattle.stretches.proofs.LowSlots.{span_wide, span_low}
 use Rattle.stretches.proofs.LowSteps.{width_high, own_high}
 use Rattle.stretches.proofs.Steps.{small}
-use borrow.Author.Rules.{rules}
 use Rattle.stretches.proofs.low.till.Tie as tie
 use Rattle.stretches.proofs.low.till.Lts as lts
 use Rattle.stretches.proofs.low.till.Reads as reads
@@ -33,7 +31,7 @@ overflow_mul-short c =
     record { fits = omega (arith, small s.args.s.width q.result (omega (arith, width_high s.args.s s.requires.lower)) q.ensures.high) }
 
 pub loop-count-init : goal.loop-count-init
-loop-count-init c = (omega arith, omega arith, most_yet _ _ _ _ (omega arith))
+loop-count-init c = most_yet _ _ _ _ (omega arith)
 
 -- the span is the definition's
 span_is : (c : lts.After-span_by tie.the-claims reads.Pre reads.Post goal.the-invariant-loop-count goal.the-decreases-loop-count tie.handed_clauses) →
@@ -49,7 +47,7 @@ wide : (c : lts.After-span_by tie.the-claims reads.Pre reads.Post goal.the-invar
 wide c =
     let l = c.loop-count in
     let a = c.args in
-    omega (arith, c.slot-width.ensures.is, span_is c, span_wide a.s.floor a.s.cap a.s.lane a.left l.count l.invariant.1 c.loop-count-test.true)
+    omega (arith, c.slot-width.ensures.is, span_is c, span_wide a.s.floor a.s.cap a.s.lane a.left l.count l.auto.count (omega arith))
 
 pub overflow_sub-span_by : goal.overflow_sub-span_by
 overflow_sub-span_by c = wide c.before
@@ -77,16 +75,14 @@ loop-count-preserved c =
     let a = s.args in
     let k = at.loop-count.count in
     let q = at.pow2.result in
-    let e = rw (v.span_by.ensures, v.slot-width.ensures.is) at c.moved.ensures in (
-      omega arith,
-      omega arith,
-      rw (add-one k, c.larger-most.ensures)
-          (most_more a.ends.now (λ c. pick (leb a.left (slot_of a.s.cap c)) (a.s.width * a.s.own) (a.s.width * q) - slot_of a.s.cap c) a.s.floor k at.loop-count.most c.moved.result at.loop-count.invariant.1 at.loop-count.invariant.2 e),
-    )
+    let e = rw (v.span_by.ensures, v.slot-width.ensures.is) at c.moved.ensures in
+    rw (add-one k, c.max-most.ensures)
+    (most_more a.ends.now (λ c. pick (leb a.left (slot_of a.s.cap c)) (a.s.width * a.s.own) (a.s.width * q) - slot_of a.s.cap c) a.s.floor k at.loop-count.most c.moved.result at.loop-count.auto.count at.loop-count.invariant e)
 
 pub returns : goal.returns
 unfolding span_by
 returns c =
     let l = c.loop-count in
     let s = c in
-    rw (le_antisymm l.invariant.0 c.loop-count-test.false, c.pow2.ensures.is, s.requires.lower.wide, s.requires.lower.owns) at l.invariant.2
+    let all : l.count ≡ suc s.args.s.cap = le_antisymm (omega (arith, l.auto.count-end)) (omega arith) in
+    rw (all, c.pow2.ensures.is, s.requires.lower.wide, s.requires.lower.owns) at l.invariant

@@ -1,7 +1,6 @@
 -- `till_at` meets its contract: of the first segment the ticks left decide, of another none.
 use mathlib.Core.Path.{sym, ◌∙◌}
 use Rattle.stretches.proofs.LowSteps.{till_first, till_later}
-use borrow.Author.Rules.{rules}
 use Rattle.stretches.proofs.low.till_at.Goals as goal
 
 pub returns-then-place-eq0 : goal.returns-then-place-eq0

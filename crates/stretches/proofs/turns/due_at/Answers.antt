@@ -3,7 +3,6 @@ use mathlib.Core.Path.{◌≡◌, refl, ap, ◌∙◌}
 use Rattle.scheme.specs.Scheme.{Scheme, steady_cell}
 use Rattle.scheme.proofs.ByKind.{steady_scheme}
 use Rattle.stretches.specs.inner.Turns.{turn_till, turn_due}
-use borrow.Author.Rules.{rules}
 use Rattle.stretches.proofs.turns.due_at.Goals as goal
 
 pub returns : goal.returns
@@ -14,11 +13,11 @@ returns c =
     let cell : c.lane_cell-cell.result ≡ steady_cell a.lane a.tick =
     c.lane_cell-cell.ensures.is
     ∙ ap (λ (S : Scheme). S.on_lane a.lane a.tick) (steady_scheme a.film.kind a.film.floor a.film.cap s.requires.kind_value.0) in
-    c.smaller.ensures
+    c.min.ensures
     ∙ rw (
-      c.since-2.ensures,
+      c.saturating_sub-2.ensures,
       c.film_cells.ensures,
-      c.since.ensures,
+      c.saturating_sub.ensures,
       cell,
       c.moved-till.ensures,
       c.period.ensures.is,

@@ -3,8 +3,6 @@ use Prim.Native.Nat.{min}
 use mathlib.Core.Path.{refl, ap, ◌∙◌}
 use native.Mathlib.Omega.{arith}
 use native.Mathlib.Nat.{mod-lt}
-use Rattle.scheme.specs.Scheme.{period}
-use borrow.Author.Rules.{rules}
 use Rattle.stretches.proofs.turns.turns_at.Goals as goal
 
 pub nonzero_rem-left : goal.nonzero_rem-left
@@ -26,6 +24,6 @@ returns c =
     let p = c.period-turn in
     record {
       left = rw p.ensures.is refl;
-      first = rw p.ensures.is at (c.smaller.ensures ∙ ap (min _) c.due_at.ensures);
+      first = rw p.ensures.is at (c.min.ensures ∙ ap (min _) c.due_at.ensures);
       second = rw p.ensures.is at c.due_at-2.ensures;
     }

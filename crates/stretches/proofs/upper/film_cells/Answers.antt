@@ -1,5 +1,4 @@
 -- `film_cells` meets its contract: the division rounds up.
-use borrow.Author.Rules.{rules}
 use Rattle.grid.specs.Ticks.{rounded_up}
 use Rattle.stretches.proofs.upper.film_cells.Goals as goal
 

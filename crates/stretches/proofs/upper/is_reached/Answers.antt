@@ -1,23 +1,19 @@
 -- `is_reached` meets its contract: each way out decides the tests up to it.
+use mathlib.Core.Logic.{⊎_elim}
 use native.Mathlib.Numerals.{add-one}
 use borrow.Author.Tests.{eq-eqb, ne_eqb, le-leb, lt-leb}
 use Rattle.stretches.specs.inner.Walk.{is_reached}
-use borrow.Author.Rules.{rules}
 use Rattle.stretches.proofs.upper.is_reached.Goals as goal
 
-pub returns-then-film-eq-STEADY : goal.returns-then-film-eq-STEADY
+pub returns-then-end-at : goal.returns-then-end-at
 unfolding is_reached
-returns-then-film-eq-STEADY c = simp (eq-eqb _ _ c.if-film-eq-STEADY.true)
+returns-then-end-at c =
+    let all = c.if-end-at.true in
+    simp (ne_eqb _ _ all.0, le-leb _ _ all.1, le-leb _ _ all.2, c.slot.ensures.is, add-one)
 
-pub returns-then-lane-film : goal.returns-then-lane-film
+pub returns-else-end-at : goal.returns-else-end-at
 unfolding is_reached
-returns-then-lane-film c = simp (ne_eqb _ _ c.if-film-eq-STEADY.false, lt-leb _ _ c.if-lane-film.true)
-
-pub returns-then-at-end : goal.returns-then-at-end
-unfolding is_reached
-returns-then-at-end c = simp (ne_eqb _ _ c.if-film-eq-STEADY.false, le-leb _ _ c.if-lane-film.false, lt-leb _ _ c.if-at-end.true)
-
-pub returns : goal.returns
-unfolding is_reached
-returns c =
-    simp (ne_eqb _ _ c.if-film-eq-STEADY.false, le-leb _ _ c.if-lane-film.false, le-leb _ _ c.if-at-end.false, c.slot.ensures.is, add-one)
+returns-else-end-at c =
+    let kind = c.args.film.kind in
+    ⊎_elim (λ a. simp (ne_eqb kind 1 a.0, le-leb c.args.film.floor c.args.lane a.1, lt-leb c.args.end c.args.at a.2) (cc))
+    (⊎_elim (λ a. simp (ne_eqb kind 1 a.0, lt-leb c.args.film.floor c.args.lane a.1) (cc)) (λ a. simp (eq-eqb kind 1 a) (cc))) c.if-end-at.either

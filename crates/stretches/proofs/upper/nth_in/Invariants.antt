@@ -1,19 +1,9 @@
--- What the loop keeps, and what falls.
-use Prim.Native.Nat.{◌-◌, ◌*◌, ◌^◌, ◌≤◌}
-use mathlib.Core.Path.{◌≡◌, refl}
-use mathlib.Core.Logic.{inl, inr}
-use native.Mathlib.Omega.{arith}
-use native.Mathlib.Numerals.{add-one}
-use native.Mathlib.Nat.{le_antisymm}
+-- What the loop keeps.
+use Prim.Native.Nat.{◌*◌, ◌^◌, ◌≤◌}
+use mathlib.Core.Path.{◌≡◌}
 use Rattle.rules.specs.Limits.{count_max}
-use Rattle.rules.specs.Search.{total}
 use Rattle.stretches.specs.inner.Walk.{ticks_to}
-use Rattle.stretches.proofs.Steps.{ticks_more, small}
-use borrow.Author.Rules.{rules}
 use Rattle.stretches.proofs.upper.nth_in.Given as goal
 
 abbrev pub invariant-loop-i : goal.invariant-loop-i
-invariant-loop-i l = (l.i ≤ l.lane) × (l.owed ≡ ticks_to l.s l.i) × (l.owed ≤ 2 ^ count_max * l.i) × (l.owed ≤ l.nth) × (l.lane ≡ l.s.lane)
-
-abbrev pub decreases-loop-i : goal.decreases-loop-i
-decreases-loop-i l = l.lane - l.i
+invariant-loop-i l = (l.owed ≡ ticks_to l.s l.i) × (l.owed ≤ 2 ^ count_max * l.i) × (l.owed ≤ l.nth)

@@ -3,7 +3,6 @@ use mathlib.Core.Path.{◌∙◌}
 use Prim.Native.Nat.{◌-◌, ◌*◌}
 use native.Mathlib.Omega.{arith}
 use Rattle.stretches.proofs.Steps.{ticks_short, ticks_past, ticks_here, small}
-use borrow.Author.Rules.{rules}
 use Rattle.stretches.proofs.upper.ticks_on.Goals as goal
 
 pub returns-then-span-rest : goal.returns-then-span-rest
@@ -46,8 +45,8 @@ returns c =
     let e = ticks_here a.s a.channel (rw (r.ensures.is, p.ensures.is) at here.if-span-rest.false) (rw r.ensures.is at late.if-until-s.false) in
     record {
       is =
-          c.smaller-2.ensures
-          ∙ rw (c.smaller.ensures, c.since-film.ensures, r.ensures.is, p.ensures.is) e;
+          c.min-2.ensures
+          ∙ rw (c.min.ensures, c.saturating_sub-film.ensures, r.ensures.is, p.ensures.is) e;
       low = omega arith;
-      high = omega (arith, c.smaller-2.ensures, s.requires.walk.width);
+      high = omega (arith, c.min-2.ensures, s.requires.walk.width);
     }

@@ -10,7 +10,6 @@ use Rattle.rules.proofs.Tests.{pick_true, pick_false}
 use Rattle.grid.specs.Ticks.{rounded_up}
 use Rattle.story.specs.Life.{tick_by}
 use Rattle.stretches.proofs.Steps.{walk_parts}
-use borrow.Author.Rules.{rules}
 use Rattle.stretches.proofs.upper.walk_of.Goals as goal
 
 pub overflow_add-turn : goal.overflow_add-turn

@@ -1,37 +1,22 @@
 -- `strips::doors::put_held` meets its contract: the strip where it is new, else nothing.
 use Rattle.text.specs.Texts.{text}
-use Rattle.text.proofs.Pages.{puts_then}
+use Rattle.text.proofs.Pages.{then}
 use Rattle.strips.specs.Doors.{held_text}
 use Rattle.strips.proofs.Marked.{new_mark, old_mark}
 use Rattle.strips.proofs.doors.put_held.Goals as goal
 
 pub returns-then-claim : goal.returns-then-claim
 unfolding text held_text
-returns-then-claim c = let at-put-rect-end = c in
-    let at-put-clock2 = at-put-rect-end in
-    let at-put2 = at-put-clock2 in
-    let at-put-clock = at-put2 in
-    let at-put = at-put-clock in
-    let at-put-rect = at-put in
-    let at-since = at-put-rect in
-    let at-if1 = at-since in
-    let at-claim = at-if1 in
-    let at_end = at-claim in
-    let at_place = at_end in
-    let at-kept-in = at_place in
-    rw (← at-kept-in.kept_in-j.ensures.is, ← at_place.place-x.ensures.is, ← at_end.end-right.ensures.is, ← at-since.since.ensures) record {
-      written = new_mark _ _ _ _ _ at-claim.claim.ensures.0 at-if1.if-claim.true (puts_then _ _ _ (puts_then _ _ _ (puts_then _ _ _ (puts_then _ _ _ (puts_then _ _ _ at-put-rect.put_rect-a.ensures
-          at-put.put-b.ensures)
-          at-put-clock.put_clock-c.ensures)
-          at-put2.put-d.ensures)
-          at-put-clock2.put_clock-e.ensures)
-          at-put-rect-end.put_rect_end.ensures);
-      kept_after = at-claim.claim.ensures.1;
+returns-then-claim c =
+    rw (← c.kept_in-j.ensures.is, ← c.place-x.ensures.is, ← c.end-right.ensures.is, ← c.since.ensures) record {
+      written =
+          new_mark _ _ _ c.claim.ensures.0 c.if-claim.true
+          (then (then (then (then (then c.put_rect.ensures c.put.ensures) c.put_clock.ensures) c.put-then-claim.ensures) c.put_clock-then-claim.ensures) c.put_rect_end.ensures);
+      kept_after = c.claim.ensures.1;
     }
 
-pub returns : goal.returns
+pub returns-else-claim : goal.returns-else-claim
 unfolding held_text
-returns c = let at-claim = c in
-    let at_end = at-claim in
-    let at-kept-in = at_end in
-    rw (← at-kept-in.kept_in-j.ensures.is, ← at_end.end-right.ensures.is) record { written = old_mark _ _ _ _ at-claim.claim.ensures.0 c.if-claim.false; kept_after = at-claim.claim.ensures.1 }
+returns-else-claim c =
+    rw (← c.kept_in-j.ensures.is, ← c.end-right.ensures.is)
+    record { written = old_mark _ _ _ c.claim.ensures.0 c.if-claim.false; kept_after = c.claim.ensures.1 }

@@ -1,17 +1,9 @@
 -- `strips::lanes::put_tail` meets its contract: its parts are written one behind the other.
 use Rattle.text.specs.Texts.{text}
-use Rattle.text.proofs.Pages.{puts_then}
+use Rattle.text.proofs.Pages.{then}
 use Rattle.strips.specs.Lanes.{tail_text}
 use Rattle.strips.proofs.lanes.put_tail.Goals as goal
 
 pub returns : goal.returns
 unfolding text tail_text
-returns c =
-    let at-put-path-end = c in
-    let at-put-step = at-put-path-end in
-    let at-put-point = at-put-step in
-    let at-put-path = at-put-point in
-    puts_then _ _ _ (puts_then _ _ _ (puts_then _ _ _ at-put-path.put_path-a.ensures
-    at-put-point.put_point-b.ensures)
-    at-put-step.put_step-c.ensures)
-    at-put-path-end.put_path_end.ensures
+returns c = then (then (then c.put_path.ensures c.put_point.ensures) c.put_step.ensures) c.put_path_end.ensures

@@ -10,7 +10,7 @@ returns c =
     let at_place = at-place2 in
     let at_start = at_place in
     record {
-      is = end_is at_start.args.s at_start.args.from at_start.args.to _ _ _ at_place.place.ensures.is at-place2.place-2.ensures.is c.larger.ensures;
-      low = omega (arith, at_place.place.ensures.low, c.larger.ensures);
-      high = omega (arith, at_place.place.ensures.high, at-place2.place-2.ensures.high, c.larger.ensures, at-struct-known.struct_known-1.given.1.1.1.0.fits);
+      is = end_is at_start.args.s at_start.args.from at_start.args.to _ _ _ at_place.place.ensures.is at-place2.place-2.ensures.is c.max.ensures;
+      low = omega (arith, at_place.place.ensures.low, c.max.ensures);
+      high = omega (arith, at_place.place.ensures.high, at-place2.place-2.ensures.high, c.max.ensures, at-struct-known.struct_known-1.given.1.1.1.0.fits);
     }

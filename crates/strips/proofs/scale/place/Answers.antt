@@ -3,16 +3,6 @@ use native.Mathlib.Omega.{arith}
 use Rattle.strips.proofs.Scales.{product_low, place_is}
 use Rattle.strips.proofs.scale.place.Goals as goal
 
-pub overflow_mul-result : goal.overflow_mul-result
-overflow_mul-result c =
-    let at_part = c in
-    record { fits = omega (arith, product_low _ _ _ at_part.part.ensures.1 c.struct_known-1.given.1.1.0.fits c.struct_known-1.given.1.1.1.0.fits) }
-
-pub overflow_add-result : goal.overflow_add-result
-overflow_add-result c =
-    let at_part = c in
-    record { fits = omega (arith, product_low _ _ _ at_part.part.ensures.1 c.struct_known-1.given.1.1.0.fits c.struct_known-1.given.1.1.1.0.fits) }
-
 pub returns : goal.returns
 returns c =
     let at_part = c in

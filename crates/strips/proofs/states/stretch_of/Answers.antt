@@ -8,7 +8,7 @@ pub returns-then-t-eq-ABSENT : goal.returns-then-t-eq-ABSENT
 unfolding stretch_since
 returns-then-t-eq-ABSENT c =
     let at-if1 = c in
-    rw (eq-eqb _ _ at-if1.if-t-eq-ABSENT.true) c.none.ensures
+    rw (eq-eqb _ _ at-if1.if-t-eq-ABSENT.true) refl
 
 pub returns-then-lane-ruling : goal.returns-then-lane-ruling
 unfolding stretch_since
@@ -16,11 +16,6 @@ returns-then-lane-ruling c =
     let at-ruling = c in
     let at-if1 = at-ruling in
     rw (ne_eqb _ _ at-if1.if-t-eq-ABSENT.false, ← at-ruling.ruling.ensures, lt-ltb _ _ c.if-lane-ruling.true) refl
-
-pub sending-requires : goal.sending-requires
-sending-requires c = let at-if1 = c in
-    let at_start = at-if1 in
-    record { timed = at_start.requires.timed at-if1.if-t-eq-ABSENT.false; lane_lt_count_max = at_start.requires.lane_lt_count_max }
 
 pub returns : goal.returns
 unfolding stretch_since

@@ -6,5 +6,5 @@ use Rattle.sums.proofs.moves.chosen.Goals as goal
 pub returns-then-bit-eq1 : goal.returns-then-bit-eq1
 returns-then-bit-eq1 c = rw (eq-eqb _ _ c.if-bit-eq1.true) refl
 
-pub returns : goal.returns
-returns c = rw (ne_eqb _ _ c.if-bit-eq1.false) refl
+pub returns-else-bit-eq1 : goal.returns-else-bit-eq1
+returns-else-bit-eq1 c = rw (ne_eqb _ _ c.if-bit-eq1.false) refl

@@ -1,10 +1,9 @@
 -- `far` meets its contract. The invariant: k is where the highest bit comes to by as many bytes as the bits passed spell.
 -- Rests on the laws of moves.
-use Prim.Native.Nat.{ℕ, suc, ◌+◌, ◌-◌, ◌*◌, ◌/◌, ◌%◌, ◌≤◌, ◌<◌, ◌^◌}
+use Prim.Native.Nat.{ℕ, suc, ◌+◌, ◌-◌, ◌*◌, ◌/◌, ◌%◌, ◌<◌, ◌^◌}
 use mathlib.Core.Path.{◌≡◌, refl, sym, ap, ◌∙◌}
 use native.Mathlib.Omega.{arith}
 use native.Mathlib.Nat.{div-eq_of_lt, div-div-eq-div-mul, div-one, mod-lt}
-use borrow.Author.Rules.{rules}
 use Rattle.sums.specs.Crc.{shifted_by}
 use Rattle.sums.specs.inner.Moves.{highest, moved_to}
 use Rattle.sums.proofs.moves.Linear.{by_add}
@@ -31,27 +30,22 @@ step n l k s z p e small f g =
     g ∙ ap (shifted_by (8 * (q % 2))) j ∙ by_add (8 * (q % 2)) (m + m) highest ∙ ap (λ x. shifted_by x highest) o
 
 pub loop-left-init : goal.loop-left-init
-loop-left-init c = (c.bits_of-left.ensures.1, start c.args.bytes c.bits_of-left.result c.bits_of-left.ensures.0)
+loop-left-init c = start c.args.bytes c.bits_of-left.result c.bits_of-left.ensures.0
 
 pub with_zero-k-requires : goal.with_zero-k-requires
 with_zero-k-requires c = mod-lt (c.args.bytes / 2 ^ (c.loop-left.left - 1)) (omega arith)
-
-pub loop-left-smaller : goal.loop-left-smaller
-loop-left-smaller c = omega (arith, c.loop-left-test.true)
 
 pub loop-left-preserved : goal.loop-left-preserved
 loop-left-preserved c =
     let m = c.before in
     let l = m.loop-left in
-    let a = m.args in (
-      omega (arith, l.invariant.0),
-      step a.bytes l.left l.k m.moved.result _ m.loop-left-test.true l.invariant.1 m.moved.ensures.1 m.moved.ensures.0
-          c.with_zero-k.ensures,
-    )
+    let a = m.args in
+    step a.bytes l.left l.k m.moved.result _ m.loop-left-test.true l.invariant m.moved.ensures.1 m.moved.ensures.0
+    c.with_zero-k.ensures
 
 pub returns : goal.returns
 returns c =
     let l = c.loop-left in
     let a = c.args in
     let e : l.left ≡ 0 = omega (arith, c.loop-left-test.false) in
-    l.invariant.1 ∙ ap (λ i. shifted_by (8 * (a.bytes / 2 ^ i)) highest) e ∙ ap (λ n. shifted_by (8 * n) highest) (div-one a.bytes)
+    l.invariant ∙ ap (λ i. shifted_by (8 * (a.bytes / 2 ^ i)) highest) e ∙ ap (λ n. shifted_by (8 * n) highest) (div-one a.bytes)

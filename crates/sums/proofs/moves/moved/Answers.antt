@@ -1,29 +1,24 @@
 -- `moved` meets its contract: after i rounds i bits are where k has come to.
-use Prim.Native.Nat.{◌≤◌, ◌-◌}
-use mathlib.Core.Path.{◌≡◌, refl, ap, ap₂, ◌∙◌}
+use mathlib.Core.Path.{refl, ap, ap₂, ◌∙◌}
 use native.Mathlib.Omega.{arith}
-use native.Mathlib.Nat.{le_antisymm}
 use native.Mathlib.Numerals.{add-one}
 use lib.Bits.{bit_xor}
-use borrow.Author.Rules.{rules}
 use Rattle.sums.specs.Crc.{shifted}
 use Rattle.sums.specs.inner.Moves.{moved_to}
 use Rattle.sums.proofs.moves.moved.Goals as goal
 
 pub loop-i-init : goal.loop-i-init
 unfolding moved_to
-loop-i-init c = (omega arith, refl)
+loop-i-init c = refl
 
 pub loop-i-preserved : goal.loop-i-preserved
 unfolding moved_to
 loop-i-preserved c =
-    let l = c.loop-i in (
-      omega (arith, c.loop-i-test.true),
-      rw add-one (ap₂ bit_xor (c.shift.ensures ∙ ap shifted l.invariant.1) c.chosen.ensures),
-    )
+    let l = c.loop-i in
+    rw add-one (ap₂ bit_xor (c.shift.ensures ∙ ap shifted l.invariant) c.chosen.ensures)
 
 pub returns : goal.returns
 returns c =
     let l = c.loop-i in
     let s = c.before.before in
-    (l.invariant.1 ∙ ap (moved_to s.args.x s.args.k) (le_antisymm l.invariant.0 c.loop-i-test.false), s.ranges.x.fits)
+    (l.invariant ∙ ap (moved_to s.args.x s.args.k) (omega arith), s.ranges.x.fits)

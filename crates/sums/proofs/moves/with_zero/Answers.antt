@@ -3,7 +3,6 @@ use Prim.Native.Nat.{ℕ, ◌*◌, ◌<◌}
 use mathlib.Core.Path.{◌≡◌, refl, ap, ◌∙◌}
 use native.Mathlib.Omega.{arith}
 use lib.Bits.{xor_zero_r}
-use borrow.Author.Rules.{rules}
 use Rattle.sums.specs.Crc.{shifted_by}
 use Rattle.sums.proofs.moves.with_zero.Goals as goal
 
@@ -16,5 +15,5 @@ returns-then-bit-eq1 c =
     let s = c.before.before in
     rw c.if-bit-eq1.true (c.with_byte.ensures ∙ ap (shifted_by 8) (xor_zero_r s.args.r))
 
-pub returns : goal.returns
-returns c = none c.args.bit c.args.r c.requires c.if-bit-eq1.false
+pub returns-else-bit-eq1 : goal.returns-else-bit-eq1
+returns-else-bit-eq1 c = none c.args.bit c.args.r c.requires c.if-bit-eq1.false

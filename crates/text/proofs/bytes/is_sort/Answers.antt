@@ -1,6 +1,5 @@
 -- `text::bytes::is_sort` meets its contract: each arm is a case of the definition.
 use Rattle.text.specs.Bytes.{is_sort}
-use borrow.Author.Rules.{rules}
 use Rattle.text.proofs.bytes.is_sort.Goals as goal
 
 pub returns-in-Separator : goal.returns-in-Separator

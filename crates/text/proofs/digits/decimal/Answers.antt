@@ -1,10 +1,10 @@
 -- `text::digits::decimal` meets its contract: the digits of what is left, before those stored, are the digits of the
 -- whole.
-use Prim.Native.Nat.{◌+◌, ◌-◌, ◌%◌, ◌≤◌}
-use mathlib.Core.Path.{◌≡◌, refl, ◌∙◌}
+use Prim.Native.Nat.{ℕ, ◌+◌, ◌-◌, ◌%◌}
+use mathlib.Core.Path.{◌≡◌, refl, sym, ◌∙◌, ap}
 use native.Mathlib.Omega.{arith}
-use lib.ListN.{length, drop, length-set}
-use Rattle.text.specs.Digits.{digits_most, digits, decimal}
+use lib.ListN.{drop, length-set}
+use Rattle.text.specs.Digits.{decimal}
 use Rattle.text.proofs.Printing.{digit_on, digit_last, digit_none}
 use Rattle.text.proofs.digits.decimal.Goals as goal
 
@@ -32,8 +32,9 @@ loop-i-preserved c =
 pub returns : goal.returns
 returns c =
     let l = c.loop-i in
+    let none : l.i ≡ 0 = omega arith in
     record {
-      text = digit_none l.row l.i l.left (omega arith) ∙ l.invariant.0;
+      text = ap (λ (k : ℕ). drop k l.row) (sym none) ∙ digit_none l.row l.i l.left (omega arith) ∙ l.invariant.0;
       start = omega arith;
       size = l.invariant.2;
     }

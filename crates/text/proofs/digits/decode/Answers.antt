@@ -1,8 +1,7 @@
 -- `text::digits::decode` meets its contract: reading what is left, from each pair passed, gives what the whole gives.
-use Prim.Native.Nat.{ℕ, ◌+◌, ◌-◌, ◌*◌}
+use Prim.Native.Nat.{ℕ, ◌+◌, ◌*◌}
 use mathlib.Core.Path.{◌≡◌, refl, ◌∙◌, ap}
 use native.Mathlib.Omega.{arith}
-use borrow.Author.Rules.{rules}
 use lib.ListN.{length, get_or, drop}
 use Rattle.text.specs.Output.{Page, page, put, puts}
 use Rattle.text.specs.Digits.{hex_of, hex_bytes}

@@ -1,34 +1,33 @@
--- `text::digits::hex_of` meets its contract: its tests are those of the definition.
+-- `text::digits::hex_of` meets its contract: its arms are the tests of the definition.
 use native.Mathlib.Omega.{arith}
 use borrow.Author.Tests.{lt-ltb, le-ltb}
 use Rattle.text.specs.Digits.{hex_of}
-use borrow.Author.Rules.{rules}
 use Rattle.text.proofs.digits.hex_of.Goals as goal
 
-pub returns-then-b-lt48 : goal.returns-then-b-lt48
+pub returns-in-48-to-57 : goal.returns-in-48-to-57
 unfolding hex_of
-returns-then-b-lt48 c = (search (lt-ltb, le-ltb), omega arith)
+returns-in-48-to-57 c = (search (lt-ltb, le-ltb), omega arith)
 
-pub returns-then-b-lt58 : goal.returns-then-b-lt58
+pub returns-in-65-to-70 : goal.returns-in-65-to-70
 unfolding hex_of
-returns-then-b-lt58 c = (search (lt-ltb, le-ltb), omega arith)
+returns-in-65-to-70 c = (search (lt-ltb, le-ltb), omega arith)
 
-pub returns-then-b-lt65 : goal.returns-then-b-lt65
+pub returns-in-97-to-102 : goal.returns-in-97-to-102
 unfolding hex_of
-returns-then-b-lt65 c = (search (lt-ltb, le-ltb), omega arith)
+returns-in-97-to-102 c = (search (lt-ltb, le-ltb), omega arith)
 
-pub returns-then-b-lt71 : goal.returns-then-b-lt71
+pub returns-in_default : goal.returns-in_default
 unfolding hex_of
-returns-then-b-lt71 c = (search (lt-ltb, le-ltb), omega arith)
+returns-in_default c = (search (lt-ltb, le-ltb), omega arith)
 
-pub returns-then-b-lt97 : goal.returns-then-b-lt97
+pub returns-in_default-2 : goal.returns-in_default-2
 unfolding hex_of
-returns-then-b-lt97 c = (search (lt-ltb, le-ltb), omega arith)
+returns-in_default-2 c = (search (lt-ltb, le-ltb), omega arith)
 
-pub returns-then-b-lt103 : goal.returns-then-b-lt103
+pub returns-in_default-3 : goal.returns-in_default-3
 unfolding hex_of
-returns-then-b-lt103 c = (search (lt-ltb, le-ltb), omega arith)
+returns-in_default-3 c = (search (lt-ltb, le-ltb), omega arith)
 
-pub returns : goal.returns
+pub returns-in_default-4 : goal.returns-in_default-4
 unfolding hex_of
-returns c = (search (lt-ltb, le-ltb), omega arith)
+returns-in_default-4 c = (search (lt-ltb, le-ltb), omega arith)

@@ -6,7 +6,6 @@ use lib.ListN.{length, drop, length-drop}
 use lib.Seq.{take_all}
 use Rattle.text.specs.Output.{page, puts}
 use Rattle.text.specs.Digits.{digits_most}
-use borrow.Author.Rules.{rules}
 use Rattle.text.proofs.digits.put_number.Goals as goal
 
 pub slice_bounds-put-end : goal.slice_bounds-put-end

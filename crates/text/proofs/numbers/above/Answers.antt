@@ -1,16 +1,16 @@
--- `text::numbers::above` meets its contract: the tests are those of the definition.
+-- `text::numbers::above` meets its contract: its tests are those of the definition.
 use borrow.Author.Tests.{eq-eqb, ne_eqb}
 use Rattle.text.specs.Numbers.{above}
 use Rattle.text.proofs.numbers.above.Goals as goal
 
-pub returns-then-limit-eq0 : goal.returns-then-limit-eq0
-unfolding above
-returns-then-limit-eq0 c = simp (eq-eqb _ _ c.if-limit-eq0.true)
-
 pub returns-then-n : goal.returns-then-n
 unfolding above
-returns-then-n c = simp (ne_eqb _ _ c.if-limit-eq0.false, c.if-n.true)
+returns-then-n c = rw (ne_eqb _ _ c.if-limit-ne0.true, c.if-n.true)
 
-pub returns : goal.returns
+pub returns-else-n : goal.returns-else-n
 unfolding above
-returns c = simp (ne_eqb _ _ c.if-limit-eq0.false, c.if-n.false)
+returns-else-n c = rw (ne_eqb _ _ c.if-limit-ne0.true, c.if-n.false)
+
+pub returns-else-limit-ne0 : goal.returns-else-limit-ne0
+unfolding above
+returns-else-limit-ne0 c = rw (eq-eqb _ _ c.if-limit-ne0.false)

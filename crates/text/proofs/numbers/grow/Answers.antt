@@ -1,7 +1,6 @@
 -- `text::numbers::grow` meets its contract: the test before the product decides whether the grown number passes the
 -- top.
 use Rattle.text.proofs.Spelling.{grow_over, grow_in}
-use borrow.Author.Rules.{rules}
 use Rattle.text.proofs.numbers.grow.Goals as goal
 
 pub returns-then-d-value : goal.returns-then-d-value

@@ -1,6 +1,5 @@
 -- `text::output::put_byte` meets its contract: the test says whether there is room.
 use Rattle.text.proofs.Pages.{put_in, put_out}
-use borrow.Author.Rules.{rules}
 use Rattle.text.proofs.output.put_byte.Goals as goal
 
 pub returns-then-at-out : goal.returns-then-at-out

@@ -5,5 +5,5 @@ use Rattle.waits.proofs.arrivals.is_gap.Goals as goal
 pub returns-then-b-eq10 : goal.returns-then-b-eq10
 returns-then-b-eq10 c = rw (eq-eqb _ _ c.if-b-eq10.true)
 
-pub returns : goal.returns
-returns c = rw (ne_eqb _ _ c.if-b-eq10.false) c.is_separator.ensures
+pub returns-else-b-eq10 : goal.returns-else-b-eq10
+returns-else-b-eq10 c = rw (ne_eqb _ _ c.if-b-eq10.false) c.is_separator.ensures

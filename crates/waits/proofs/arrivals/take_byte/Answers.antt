@@ -3,33 +3,20 @@ use mathlib.Core.Path.{sym, ◌∙◌}
 use Rattle.waits.proofs.Taking.{takes_none, takes_digit, takes_gap, takes_other}
 use Rattle.waits.proofs.arrivals.take_byte.Goals as goal
 
+pub returns-then-is_some : goal.returns-then-is_some
+returns-then-is_some c = takes_none _ _ _ _ (sym c.is_some.ensures ∙ c.if-is_some.true)
+
 pub returns-then-is_digit : goal.returns-then-is_digit
 returns-then-is_digit c =
-    let at-if2 = c in
-    let at-digit = at-if2 in
-    let at-if1 = at-digit in
-    takes_digit _ _ _ _ at-if1.if-ok.true _ (sym at-digit.is_digit.ensures ∙ at-if2.if-is_digit.true)
-    c.grow-longer.ensures
+    takes_digit _ _ _ _ (sym c.is_some.ensures ∙ c.if-is_some.false) _ _ (sym c.is_digit.ensures ∙ c.if-is_digit.true) c.unwrap_or.ensures
+    c.grow.ensures
 
 pub returns-then-is_gap : goal.returns-then-is_gap
 returns-then-is_gap c =
-    let at_end = c in
-    let at-if3 = at_end in
-    let at_gap = at-if3 in
-    let at-if2 = at_gap in
-    let at-digit = at-if2 in
-    let at-if1 = at-digit in
-    takes_gap _ _ _ _ at-if1.if-ok.true _ _ (sym at-digit.is_digit.ensures ∙ at-if2.if-is_digit.false)
-    (sym at_gap.is_gap.ensures ∙ at-if3.if-is_gap.true) at_end.end_number.ensures
-
-pub returns-then-ok : goal.returns-then-ok
-returns-then-ok c =
-    let at_gap = c in
-    let at-if2 = at_gap in
-    let at-digit = at-if2 in
-    let at-if1 = at-digit in
-    takes_other _ _ _ _ at-if1.if-ok.true (sym at-digit.is_digit.ensures ∙ at-if2.if-is_digit.false)
-    (sym at_gap.is_gap.ensures ∙ c.if-is_gap.false)
+    takes_gap _ _ _ _ (sym c.is_some.ensures ∙ c.if-is_some.false) _ _ (sym c.is_digit.ensures ∙ c.if-is_digit.false)
+    (sym c.is_gap.ensures ∙ c.if-is_gap.true) c.end_number.ensures
 
 pub returns : goal.returns
-returns c = takes_none _ _ _ _ c.if-ok.false
+returns c =
+    takes_other _ _ _ _ (sym c.is_some.ensures ∙ c.if-is_some.false) (sym c.is_digit.ensures ∙ c.if-is_digit.false)
+    (sym c.is_gap.ensures ∙ c.if-is_gap.false)

@@ -1,12 +1,8 @@
--- What the loop keeps, and what falls.
+-- What the loop keeps.
 use mathlib.Core.Path.{◌≡◌}
-use Prim.Native.Nat.{◌≤◌, ◌-◌}
 use lib.ListN.{length}
 use Rattle.waits.specs.Arrivals.{arrivals_so_far, arrivals_to}
 use Rattle.waits.proofs.arrivals.take_text.Given as goal
 
 abbrev pub invariant-loop-i : goal.invariant-loop-i
-invariant-loop-i l = (l.i ≤ length l.text) × (arrivals_so_far l.row l.scan ≡ arrivals_to l.text l.initial.row l.i) × (length l.row ≡ length l.initial.row)
-
-abbrev pub decreases-loop-i : goal.decreases-loop-i
-decreases-loop-i l = length l.text - l.i
+invariant-loop-i l = (arrivals_so_far l.row l.scan ≡ arrivals_to l.text l.initial.row l.i) × (length l.row ≡ length l.initial.row)

@@ -8,8 +8,8 @@ pub returns-then-n-eq0 : goal.returns-then-n-eq0
 unfolding mean_line text
 returns-then-n-eq0 c = rw (eq-eqb _ _ c.if-n-eq0.true) c.put.ensures
 
-pub returns : goal.returns
+pub returns-else-n-eq0 : goal.returns-else-n-eq0
 unfolding mean_line text
-returns c =
+returns-else-n-eq0 c =
     rw (ne_eqb _ _ c.if-n-eq0.false, ← c.mean.ensures)
     c.put_line.ensures

@@ -1,6 +1,5 @@
 -- `pass` meets its contract: the wishes of the ids passed are collected.
 use mathlib.Core.Path.{ap, ◌∙◌}
-use native.Mathlib.Omega.{arith}
 use native.Mathlib.Numerals.{add-one}
 use native.Mathlib.Nat.{le_antisymm}
 use lib.ListN.{get_or}
@@ -19,7 +18,7 @@ wished_if-q-requires c =
     let at_test = c in
     let at = at_test in
     let a = at.args in
-    rw (at.loop-i.invariant.1, c.moves.ensures)
+    rw (at.loop-i.invariant, c.moves.ensures)
     (pass_room (moves_at a.up a.s a.shares.now) (λ j. get_or a.shares.now j 0) a.w at.loop-i.i
     at_test.loop-i-test.true (pass_fits a.up a.s a.shares.now a.w.many at.requires))
 
@@ -28,9 +27,9 @@ unfolding pass_to
 loop-i-preserved c =
     let at-moves = c in
     let at = at-moves in
-    (omega arith, rw (add-one, ← at.loop-i.invariant.1, ← at-moves.moves.ensures) c.wished_if-q.ensures)
+    rw (add-one, ← at.loop-i.invariant, ← at-moves.moves.ensures) c.wished_if-q.ensures
 
 pub returns : goal.returns
 returns c =
-    let all = le_antisymm c.loop-i.invariant.0 c.loop-i-test.false in
-    c.loop-i.invariant.1 ∙ ap (pass_to _ _ _) all
+    let all = le_antisymm c.loop-i.auto.i-end c.loop-i-test.false in
+    c.loop-i.invariant ∙ ap (pass_to _ _ _) all

@@ -1,13 +1,13 @@
 -- `words::lines::put_line` meets its contract: from where the line begins to where it ends.
 use Prim.Native.Nat.{◌≤◌}
-use mathlib.Core.Path.{◌∙◌, ap}
+use mathlib.Core.Path.{◌∙◌}
 use native.Mathlib.Omega.{arith}
 use lib.ListN.{length}
 use Rattle.text.specs.declared.bytes.Sort.TheVariants.{Line}
-use Rattle.text.specs.Output.{puts}
 use Rattle.text.proofs.Runs.{run_end_low, run_end_high}
+use Rattle.text.proofs.Pages.{told_as}
+use Rattle.text.specs.Texts.{text}
 use Rattle.words.proofs.Listed.{line_part}
-use borrow.Author.Rules.{rules}
 use Rattle.words.proofs.lines.put_line.Tie as tie
 use Rattle.words.proofs.lines.put_line.Lts as lts
 use Rattle.words.proofs.lines.put_line.Reads as reads
@@ -32,8 +32,5 @@ pub slice_bounds-put-end : goal.slice_bounds-put-end
 slice_bounds-put-end c = (ends c.before.before).1
 
 pub returns : goal.returns
-returns c =
-    let at-put = c in
-    let at-run-end = at-put in
-    at-put.put.ensures
-    ∙ ap (puts _) (line_part _ _ _ at-run-end.run_end-end.ensures ∙ at-run-end.line_start-from.ensures.0)
+unfolding text
+returns c = told_as (line_part _ _ _ c.run_end-end.ensures ∙ c.line_start-from.ensures.0) c.put.ensures

@@ -1,8 +1,0 @@
--- `airing::refusals::has_room` meets its contract: the three tests, joined.
-use mathlib.Core.Path.{◌∙◌}
-use Rattle.airing.specs.Air.{has_room_for}
-use Rattle.airing.proofs.refusals.has_room.Goals as goal
-
-pub returns : goal.returns
-unfolding has_room_for
-returns c = c.also-2.ensures ∙ simp c.also.ensures

@@ -1,2 +1,0 @@
--- Laws of texts.
-pub mod Texts

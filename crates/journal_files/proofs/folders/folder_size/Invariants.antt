@@ -1,9 +1,0 @@
--- `journal_files::folders::folder_size`: it goes down from the end of the name.
-use Rattle.std.proofs.Common.{◌≤◌, length}
-use Rattle.journal_files.proofs.folders.folder_size.Given as goal
-
-abbrev pub invariant-loop-n : goal.invariant-loop-n
-invariant-loop-n l = l.n ≤ length l.name
-
-abbrev pub decreases-loop-n : goal.decreases-loop-n
-decreases-loop-n l = l.n
