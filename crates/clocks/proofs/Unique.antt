@@ -1,5 +1,5 @@
 -- Two outcomes that a contract of `reading` admits are equal: each is an equation to a definition. Of `put_clock` it is
--- `page_one_outcome` of `text`.
+-- `puts_one_outcome` of `text`.
 use mathlib.Core.Path.{sym, ◌∙◌}
 use Rattle.rules.specs.OneOutcome.{OneOutcome}
 use Rattle.clocks.proofs.reading.has_colon.Kinds as colon-kinds

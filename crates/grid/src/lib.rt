@@ -135,6 +135,9 @@ fn low_zeros(x: u64, most: u64) -> u64
     requires { most ≤ count_max }
     ensures { result ≡ count_trailing_zeros most x }
 {
+    if x == 0 {
+        return most;
+    }
     u64::from(x.trailing_zeros()).min(most)
 }
 

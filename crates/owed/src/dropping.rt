@@ -57,14 +57,14 @@ fn end_count(t: Title, tick: u64) -> Title
 fn turn(t: Title, mode: u64, count: u64, mark: u64, time: u64, tuned: u64) -> Title
     ensures { result ≡ turned t mode count mark time tuned }
 {
-    Title {
-        mode,
-        count,
-        mark,
-        last: time,
-        tuned,
-        ..t
-    }
+    // a title made anew from its fields is copied row by row, and a hold would miss its bar (docs/PERFORMANCE.md, "Goals")
+    let mut q = t;
+    q.mode = mode;
+    q.count = count;
+    q.mark = mark;
+    q.last = time;
+    q.tuned = tuned;
+    q
 }
 
 // A turn at a time to so many lanes, with the mode, the count, the mark and the time of the latest opening or change that

@@ -38,7 +38,11 @@ fn write(row: &mut [u16])
     requires { length row.old ≡ rom_entries }
     ensures { row.new ≡ written rom_entry row.old rom_entries }
 {
-    row.copy_from_slice(&cells());
+    // kept: std's copy of a table by value takes longer
+    let numbers = cells();
+    for i in 0..ENTRIES {
+        row[i] = numbers[i];
+    }
 }
 
 // Fills a lent row with the table. One of another length, shorter or longer, gets 10 and stays as it is.

@@ -34,10 +34,11 @@ fn rows_fit(rates: &[u32], lengths: &[u32], floors: &[u32], caps: &[u32], room: 
 fn allowed(t: Rated) -> bool
     ensures { result ≡ allowedOf t }
 {
+    // all four are asked, so that a compiler asks them of several titles at once
     within(rules::RATE_MIN, rules::RATE_MAX, t.rate as u64)
-        && within(rules::LENGTH_MIN, rules::LENGTH_MAX, t.length as u64)
-        && within(rules::FLOOR_MIN, rules::FLOOR_MAX, t.floor as u64)
-        && within(rules::COUNT_MIN, rules::COUNT_MAX, t.cap as u64)
+        & within(rules::LENGTH_MIN, rules::LENGTH_MAX, t.length as u64)
+        & within(rules::FLOOR_MIN, rules::FLOOR_MAX, t.floor as u64)
+        & within(rules::COUNT_MIN, rules::COUNT_MAX, t.cap as u64)
 }
 
 // One look at every title.

@@ -65,7 +65,10 @@ pub fn fill(
     ensures { counts.new ≡ shared pool
         (titles rates.now lengths.now floors.now caps.now) }
 {
-    counts.copy_from_slice(floors);
+    // kept: std's copy is compiled to memmove here, which who links the C library need not have (docs/LIBRARY.md)
+    for i in 0..floors.len() {
+        counts[i] = floors[i];
+    }
     let spare = pool - floor_total(floors);
     give(rates, lengths, floors, caps, spare, counts);
 }

@@ -21,6 +21,7 @@ use scheme::{STEADY, starts};
 use story::{Act, CLOSING, Film, HELD, Title};
 
 // Whether a time is a slot start of a count of a title.
+#[inline(always)]
 fn at_slot_start(t: Title, count: u64, time: u64) -> bool
     requires filmed { Filmed t.film }
     requires count_le_cap { count ≤ t.film.cap }
@@ -51,6 +52,7 @@ fn open_verdict(t: Title, film: Film, count: u64, time: u64) -> Result<(), Refus
 }
 
 // Whether a title can have an event other than an opening at a time at all.
+#[inline(always)]
 fn standing(t: Title, time: u64) -> Result<(), Refusal>
     requires { title_ok t ≡ true }
     ensures { told result ≡ first_hit (standing_rules t time) }
@@ -65,6 +67,7 @@ fn standing(t: Title, time: u64) -> Result<(), Refusal>
 }
 
 // Whether an open title has a turn at a time, a slot start of a count.
+#[inline(always)]
 fn turn_verdict(t: Title, count: u64, time: u64) -> Result<(), Refusal>
     requires filmed { Filmed t.film }
     requires count_le_cap { count ≤ t.film.cap }

@@ -1,5 +1,5 @@
 // The refusals in words, as every program answers them: number, words, and the number that some of the words name. No
-// public function has a `requires`; nothing is written past the end of the lent row.
+// public function has a `requires`; nothing is written past the end of the page's row.
 #![tactic(auto)]
 
 ghost use Rattle.std.specs.Prelude.{◌≡◌};

@@ -1,35 +1,34 @@
--- `airing::refusals::all_cells` meets its contract: each number passed is a cell or nothing.
-use Prim.Native.Nat.{ℕ}
-use mathlib.Core.Path.{◌≡◌, sym, subst, ◌∙◌}
-use mathlib.Core.Bool.{Bool, false≢true}
+-- `airing::refusals::all_cells` meets its contract: the loop's value is the test of every number passed.
+use Prim.Native.Nat.{◌^◌}
+use mathlib.Core.Path.{refl, ap, ◌∙◌}
 use native.Mathlib.Omega.{arith}
-use borrow.Author.Count.{below_more}
+use native.Mathlib.Numerals.{add-one}
+use native.Mathlib.Nat.{le_antisymm}
 use lib.Dec.{ltb, eqb}
-use lib.ListN.{get_or, length}
-use Rattle.rules.specs.Limits.{either}
-use Rattle.rules.proofs.Tests.{fails}
-use Rattle.rules.proofs.Search.{every_in, every_out}
+use lib.ListN.{get_or}
+use Rattle.rules.specs.Limits.{both, either}
+use Rattle.rules.specs.Search.{every}
+use Rattle.rules.proofs.Tests.{and_both}
 use Rattle.judging.specs.Record.{nothing_seen}
-use Rattle.airing.specs.Air.{is_cell_of, all_cells}
+use Rattle.airing.specs.Air.{all_cells}
 use Rattle.airing.proofs.refusals.all_cells.Goals as goal
 
--- a number is tested by the cells of the cap
-same_cells : (x m n : ℕ) (b : Bool) → m ≡ n → either (eqb x nothing_seen) (ltb x m) ≡ b → either (eqb x nothing_seen) (ltb x n) ≡ b
-same_cells x m n b e h = subst (λ (k : ℕ). either (eqb x nothing_seen) (ltb x k) ≡ b) e h
+pub loop-seen-init : goal.loop-seen-init
+unfolding every
+loop-seen-init c = refl
 
 pub loop-seen-preserved : goal.loop-seen-preserved
-loop-seen-preserved c = below_more _ _ c.loop-seen.invariant (sym c.is_cell.ensures ∙ c.if-not-is_cell.false)
-
-pub returns-then-not-is_cell : goal.returns-then-not-is_cell
-unfolding all_cells
-returns-then-not-is_cell c =
-    let r = c.args.«record».now in
-    let out = same_cells _ _ _ _ c.pow2-cells.ensures.is (sym c.is_cell.ensures ∙ c.if-not-is_cell.true) in
-    sym (fails _ (λ h. false≢true (sym out ∙ every_out (λ j. is_cell_of c.args.cap (get_or r j 0)) (length r) c.loop-seen.seen-index h c.loop-seen-test.true)))
+unfolding every
+loop-seen-preserved c =
+    let l = c.loop-seen in
+    and_both c.is_cell-ok.result l.ok ∙ ap (both c.is_cell-ok.result) l.invariant ∙ rw add-one (rw c.is_cell-ok.ensures refl)
 
 pub returns : goal.returns
 unfolding all_cells
 returns c =
+    let l = c.loop-seen in
     let r = c.args.«record».now in
-    sym (every_in (λ j. is_cell_of c.args.cap (get_or r j 0)) (length r)
-    (λ k l. same_cells _ _ _ _ c.pow2-cells.ensures.is (c.loop-seen.invariant k (omega (arith, c.loop-seen-test.false)))))
+    let all = le_antisymm (omega arith) (omega (arith, c.loop-seen-test.false)) in
+    l.invariant
+    ∙ ap (λ n. every (λ j. either (eqb (get_or r j 0) nothing_seen) (ltb (get_or r j 0) n)) l.seen-index) c.pow2-cells.ensures.is
+    ∙ ap (every (λ j. either (eqb (get_or r j 0) nothing_seen) (ltb (get_or r j 0) (2 ^ c.args.cap)))) all

@@ -8,4 +8,4 @@ returns-then-out-at c = puts_full _ _ _ (omega arith)
 
 pub returns : goal.returns
 returns c =
-    puts_room _ _ _ _ _ _ (omega arith) c.min-n.ensures (c.copy_from_slice.ensures.after) (omega arith)
+    puts_room _ _ _ _ _ _ (omega arith) c.min-n.ensures (c.lay.ensures) (omega arith)
